@@ -1,0 +1,1 @@
+-- Laws on the octets of numbers.

@@ -1,0 +1,1 @@
+//! Laws about octets that hold of every list and number.
