@@ -17,4 +17,3 @@ IsPsm n = bit_and n 0x0101 ≡ 0x0001
 -- a data link connection identifier of RFCOMM (RFCOMM 1.2, 5.4): the control channel, or a user channel
 abbrev pub IsDlci : ℕ → Type 0
 IsDlci n = (n ≡ 0) ⊎ ((2 ≤ n) × (n ≤ 61))
-

@@ -1,5 +1,5 @@
 -- Octets and the numbers in them.
-use Rattle.std.specs.Prelude.{ℕ, zero, suc, ◌+◌, ◌*◌, ◌<◌, List, [], ◌∷◌, slice_index}
+use Rattle.std.specs.Prelude.{ℕ, ◌<◌, List, slice_index}
 use Rattle.byteorder.specs.Endian.{little_bytes, big_bytes}
 
 -- each member is an octet

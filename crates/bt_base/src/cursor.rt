@@ -3,7 +3,7 @@
 ghost use Rattle.std.specs.Prelude.{◌≡◌, ◌<◌, ◌≤◌, ◌∷◌, ◌++◌, List, ℕ, [], length, take, drop, IfSome, IfNone};
 ghost use Rattle.bt_base.specs.Octets.{le16, be16, be32};
 
-use byteorder::{BigEndian, ByteOrder, LittleEndian};
+use crate::octets::{read_be16, read_be32, read_le16};
 use std::marker::Model;
 
 /// Walks a slice of octets. A clause sees a cursor as the octets that are left.
@@ -65,7 +65,7 @@ impl<'a> Cursor<'a> {
         ensures none { IfNone result ((length self.old < 2) × (self.new ≡ self.old)) }
     {
         let octets = self.take(2)?;
-        Some(LittleEndian::read_u16(octets))
+        Some(read_le16(octets))
     }
 
     /// The number in the next two octets, the high octet first.
@@ -74,7 +74,7 @@ impl<'a> Cursor<'a> {
         ensures none { IfNone result ((length self.old < 2) × (self.new ≡ self.old)) }
     {
         let octets = self.take(2)?;
-        Some(BigEndian::read_u16(octets))
+        Some(read_be16(octets))
     }
 
     /// The number in the next four octets, the highest octet first.
@@ -83,6 +83,6 @@ impl<'a> Cursor<'a> {
         ensures none { IfNone result ((length self.old < 4) × (self.new ≡ self.old)) }
     {
         let octets = self.take(4)?;
-        Some(BigEndian::read_u32(octets))
+        Some(read_be32(octets))
     }
 }

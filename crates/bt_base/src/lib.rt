@@ -5,12 +5,12 @@
 mod cursor;
 mod memory;
 mod numbers;
+mod octets;
 
 pub use cursor::Cursor;
 pub use memory::NoMemory;
 pub use numbers::{BdAddr, Cid, Dlci, Handle, Psm};
-
-pub mod laws;
+pub use octets::{read_be16, read_be32, read_le16};
 
 #[cfg(test)]
 mod tests;

@@ -1,1 +1,0 @@
-//! Laws about octets that hold of every list and number.
