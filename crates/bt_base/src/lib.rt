@@ -3,14 +3,25 @@
 #![tactic(auto)]
 
 mod cursor;
-mod memory;
+mod calls;
+mod mem_inbox;
+mod mem_shelf;
+mod mem_sink;
+mod mem_source;
+mod no_memory;
 mod numbers;
 mod octets;
+mod ports;
 
 pub use cursor::Cursor;
-pub use memory::NoMemory;
+pub use mem_inbox::MemInbox;
+pub use mem_shelf::MemShelf;
+pub use mem_sink::MemSink;
+pub use mem_source::MemSource;
+pub use no_memory::NoMemory;
 pub use numbers::{BdAddr, Cid, Dlci, Handle, Psm};
 pub use octets::{read_be16, read_be32, read_le16};
+pub use ports::{Inbox, PortFault, Shelf, Sink, Source};
 
 #[cfg(test)]
 mod tests;
