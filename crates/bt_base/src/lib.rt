@@ -2,8 +2,8 @@
 //! numbers of the standard, and the ports through which a layer reaches the outside.
 #![tactic(auto)]
 
-mod cursor;
 mod calls;
+mod cursor;
 mod mem_inbox;
 mod mem_shelf;
 mod mem_sink;
@@ -12,6 +12,7 @@ mod no_memory;
 mod numbers;
 mod octets;
 mod ports;
+mod std_streams;
 
 pub use cursor::Cursor;
 pub use mem_inbox::MemInbox;
@@ -22,6 +23,7 @@ pub use no_memory::NoMemory;
 pub use numbers::{BdAddr, Cid, Dlci, Handle, Psm};
 pub use octets::{read_be16, read_be32, read_le16};
 pub use ports::{Inbox, PortFault, Shelf, Sink, Source};
+pub use std_streams::{StdSink, StdSource};
 
 #[cfg(test)]
 mod tests;
