@@ -1,5 +1,5 @@
 -- The causes of a call's answer: one that is handed on, and one that a count tells.
-use Rattle.std.proofs.Common.{Bool, true, false, cond, ◌≡◌, ℕ, ◌+◌, ◌-◌, ◌^◌, ◌<◌, ◌≤◌, Result, Ok, Err, refl, sym, ap, subst, ◌∙◌, arith, inl, inr, min}
+use Rattle.std.proofs.Common.{Bool, true, false, cond, ◌≡◌, ℕ, ◌≤◌, Result, Ok, Err, refl, sym, ap, arith, inl, inr}
 use Rattle.std.proofs.lemmas.Bool.{cases_lt, lt-ltb, le-ltb}
 use Rattle.bt_base.specs.Counts.{HasCause, HasRisen, last_count, counted}
 use Rattle.bt_base.specs.Memory.{Calls, is_next_failing, called, failed, short}

@@ -1,2 +1,3 @@
 pub mod OctetLemmas
 pub mod Causes
+pub mod PortLaws

@@ -1,5 +1,5 @@
 -- The counts that a port keeps of its faults and of its shortages of memory (this project's own).
-use Rattle.std.specs.Prelude.{ℕ, ◌≡◌, ◌<◌, ◌≤◌, ◌+◌, ◌-◌, ◌^◌, ◌⊎◌, Result, IsErrOf, cond, nat_lt}
+use Rattle.std.specs.Prelude.{ℕ, ◌<◌, ◌≤◌, ◌+◌, ◌-◌, ◌^◌, ◌⊎◌, Result, IsErrOf, cond, nat_lt}
 use Rattle.bt_base.specs.declared.ports.PortFault.{PortFault}
 use Rattle.bt_base.specs.declared.ports.PortFault.TheVariants.{Failed, NoMemory}
 

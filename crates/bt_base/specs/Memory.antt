@@ -1,5 +1,5 @@
 -- The ports over memory: which of their calls fail (this project's own).
-use Rattle.std.specs.Prelude.{ℕ, ◌≡◌, ◌+◌, Bool, true, false, cond, nat_le, List, length, ◌==◌, Option, Some, None, Result, Ok, Err, ok_or, min}
+use Rattle.std.specs.Prelude.{ℕ, Bool, false, cond, nat_le, List, length, ◌==◌, Option, Some, None, Result, Ok, Err, ok_or, min}
 use Rattle.std.specs.List.{list_any}
 use Rattle.std.specs.Option.{option_map}
 use Rattle.bt_base.specs.Counts.{counted}

@@ -1,5 +1,5 @@
 -- Objects, and what the calls of a shelf and of an inbox do, where their contents are told (this project's own).
-use Rattle.std.specs.Prelude.{ℕ, ◌≡◌, ◌<◌, ◌≤◌, ◌+◌, ◌++◌, ⊤, List, [], ◌∷◌, length, take, drop, Bool, find, Option, Some, None, Result, Ok, Err, IfSome, IsErrOf, option_to_list}
+use Rattle.std.specs.Prelude.{ℕ, ◌≡◌, ◌<◌, ◌≤◌, ◌+◌, ◌++◌, ⊤, List, [], length, take, drop, find, Option, Some, None, Result, Ok, Err, IfSome, IsErrOf, option_to_list}
 use Rattle.std.specs.Option.{option_map}
 use Rattle.std.specs.Str.{bytes_eq}
 use Rattle.bt_base.specs.Counts.{HasRisen}

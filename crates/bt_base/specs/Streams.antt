@@ -1,5 +1,5 @@
 -- What the calls of a source and of a sink do to their contents, where these are told (this project's own).
-use Rattle.std.specs.Prelude.{ℕ, ◌≡◌, ◌<◌, ◌≤◌, ◌++◌, List, [], length, take, drop, Option, Some, None, Result, Ok, Err, IfOk, IfSome, OnOk}
+use Rattle.std.specs.Prelude.{ℕ, ◌≡◌, ◌<◌, ◌≤◌, ◌++◌, List, [], length, take, drop, Option, Result, Ok, Err, IfOk, IfSome, OnOk}
 use Rattle.std.specs.Option.{option_map}
 use Rattle.bt_base.specs.declared.ports.PortFault.{PortFault}
 

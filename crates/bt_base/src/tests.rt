@@ -114,3 +114,76 @@ fn standard_streams_read_and_write(rt: HostRuntime) -> Result<(), Fail> {
     sink.put(b"written to the standard output\n")?;
     Ok(())
 }
+
+/// A new folder for the files of one test.
+fn test_folder(rt: &HostRuntime, name: &str) -> Result<String, Fail> {
+    let temporary = std::env::temp_dir(rt)?;
+    let folder = format!(in rt.alloc();
+        "{}/bt_base_{}_{}",
+        temporary.as_path().display(),
+        name,
+        std::process::id(rt.process())
+    )?;
+    std::fs::create_dir(rt, folder.as_str())?;
+    Ok(folder)
+}
+
+#[test]
+fn file_shelf_reads_files(rt: HostRuntime) -> Result<(), Fail> {
+    let folder = test_folder(&rt, "shelf")?;
+    std::fs::write(
+        &rt,
+        format!(in rt.alloc(); "{folder}/card")?.as_str(),
+        "hello",
+    )?;
+    let mut shelf = FileShelf::new(&rt, rt.alloc(), folder.as_str());
+    assert_eq!(rt; shelf.size("card")?, 5);
+    let mut into = [0; 2];
+    shelf.fill("card", 3, &mut into)?;
+    assert_eq!(rt; into, *b"lo");
+    assert_eq!(rt;
+        shelf.fill("card", 4, &mut into),
+        Err(PortFault::Failed),
+        "ends early"
+    );
+    assert_eq!(rt; shelf.size("none"), Err(PortFault::Failed));
+    assert_eq!(rt; shelf.size("./card"), Err(PortFault::Failed), "no slash");
+    std::fs::remove_dir_all(&rt, folder.as_str())?;
+    Ok(())
+}
+
+#[test]
+fn file_inbox_stores_files(rt: HostRuntime) -> Result<(), Fail> {
+    let folder = test_folder(&rt, "inbox")?;
+    let inside = format!(in rt.alloc(); "{folder}/inbox")?;
+    let first = format!(in rt.alloc(); "{inside}/0001-a_b")?;
+    let mut inbox = FileInbox::new(&rt, rt.alloc(), inside.as_str());
+    inbox.begin(&[97, 0xF6, 98])?;
+    inbox.append(b"old and long")?;
+    inbox.commit()?;
+    assert_eq!(rt;
+        std::fs::read_to_string(&rt, first.as_str())?.as_str(),
+        "old and long"
+    );
+    inbox.begin(&[98])?;
+    inbox.abort()?;
+    assert!(rt; std::fs::metadata(&rt, format!(in rt.alloc(); "{inside}/part")?.as_str()).is_err());
+    let mut again = FileInbox::new(&rt, rt.alloc(), inside.as_str());
+    again.begin(&[97, 47, 98])?;
+    again.append(b"ne")?;
+    again.append(b"w")?;
+    again.commit()?;
+    assert_eq!(rt;
+        std::fs::read_to_string(&rt, first.as_str())?.as_str(),
+        "new",
+        "replaced"
+    );
+    again.begin(&[46])?;
+    again.commit()?;
+    assert_eq!(rt;
+        std::fs::read_to_string(&rt, format!(in rt.alloc(); "{inside}/0002-.")?.as_str())?.as_str(),
+        ""
+    );
+    std::fs::remove_dir_all(&rt, folder.as_str())?;
+    Ok(())
+}

@@ -1,0 +1,34 @@
+//! What a port over the real system counts of its own faults.
+
+ghost use Rattle.std.specs.Prelude.{◌≡◌, Err};
+ghost use Rattle.bt_base.specs.Counts.{HasCause};
+
+use crate::ports::PortFault;
+
+/// How often a port has failed, and how often it has found no memory.
+#[derive(Drop)]
+pub(crate) struct FaultCounts {
+    pub(crate) faults: u64,
+    pub(crate) shortages: u64,
+}
+
+impl FaultCounts {
+    pub(crate) fn new() -> FaultCounts {
+        FaultCounts {
+            faults: 0,
+            shortages: 0,
+        }
+    }
+
+    /// Counts the fault, and answers it.
+    pub(crate) fn fail<T>(&mut self, fault: PortFault) -> Result<T, PortFault>
+        ensures answers { result ≡ Err fault }
+        ensures cause { HasCause self.old.faults self.new.faults self.old.shortages self.new.shortages result }
+    {
+        match fault {
+            PortFault::Failed => self.faults = self.faults.saturating_add(1),
+            PortFault::NoMemory => self.shortages = self.shortages.saturating_add(1),
+        }
+        Err(fault)
+    }
+}
