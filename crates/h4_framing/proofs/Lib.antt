@@ -1,0 +1,3 @@
+pub mod OctetLists
+pub mod ExtentLemmas
+pub mod SpellingLemmas

@@ -1,0 +1,62 @@
+//! Putting together a packet that came in pieces.
+
+ghost use Rattle.std.specs.Prelude.{ℕ, ◌≡◌, ◌+◌, ◌-◌, ◌<◌, ◌≤◌, ◌^◌, ◌++◌, length, take, min, vec_len, vec_capacity};
+ghost use Rattle.h4_framing.specs.Stream.{IsUnfinished};
+ghost use Rattle.h4_framing.specs.Extents.{extent};
+ghost use Rattle.h4_framing.specs.declared.extent.Extent.TheVariants.{AtLeast, Known};
+ghost use Rattle.h4_framing.specs.Gathering.{Gathers};
+
+use crate::extent::{Extent, extent_of};
+use crate::refusal::H4Refusal;
+
+/// What a piece made of the octets that were held.
+#[derive(Clone, Copy)]
+pub(crate) enum Gathered {
+    /// They are a packet with so many octets of the piece.
+    Whole(usize),
+    /// They are not a packet yet.
+    More,
+    /// No packet has that octet at that place.
+    Refused(H4Refusal, usize),
+}
+
+/// Copies of the piece what the packet in the buffer wants, its first octets first.
+pub(crate) fn gather(buffer: &mut Vec<u8>, piece: &[u8], limit: u16) -> Gathered
+    requires limit { 255 ≤ limit }
+    requires room { 5 + limit ≤ vec_capacity buffer.old }
+    requires begun { 0 < vec_len buffer.old }
+    requires unfinished { IsUnfinished limit buffer.old.items }
+    ensures gathered { Gathers limit buffer.old.items piece.now result buffer.new.items }
+    ensures capacity { vec_capacity buffer.old ≤ vec_capacity buffer.new }
+{
+    let used = match extent_of(buffer, limit) {
+        Extent::AtLeast(length) => top_up(buffer, piece, length),
+        _ => 0,
+    };
+    match extent_of(buffer, limit) {
+        Extent::Known(length) => {
+            let rest = top_up(buffer, &piece[used..], length);
+            if buffer.len() < length {
+                Gathered::More
+            } else {
+                Gathered::Whole(used + rest)
+            }
+        }
+        Extent::AtLeast(_) => Gathered::More,
+        Extent::Refused(refusal, place) => Gathered::Refused(refusal, place),
+    }
+}
+
+/// Copies from the front of the piece until the buffer has `wanted` octets or the piece has no
+/// more, and answers how many it copied.
+fn top_up(buffer: &mut Vec<u8>, piece: &[u8], wanted: usize) -> usize
+    requires within { vec_len buffer.old ≤ wanted }
+    requires room { wanted ≤ vec_capacity buffer.old }
+    ensures count { result ≡ min (wanted - vec_len buffer.old) (length piece.now) }
+    ensures items { buffer.new.items ≡ buffer.old.items ++ take result piece.now }
+    ensures capacity { vec_capacity buffer.old ≤ vec_capacity buffer.new }
+{
+    let count = piece.len().min(wanted - buffer.len());
+    let _room_was_reserved = buffer.extend_from_slice(&piece[..count]);
+    count
+}
