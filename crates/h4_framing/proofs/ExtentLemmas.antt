@@ -11,7 +11,7 @@ use Rattle.h4_framing.specs.declared.extent.Extent.TheVariants.{AtLeast, Known, 
 use Rattle.h4_framing.specs.Packets.{Packet, Command, Acl, Sync, Event, spelling, IsPacket}
 use Rattle.h4_framing.specs.Stream.{IsIndicator, IsUnfinished, GoesWrong}
 use Rattle.h4_framing.specs.Extents.{acl_extent, extent}
-use Rattle.h4_framing.proofs.OctetLists.{IsOctets-nil, IsOctets-cons, IsOctets-append, IsOctets-zeros}
+use Rattle.h4_framing.proofs.OctetLists.{IsOctets-nil, IsOctets-cons, IsOctets-append, IsOctets-front, IsOctets-zeros}
 
 -- two octets as a number, and again as octets
 pub le16_of : (a b : ℕ) → a < 256 → b < 256 → le16 (a + 256 * b) ≡ a ∷ b ∷ []
@@ -181,9 +181,38 @@ pub known_unfinished : (limit : ℕ) (octets : List ℕ) (n : ℕ) → extent li
 known_unfinished limit octets n e fits lt =
     padded_unfinished limit octets [] n (head_more limit octets [] n (known_head limit octets n e)) fits IsOctets-nil lt (omega (arith, length-append octets []))
 
+-- how many octets lead up to the length field and with it
+abbrev pub need : List ℕ → ℕ
+need [] = 1
+need (zero ∷ xs) = 1
+need (suc zero ∷ xs) = 4
+need (suc (suc zero) ∷ xs) = 5
+need (suc (suc (suc zero)) ∷ xs) = 4
+need (suc (suc (suc (suc zero))) ∷ xs) = 3
+need (suc (suc (suc (suc (suc k)))) ∷ xs) = 1
+
+pub need_more : (xs ys : List ℕ) → 0 < length xs → need (xs ++ ys) ≡ need xs
+need_more [] ys some = absurd (omega arith)
+need_more (zero ∷ xs) ys some = refl
+need_more (suc zero ∷ xs) ys some = refl
+need_more (suc (suc zero) ∷ xs) ys some = refl
+need_more (suc (suc (suc zero)) ∷ xs) ys some = refl
+need_more (suc (suc (suc (suc zero))) ∷ xs) ys some = refl
+need_more (suc (suc (suc (suc (suc k)))) ∷ xs) ys some = refl
+
+need_head : (limit : ℕ) (octets : List ℕ) (n : ℕ) → HasHead limit octets n → need octets ≤ n
+need_head limit octets n (command a b size rest e len) = let h : need octets ≡ 4 = ap need e in omega arith
+need_head limit octets n (acl a b low high rest e bound len) = let h : need octets ≡ 5 = ap need e in omega arith
+need_head limit octets n (sync a b size rest e len) = let h : need octets ≡ 4 = ap need e in omega arith
+need_head limit octets n (event code size rest e len) = let h : need octets ≡ 3 = ap need e in omega arith
+
+pub need_known : (limit : ℕ) (octets : List ℕ) (n : ℕ) → extent limit octets ≡ Known n → need octets ≤ n
+need_known limit octets n e = need_head limit octets n (known_head limit octets n e)
+
 -- fewer octets than lead up to the length field, and octets that could follow them up to it
 pub record IsShort (limit : ℕ) (octets : List ℕ) (n : ℕ) : Type 0 where
   pub bound : n ≤ 5
+  pub needs : n ≡ need octets
   pub short : length octets < n
   pub pad : List ℕ
   pub fits : IsOctets pad
@@ -203,48 +232,48 @@ pub at_least_short : (limit : ℕ) (octets : List ℕ) (n : ℕ) → 255 ≤ lim
 unfolding extent
 at_least_short limit [] n low fits e =
     let is : 1 ≡ n = cc in
-    record { bound = omega arith; short = omega arith; pad = 4 ∷ 0 ∷ 0 ∷ []; fits = IsOctets-cons 4 (0 ∷ 0 ∷ []) (omega arith) (IsOctets-zeros 2); told = 3; head = event 0 0 [] refl refl; left = omega arith; within = omega arith }
+    record { bound = omega arith; needs = sym is; short = omega arith; pad = 4 ∷ 0 ∷ 0 ∷ []; fits = IsOctets-cons 4 (0 ∷ 0 ∷ []) (omega arith) (IsOctets-zeros 2); told = 3; head = event 0 0 [] refl refl; left = omega arith; within = omega arith }
 at_least_short limit (zero ∷ xs) n low fits e = absurd cc
 at_least_short limit (suc zero ∷ []) n low fits e =
     let is : 4 ≡ n = cc in
-    record { bound = omega arith; short = omega arith; pad = 0 ∷ 0 ∷ 0 ∷ []; fits = IsOctets-zeros 3; told = 4; head = command 0 0 0 [] refl refl; left = omega arith; within = omega arith }
+    record { bound = omega arith; needs = sym is; short = omega arith; pad = 0 ∷ 0 ∷ 0 ∷ []; fits = IsOctets-zeros 3; told = 4; head = command 0 0 0 [] refl refl; left = omega arith; within = omega arith }
 at_least_short limit (suc zero ∷ a ∷ []) n low fits e =
     let is : 4 ≡ n = cc in
-    record { bound = omega arith; short = omega arith; pad = 0 ∷ 0 ∷ []; fits = IsOctets-zeros 2; told = 4; head = command a 0 0 [] refl refl; left = omega arith; within = omega arith }
+    record { bound = omega arith; needs = sym is; short = omega arith; pad = 0 ∷ 0 ∷ []; fits = IsOctets-zeros 2; told = 4; head = command a 0 0 [] refl refl; left = omega arith; within = omega arith }
 at_least_short limit (suc zero ∷ a ∷ b ∷ []) n low fits e =
     let is : 4 ≡ n = cc in
-    record { bound = omega arith; short = omega arith; pad = 0 ∷ []; fits = IsOctets-zeros 1; told = 4; head = command a b 0 [] refl refl; left = omega arith; within = omega arith }
+    record { bound = omega arith; needs = sym is; short = omega arith; pad = 0 ∷ []; fits = IsOctets-zeros 1; told = 4; head = command a b 0 [] refl refl; left = omega arith; within = omega arith }
 at_least_short limit (suc zero ∷ a ∷ b ∷ size ∷ rest) n low fits e = absurd cc
 at_least_short limit (suc (suc zero) ∷ []) n low fits e =
     let is : 5 ≡ n = cc in
-    record { bound = omega arith; short = omega arith; pad = 0 ∷ 0 ∷ 0 ∷ 0 ∷ []; fits = IsOctets-zeros 4; told = 5; head = acl 0 0 0 0 [] refl (omega arith) refl; left = omega arith; within = omega arith }
+    record { bound = omega arith; needs = sym is; short = omega arith; pad = 0 ∷ 0 ∷ 0 ∷ 0 ∷ []; fits = IsOctets-zeros 4; told = 5; head = acl 0 0 0 0 [] refl (omega arith) refl; left = omega arith; within = omega arith }
 at_least_short limit (suc (suc zero) ∷ a ∷ []) n low fits e =
     let is : 5 ≡ n = cc in
-    record { bound = omega arith; short = omega arith; pad = 0 ∷ 0 ∷ 0 ∷ []; fits = IsOctets-zeros 3; told = 5; head = acl a 0 0 0 [] refl (omega arith) refl; left = omega arith; within = omega arith }
+    record { bound = omega arith; needs = sym is; short = omega arith; pad = 0 ∷ 0 ∷ 0 ∷ []; fits = IsOctets-zeros 3; told = 5; head = acl a 0 0 0 [] refl (omega arith) refl; left = omega arith; within = omega arith }
 at_least_short limit (suc (suc zero) ∷ a ∷ b ∷ []) n low fits e =
     let is : 5 ≡ n = cc in
-    record { bound = omega arith; short = omega arith; pad = 0 ∷ 0 ∷ []; fits = IsOctets-zeros 2; told = 5; head = acl a b 0 0 [] refl (omega arith) refl; left = omega arith; within = omega arith }
+    record { bound = omega arith; needs = sym is; short = omega arith; pad = 0 ∷ 0 ∷ []; fits = IsOctets-zeros 2; told = 5; head = acl a b 0 0 [] refl (omega arith) refl; left = omega arith; within = omega arith }
 at_least_short limit (suc (suc zero) ∷ a ∷ b ∷ size ∷ []) n low fits e =
     let is : 5 ≡ n = cc in
     let small : size < 256 = fits 3 in
-    record { bound = omega arith; short = omega arith; pad = 0 ∷ []; fits = IsOctets-zeros 1; told = 5 + (size + 256 * 0); head = acl a b size 0 [] refl (omega arith) refl; left = omega arith; within = omega arith }
+    record { bound = omega arith; needs = sym is; short = omega arith; pad = 0 ∷ []; fits = IsOctets-zeros 1; told = 5 + (size + 256 * 0); head = acl a b size 0 [] refl (omega arith) refl; left = omega arith; within = omega arith }
 at_least_short limit (suc (suc zero) ∷ a ∷ b ∷ size ∷ high ∷ rest) n low fits e = absurd (acl_never_short limit (size + 256 * high) n e)
 at_least_short limit (suc (suc (suc zero)) ∷ []) n low fits e =
     let is : 4 ≡ n = cc in
-    record { bound = omega arith; short = omega arith; pad = 0 ∷ 0 ∷ 0 ∷ []; fits = IsOctets-zeros 3; told = 4; head = sync 0 0 0 [] refl refl; left = omega arith; within = omega arith }
+    record { bound = omega arith; needs = sym is; short = omega arith; pad = 0 ∷ 0 ∷ 0 ∷ []; fits = IsOctets-zeros 3; told = 4; head = sync 0 0 0 [] refl refl; left = omega arith; within = omega arith }
 at_least_short limit (suc (suc (suc zero)) ∷ a ∷ []) n low fits e =
     let is : 4 ≡ n = cc in
-    record { bound = omega arith; short = omega arith; pad = 0 ∷ 0 ∷ []; fits = IsOctets-zeros 2; told = 4; head = sync a 0 0 [] refl refl; left = omega arith; within = omega arith }
+    record { bound = omega arith; needs = sym is; short = omega arith; pad = 0 ∷ 0 ∷ []; fits = IsOctets-zeros 2; told = 4; head = sync a 0 0 [] refl refl; left = omega arith; within = omega arith }
 at_least_short limit (suc (suc (suc zero)) ∷ a ∷ b ∷ []) n low fits e =
     let is : 4 ≡ n = cc in
-    record { bound = omega arith; short = omega arith; pad = 0 ∷ []; fits = IsOctets-zeros 1; told = 4; head = sync a b 0 [] refl refl; left = omega arith; within = omega arith }
+    record { bound = omega arith; needs = sym is; short = omega arith; pad = 0 ∷ []; fits = IsOctets-zeros 1; told = 4; head = sync a b 0 [] refl refl; left = omega arith; within = omega arith }
 at_least_short limit (suc (suc (suc zero)) ∷ a ∷ b ∷ size ∷ rest) n low fits e = absurd cc
 at_least_short limit (suc (suc (suc (suc zero))) ∷ []) n low fits e =
     let is : 3 ≡ n = cc in
-    record { bound = omega arith; short = omega arith; pad = 0 ∷ 0 ∷ []; fits = IsOctets-zeros 2; told = 3; head = event 0 0 [] refl refl; left = omega arith; within = omega arith }
+    record { bound = omega arith; needs = sym is; short = omega arith; pad = 0 ∷ 0 ∷ []; fits = IsOctets-zeros 2; told = 3; head = event 0 0 [] refl refl; left = omega arith; within = omega arith }
 at_least_short limit (suc (suc (suc (suc zero))) ∷ a ∷ []) n low fits e =
     let is : 3 ≡ n = cc in
-    record { bound = omega arith; short = omega arith; pad = 0 ∷ []; fits = IsOctets-zeros 1; told = 3; head = event a 0 [] refl refl; left = omega arith; within = omega arith }
+    record { bound = omega arith; needs = sym is; short = omega arith; pad = 0 ∷ []; fits = IsOctets-zeros 1; told = 3; head = event a 0 [] refl refl; left = omega arith; within = omega arith }
 at_least_short limit (suc (suc (suc (suc zero))) ∷ code ∷ size ∷ rest) n low fits e = absurd cc
 at_least_short limit (suc (suc (suc (suc (suc k)))) ∷ xs) n low fits e = absurd cc
 
@@ -384,3 +413,25 @@ pub whole_known : (limit : ℕ) (octets : List ℕ) (n : ℕ) → limit < 2 ^ 16
 whole_known limit octets n fits e le =
     let front = known_above limit 65535 (take n octets) n (omega arith) (known_take limit octets n e le) in
     front ∙ ap Known (sym (length-take-le n octets le))
+
+-- ---- a packet's octets are octets
+
+pub spelling_octets : (limit : ℕ) (packet : Packet) → IsPacket limit packet → IsOctets (spelling packet)
+spelling_octets limit (Command opcode params) fits =
+    IsOctets-cons 1 (opcode % 256 ∷ opcode / 256 % 256 ∷ length params ∷ params) (omega arith)
+    (IsOctets-cons (opcode % 256) (opcode / 256 % 256 ∷ length params ∷ params) (omega arith)
+    (IsOctets-cons (opcode / 256 % 256) (length params ∷ params) (omega arith) (IsOctets-cons (length params) params fits.1 fits.2)))
+spelling_octets limit (Acl word octets) fits =
+    IsOctets-cons 2 (word % 256 ∷ word / 256 % 256 ∷ length octets % 256 ∷ length octets / 256 % 256 ∷ octets) (omega arith)
+    (IsOctets-cons (word % 256) (word / 256 % 256 ∷ length octets % 256 ∷ length octets / 256 % 256 ∷ octets) (omega arith)
+    (IsOctets-cons (word / 256 % 256) (length octets % 256 ∷ length octets / 256 % 256 ∷ octets) (omega arith)
+    (IsOctets-cons (length octets % 256) (length octets / 256 % 256 ∷ octets) (omega arith) (IsOctets-cons (length octets / 256 % 256) octets (omega arith) fits.3))))
+spelling_octets limit (Sync word octets) fits =
+    IsOctets-cons 3 (word % 256 ∷ word / 256 % 256 ∷ length octets ∷ octets) (omega arith)
+    (IsOctets-cons (word % 256) (word / 256 % 256 ∷ length octets ∷ octets) (omega arith)
+    (IsOctets-cons (word / 256 % 256) (length octets ∷ octets) (omega arith) (IsOctets-cons (length octets) octets fits.1 fits.2)))
+spelling_octets limit (Event code params) fits =
+    IsOctets-cons 4 (code ∷ length params ∷ params) (omega arith) (IsOctets-cons code (length params ∷ params) fits.0 (IsOctets-cons (length params) params fits.1 fits.2))
+
+pub unfinished_octets : (limit : ℕ) (octets : List ℕ) → IsUnfinished limit octets → IsOctets octets
+unfinished_octets limit octets u = IsOctets-front octets u.1 (subst IsOctets (sym u.4) (spelling_octets limit u.0 u.2))

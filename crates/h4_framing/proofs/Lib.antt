@@ -1,3 +1,4 @@
 pub mod OctetLists
 pub mod ExtentLemmas
 pub mod SpellingLemmas
+pub mod GatheringLemmas

@@ -20,7 +20,7 @@ pub(crate) enum Gathered {
     Refused(H4Refusal, usize),
 }
 
-/// Copies of the piece what the packet in the buffer wants, its first octets first.
+/// Copies of the piece what the packet in the buffer wants.
 pub(crate) fn gather(buffer: &mut Vec<u8>, piece: &[u8], limit: u16) -> Gathered
     requires limit { 255 ≤ limit }
     requires room { 5 + limit ≤ vec_capacity buffer.old }
@@ -29,10 +29,7 @@ pub(crate) fn gather(buffer: &mut Vec<u8>, piece: &[u8], limit: u16) -> Gathered
     ensures gathered { Gathers limit buffer.old.items piece.now result buffer.new.items }
     ensures capacity { vec_capacity buffer.old ≤ vec_capacity buffer.new }
 {
-    let used = match extent_of(buffer, limit) {
-        Extent::AtLeast(length) => top_up(buffer, piece, length),
-        _ => 0,
-    };
+    let used = gather_head(buffer, piece, limit);
     match extent_of(buffer, limit) {
         Extent::Known(length) => {
             let rest = top_up(buffer, &piece[used..], length);
@@ -44,6 +41,28 @@ pub(crate) fn gather(buffer: &mut Vec<u8>, piece: &[u8], limit: u16) -> Gathered
         }
         Extent::AtLeast(_) => Gathered::More,
         Extent::Refused(refusal, place) => Gathered::Refused(refusal, place),
+    }
+}
+
+/// Copies of the piece what leads up to the length of the packet in the buffer, and answers how
+/// many octets that was.
+fn gather_head(buffer: &mut Vec<u8>, piece: &[u8], limit: u16) -> usize
+    requires limit { 255 ≤ limit }
+    requires room { 5 + limit ≤ vec_capacity buffer.old }
+    requires begun { 0 < vec_len buffer.old }
+    requires unfinished { IsUnfinished limit buffer.old.items }
+    ensures count { result ≤ length piece.now }
+    ensures items { buffer.new.items ≡ buffer.old.items ++ take result piece.now }
+    // The length stays unknown only where the piece has no more octets.
+    ensures all { (n : ℕ) → extent limit buffer.new.items ≡ AtLeast n → result ≡ length piece.now }
+    // No octet of what stands behind the packet is copied.
+    ensures within { (n : ℕ) → extent limit buffer.new.items ≡ Known n → vec_len buffer.new ≤ n × (result ≡ 0 → vec_len buffer.new < n) }
+    ensures capacity { vec_capacity buffer.old ≤ vec_capacity buffer.new }
+{
+    match extent_of(buffer, limit) {
+        Extent::AtLeast(length) => top_up(buffer, piece, length),
+        Extent::Known(_) => 0,
+        Extent::Refused(_, _) => 0,
     }
 }
 
