@@ -2,3 +2,4 @@ pub mod OctetLists
 pub mod ExtentLemmas
 pub mod SpellingLemmas
 pub mod GatheringLemmas
+pub mod TakingLemmas

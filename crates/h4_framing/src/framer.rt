@@ -1,6 +1,6 @@
 //! Packets out of a stream that comes in pieces.
 
-use crate::gathering::{Gathered, gather};
+use crate::gathering::{Gathered, gather, refill};
 use crate::leading::{Leading, first, unit_of};
 use crate::refusal::H4Refusal;
 use crate::unit::Unit;
@@ -99,8 +99,7 @@ impl Framer {
                 Taken::Whole(unit, used)
             }
             Leading::Partial => {
-                self.buffer.clear();
-                let _room_was_reserved = self.buffer.extend_from_slice(piece);
+                refill(&mut self.buffer, piece);
                 self.held = piece.len();
                 Taken::More
             }

@@ -20,6 +20,16 @@ pub(crate) enum Gathered {
     Refused(H4Refusal, usize),
 }
 
+/// Puts the octets into the buffer, in place of those that it had.
+pub(crate) fn refill(buffer: &mut Vec<u8>, octets: &[u8])
+    requires { length octets.now ≤ vec_capacity buffer.old }
+    ensures items { buffer.new.items ≡ octets.now }
+    ensures capacity { vec_capacity buffer.old ≤ vec_capacity buffer.new }
+{
+    buffer.clear();
+    let _room_was_reserved = buffer.extend_from_slice(octets);
+}
+
 /// Copies of the piece what the packet in the buffer wants.
 pub(crate) fn gather(buffer: &mut Vec<u8>, piece: &[u8], limit: u16) -> Gathered
     requires limit { 255 ≤ limit }
