@@ -3,3 +3,4 @@ pub mod ExtentLemmas
 pub mod SpellingLemmas
 pub mod GatheringLemmas
 pub mod TakingLemmas
+pub mod ReadingLemmas

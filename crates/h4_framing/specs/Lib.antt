@@ -5,3 +5,5 @@ pub mod Gathering
 pub mod Leading
 pub mod Framing
 pub mod Taking
+pub mod Accounts
+pub mod Laws

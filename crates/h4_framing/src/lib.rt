@@ -5,6 +5,7 @@
 mod extent;
 mod framer;
 mod gathering;
+pub mod laws;
 mod leading;
 mod refusal;
 mod unit;
