@@ -165,7 +165,7 @@ pub known_bound : (limit : ℕ) (octets : List ℕ) (n : ℕ) → 255 ≤ limit 
 known_bound limit octets n low fits e = head_bound limit octets n low fits (known_head limit octets n e)
 
 -- octets with a tail that tells their length, which is not reached yet, begin a packet
-padded_unfinished : (limit : ℕ) (octets pad : List ℕ) (m : ℕ) → HasHead limit (octets ++ pad) m → IsOctets octets → IsOctets pad → length octets < m → length (octets ++ pad) ≤ m → IsUnfinished limit octets
+pub padded_unfinished : (limit : ℕ) (octets pad : List ℕ) (m : ℕ) → HasHead limit (octets ++ pad) m → IsOctets octets → IsOctets pad → length octets < m → length (octets ++ pad) ≤ m → IsUnfinished limit octets
 padded_unfinished limit octets pad m head fits fits-pad lt le =
     let zeros : List ℕ = replicate (m - length (octets ++ pad)) 0 in
     let more : List ℕ = pad ++ zeros in

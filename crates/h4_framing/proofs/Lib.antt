@@ -4,3 +4,5 @@ pub mod SpellingLemmas
 pub mod GatheringLemmas
 pub mod TakingLemmas
 pub mod ReadingLemmas
+pub mod FaultLemmas
+pub mod AccountLemmas

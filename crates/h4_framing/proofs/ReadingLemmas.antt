@@ -23,7 +23,7 @@ use Rattle.h4_framing.proofs.ExtentLemmas.{packet_known, known_packet, known_tak
 use Rattle.h4_framing.proofs.SpellingLemmas.{one_spelling}
 
 -- no packet stands whole at the front
-NoPacket : ℕ → List ℕ → Type 0
+pub NoPacket : ℕ → List ℕ → Type 0
 NoPacket limit octets = (p : Packet) (more : List ℕ) → IsPacket limit p → octets ≡ spelling p ++ more → ⊥
 
 unfinished_none : (limit : ℕ) (octets : List ℕ) → IsUnfinished limit octets → NoPacket limit octets
@@ -32,15 +32,15 @@ unfinished_none limit octets u p more fits e =
     let lt = unfinished_known limit octets (length (spelling p)) u (ap (extent limit) e ∙ packet_known limit p more fits) in
     omega (arith, ap length e, length-append (spelling p) more)
 
-wrong_none : (limit : ℕ) (octets : List ℕ) (r : H4Refusal) (n : ℕ) → GoesWrong limit octets r n → NoPacket limit octets
+pub wrong_none : (limit : ℕ) (octets : List ℕ) (r : H4Refusal) (n : ℕ) → GoesWrong limit octets r n → NoPacket limit octets
 unfolding NoPacket
 wrong_none limit octets r n h p more fits e = packet_right limit p more r n fits (subst (λ (xs : List ℕ). GoesWrong limit xs r n) e h)
 
-nothing_none : (limit : ℕ) → NoPacket limit []
+pub nothing_none : (limit : ℕ) → NoPacket limit []
 unfolding NoPacket
 nothing_none limit p more fits e = omega (arith, packet_long p, ap length e, length-append (spelling p) more)
 
-ends_none : (limit : ℕ) (rest : List ℕ) (from : ℕ) (e : Ending) → Ends limit rest from e → NoPacket limit rest
+pub ends_none : (limit : ℕ) (rest : List ℕ) (from : ℕ) (e : Ending) → Ends limit rest from e → NoPacket limit rest
 ends_none limit rest from Whole h = subst (NoPacket limit) (sym h) (nothing_none limit)
 ends_none limit rest from Cut h = unfinished_none limit rest h.1
 ends_none limit rest from (Fault r place) h = wrong_none limit rest r h.0 h.1
@@ -51,7 +51,7 @@ pub record ComesFirst (ps qs : List Packet) (x rest : List ℕ) : Type 0 where
   pub split : qs ≡ ps ++ others
   pub left : x ≡ spellings others ++ rest
 
-front_packets : (limit : ℕ) (ps qs : List Packet) (x rest : List ℕ) → AllByRecursion (IsPacket limit) ps → AllByRecursion (IsPacket limit) qs → NoPacket limit rest
+pub front_packets : (limit : ℕ) (ps qs : List Packet) (x rest : List ℕ) → AllByRecursion (IsPacket limit) ps → AllByRecursion (IsPacket limit) qs → NoPacket limit rest
     → spellings ps ++ x ≡ spellings qs ++ rest → ComesFirst ps qs x rest
 unfolding NoPacket
 front_packets limit [] qs x rest fits-ps fits-qs none e = record { others = qs; split = refl; left = e }
@@ -74,7 +74,7 @@ pub all_append : (P : Packet → Type 0) (ps qs : List Packet) → AllByRecursio
 all_append P [] qs h k = k
 all_append P (p ∷ ps) qs h k = (h.0, all_append P ps qs h.1 k)
 
-same_split : (limit : ℕ) (ps qs : List Packet) (x y : List ℕ) → AllByRecursion (IsPacket limit) ps → AllByRecursion (IsPacket limit) qs → NoPacket limit x → NoPacket limit y
+pub same_split : (limit : ℕ) (ps qs : List Packet) (x y : List ℕ) → AllByRecursion (IsPacket limit) ps → AllByRecursion (IsPacket limit) qs → NoPacket limit x → NoPacket limit y
     → spellings ps ++ x ≡ spellings qs ++ y → (ps ≡ qs) × (x ≡ y)
 same_split limit ps qs x y fits-ps fits-qs none-x none-y e =
     let first = front_packets limit ps qs x y fits-ps fits-qs none-y e in
@@ -85,7 +85,7 @@ same_split limit ps qs x y fits-ps fits-qs none-x none-y e =
 refused_same : (r s : H4Refusal) (m n : ℕ) → Refused r m ≡ Refused s n → (r ≡ s) × (m ≡ n)
 refused_same r s m n e = (cc, cc)
 
-no_wrong_nothing : (limit : ℕ) (r : H4Refusal) (n : ℕ) → GoesWrong limit [] r n → ⊥
+pub no_wrong_nothing : (limit : ℕ) (r : H4Refusal) (n : ℕ) → GoesWrong limit [] r n → ⊥
 no_wrong_nothing limit BadIndicator n h = let e = h.2 in absurd cc
 no_wrong_nothing limit AclTooLong n h = let e = h.3 in absurd cc
 no_wrong_nothing limit Truncated n h = h

@@ -26,3 +26,39 @@ pub fn each_stream_is_read()
     ensures { EachStreamIsRead }
 {
 }
+
+/// What ends behind its last packet or within a packet begins a list of packets.
+pub fn sound_stream_begins()
+    ensures { SoundStreamBegins }
+{
+}
+
+/// A fault stands at the first place where the stream begins no list of packets.
+pub fn fault_is_first_place()
+    ensures { FaultIsFirstPlace }
+{
+}
+
+/// A new framer accounts for nothing.
+pub fn new_accounts()
+    ensures { NewAccounts }
+{
+}
+
+/// A framer accounts for each piece that it takes, however the stream was cut.
+pub fn taking_accounts()
+    ensures { TakingAccounts }
+{
+}
+
+/// At the end a framer's packets are those of all that it was fed.
+pub fn end_accounts()
+    ensures { EndAccounts }
+{
+}
+
+/// The packets that a framer gave are the first of its stream, however that goes on.
+pub fn given_come_first()
+    ensures { GivenComeFirst }
+{
+}
