@@ -1,0 +1,9 @@
+pub mod Packets
+pub mod Stream
+pub mod Extents
+pub mod Gathering
+pub mod Leading
+pub mod Framing
+pub mod Taking
+pub mod Accounts
+pub mod Laws
