@@ -1,0 +1,123 @@
+//! The lines of packets and of refusals.
+
+ghost use Rattle.std.specs.Prelude.{◌≡◌, ◌++◌, length, codes, OnOk, IfOk, decimal};
+ghost use Rattle.h4_framing.specs.Packets.{packet, spelling, IsPacket};
+ghost use Rattle.hex.specs.Hex.{encode_upper};
+ghost use Rattle.h4_view.specs.Lines.{octets_text, word_text, packet_text, line, refusal_line};
+
+use crate::names::{command_name, event_name};
+use crate::refusal::ViewRefusal;
+use bt_base::NoMemory;
+use h4_framing::Unit;
+use std::alloc::Global;
+
+/// Text that is put together in memory.
+pub(crate) type Text = Vec<u8>;
+
+fn push_decimal(text: &mut Text, number: u64) -> Result<(), NoMemory>
+    ensures { OnOk result (text.new.items ≡ text.old.items ++ decimal number) }
+{
+    let mut buffer = itoa::Buffer::new();
+    text.extend_from_slice(buffer.format(number).as_bytes())?;
+    Ok(())
+}
+
+fn push_hex(alloc: Global, text: &mut Text, octets: &[u8]) -> Result<(), NoMemory>
+    ensures { OnOk result (text.new.items ≡ text.old.items ++ encode_upper octets.now) }
+{
+    let digits = hex::encode_upper(alloc, octets)?;
+    text.extend_from_slice(digits.as_bytes())?;
+    Ok(())
+}
+
+fn push_octets(alloc: Global, text: &mut Text, octets: &[u8]) -> Result<(), NoMemory>
+    ensures { OnOk result (text.new.items ≡ text.old.items ++ octets_text octets.now) }
+{
+    if octets.is_empty() {
+        text.push(b'-')?;
+        return Ok(());
+    }
+    push_hex(alloc, text, octets)
+}
+
+fn push_text(text: &mut Text, more: &str) -> Result<(), NoMemory>
+    ensures { OnOk result (text.new.items ≡ text.old.items ++ more.now) }
+{
+    text.extend_from_slice(more.as_bytes())?;
+    Ok(())
+}
+
+/// Adds ` NAME HEX` behind the number of a command or an event.
+fn push_named(alloc: Global, text: &mut Text, name: &str, params: &[u8]) -> Result<(), NoMemory>
+    ensures { OnOk result (text.new.items ≡ text.old.items ++ (codes " " ++ name.now ++ codes " " ++ octets_text params.now)) }
+{
+    push_text(text, " ")?;
+    push_text(text, name)?;
+    push_text(text, " ")?;
+    push_octets(alloc, text, params)
+}
+
+/// Adds `KIND WORD LENGTH` of a packet of data.
+fn push_counted(alloc: Global, text: &mut Text, kind: &str, word: u16, length: usize) -> Result<(), NoMemory>
+    ensures { OnOk result (text.new.items ≡ text.old.items ++ (kind.now ++ word_text word ++ codes " " ++ decimal length)) }
+{
+    push_text(text, kind)?;
+    push_hex(alloc, text, &word.to_be_bytes())?;
+    push_text(text, " ")?;
+    push_decimal(text, length as u64)
+}
+
+fn push_packet(alloc: Global, text: &mut Text, unit: &Unit<'_>) -> Result<(), NoMemory>
+    ensures { OnOk result (text.new.items ≡ text.old.items ++ packet_text (packet unit.now)) }
+{
+    match *unit {
+        Unit::Command { opcode, params } => {
+            push_text(text, "cmd ")?;
+            push_hex(alloc, text, &opcode.to_be_bytes())?;
+            push_named(alloc, text, command_name(opcode), params)
+        }
+        Unit::Acl { word, octets } => push_counted(alloc, text, "acl ", word, octets.len()),
+        Unit::Sync { word, octets } => push_counted(alloc, text, "sync ", word, octets.len()),
+        Unit::Event { code, params } => {
+            push_text(text, "evt ")?;
+            push_hex(alloc, text, &[code])?;
+            push_named(alloc, text, event_name(code), params)
+        }
+    }
+}
+
+/// Adds the line of a packet at that offset.
+pub(crate) fn push_line(alloc: Global, text: &mut Text, offset: u64, unit: &Unit<'_>) -> Result<(), NoMemory>
+    ensures { OnOk result (text.new.items ≡ text.old.items ++ line offset (packet unit.now)) }
+{
+    push_decimal(text, offset)?;
+    push_text(text, " ")?;
+    push_packet(alloc, text, unit)?;
+    push_text(text, "\n")
+}
+
+/// The line of a refusal at that offset.
+pub(crate) fn refusal_text(alloc: Global, refusal: ViewRefusal, place: u64) -> Result<Text, NoMemory>
+    ensures { IfOk result (λ text. text.items ≡ refusal_line refusal place) }
+{
+    let mut text = Vec::new(alloc);
+    push_text(&mut text, "refused offset ")?;
+    push_decimal(&mut text, place)?;
+    push_text(&mut text, " ")?;
+    push_text(&mut text, refusal.name())?;
+    push_text(&mut text, "\n")?;
+    Ok(text)
+}
+
+/// How many octets the packet has on the wire.
+pub(crate) fn spelled_length(unit: &Unit<'_>) -> usize
+    requires { IsPacket 65535 (packet unit.now) }
+    ensures { result ≡ length (spelling (packet unit.now)) }
+{
+    match unit {
+        Unit::Command { params, .. } => 4 + params.len(),
+        Unit::Acl { octets, .. } => 5 + octets.len(),
+        Unit::Sync { octets, .. } => 4 + octets.len(),
+        Unit::Event { params, .. } => 3 + params.len(),
+    }
+}

@@ -1,0 +1,59 @@
+//! Why a stream could not be viewed to its end.
+
+ghost use Rattle.std.specs.Prelude.{◌≡◌};
+
+use bt_base::NoMemory;
+use thiserror::Error;
+
+/// Why octets are refused.
+#[derive(Clone, Copy, Debug, PartialEq, Eq)]
+pub enum ViewRefusal {
+    /// An octet that no packet begins with stands where a packet should begin.
+    BadIndicator,
+    /// The input ends within a packet; the place is that of its indicator.
+    Truncated,
+    /// The input goes past its greatest length.
+    TooLong,
+}
+
+/// Why a view stopped before the end of a stream of whole packets.
+#[derive(Debug, Drop, Error)]
+pub enum ViewFault {
+    /// The octets are refused, at that place.
+    #[error("{0:?} at octet {1}")]
+    Refused(ViewRefusal, u64),
+    /// The source failed.
+    #[error("the source failed")]
+    ReadFault,
+    /// The sink failed.
+    #[error("the sink failed")]
+    WriteFault,
+    /// No memory could be had.
+    #[error("no memory could be had")]
+    NoMemory,
+}
+
+impl From<NoMemory> for ViewFault {
+    ghost use Rattle.h4_view.specs.declared.refusal.ViewFault.TheVariants.{NoMemory};
+
+    ghost from_gives = { λ _ fault. fault ≡ NoMemory };
+
+    fn from(_error: NoMemory) -> ViewFault {
+        ViewFault::NoMemory
+    }
+}
+
+impl ViewRefusal {
+    ghost use Rattle.h4_view.specs.Lines.{refusal_name};
+
+    /// Its name in a refusal line.
+    pub(crate) fn name(self) -> &'static str
+        ensures { result.now ≡ refusal_name self }
+    {
+        match self {
+            ViewRefusal::BadIndicator => "BadIndicator",
+            ViewRefusal::Truncated => "Truncated",
+            ViewRefusal::TooLong => "TooLong",
+        }
+    }
+}
