@@ -3,6 +3,9 @@
 
 mod line;
 mod names;
+mod piece;
+mod raw;
 mod refusal;
 
+pub use raw::view_raw;
 pub use refusal::{ViewFault, ViewRefusal};

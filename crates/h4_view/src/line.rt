@@ -58,7 +58,13 @@ fn push_named(alloc: Global, text: &mut Text, name: &str, params: &[u8]) -> Resu
 }
 
 /// Adds `KIND WORD LENGTH` of a packet of data.
-fn push_counted(alloc: Global, text: &mut Text, kind: &str, word: u16, length: usize) -> Result<(), NoMemory>
+fn push_counted(
+    alloc: Global,
+    text: &mut Text,
+    kind: &str,
+    word: u16,
+    length: usize,
+) -> Result<(), NoMemory>
     ensures { OnOk result (text.new.items ≡ text.old.items ++ (kind.now ++ word_text word ++ codes " " ++ decimal length)) }
 {
     push_text(text, kind)?;
@@ -87,7 +93,12 @@ fn push_packet(alloc: Global, text: &mut Text, unit: &Unit<'_>) -> Result<(), No
 }
 
 /// Adds the line of a packet at that offset.
-pub(crate) fn push_line(alloc: Global, text: &mut Text, offset: u64, unit: &Unit<'_>) -> Result<(), NoMemory>
+pub(crate) fn push_line(
+    alloc: Global,
+    text: &mut Text,
+    offset: u64,
+    unit: &Unit<'_>,
+) -> Result<(), NoMemory>
     ensures { OnOk result (text.new.items ≡ text.old.items ++ line offset (packet unit.now)) }
 {
     push_decimal(text, offset)?;
@@ -97,7 +108,11 @@ pub(crate) fn push_line(alloc: Global, text: &mut Text, offset: u64, unit: &Unit
 }
 
 /// The line of a refusal at that offset.
-pub(crate) fn refusal_text(alloc: Global, refusal: ViewRefusal, place: u64) -> Result<Text, NoMemory>
+pub(crate) fn refusal_text(
+    alloc: Global,
+    refusal: ViewRefusal,
+    place: u64,
+) -> Result<Text, NoMemory>
     ensures { IfOk result (λ text. text.items ≡ refusal_line refusal place) }
 {
     let mut text = Vec::new(alloc);

@@ -3,6 +3,7 @@
 ghost use Rattle.std.specs.Prelude.{◌≡◌};
 
 use bt_base::NoMemory;
+use std::alloc::AllocError;
 use thiserror::Error;
 
 /// Why octets are refused.
@@ -39,6 +40,16 @@ impl From<NoMemory> for ViewFault {
     ghost from_gives = { λ _ fault. fault ≡ NoMemory };
 
     fn from(_error: NoMemory) -> ViewFault {
+        ViewFault::NoMemory
+    }
+}
+
+impl From<AllocError> for ViewFault {
+    ghost use Rattle.h4_view.specs.declared.refusal.ViewFault.TheVariants.{NoMemory};
+
+    ghost from_gives = { λ _ fault. fault ≡ NoMemory };
+
+    fn from(_error: AllocError) -> ViewFault {
         ViewFault::NoMemory
     }
 }
