@@ -49,8 +49,11 @@ whole_step limit before n held piece fed ps unit h fits le spelled =
     omega (arith, ap length (spellings_push ps p), length-append (spellings ps) (spelling p), ap length spelled, length-append held (take n piece), length-take-le n piece le) in
     record {
       each = all_append (IsPacket limit) ps (p ∷ []) h.each (fits, tt);
-      kept = (is ∙ sym (append-nil (spellings (ps ++ p ∷ []))), nothing_unfinished limit,
-        ap (λ (m : ℕ). counted m (length held + n)) h.kept.2 ∙ counted_twice (length (spellings ps)) (length held + n) ∙ ap (counted 0) long);
+      kept = (
+        is ∙ sym (append-nil (spellings (ps ++ p ∷ []))),
+        nothing_unfinished limit,
+        ap (λ (m : ℕ). counted m (length held + n)) h.kept.2 ∙ counted_twice (length (spellings ps)) (length held + n) ∙ ap (counted 0) long,
+      );
     }
 
 more_step : (limit before : ℕ) (held piece fed : List ℕ) (ps : List Packet) → Accounts fed ps (framing limit before held None) → IsUnfinished limit (held ++ piece)
@@ -65,9 +68,11 @@ refused_step limit before place n held piece fed ps r h wrong at =
     subst (λ (ks : List Packet). Accounts (fed ++ piece) ks (framing limit before held (Some (r, place)))) (sym (append-nil ps))
     (record {
       each = h.each;
-      kept = (length (spellings ps) + n,
+      kept = (
+        length (spellings ps) + n,
         record { each = h.each; rest = held ++ piece; whole = ap (λ (xs : List ℕ). xs ++ piece) h.kept.0 ∙ append_assoc (spellings ps) held piece; ends = (n, wrong, refl) },
-        at ∙ ap (λ (m : ℕ). counted m n) h.kept.2 ∙ counted_twice (length (spellings ps)) n);
+        at ∙ ap (λ (m : ℕ). counted m n) h.kept.2 ∙ counted_twice (length (spellings ps)) n,
+      );
     })
 
 again_step : (limit before place : ℕ) (held piece fed : List ℕ) (ps : List Packet) (r : H4Refusal) (f : H4Refusal × ℕ) → Accounts fed ps (framing limit before held (Some f)) → f ≡ (r, place)
