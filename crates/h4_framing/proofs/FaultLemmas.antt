@@ -1,14 +1,14 @@
 -- A fault stands at the first place where a stream begins no list of packets.
-use Rattle.std.proofs.Common.{◌≡◌, ◌≢◌, ℕ, zero, suc, ◌+◌, ◌-◌, ◌*◌, ◌/◌, ◌%◌, ◌<◌, ◌≤◌, List, [], ◌∷◌, ◌++◌, length, take, drop, refl, sym, ap, subst, ◌∙◌, append_assoc, arith}
+use Rattle.std.proofs.Common.{◌≡◌, ℕ, ◌+◌, ◌*◌, ◌/◌, ◌%◌, ◌<◌, ◌≤◌, List, [], ◌∷◌, ◌++◌, length, take, refl, sym, ap, subst, ◌∙◌, append_assoc, arith}
 use Rattle.std.specs.List.{AllByRecursion}
 use Rattle.std.proofs.lemmas.List.{append-nil, length-append}
 use Rattle.std.proofs.lemmas.List.Concat.{flat_map-append}
 use Rattle.std.proofs.Math.Seq.{take-append-add}
-use Rattle.bt_base.specs.Octets.{IsOctets, le16}
+use Rattle.bt_base.specs.Octets.{le16}
 use Rattle.h4_framing.specs.declared.refusal.H4Refusal.{H4Refusal}
 use Rattle.h4_framing.specs.declared.refusal.H4Refusal.TheVariants.{BadIndicator, AclTooLong, Truncated}
 use Rattle.h4_framing.specs.Packets.{Packet, spelling, spellings, IsPacket}
-use Rattle.h4_framing.specs.Stream.{Begins, IsUnfinished, GoesWrong, Ending, Whole, Cut, Fault, Reads, IsFaultPlace}
+use Rattle.h4_framing.specs.Stream.{Begins, IsUnfinished, GoesWrong, Whole, Cut, Fault, Reads, IsFaultPlace}
 use Rattle.h4_framing.proofs.OctetLists.{IsOctets-cons, IsOctets-zeros}
 use Rattle.h4_framing.proofs.ExtentLemmas.{acl, padded_unfinished, wrong_more}
 use Rattle.h4_framing.proofs.ReadingLemmas.{wrong_none, nothing_none, no_wrong_nothing, same_split, all_append}

@@ -1,12 +1,9 @@
 -- A stream has one reading.
-use Rattle.std.proofs.Common.{◌≡◌, ◌≢◌, ℕ, zero, suc, ◌+◌, ◌-◌, ◌<◌, ◌≤◌, List, [], ◌∷◌, ◌++◌, length, take, drop, refl, sym, ap, subst, ◌∙◌, append_assoc, arith, inl, inr}
-use Rattle.std.specs.Prelude.{◌⊎◌}
+use Rattle.std.proofs.Common.{◌≡◌, ℕ, zero, suc, ◌+◌, ◌≤◌, List, [], ◌∷◌, ◌++◌, length, take, drop, refl, sym, ap, subst, ◌∙◌, append_assoc, arith, inl, inr}
 use Rattle.std.specs.List.{AllByRecursion}
-use Rattle.std.proofs.lemmas.Bool.{cases_lt, cases_eq}
+use Rattle.std.proofs.lemmas.Bool.{cases_lt}
 use Rattle.std.proofs.lemmas.List.{append-nil, length-append, length-take-le, take-append-drop, drop_at, nil_from_length}
-use Rattle.std.proofs.lemmas.List.Concat.{flat_map-append}
-use Rattle.std.proofs.Math.Seq.{take-append-add}
-use Rattle.bt_base.specs.Octets.{IsOctets, le16}
+use Rattle.bt_base.specs.Octets.{IsOctets}
 use Rattle.h4_framing.specs.declared.refusal.H4Refusal.{H4Refusal}
 use Rattle.h4_framing.specs.declared.refusal.H4Refusal.TheVariants.{BadIndicator, AclTooLong, Truncated}
 use Rattle.h4_framing.specs.declared.extent.Extent.{Extent}
@@ -14,12 +11,12 @@ use Rattle.h4_framing.specs.declared.extent.Extent.TheVariants.{AtLeast, Known, 
 use Rattle.h4_framing.specs.declared.leading.Leading.{Leading}
 use Rattle.h4_framing.specs.declared.leading.Leading.TheVariants as leading
 use Rattle.h4_framing.specs.Packets.{Packet, packet, spelling, spellings, IsPacket}
-use Rattle.h4_framing.specs.Stream.{Begins, IsUnfinished, GoesWrong, Ending, Whole, Cut, Fault, Ends, Reads, IsFaultPlace}
+use Rattle.h4_framing.specs.Stream.{IsUnfinished, GoesWrong, Ending, Whole, Cut, Fault, Ends, Reads}
 use Rattle.h4_framing.specs.Extents.{extent}
 use Rattle.h4_framing.specs.Leading.{IsLeading}
 use Rattle.h4_framing.specs.Laws.{IsWholeOf}
 use Rattle.h4_framing.proofs.OctetLists.{IsOctets-drop, IsOctets-take}
-use Rattle.h4_framing.proofs.ExtentLemmas.{packet_known, known_packet, known_take, known_positive, known_unfinished, short_unfinished, refused_wrong, wrong_refused, wrong_more, unfinished_known, unfinished_right, packet_right, packet_long}
+use Rattle.h4_framing.proofs.ExtentLemmas.{packet_known, known_packet, known_take, known_unfinished, short_unfinished, refused_wrong, wrong_refused, unfinished_known, unfinished_right, packet_right, packet_long}
 use Rattle.h4_framing.proofs.SpellingLemmas.{one_spelling}
 
 -- no packet stands whole at the front

@@ -1,7 +1,7 @@
 -- What a framer makes of a piece of the stream.
-use Rattle.std.specs.Prelude.{ℕ, ◌≡◌, ◌≢◌, ◌+◌, ◌<◌, ◌≤◌, List, [], ◌∷◌, ◌++◌, length, take, Option, None, Some, Result, Ok, Err, MatchOption}
+use Rattle.std.specs.Prelude.{ℕ, ◌≡◌, ◌≢◌, ◌+◌, ◌<◌, ◌≤◌, List, [], ◌++◌, length, take, None, Some, Result, Ok, Err, MatchOption}
 use Rattle.h4_framing.specs.declared.refusal.H4Refusal.{H4Refusal}
-use Rattle.h4_framing.specs.declared.refusal.H4Refusal.TheVariants.{BadIndicator, AclTooLong, Truncated}
+use Rattle.h4_framing.specs.declared.refusal.H4Refusal.TheVariants.{Truncated}
 use Rattle.h4_framing.specs.declared.framer.Taken.{Taken}
 use Rattle.h4_framing.specs.declared.framer.Taken.TheVariants.{Whole, More, Refused}
 use Rattle.h4_framing.specs.Packets.{packet, spelling, IsPacket}

@@ -1,7 +1,7 @@
 //! Laws of packets, of streams and of framers. Each is the contract of a function that does
 //! nothing.
 
-ghost use Rattle.h4_framing.specs.Laws.{NoSpellingBeginsAnother, WrittenIsRead, OneReading, EachStreamIsRead, SoundStreamBegins, FaultIsFirstPlace, NewAccounts, TakingAccounts, EndAccounts, GivenComeFirst};
+ghost use Rattle.h4_framing.specs.Laws.{NoSpellingBeginsAnother, WrittenIsRead, OneReading, EachStreamIsRead, SoundStreamBegins, FaultIsFirstPlace, NewAccounts, TakingAccounts, AnyPiecesAccount, EndAccounts, GivenComeFirst};
 
 /// No packet's spelling begins another's.
 pub fn no_spelling_begins_another()
@@ -38,9 +38,14 @@ pub fn new_accounts()
     ensures { NewAccounts }
 {}
 
-/// A framer accounts for each piece that it takes, however the stream was cut.
+/// A framer accounts for each piece that it takes.
 pub fn taking_accounts()
     ensures { TakingAccounts }
+{}
+
+/// However a stream is cut into pieces, a framer accounts for all of it.
+pub fn any_pieces_account()
+    ensures { AnyPiecesAccount }
 {}
 
 /// At the end a framer's packets are those of all that it was fed.

@@ -1,7 +1,6 @@
-use Rattle.std.proofs.Common.{◌≡◌, ◌≤◌, ◌<◌, ℕ, ◌+◌, ◌-◌, length, take, min, vec_len, sym, ap, ◌∙◌, arith}
-use Rattle.bt_base.specs.Octets.{IsOctets}
+use Rattle.std.proofs.Common.{◌≡◌, vec_len, sym, ap, ◌∙◌, arith}
 use Rattle.h4_framing.specs.Extents.{extent}
-use Rattle.h4_framing.specs.declared.extent.Extent.TheVariants.{AtLeast, Known}
+use Rattle.h4_framing.specs.declared.extent.Extent.TheVariants.{AtLeast}
 use Rattle.h4_framing.proofs.ExtentLemmas.{at_least_short, unfinished_octets, unfinished_known}
 use Rattle.h4_framing.proofs.GatheringLemmas.{all_used, none_beyond}
 use Rattle.h4_framing.proofs.gathering.gather_head.Goals as goal

@@ -1,8 +1,8 @@
-use Rattle.std.proofs.Common.{◌≡◌, ◌≤◌, ◌<◌, ℕ, ◌^◌, length, take, sym, ap, subst, ◌∙◌, arith}
+use Rattle.std.proofs.Common.{◌≡◌, ◌≤◌, ◌<◌, ◌^◌, length, take, sym, ap, ◌∙◌, arith}
 use Rattle.std.proofs.lemmas.List.{length-take-le}
 use Rattle.bt_base.specs.Octets.{IsOctets}
 use Rattle.h4_framing.specs.Extents.{extent}
-use Rattle.h4_framing.specs.Packets.{packet, spelling}
+use Rattle.h4_framing.specs.Packets.{packet}
 use Rattle.h4_framing.specs.declared.extent.Extent.TheVariants.{Known}
 use Rattle.h4_framing.proofs.OctetLists.{IsOctets-take}
 use Rattle.h4_framing.proofs.ExtentLemmas.{known_take, whole_known, known_positive, known_unfinished, short_unfinished, refused_wrong}
