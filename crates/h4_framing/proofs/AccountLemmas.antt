@@ -1,7 +1,5 @@
 -- A framer's value accounts for all that it was fed, step by step.
-use Rattle.std.proofs.Common.{◌≡◌, ◌≢◌, ℕ, zero, suc, ◌+◌, ◌-◌, ◌^◌, ◌<◌, ◌≤◌, List, [], ◌∷◌, ◌++◌, length, take, min, Option, None, Some, Result, Ok, Err, refl, sym, ap, subst, ◌∙◌, append_assoc, arith}
-use Rattle.std.specs.Prelude.{MatchOption}
-use Rattle.std.specs.List.{AllByRecursion}
+use Rattle.std.proofs.Common.{◌≡◌, ℕ, ◌+◌, ◌≤◌, List, [], ◌∷◌, ◌++◌, length, take, Option, None, Some, Result, Ok, Err, refl, sym, ap, subst, ◌∙◌, append_assoc, arith}
 use Rattle.std.proofs.lemmas.List.{append-nil, length-append, length-take-le}
 use Rattle.h4_framing.specs.declared.refusal.H4Refusal.{H4Refusal}
 use Rattle.h4_framing.specs.declared.refusal.H4Refusal.TheVariants.{BadIndicator, AclTooLong, Truncated}
@@ -9,13 +7,13 @@ use Rattle.h4_framing.specs.declared.framer.Taken.{Taken}
 use Rattle.h4_framing.specs.declared.framer.Taken.TheVariants as taken
 use Rattle.h4_framing.specs.declared.unit.Unit.{Unit as Lent}
 use Rattle.h4_framing.specs.Packets.{Packet, packet, spelling, spellings, IsPacket}
-use Rattle.h4_framing.specs.Stream.{IsUnfinished, GoesWrong, Ending, Whole, Cut, Fault, Reads}
+use Rattle.h4_framing.specs.Stream.{IsUnfinished, GoesWrong, Ending, Fault, Reads}
 use Rattle.h4_framing.specs.Framing.{Framing, counted}
 use Rattle.h4_framing.specs.Taking.{Takes, EndsWith}
-use Rattle.h4_framing.specs.Accounts.{Accounts, given, used}
+use Rattle.h4_framing.specs.Accounts.{Accounts, given, used, TakesAll, all_used, all_given}
 use Rattle.h4_framing.specs.Laws.{EndReads}
 use Rattle.h4_framing.proofs.ExtentLemmas.{wrong_more}
-use Rattle.h4_framing.proofs.ReadingLemmas.{ComesFirst, front_packets, ends_none, one_reading, all_append}
+use Rattle.h4_framing.proofs.ReadingLemmas.{front_packets, ends_none, one_reading, all_append}
 use Rattle.h4_framing.proofs.FaultLemmas.{spellings_push}
 use Rattle.h4_framing.proofs.TakingLemmas.{nothing_unfinished, framing}
 
@@ -49,8 +47,11 @@ whole_step limit before n held piece fed ps unit h fits le spelled =
     omega (arith, ap length (spellings_push ps p), length-append (spellings ps) (spelling p), ap length spelled, length-append held (take n piece), length-take-le n piece le) in
     record {
       each = all_append (IsPacket limit) ps (p ∷ []) h.each (fits, tt);
-      kept = (is ∙ sym (append-nil (spellings (ps ++ p ∷ []))), nothing_unfinished limit,
-        ap (λ (m : ℕ). counted m (length held + n)) h.kept.2 ∙ counted_twice (length (spellings ps)) (length held + n) ∙ ap (counted 0) long);
+      kept = (
+        is ∙ sym (append-nil (spellings (ps ++ p ∷ []))),
+        nothing_unfinished limit,
+        ap (λ (m : ℕ). counted m (length held + n)) h.kept.2 ∙ counted_twice (length (spellings ps)) (length held + n) ∙ ap (counted 0) long,
+      );
     }
 
 more_step : (limit before : ℕ) (held piece fed : List ℕ) (ps : List Packet) → Accounts fed ps (framing limit before held None) → IsUnfinished limit (held ++ piece)
@@ -65,9 +66,11 @@ refused_step limit before place n held piece fed ps r h wrong at =
     subst (λ (ks : List Packet). Accounts (fed ++ piece) ks (framing limit before held (Some (r, place)))) (sym (append-nil ps))
     (record {
       each = h.each;
-      kept = (length (spellings ps) + n,
+      kept = (
+        length (spellings ps) + n,
         record { each = h.each; rest = held ++ piece; whole = ap (λ (xs : List ℕ). xs ++ piece) h.kept.0 ∙ append_assoc (spellings ps) held piece; ends = (n, wrong, refl) },
-        at ∙ ap (λ (m : ℕ). counted m n) h.kept.2 ∙ counted_twice (length (spellings ps)) n);
+        at ∙ ap (λ (m : ℕ). counted m n) h.kept.2 ∙ counted_twice (length (spellings ps)) n,
+      );
     })
 
 again_step : (limit before place : ℕ) (held piece fed : List ℕ) (ps : List Packet) (r : H4Refusal) (f : H4Refusal × ℕ) → Accounts fed ps (framing limit before held (Some f)) → f ≡ (r, place)
@@ -91,6 +94,17 @@ step limit before held piece fed (Some f) ps (taken.Refused r place) new h k =
 
 pub taking_accounts : (fed piece : List ℕ) (ps : List Packet) (old new : Framing) (t : Taken) → Accounts fed ps old → Takes old piece t new → Accounts (fed ++ used piece t) (ps ++ given t) new
 taking_accounts fed piece ps old new t h k = step old.limit old.before old.held piece fed old.fault ps t new h k
+
+takes_all : (fed : List ℕ) (ps : List Packet) (old new : Framing) (calls : List (List ℕ × Taken)) → Accounts fed ps old → TakesAll old calls new → Accounts (fed ++ all_used calls) (ps ++ all_given calls) new
+takes_all fed ps old new [] h k = subst (Accounts (fed ++ []) (ps ++ [])) (sym k) (rw (append-nil fed, append-nil ps) h)
+takes_all fed ps old new (call ∷ calls) h k =
+    let first = taking_accounts fed call.0 ps old k.0 call.1 h k.1 in
+    let all = takes_all (fed ++ used call.0 call.1) (ps ++ given call.1) k.0 new calls first k.2 in
+    subst (λ (xs : List ℕ). Accounts xs (ps ++ all_given (call ∷ calls)) new) (append_assoc fed (used call.0 call.1) (all_used calls))
+    (subst (λ (ks : List Packet). Accounts ((fed ++ used call.0 call.1) ++ all_used calls) ks new) (append_assoc ps (given call.1) (all_given calls)) all)
+
+pub any_pieces : (limit : ℕ) (calls : List (List ℕ × Taken)) (new : Framing) → TakesAll (framing limit 0 [] None) calls new → Accounts (all_used calls) (all_given calls) new
+any_pieces limit calls new k = takes_all [] [] (framing limit 0 [] None) new calls (new_accounts limit) k
 
 -- ---- the end
 

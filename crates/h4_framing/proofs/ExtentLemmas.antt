@@ -1,12 +1,11 @@
 -- What the length that the first octets tell means for a packet.
-use Rattle.std.proofs.Common.{◌≡◌, ◌≢◌, ℕ, zero, suc, ◌+◌, ◌-◌, ◌*◌, ◌/◌, ◌%◌, ◌^◌, ◌<◌, ◌≤◌, Bool, true, false, List, [], ◌∷◌, ◌++◌, length, take, drop, refl, sym, ap, subst, ◌∙◌, append_assoc, arith, inl, inr}
-use Rattle.std.specs.Prelude.{replicate, nat_lt, if◌then◌else◌}
-use Rattle.std.proofs.lemmas.Bool.{cases_lt, ltb-true, ltb-false, le-ltb, lt-ltb}
+use Rattle.std.proofs.Common.{◌≡◌, ◌≢◌, ℕ, zero, suc, ◌+◌, ◌-◌, ◌*◌, ◌/◌, ◌%◌, ◌^◌, ◌<◌, ◌≤◌, List, [], ◌∷◌, ◌++◌, length, take, drop, refl, sym, ap, subst, ◌∙◌, append_assoc, arith, inl, inr}
+use Rattle.std.specs.Prelude.{replicate}
+use Rattle.std.proofs.lemmas.Bool.{cases_lt, le-ltb, lt-ltb}
 use Rattle.std.proofs.lemmas.List.{append-nil, length-append, length-take, length-take-le, length-replicate, take-append-drop, take-append-le}
 use Rattle.bt_base.specs.Octets.{IsOctets, le16}
 use Rattle.h4_framing.specs.declared.refusal.H4Refusal.{H4Refusal}
 use Rattle.h4_framing.specs.declared.refusal.H4Refusal.TheVariants.{BadIndicator, AclTooLong, Truncated}
-use Rattle.h4_framing.specs.declared.extent.Extent.{Extent}
 use Rattle.h4_framing.specs.declared.extent.Extent.TheVariants.{AtLeast, Known, Refused}
 use Rattle.h4_framing.specs.Packets.{Packet, Command, Acl, Sync, Event, spelling, IsPacket}
 use Rattle.h4_framing.specs.Stream.{IsIndicator, IsUnfinished, GoesWrong}
@@ -84,35 +83,43 @@ head_packet limit octets (command a b size rest e len) fits =
     let fits-a : a < 256 = all 1 in
     let fits-b : b < 256 = all 2 in
     let fits-size : size < 256 = all 3 in
-    let long : length rest ≡ size = omega (arith, ap length e) in
-    (Command (a + 256 * b) rest, (omega arith, omega arith, λ i. all (suc (suc (suc (suc i))))),
-     ap (λ (xs : List ℕ). 1 ∷ (xs ++ length rest ∷ rest)) (le16_of a b fits-a fits-b) ∙ ap (λ (k : ℕ). 1 ∷ a ∷ b ∷ k ∷ rest) long ∙ sym e)
+    let long : length rest ≡ size = omega (arith, ap length e) in (
+      Command (a + 256 * b) rest,
+      (omega arith, omega arith, λ i. all (suc (suc (suc (suc i))))),
+      ap (λ (xs : List ℕ). 1 ∷ (xs ++ length rest ∷ rest)) (le16_of a b fits-a fits-b) ∙ ap (λ (k : ℕ). 1 ∷ a ∷ b ∷ k ∷ rest) long ∙ sym e,
+    )
 head_packet limit octets (acl a b low high rest e le len) fits =
     let all : IsOctets (2 ∷ a ∷ b ∷ low ∷ high ∷ rest) = subst IsOctets e fits in
     let fits-a : a < 256 = all 1 in
     let fits-b : b < 256 = all 2 in
     let fits-low : low < 256 = all 3 in
     let fits-high : high < 256 = all 4 in
-    let long : length rest ≡ low + 256 * high = omega (arith, ap length e) in
-    (Acl (a + 256 * b) rest, (omega arith, omega arith, omega arith, λ i. all (suc (suc (suc (suc (suc i)))))),
-     ap (λ (xs : List ℕ). 2 ∷ (xs ++ le16 (length rest) ++ rest)) (le16_of a b fits-a fits-b)
-     ∙ ap (λ (k : ℕ). 2 ∷ a ∷ b ∷ (le16 k ++ rest)) long
-     ∙ ap (λ (xs : List ℕ). 2 ∷ a ∷ b ∷ (xs ++ rest)) (le16_of low high fits-low fits-high) ∙ sym e)
+    let long : length rest ≡ low + 256 * high = omega (arith, ap length e) in (
+      Acl (a + 256 * b) rest,
+      (omega arith, omega arith, omega arith, λ i. all (suc (suc (suc (suc (suc i)))))),
+      ap (λ (xs : List ℕ). 2 ∷ (xs ++ le16 (length rest) ++ rest)) (le16_of a b fits-a fits-b)
+          ∙ ap (λ (k : ℕ). 2 ∷ a ∷ b ∷ (le16 k ++ rest)) long
+          ∙ ap (λ (xs : List ℕ). 2 ∷ a ∷ b ∷ (xs ++ rest)) (le16_of low high fits-low fits-high) ∙ sym e,
+    )
 head_packet limit octets (sync a b size rest e len) fits =
     let all : IsOctets (3 ∷ a ∷ b ∷ size ∷ rest) = subst IsOctets e fits in
     let fits-a : a < 256 = all 1 in
     let fits-b : b < 256 = all 2 in
     let fits-size : size < 256 = all 3 in
-    let long : length rest ≡ size = omega (arith, ap length e) in
-    (Sync (a + 256 * b) rest, (omega arith, omega arith, λ i. all (suc (suc (suc (suc i))))),
-     ap (λ (xs : List ℕ). 3 ∷ (xs ++ length rest ∷ rest)) (le16_of a b fits-a fits-b) ∙ ap (λ (k : ℕ). 3 ∷ a ∷ b ∷ k ∷ rest) long ∙ sym e)
+    let long : length rest ≡ size = omega (arith, ap length e) in (
+      Sync (a + 256 * b) rest,
+      (omega arith, omega arith, λ i. all (suc (suc (suc (suc i))))),
+      ap (λ (xs : List ℕ). 3 ∷ (xs ++ length rest ∷ rest)) (le16_of a b fits-a fits-b) ∙ ap (λ (k : ℕ). 3 ∷ a ∷ b ∷ k ∷ rest) long ∙ sym e,
+    )
 head_packet limit octets (event code size rest e len) fits =
     let all : IsOctets (4 ∷ code ∷ size ∷ rest) = subst IsOctets e fits in
     let fits-code : code < 256 = all 1 in
     let fits-size : size < 256 = all 2 in
-    let long : length rest ≡ size = omega (arith, ap length e) in
-    (Event code rest, (omega arith, omega arith, λ i. all (suc (suc (suc i)))),
-     ap (λ (k : ℕ). 4 ∷ code ∷ k ∷ rest) long ∙ sym e)
+    let long : length rest ≡ size = omega (arith, ap length e) in (
+      Event code rest,
+      (omega arith, omega arith, λ i. all (suc (suc (suc i)))),
+      ap (λ (k : ℕ). 4 ∷ code ∷ k ∷ rest) long ∙ sym e,
+    )
 
 pub known_packet : (limit : ℕ) (octets : List ℕ) → extent limit octets ≡ Known (length octets) → IsOctets octets → (packet : Packet) × IsPacket limit packet × (spelling packet ≡ octets)
 known_packet limit octets e fits = head_packet limit octets (known_head limit octets (length octets) e) fits
@@ -312,10 +319,15 @@ refused_wrong limit (suc (suc zero) ∷ a ∷ b ∷ low ∷ high ∷ rest) r n f
     let fits-b : b < 256 = fits 2 in
     let fits-low : low < 256 = fits 3 in
     let fits-high : high < 256 = fits 4 in
-    wrong_same limit (2 ∷ a ∷ b ∷ low ∷ high ∷ rest) AclTooLong r 4 n k.1 k.2
-      (a + 256 * b, low + 256 * high, rest,
-       sym (ap (λ (xs : List ℕ). 2 ∷ (xs ++ le16 (low + 256 * high) ++ rest)) (le16_of a b fits-a fits-b) ∙ ap (λ (xs : List ℕ). 2 ∷ a ∷ b ∷ (xs ++ rest)) (le16_of low high fits-low fits-high)),
-       omega arith, k.0, refl)
+    wrong_same limit (2 ∷ a ∷ b ∷ low ∷ high ∷ rest) AclTooLong r 4 n k.1 k.2 (
+      a + 256 * b,
+      low + 256 * high,
+      rest,
+      sym (ap (λ (xs : List ℕ). 2 ∷ (xs ++ le16 (low + 256 * high) ++ rest)) (le16_of a b fits-a fits-b) ∙ ap (λ (xs : List ℕ). 2 ∷ a ∷ b ∷ (xs ++ rest)) (le16_of low high fits-low fits-high)),
+      omega arith,
+      k.0,
+      refl,
+    )
 refused_wrong limit (suc (suc (suc zero)) ∷ []) r n fits e = absurd cc
 refused_wrong limit (suc (suc (suc zero)) ∷ a ∷ []) r n fits e = absurd cc
 refused_wrong limit (suc (suc (suc zero)) ∷ a ∷ b ∷ []) r n fits e = absurd cc

@@ -1,14 +1,14 @@
 -- A fault stands at the first place where a stream begins no list of packets.
-use Rattle.std.proofs.Common.{◌≡◌, ◌≢◌, ℕ, zero, suc, ◌+◌, ◌-◌, ◌*◌, ◌/◌, ◌%◌, ◌<◌, ◌≤◌, List, [], ◌∷◌, ◌++◌, length, take, drop, refl, sym, ap, subst, ◌∙◌, append_assoc, arith}
+use Rattle.std.proofs.Common.{◌≡◌, ℕ, ◌+◌, ◌*◌, ◌/◌, ◌%◌, ◌<◌, ◌≤◌, List, [], ◌∷◌, ◌++◌, length, take, refl, sym, ap, subst, ◌∙◌, append_assoc, arith}
 use Rattle.std.specs.List.{AllByRecursion}
 use Rattle.std.proofs.lemmas.List.{append-nil, length-append}
 use Rattle.std.proofs.lemmas.List.Concat.{flat_map-append}
 use Rattle.std.proofs.Math.Seq.{take-append-add}
-use Rattle.bt_base.specs.Octets.{IsOctets, le16}
+use Rattle.bt_base.specs.Octets.{le16}
 use Rattle.h4_framing.specs.declared.refusal.H4Refusal.{H4Refusal}
 use Rattle.h4_framing.specs.declared.refusal.H4Refusal.TheVariants.{BadIndicator, AclTooLong, Truncated}
 use Rattle.h4_framing.specs.Packets.{Packet, spelling, spellings, IsPacket}
-use Rattle.h4_framing.specs.Stream.{Begins, IsUnfinished, GoesWrong, Ending, Whole, Cut, Fault, Reads, IsFaultPlace}
+use Rattle.h4_framing.specs.Stream.{Begins, IsUnfinished, GoesWrong, Whole, Cut, Fault, Reads, IsFaultPlace}
 use Rattle.h4_framing.proofs.OctetLists.{IsOctets-cons, IsOctets-zeros}
 use Rattle.h4_framing.proofs.ExtentLemmas.{acl, padded_unfinished, wrong_more}
 use Rattle.h4_framing.proofs.ReadingLemmas.{wrong_none, nothing_none, no_wrong_nothing, same_split, all_append}
@@ -21,9 +21,12 @@ pub spellings_push : (ps : List Packet) (p : Packet) → spellings (ps ++ p ∷ 
 spellings_push ps p = spellings_append ps (p ∷ []) ∙ ap (λ (xs : List ℕ). spellings ps ++ xs) (append-nil (spelling p))
 
 unfinished_begins : (limit : ℕ) (ps : List Packet) (rest : List ℕ) → AllByRecursion (IsPacket limit) ps → IsUnfinished limit rest → Begins limit (spellings ps ++ rest)
-unfinished_begins limit ps rest fits u =
-    (ps ++ u.0 ∷ [], u.1, all_append (IsPacket limit) ps (u.0 ∷ []) fits (u.2, tt),
-     append_assoc (spellings ps) rest u.1 ∙ ap (λ (xs : List ℕ). spellings ps ++ xs) u.4 ∙ sym (spellings_push ps u.0))
+unfinished_begins limit ps rest fits u = (
+  ps ++ u.0 ∷ [],
+  u.1,
+  all_append (IsPacket limit) ps (u.0 ∷ []) fits (u.2, tt),
+  append_assoc (spellings ps) rest u.1 ∙ ap (λ (xs : List ℕ). spellings ps ++ xs) u.4 ∙ sym (spellings_push ps u.0),
+)
 
 pub whole_begins : (limit : ℕ) (stream : List ℕ) (ps : List Packet) → Reads limit stream ps Whole → Begins limit stream
 whole_begins limit stream ps h = (ps, [], h.each, append-nil stream ∙ h.whole ∙ ap (λ (xs : List ℕ). spellings ps ++ xs) h.ends ∙ append-nil (spellings ps))
@@ -38,8 +41,8 @@ before_size limit word size low =
     let b : ℕ = word / 256 % 256 in
     let l : ℕ = size % 256 in
     padded_unfinished limit (2 ∷ a ∷ b ∷ l ∷ []) (0 ∷ []) (5 + (l + 256 * 0)) (acl a b l 0 [] refl (omega arith) refl)
-      (IsOctets-cons 2 (a ∷ b ∷ l ∷ []) (omega arith) (IsOctets-cons a (b ∷ l ∷ []) (omega arith) (IsOctets-cons b (l ∷ []) (omega arith) (IsOctets-cons l [] (omega arith) (IsOctets-zeros 0)))))
-      (IsOctets-zeros 1) (omega arith) (omega arith)
+    (IsOctets-cons 2 (a ∷ b ∷ l ∷ []) (omega arith) (IsOctets-cons a (b ∷ l ∷ []) (omega arith) (IsOctets-cons b (l ∷ []) (omega arith) (IsOctets-cons l [] (omega arith) (IsOctets-zeros 0)))))
+    (IsOctets-zeros 1) (omega arith) (omega arith)
 
 -- octets that go wrong at n: there are more than n, the first n are well, and n and one more are not
 record WrongAt (limit : ℕ) (rest : List ℕ) (r : H4Refusal) (n : ℕ) : Type 0 where

@@ -1,12 +1,9 @@
 -- A stream has one reading.
-use Rattle.std.proofs.Common.{◌≡◌, ◌≢◌, ℕ, zero, suc, ◌+◌, ◌-◌, ◌<◌, ◌≤◌, List, [], ◌∷◌, ◌++◌, length, take, drop, refl, sym, ap, subst, ◌∙◌, append_assoc, arith, inl, inr}
-use Rattle.std.specs.Prelude.{◌⊎◌}
+use Rattle.std.proofs.Common.{◌≡◌, ℕ, zero, suc, ◌+◌, ◌≤◌, List, [], ◌∷◌, ◌++◌, length, take, drop, refl, sym, ap, subst, ◌∙◌, append_assoc, arith, inl, inr}
 use Rattle.std.specs.List.{AllByRecursion}
-use Rattle.std.proofs.lemmas.Bool.{cases_lt, cases_eq}
+use Rattle.std.proofs.lemmas.Bool.{cases_lt}
 use Rattle.std.proofs.lemmas.List.{append-nil, length-append, length-take-le, take-append-drop, drop_at, nil_from_length}
-use Rattle.std.proofs.lemmas.List.Concat.{flat_map-append}
-use Rattle.std.proofs.Math.Seq.{take-append-add}
-use Rattle.bt_base.specs.Octets.{IsOctets, le16}
+use Rattle.bt_base.specs.Octets.{IsOctets}
 use Rattle.h4_framing.specs.declared.refusal.H4Refusal.{H4Refusal}
 use Rattle.h4_framing.specs.declared.refusal.H4Refusal.TheVariants.{BadIndicator, AclTooLong, Truncated}
 use Rattle.h4_framing.specs.declared.extent.Extent.{Extent}
@@ -14,12 +11,12 @@ use Rattle.h4_framing.specs.declared.extent.Extent.TheVariants.{AtLeast, Known, 
 use Rattle.h4_framing.specs.declared.leading.Leading.{Leading}
 use Rattle.h4_framing.specs.declared.leading.Leading.TheVariants as leading
 use Rattle.h4_framing.specs.Packets.{Packet, packet, spelling, spellings, IsPacket}
-use Rattle.h4_framing.specs.Stream.{Begins, IsUnfinished, GoesWrong, Ending, Whole, Cut, Fault, Ends, Reads, IsFaultPlace}
+use Rattle.h4_framing.specs.Stream.{IsUnfinished, GoesWrong, Ending, Whole, Cut, Fault, Ends, Reads}
 use Rattle.h4_framing.specs.Extents.{extent}
 use Rattle.h4_framing.specs.Leading.{IsLeading}
 use Rattle.h4_framing.specs.Laws.{IsWholeOf}
 use Rattle.h4_framing.proofs.OctetLists.{IsOctets-drop, IsOctets-take}
-use Rattle.h4_framing.proofs.ExtentLemmas.{packet_known, known_packet, known_take, known_positive, known_unfinished, short_unfinished, refused_wrong, wrong_refused, wrong_more, unfinished_known, unfinished_right, packet_right, packet_long}
+use Rattle.h4_framing.proofs.ExtentLemmas.{packet_known, known_packet, known_take, known_unfinished, short_unfinished, refused_wrong, wrong_refused, unfinished_known, unfinished_right, packet_right, packet_long}
 use Rattle.h4_framing.proofs.SpellingLemmas.{one_spelling}
 
 -- no packet stands whole at the front
@@ -139,9 +136,9 @@ front_by limit octets (Known n) low fits e =
     elim (cases_lt (length octets) n) [
       | inl lt ↦ unfinished (known_unfinished limit octets n e fits lt)
       | inr le ↦
-        let known : extent limit (take n octets) ≡ Known (length (take n octets)) = known_take limit octets n e le ∙ ap Known (sym (length-take-le n octets le)) in
-        let p = known_packet limit (take n octets) known (IsOctets-take n octets fits) in
-        whole p.0 (drop n octets) p.1 (sym (take-append-drop n octets) ∙ ap (λ (xs : List ℕ). xs ++ drop n octets) (sym p.2))
+          let known : extent limit (take n octets) ≡ Known (length (take n octets)) = known_take limit octets n e le ∙ ap Known (sym (length-take-le n octets le)) in
+          let p = known_packet limit (take n octets) known (IsOctets-take n octets fits) in
+          whole p.0 (drop n octets) p.1 (sym (take-append-drop n octets) ∙ ap (λ (xs : List ℕ). xs ++ drop n octets) (sym p.2))
     ]
 front_by limit octets (Refused r n) low fits e = wrong r n (refused_wrong limit octets r n fits e)
 
@@ -175,10 +172,10 @@ read_within (suc fuel) limit [] low fits le = ([], Whole, reads_nothing limit)
 read_within (suc fuel) limit (x ∷ xs) low fits le =
     elim (front_by limit (x ∷ xs) (extent limit (x ∷ xs)) low fits refl) [
       | whole p more ok e ↦
-        let short : length more ≤ fuel = omega (arith, packet_long p, ap length e, length-append (spelling p) more) in
-        let left : IsOctets more = subst IsOctets (ap (drop (length (spelling p))) e ∙ drop_at (spelling p) more (length (spelling p)) refl) (IsOctets-drop (length (spelling p)) (x ∷ xs) fits) in
-        let rest = read_within fuel limit more low left short in
-        (p ∷ rest.0, later (length (spelling p)) rest.1, subst (λ (ys : List ℕ). Reads limit ys (p ∷ rest.0) (later (length (spelling p)) rest.1)) (sym e) (reads_after limit p more rest.0 rest.1 ok rest.2))
+          let short : length more ≤ fuel = omega (arith, packet_long p, ap length e, length-append (spelling p) more) in
+          let left : IsOctets more = subst IsOctets (ap (drop (length (spelling p))) e ∙ drop_at (spelling p) more (length (spelling p)) refl) (IsOctets-drop (length (spelling p)) (x ∷ xs) fits) in
+          let rest = read_within fuel limit more low left short in
+          (p ∷ rest.0, later (length (spelling p)) rest.1, subst (λ (ys : List ℕ). Reads limit ys (p ∷ rest.0) (later (length (spelling p)) rest.1)) (sym e) (reads_after limit p more rest.0 rest.1 ok rest.2))
       | unfinished u ↦ ([], Cut, record { each = tt; rest = x ∷ xs; whole = refl; ends = ((λ none. absurd cc), u) })
       | wrong r n h ↦ ([], Fault r n, record { each = tt; rest = x ∷ xs; whole = refl; ends = (n, h, omega arith) })
     ]

@@ -1,12 +1,11 @@
 -- A packet is known by its spelling.
-use Rattle.std.proofs.Common.{◌≡◌, ◌≢◌, ℕ, zero, suc, ◌+◌, ◌-◌, ◌*◌, ◌/◌, ◌%◌, ◌^◌, ◌<◌, ◌≤◌, List, [], ◌∷◌, ◌++◌, length, get_or, take, drop, refl, sym, ap, subst, ◌∙◌, append_assoc, arith}
-use Rattle.std.proofs.lemmas.List.{append-nil, append_cancel_left, length-append, take_all, take_at, drop_at}
+use Rattle.std.proofs.Common.{◌≡◌, ℕ, ◌+◌, ◌-◌, ◌*◌, ◌/◌, ◌%◌, ◌^◌, ◌<◌, ◌≤◌, List, ◌∷◌, ◌++◌, length, get_or, take, drop, refl, sym, ap, subst, ◌∙◌, arith}
+use Rattle.std.proofs.lemmas.List.{take_all, take_at, drop_at}
 use Rattle.bt_base.specs.Octets.{IsOctets, le16}
-use Rattle.h4_framing.specs.declared.extent.Extent.{Extent}
 use Rattle.h4_framing.specs.declared.extent.Extent.TheVariants.{Known}
 use Rattle.h4_framing.specs.Packets.{Packet, Command, Acl, Sync, Event, spelling, IsPacket, HasNumber}
 use Rattle.h4_framing.specs.Extents.{extent}
-use Rattle.h4_framing.proofs.ExtentLemmas.{HasHead, command, acl, sync, event, known_head, known_packet, packet_known, le16_of, le16_back, told_same}
+use Rattle.h4_framing.proofs.ExtentLemmas.{HasHead, command, acl, sync, event, known_head, known_packet, packet_known, le16_of, told_same}
 
 -- two lists that begin with the same number have the same rest
 tail_same : (x y : ℕ) (xs ys : List ℕ) → x ∷ xs ≡ y ∷ ys → xs ≡ ys

@@ -1,8 +1,8 @@
 -- How a packet that came in two pieces or more is put together.
-use Rattle.std.specs.Prelude.{ℕ, ◌≡◌, ◌+◌, ◌<◌, ◌≤◌, List, ◌++◌, length, take}
+use Rattle.std.specs.Prelude.{ℕ, ◌≡◌, ◌<◌, ◌≤◌, List, ◌++◌, length, take}
 use Rattle.h4_framing.specs.Stream.{IsUnfinished, GoesWrong}
 use Rattle.h4_framing.specs.Extents.{extent}
-use Rattle.h4_framing.specs.declared.extent.Extent.TheVariants.{AtLeast, Known}
+use Rattle.h4_framing.specs.declared.extent.Extent.TheVariants.{Known}
 use Rattle.h4_framing.specs.declared.gathering.Gathered.{Gathered}
 use Rattle.h4_framing.specs.declared.gathering.Gathered.TheVariants.{Whole, More, Refused}
 

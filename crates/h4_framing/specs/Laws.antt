@@ -1,5 +1,5 @@
 -- What holds of packets, streams and framers whatever they are.
-use Rattle.std.specs.Prelude.{ℕ, ◌≡◌, ◌+◌, ◌≤◌, List, [], ◌∷◌, ◌++◌, length, take, None, Result, Ok, Err}
+use Rattle.std.specs.Prelude.{ℕ, ◌≡◌, ◌≤◌, List, [], ◌++◌, length, None, Result, Ok, Err}
 use Rattle.bt_base.specs.Octets.{IsOctets}
 use Rattle.h4_framing.specs.declared.refusal.H4Refusal.{H4Refusal}
 use Rattle.h4_framing.specs.declared.refusal.H4Refusal.TheVariants.{Truncated, BadIndicator, AclTooLong}
@@ -11,7 +11,7 @@ use Rattle.h4_framing.specs.Stream.{Begins, Ending, Whole, Cut, Fault, Reads, Is
 use Rattle.h4_framing.specs.Leading.{IsLeading}
 use Rattle.h4_framing.specs.Framing.{Framing, counted}
 use Rattle.h4_framing.specs.Taking.{Takes, EndsWith}
-use Rattle.h4_framing.specs.Accounts.{Accounts, given, used}
+use Rattle.h4_framing.specs.Accounts.{Accounts, given, used, TakesAll, all_used, all_given}
 
 -- No packet's spelling begins another's.
 abbrev pub NoSpellingBeginsAnother : Type 0
@@ -50,6 +50,10 @@ NewAccounts = (limit : ℕ) → Accounts [] [] (record { limit = limit; before =
 -- Each piece is accounted for.
 abbrev pub TakingAccounts : Type 0
 TakingAccounts = (fed piece : List ℕ) (packets : List Packet) (old new : Framing) (taken : Taken) → Accounts fed packets old → Takes old piece taken new → Accounts (fed ++ used piece taken) (packets ++ given taken) new
+
+-- However a stream is cut into pieces, a framer accounts for all of it.
+abbrev pub AnyPiecesAccount : Type 0
+AnyPiecesAccount = (limit : ℕ) (calls : List (List ℕ × Taken)) (new : Framing) → TakesAll (record { limit = limit; before = 0; held = []; fault = None }) calls new → Accounts (all_used calls) (all_given calls) new
 
 -- what an end of the stream tells of the octets that were fed
 abbrev pub EndReads : ℕ → List ℕ → List Packet → Result (Unit {0}) (H4Refusal × ℕ) → Type 0

@@ -1,5 +1,5 @@
 -- What stands at the front of some octets.
-use Rattle.std.specs.Prelude.{ℕ, ◌≡◌, ◌≤◌, ◌<◌, List, [], ◌∷◌, length, take}
+use Rattle.std.specs.Prelude.{ℕ, ◌≡◌, ◌≤◌, ◌<◌, List, length, take}
 use Rattle.h4_framing.specs.declared.leading.Leading.{Leading}
 use Rattle.h4_framing.specs.declared.leading.Leading.TheVariants.{Whole, Partial, Refused}
 use Rattle.h4_framing.specs.Packets.{packet, spelling, IsPacket}

@@ -1,5 +1,5 @@
 -- What a packet of the HCI is, and the one way in which the UART transport spells it.
-use Rattle.std.specs.Prelude.{ℕ, ◌<◌, ◌≤◌, ◌^◌, List, [], ◌∷◌, ◌++◌, length}
+use Rattle.std.specs.Prelude.{ℕ, ◌<◌, ◌≤◌, ◌^◌, List, ◌∷◌, ◌++◌, length}
 use Rattle.std.specs.List.{flat_map}
 use Rattle.bt_base.specs.Octets.{IsOctets, le16}
 use Rattle.h4_framing.specs.declared.unit.Unit.{Unit as Lent}

@@ -1,7 +1,7 @@
 -- What a framer makes of a piece of the stream.
-use Rattle.std.specs.Prelude.{ℕ, ◌≡◌, ◌≢◌, ◌+◌, ◌<◌, ◌≤◌, List, [], ◌∷◌, ◌++◌, length, take, Option, None, Some, Result, Ok, Err, MatchOption}
+use Rattle.std.specs.Prelude.{ℕ, ◌≡◌, ◌≢◌, ◌+◌, ◌<◌, ◌≤◌, List, [], ◌++◌, length, take, None, Some, Result, Ok, Err, MatchOption}
 use Rattle.h4_framing.specs.declared.refusal.H4Refusal.{H4Refusal}
-use Rattle.h4_framing.specs.declared.refusal.H4Refusal.TheVariants.{BadIndicator, AclTooLong, Truncated}
+use Rattle.h4_framing.specs.declared.refusal.H4Refusal.TheVariants.{Truncated}
 use Rattle.h4_framing.specs.declared.framer.Taken.{Taken}
 use Rattle.h4_framing.specs.declared.framer.Taken.TheVariants.{Whole, More, Refused}
 use Rattle.h4_framing.specs.Packets.{packet, spelling, IsPacket}
@@ -19,8 +19,8 @@ Takes old piece More new =
     (old.fault ≡ None) × IsUnfinished old.limit (old.held ++ piece) × (new ≡ record old { held = old.held ++ piece })
 Takes old piece (Refused refusal place) new =
     MatchOption old.fault
-      ((n : ℕ) × GoesWrong old.limit (old.held ++ piece) refusal n × (place ≡ counted old.before n))
-      (λ fault. fault ≡ (refusal, place))
+    ((n : ℕ) × GoesWrong old.limit (old.held ++ piece) refusal n × (place ≡ counted old.before n))
+    (λ fault. fault ≡ (refusal, place))
     × (new ≡ record old { fault = Some (refusal, place) })
 
 -- What the end of the stream means to a framer: nothing, where no octets are held; a packet that is not whole,
@@ -29,5 +29,5 @@ abbrev pub EndsWith : Framing → Result (Unit {0}) (H4Refusal × ℕ) → Type 
 EndsWith framing (Ok _) = (framing.fault ≡ None) × (framing.held ≡ [])
 EndsWith framing (Err fault) =
     MatchOption framing.fault
-      ((framing.held ≢ []) × IsUnfinished framing.limit framing.held × (fault ≡ (Truncated, framing.before)))
-      (λ earlier. earlier ≡ fault)
+    ((framing.held ≢ []) × IsUnfinished framing.limit framing.held × (fault ≡ (Truncated, framing.before)))
+    (λ earlier. earlier ≡ fault)

@@ -1,6 +1,6 @@
 //! How long the packet at the front of some octets is.
 
-ghost use Rattle.std.specs.Prelude.{◌≡◌, length, take};
+ghost use Rattle.std.specs.Prelude.{◌≡◌};
 ghost use Rattle.h4_framing.specs.Extents.{extent, acl_extent};
 
 use crate::refusal::H4Refusal;

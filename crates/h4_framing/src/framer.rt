@@ -40,7 +40,7 @@ impl Model for Framer {
 
     ghost Value = { Framing };
 
-    ghost use Rattle.std.specs.Prelude.{◌≡◌, ◌+◌, ◌≤◌, ◌<◌, ◌^◌, take, vec_len, vec_capacity};
+    ghost use Rattle.std.specs.Prelude.{◌+◌, ◌≤◌, take, vec_len, vec_capacity};
     ghost use Rattle.h4_framing.specs.Stream.{IsUnfinished};
 
     ghost view = { λ framer. record { limit = framer.limit; before = framer.before; held = take framer.held framer.buffer.items; fault = framer.fault } };
@@ -49,7 +49,7 @@ impl Model for Framer {
 }
 
 impl Framer {
-    ghost use Rattle.std.specs.Prelude.{ℕ, ◌≡◌, ◌≢◌, ◌≤◌, [], None, IfOk, ⊤};
+    ghost use Rattle.std.specs.Prelude.{◌≡◌, ◌≢◌, ◌≤◌, [], None, IfOk, ⊤};
     ghost use Rattle.std.specs.Borrow.{sem};
     ghost use Rattle.h4_framing.specs.contracts.framer.Framer.{the_row};
     ghost use mathlib.Core.Option.{none};
@@ -57,7 +57,7 @@ impl Framer {
     ghost use Rattle.h4_framing.specs.Taking.{Takes, EndsWith};
 
     /// A framer at the beginning of a stream, that refuses an ACL packet of more than `limit`
-    /// octets. It reserves all that it ever needs.
+    /// octets, at least 255. It reserves all that it ever needs.
     pub fn new(alloc: Global, limit: u16) -> Result<Framer, NoMemory>
         requires { 255 ≤ limit }
         ensures { IfOk result (λ framer. framer ≡ record { limit = limit; before = 0; held = []; fault = None }) }

@@ -1,6 +1,6 @@
 //! Putting together a packet that came in pieces.
 
-ghost use Rattle.std.specs.Prelude.{ℕ, ◌≡◌, ◌+◌, ◌-◌, ◌<◌, ◌≤◌, ◌^◌, ◌++◌, length, take, min, vec_len, vec_capacity};
+ghost use Rattle.std.specs.Prelude.{ℕ, ◌≡◌, ◌+◌, ◌-◌, ◌<◌, ◌≤◌, ◌++◌, length, take, min, vec_len, vec_capacity};
 ghost use Rattle.h4_framing.specs.Stream.{IsUnfinished};
 ghost use Rattle.h4_framing.specs.Extents.{extent};
 ghost use Rattle.h4_framing.specs.declared.extent.Extent.TheVariants.{AtLeast, Known};

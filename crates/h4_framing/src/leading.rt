@@ -22,7 +22,8 @@ pub enum Leading<'a> {
 }
 
 /// The packet at the front of `bytes`, whose octets may go on behind it. An ACL packet of more
-/// than `limit` octets is refused.
+/// than `limit` octets is refused at the high octet of its length. The limit is at least 255, so
+/// the low octet alone puts no length above it.
 pub fn first<'a>(bytes: &'a [u8], limit: u16) -> Leading<'a>
     requires { 255 ≤ limit }
     ensures { IsLeading limit bytes.now result }

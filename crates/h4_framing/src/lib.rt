@@ -16,3 +16,6 @@ pub use leading::{Leading, first};
 pub use refusal::H4Refusal;
 pub use unit::Unit;
 pub use writing::write_unit;
+
+#[cfg(test)]
+mod tests;

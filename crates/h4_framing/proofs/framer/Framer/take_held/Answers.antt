@@ -1,10 +1,10 @@
-use Rattle.std.proofs.Common.{◌≡◌, ℕ, ◌<◌, ◌≤◌, ◌^◌, List, [], ◌++◌, length, take, Option, None, Some, vec_len, refl, sym, ap, subst, ◌∙◌, arith}
+use Rattle.std.proofs.Common.{◌≡◌, ℕ, List, [], ◌++◌, length, take, None, Some, refl, sym, ap, subst, ◌∙◌, arith}
 use Rattle.bt_base.specs.Octets.{IsOctets}
 use Rattle.h4_framing.specs.declared.framer.Taken.TheVariants.{Whole, Refused}
 use Rattle.h4_framing.specs.declared.extent.Extent.TheVariants.{Known}
 use Rattle.h4_framing.specs.Extents.{extent}
 use Rattle.h4_framing.specs.Packets.{packet, spelling}
-use Rattle.h4_framing.specs.Stream.{IsUnfinished, GoesWrong}
+use Rattle.h4_framing.specs.Stream.{GoesWrong}
 use Rattle.h4_framing.specs.Framing.{Framing, counted}
 use Rattle.h4_framing.specs.Taking.{Takes}
 use Rattle.h4_framing.proofs.OctetLists.{IsOctets-append, IsOctets-take}

@@ -1,8 +1,8 @@
-use Rattle.std.proofs.Common.{◌≡◌, ℕ, ◌≤◌, ◌++◌, length, take, Option, None, Some, refl, sym, ap, subst, ◌∙◌, arith}
+use Rattle.std.proofs.Common.{◌≡◌, ◌++◌, length, take, None, Some, refl, sym, ap, subst, ◌∙◌, arith}
 use Rattle.std.proofs.lemmas.List.{take_all}
 use Rattle.h4_framing.specs.declared.framer.Taken.TheVariants.{More, Refused}
 use Rattle.h4_framing.specs.Stream.{IsUnfinished, GoesWrong}
-use Rattle.h4_framing.specs.Framing.{Framing, counted}
+use Rattle.h4_framing.specs.Framing.{Framing}
 use Rattle.h4_framing.specs.Taking.{Takes}
 use Rattle.h4_framing.proofs.TakingLemmas.{unfinished_bound, framing, leading_more, goes_refused}
 use Rattle.h4_framing.proofs.framer.Framer.take_leading.Goals as goal
