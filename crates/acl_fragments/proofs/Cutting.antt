@@ -20,7 +20,7 @@ enough (suc n) (suc m) size boundary [] some in-n in-m = refl
 enough (suc n) (suc m) size boundary (x ∷ xs) some in-n in-m =
     let left = length-drop size (x ∷ xs) in
     ap (λ (pieces : List Piece). record { boundary = boundary; octets = take size (x ∷ xs) } ∷ pieces)
-        (enough n m size Continuing (drop size (x ∷ xs)) some (omega (arith, left)) (omega (arith, left)))
+    (enough n m size Continuing (drop size (x ∷ xs)) some (omega (arith, left)) (omega (arith, left)))
 
 pub cut_step : (size : ℕ) (boundary : Boundary) (octets : List ℕ) → 1 ≤ size → 0 < length octets
     → cut size boundary octets ≡ record { boundary = boundary; octets = take size octets } ∷ cut size Continuing (drop size octets)
@@ -28,7 +28,7 @@ cut_step size boundary [] some there = absurd (omega arith)
 cut_step size boundary (x ∷ xs) some there =
     let left = length-drop size (x ∷ xs) in
     ap (λ (pieces : List Piece). record { boundary = boundary; octets = take size (x ∷ xs) } ∷ pieces)
-        (enough (length xs) (length (drop size (x ∷ xs))) size Continuing (drop size (x ∷ xs)) some (omega (arith, left)) (omega arith))
+    (enough (length xs) (length (drop size (x ∷ xs))) size Continuing (drop size (x ∷ xs)) some (omega (arith, left)) (omega arith))
 
 take_min : (size : ℕ) (octets : List ℕ) → take (min (length octets) size) octets ≡ take size octets
 take_min size octets =

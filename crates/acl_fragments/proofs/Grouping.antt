@@ -27,8 +27,8 @@ unfolding read
 last_read start rest [] = ap (λ (xs : List (List ℕ)). start ∷ xs) (append-nil rest)
 last_read start rest (p ∷ pieces) =
     elim (starts p.boundary) as (λ b.
-        last_of (start ∷ (rest ++ cond b [] (p.octets ∷ continuations pieces))) (cond b ((p.octets ∷ continuations pieces) ∷ groups pieces) (groups pieces))
-        ≡ read (cond b (p.octets ∷ []) (extended (start ∷ rest) p.octets)) pieces) [
+    last_of (start ∷ (rest ++ cond b [] (p.octets ∷ continuations pieces))) (cond b ((p.octets ∷ continuations pieces) ∷ groups pieces) (groups pieces))
+    ≡ read (cond b (p.octets ∷ []) (extended (start ∷ rest) p.octets)) pieces) [
       | true ↦ last_read p.octets [] pieces
       | false ↦
           ap (λ (xs : List (List ℕ)). last_of (start ∷ xs) (groups pieces)) (sym (append_assoc rest (p.octets ∷ []) (continuations pieces)))
@@ -40,7 +40,7 @@ unfolding read
 last_is_read [] = refl
 last_is_read (p ∷ pieces) =
     elim (starts p.boundary) as (λ b.
-        last_of [] (cond b ((p.octets ∷ continuations pieces) ∷ groups pieces) (groups pieces)) ≡ read (cond b (p.octets ∷ []) (extended [] p.octets)) pieces) [
+    last_of [] (cond b ((p.octets ∷ continuations pieces) ∷ groups pieces) (groups pieces)) ≡ read (cond b (p.octets ∷ []) (extended [] p.octets)) pieces) [
       | true ↦ last_read p.octets [] pieces
       | false ↦ last_is_read pieces
     ]

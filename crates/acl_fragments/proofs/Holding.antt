@@ -1,5 +1,5 @@
 -- What a joiner holds is the group that is open.
-use Rattle.std.proofs.Common.{◌≡◌, ℕ, ◌+◌, ◌≤◌, ◌<◌, List, [], ◌∷◌, ◌++◌, length, Bool, true, false, cond, eqb, ltb, refl, sym, ap, subst, ◌∙◌, append_assoc, length-append, inl, inr, arith}
+use Rattle.std.proofs.Common.{◌≡◌, ℕ, ◌+◌, ◌≤◌, List, [], ◌∷◌, ◌++◌, length, Bool, true, false, cond, eqb, ltb, refl, sym, ap, subst, ◌∙◌, append_assoc, length-append, inl, inr, arith}
 use Rattle.std.proofs.lemmas.Bool.{cases_order, cases_Bool, le-ltb, lt-ltb, ltb-false, eq-eqb, ne_eqb}
 use Rattle.std.proofs.lemmas.List.{append-nil}
 use Rattle.byteorder.specs.Numbers.{little_from-append}
@@ -98,8 +98,8 @@ stays limit (start ∷ rest) octets =
                 elim (cases_Bool (ltb (length (joined (start ∷ rest))) (pdu_length start))) [
                   | inl below ↦
                       rw (header, fits, below)
-                        (goes_on (joined (start ∷ (rest ++ octets ∷ []))) (joined (start ∷ rest)) octets (pdu_length start) whole
-                          (ap (λ (n : ℕ). 4 + n) (little_from-append 2 start (joined rest) (omega arith))) (omega arith))
+                      (goes_on (joined (start ∷ (rest ++ octets ∷ []))) (joined (start ∷ rest)) octets (pdu_length start) whole
+                      (ap (λ (n : ℕ). 4 + n) (little_from-append 2 start (joined rest) (omega arith))) (omega arith))
                   | inr done ↦
                       let full : pdu_length start ≤ length (joined (start ∷ rest)) = ltb-false (length (joined (start ∷ rest))) (pdu_length start) done in
                       rw (header, fits, done, le-ltb (length (joined (start ∷ (rest ++ octets ∷ [])))) (pdu_length start) (omega arith)) refl
@@ -126,7 +126,7 @@ follows old boundary piece result new call past holds =
     }
 
 pub start_is : (boundary : Boundary) → (boundary ≡ First) ⊎ (boundary ≡ FirstFromController) → starts boundary ≡ true
-start_is boundary which = elim which [ | inl first ↦ ap starts first | inr first ↦ ap starts first ]
+start_is boundary which = elim which [ inl first ↦ ap starts first | inr first ↦ ap starts first ]
 
 pub joins : (old : Held) (boundary : Boundary) (piece : List ℕ) (result : Joined) (new : Held) (start : Bool) → starts boundary ≡ start → Takes old start piece result new → Joins old boundary piece result new
 joins old boundary piece result new start is call =

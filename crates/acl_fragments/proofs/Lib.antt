@@ -1,3 +1,4 @@
 pub mod Cutting
 pub mod Grouping
 pub mod Holding
+pub mod Frames

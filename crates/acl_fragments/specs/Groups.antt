@@ -1,5 +1,5 @@
 -- The groups that pieces form, and the PDUs that groups give.
-use Rattle.std.specs.Prelude.{◌≡◌, ℕ, ◌≤◌, List, [], ◌∷◌, ◌++◌, length, take, if◌then◌else◌}
+use Rattle.std.specs.Prelude.{◌≡◌, ℕ, ◌≤◌, List, [], ◌∷◌, length, take, if◌then◌else◌}
 use Rattle.acl_fragments.specs.Pieces.{Piece, starts, pdu_length, joined}
 
 -- the pieces that stand before the next start

@@ -5,3 +5,4 @@ pub mod Answers
 pub mod Buffers
 pub mod Steps
 pub mod Joiners
+pub mod Laws

@@ -9,3 +9,7 @@ mod joiner;
 pub use cutter::Cutter;
 pub use joined::{DropReason, Got, Joined};
 pub use joiner::Joiner;
+
+pub mod laws;
+#[cfg(test)]
+mod tests;
