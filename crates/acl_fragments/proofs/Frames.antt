@@ -45,7 +45,7 @@ begins limit size boundary ([] ∷ pdus) start fit = absurd (omega (arith, fit.0
 begins limit size boundary ((x ∷ xs) ∷ pdus) start fit = rw start refl
 
 -- a group whose pieces join to the PDU gives it
-gives_whole : (limit : ℕ) (start : List ℕ) (rest : List (List ℕ)) (pdu : List ℕ) → 4 ≤ length start → pdu_length start ≤ limit → length pdu ≡ pdu_length start → joined (start ∷ rest) ≡ pdu → GivesPdu limit (start ∷ rest) pdu
+pub gives_whole : (limit : ℕ) (start : List ℕ) (rest : List (List ℕ)) (pdu : List ℕ) → 4 ≤ length start → pdu_length start ≤ limit → length pdu ≡ pdu_length start → joined (start ∷ rest) ≡ pdu → GivesPdu limit (start ∷ rest) pdu
 gives_whole limit start rest pdu header within says whole =
     (header, within, says, (length (start ∷ rest), sym (ap joined (take_all (length (start ∷ rest)) (start ∷ rest) (omega arith)) ∙ whole)))
 

@@ -52,7 +52,7 @@ opens limit octets =
     ap (λ (xs : List ℕ). cond (ltb (length octets) 4) [] (cond (ltb limit (pdu_length octets)) [] (cond (ltb (length xs) (pdu_length octets)) xs []))) (append-nil octets)
     ∙ start_kept (ltb (length octets) 4) (ltb limit (pdu_length octets)) (ltb (length octets) (pdu_length octets)) (ltb (pdu_length octets) (length octets)) (eqb (pdu_length octets) (length octets)) (channel_of octets) octets (one_holds (length octets) (pdu_length octets))
 
-joined-append : (pieces : List (List ℕ)) (octets : List ℕ) → joined (pieces ++ octets ∷ []) ≡ joined pieces ++ octets
+pub joined-append : (pieces : List (List ℕ)) (octets : List ℕ) → joined (pieces ++ octets ∷ []) ≡ joined pieces ++ octets
 joined-append [] octets = append-nil octets
 joined-append (piece ∷ pieces) octets =
     ap (λ (xs : List ℕ). piece ++ xs) (joined-append pieces octets) ∙ sym (append_assoc piece (joined pieces) octets)
