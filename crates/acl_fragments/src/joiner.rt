@@ -113,7 +113,8 @@ impl Joiner {
     ghost use Rattle.acl_fragments.specs.contracts.joiner.Joiner.{the_row};
     ghost use Rattle.acl_fragments.specs.Joiners.{Takes, Joins};
 
-    /// A joiner of PDUs of at most `limit` octets, for which it has all the memory that it needs.
+    /// A joiner of PDUs of at most `limit` octets, for which it reserves all the memory that it
+    /// needs. `NoMemory` where that cannot be had.
     pub fn new(alloc: Global, limit: u32) -> Result<Joiner, NoMemory>
         ensures { IfOk result (λ joiner. joiner ≡ record { limit = limit; octets = [] }) }
     {
@@ -126,6 +127,11 @@ impl Joiner {
     }
 
     /// Takes the next piece of the link and the direction.
+    ///
+    /// A start is judged by itself: `ShortStart` without the whole header, then `Overrun` where it
+    /// is longer than its PDU, then `AboveLimit`. A continuation is `StrayContinuation` where no
+    /// group is open, and `Overrun` where it makes the group longer than its PDU. A group that was
+    /// dropped or is whole is open no more.
     ///
     /// A PDU that comes in one piece is lent from it; one that was cut, from the joiner.
     pub fn take<'a>(&'a mut self, boundary: Boundary, piece: &'a [u8]) -> Joined<'a>

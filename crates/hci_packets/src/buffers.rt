@@ -20,7 +20,8 @@ pub struct Buffers {
     pub sync_count: u16,
 }
 
-/// The buffers that return parameters of Read Buffer Size state.
+/// The buffers that return parameters of Read Buffer Size state: `ShortParams` for fewer than
+/// eight octets, `LongParams` for more.
 pub fn buffers_of(params: &[u8]) -> Result<Buffers, HciRefusal>
     // What is read is spelled by these parameters.
     ensures read { IfOk result (λ buffers. params.now ≡ buffers_params buffers) }

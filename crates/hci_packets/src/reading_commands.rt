@@ -15,6 +15,9 @@ use bt_base::{BdAddr, Handle, read_le16};
 
 /// The command of that number with those parameters. A number that the table does not have is
 /// `Other`.
+///
+/// `ShortParams` and `LongParams` for another length than the row's, then `BadHandle` for a handle
+/// above 0x0EFF, then `BadValue` for a role switch or a role above 1 and a scan value above 3.
 pub fn command_of<'a>(opcode: u16, params: &'a [u8]) -> Result<Command<'a>, HciRefusal>
     // What is read stands in the table with this number and these parameters.
     ensures read { IfOk result (λ command. IsCommand (plain_command command) opcode params.now) }

@@ -17,6 +17,9 @@ use crate::rows::{
 use bt_base::{BdAddr, Handle, read_le16};
 
 /// The event of that code with those parameters. A code that the table does not have is `Other`.
+///
+/// `ShortParams` and `LongParams` for another length than the row's, then `BadHandle` for a handle
+/// above 0x0EFF: not where a connection was not made, and in any entry of completed packets.
 pub fn event_of<'a>(code: u8, params: &'a [u8]) -> Result<Event<'a>, HciRefusal>
     // What is read stands in the table with this code and these parameters.
     ensures read { IfOk result (λ event. IsEvent (plain_event event) code params.now) }

@@ -17,6 +17,8 @@ const COMMAND_INDICATOR: u8 = 0x01;
 
 /// Writes the H4 unit of a command at the front, and answers how many octets it has. The rest of
 /// `into` stays as it is.
+///
+/// It needs room, a command that stands in the table, and at most 255 octets of parameters.
 pub fn put_command(command: &Command<'_>, into: &mut [u8]) -> usize
     requires allowed { AllowsCommand (plain_command command.now) }
     requires few { length (command_params (plain_command command.now)) < 256 }

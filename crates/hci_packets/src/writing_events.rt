@@ -17,6 +17,8 @@ const EVENT_INDICATOR: u8 = 0x04;
 
 /// Writes the H4 unit of an event at the front, and answers how many octets it has. The rest of
 /// `into` stays as it is.
+///
+/// It needs room, an event that stands in the table, and at most 255 octets of parameters.
 pub fn put_event(event: &Event<'_>, into: &mut [u8]) -> usize
     requires allowed { AllowsEvent (plain_event event.now) }
     requires few { length (event_params (plain_event event.now)) < 256 }
