@@ -1,0 +1,5 @@
+pub mod Cutting
+pub mod Grouping
+pub mod Holding
+pub mod Frames
+pub mod Given
