@@ -10,7 +10,7 @@ either : (P : Answer × List ℕ → Type 0) (b : Bool) (x y : Answer × List �
 either P true x y p q = p
 either P false x y p q = q
 
-first_shorter : (octets : List ℕ) → 0 < length octets → length (first octets).1 < length octets
+pub first_shorter : (octets : List ℕ) → 0 < length octets → length (first octets).1 < length octets
 unfolding first
 first_shorter octets some =
     let code = slice_index octets 0 in

@@ -21,17 +21,17 @@ at_least size payload what = if nat_lt (length payload) size then None else Some
 -- what a payload says under a code from 1 to 11, where it has a length of that code
 abbrev pub content_of : ℕ → List ℕ → Option Content
 content_of code p =
-  if code == 1 then at_least 2 p (reject (word_at 0 p) (drop 2 p)) else
-  if code == 2 then exactly 4 p (connection_request (word_at 0 p) (word_at 2 p)) else
-  if code == 3 then exactly 8 p (connection_response (word_at 0 p) (word_at 2 p) (word_at 4 p) (word_at 6 p)) else
-  if code == 4 then at_least 4 p (configuration_request (word_at 0 p) (word_at 2 p) (drop 4 p)) else
-  if code == 5 then at_least 6 p (configuration_response (word_at 0 p) (word_at 2 p) (word_at 4 p) (drop 6 p)) else
-  if code == 6 then exactly 4 p (disconnection_request (word_at 0 p) (word_at 2 p)) else
-  if code == 7 then exactly 4 p (disconnection_response (word_at 0 p) (word_at 2 p)) else
-  if code == 8 then Some (echo_request p) else
-  if code == 9 then Some (echo_response p) else
-  if code == 10 then exactly 2 p (information_request (word_at 0 p)) else
-  at_least 4 p (information_response (word_at 0 p) (word_at 2 p) (drop 4 p))
+    if code == 1 then at_least 2 p (reject (word_at 0 p) (drop 2 p)) else
+    if code == 2 then exactly 4 p (connection_request (word_at 0 p) (word_at 2 p)) else
+    if code == 3 then exactly 8 p (connection_response (word_at 0 p) (word_at 2 p) (word_at 4 p) (word_at 6 p)) else
+    if code == 4 then at_least 4 p (configuration_request (word_at 0 p) (word_at 2 p) (drop 4 p)) else
+    if code == 5 then at_least 6 p (configuration_response (word_at 0 p) (word_at 2 p) (word_at 4 p) (drop 6 p)) else
+    if code == 6 then exactly 4 p (disconnection_request (word_at 0 p) (word_at 2 p)) else
+    if code == 7 then exactly 4 p (disconnection_response (word_at 0 p) (word_at 2 p)) else
+    if code == 8 then Some (echo_request p) else
+    if code == 9 then Some (echo_response p) else
+    if code == 10 then exactly 2 p (information_request (word_at 0 p)) else
+    at_least 4 p (information_response (word_at 0 p) (word_at 2 p) (drop 4 p))
 
 -- a command, or why it was refused
 abbrev pub Answer : Type 0
@@ -49,21 +49,21 @@ read_as code identifier (Some what) = Ok (record { identifier = identifier; cont
 -- a command that is there whole: its identifier is judged first, then its code, then its length
 abbrev pub judged : ℕ → ℕ → List ℕ → Answer
 judged code identifier payload =
-  if identifier == 0 then Err (ZeroIdentifier code (Some identifier)) else
-  if (code == 0) || nat_lt 11 code then Err (UnknownCode code (Some identifier)) else
-  read_as code identifier (content_of code payload)
+    if identifier == 0 then Err (ZeroIdentifier code (Some identifier)) else
+    if (code == 0) || nat_lt 11 code then Err (UnknownCode code (Some identifier)) else
+    read_as code identifier (content_of code payload)
 
 -- the answer at the front of octets, and the octets that are still to be read. Only a payload that is
 -- read from its front is ever above the limit.
 unfoldable pub first : List ℕ → Answer × List ℕ
 first octets =
-  let code = slice_index octets 0 in
-  let identifier = slice_get octets 1 in
-  let size = word_at 2 octets in
-  if nat_lt 672 (length octets) then (Err (AboveMtu code identifier), []) else
-  if nat_lt (length octets) 4 then (Err (BadLength code identifier), []) else
-  if nat_lt (length (drop 4 octets)) size then (Err (BadLength code identifier), []) else
-  (judged code (slice_index octets 1) (take size (drop 4 octets)), drop size (drop 4 octets))
+    let code = slice_index octets 0 in
+    let identifier = slice_get octets 1 in
+    let size = word_at 2 octets in
+    if nat_lt 672 (length octets) then (Err (AboveMtu code identifier), []) else
+    if nat_lt (length octets) 4 then (Err (BadLength code identifier), []) else
+    if nat_lt (length (drop 4 octets)) size then (Err (BadLength code identifier), []) else
+    (judged code (slice_index octets 1) (take size (drop 4 octets)), drop size (drop 4 octets))
 
 -- the answers to octets in so many steps at most
 unfoldable pub answers_within : ℕ → List ℕ → List Answer

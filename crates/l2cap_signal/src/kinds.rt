@@ -118,7 +118,10 @@ fn disconnection_request_of(payload: &[u8]) -> Option<SignalKind<'_>>
     }
     let destination = word_at(payload, 0);
     let source = word_at(payload, 2);
-    Some(SignalKind::DisconnectionRequest { destination, source })
+    Some(SignalKind::DisconnectionRequest {
+        destination,
+        source,
+    })
 }
 
 fn disconnection_response_of(payload: &[u8]) -> Option<SignalKind<'_>>
@@ -129,7 +132,10 @@ fn disconnection_response_of(payload: &[u8]) -> Option<SignalKind<'_>>
     }
     let destination = word_at(payload, 0);
     let source = word_at(payload, 2);
-    Some(SignalKind::DisconnectionResponse { destination, source })
+    Some(SignalKind::DisconnectionResponse {
+        destination,
+        source,
+    })
 }
 
 fn information_request_of(payload: &[u8]) -> Option<SignalKind<'_>>

@@ -3,6 +3,7 @@
 #![tactic(auto)]
 
 mod kinds;
+pub mod laws;
 mod refusal;
 mod signal;
 mod signals;
@@ -10,5 +11,8 @@ mod writing;
 
 pub use refusal::SignalRefusal;
 pub use signal::{Signal, SignalKind};
-pub use signals::{signals_of, Signals};
+pub use signals::{Signals, signals_of};
 pub use writing::put_signal;
+
+#[cfg(test)]
+mod tests;

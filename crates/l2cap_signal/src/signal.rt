@@ -10,9 +10,15 @@ pub struct Signal<'a> {
 #[derive(Clone, Copy, Debug)]
 pub enum SignalKind<'a> {
     /// Code 01 (section 4.1).
-    Reject { reason: u16, rest: &'a [u8] },
+    Reject {
+        reason: u16,
+        rest: &'a [u8],
+    },
     /// Code 02 (section 4.2).
-    ConnectionRequest { psm: u16, source: u16 },
+    ConnectionRequest {
+        psm: u16,
+        source: u16,
+    },
     /// Code 03 (section 4.3).
     ConnectionResponse {
         destination: u16,
@@ -34,15 +40,27 @@ pub enum SignalKind<'a> {
         options: &'a [u8],
     },
     /// Code 06 (section 4.6).
-    DisconnectionRequest { destination: u16, source: u16 },
+    DisconnectionRequest {
+        destination: u16,
+        source: u16,
+    },
     /// Code 07 (section 4.7).
-    DisconnectionResponse { destination: u16, source: u16 },
+    DisconnectionResponse {
+        destination: u16,
+        source: u16,
+    },
     /// Code 08 (section 4.8).
-    EchoRequest { octets: &'a [u8] },
+    EchoRequest {
+        octets: &'a [u8],
+    },
     /// Code 09 (section 4.9).
-    EchoResponse { octets: &'a [u8] },
+    EchoResponse {
+        octets: &'a [u8],
+    },
     /// Code 0A (section 4.10).
-    InformationRequest { kind: u16 },
+    InformationRequest {
+        kind: u16,
+    },
     /// Code 0B (section 4.11).
     InformationResponse {
         kind: u16,

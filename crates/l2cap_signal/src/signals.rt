@@ -79,13 +79,22 @@ fn judged(code: u8, identifier: u8, payload: &[u8]) -> Result<Signal<'_>, Signal
 {
     let named = Some(identifier);
     if identifier == 0 {
-        return Err(SignalRefusal::ZeroIdentifier { code, identifier: named });
+        return Err(SignalRefusal::ZeroIdentifier {
+            code,
+            identifier: named,
+        });
     }
     if code == 0 || code > 11 {
-        return Err(SignalRefusal::UnknownCode { code, identifier: named });
+        return Err(SignalRefusal::UnknownCode {
+            code,
+            identifier: named,
+        });
     }
     match kind_of(code, payload) {
         Some(kind) => Ok(Signal { identifier, kind }),
-        None => Err(SignalRefusal::BadLength { code, identifier: named }),
+        None => Err(SignalRefusal::BadLength {
+            code,
+            identifier: named,
+        }),
     }
 }

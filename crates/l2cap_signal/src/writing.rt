@@ -23,7 +23,11 @@ pub fn put_signal(signal: &Signal<'_>, into: &mut [u8]) -> usize
     let end = put_payload(&signal.kind, HEADER_SIZE, into);
     let size = (end - HEADER_SIZE) as u16;
     let [low, high] = size.to_le_bytes();
-    put_octets(&[code_of(&signal.kind), signal.identifier, low, high], 0, into);
+    put_octets(
+        &[code_of(&signal.kind), signal.identifier, low, high],
+        0,
+        into,
+    );
     end
 }
 
@@ -71,12 +75,14 @@ fn put_payload(kind: &SignalKind<'_>, at: usize, into: &mut [u8]) -> usize
             result: answer,
             options,
         } => put_parts(&[source, flags, answer], options, at, into),
-        SignalKind::DisconnectionRequest { destination, source } => {
-            put_parts(&[destination, source], &[], at, into)
-        }
-        SignalKind::DisconnectionResponse { destination, source } => {
-            put_parts(&[destination, source], &[], at, into)
-        }
+        SignalKind::DisconnectionRequest {
+            destination,
+            source,
+        } => { put_parts(&[destination, source], &[], at, into) }
+        SignalKind::DisconnectionResponse {
+            destination,
+            source,
+        } => { put_parts(&[destination, source], &[], at, into) }
         SignalKind::EchoRequest { octets } => put_octets(octets, at, into),
         SignalKind::EchoResponse { octets } => put_octets(octets, at, into),
         SignalKind::InformationRequest { kind } => put_parts(&[kind], &[], at, into),
