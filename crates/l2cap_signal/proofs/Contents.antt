@@ -1,10 +1,9 @@
 -- A payload is read as what it says, and as nothing else.
-use Rattle.std.proofs.Common.{◌≡◌, ◌≢◌, ℕ, zero, suc, ◌+◌, ◌*◌, ◌/◌, ◌%◌, ◌^◌, ◌<◌, ◌≤◌, Bool, true, false, cond, eqb, ltb, List, [], ◌∷◌, ◌++◌, length, get_or, take, drop, Option, Some, None, refl, sym, ap, subst, ◌∙◌, append_assoc, arith, inl, inr, drop-cons}
-use Rattle.std.specs.List.{flat_map, AllByRecursion}
+use Rattle.std.proofs.Common.{◌≡◌, ℕ, zero, suc, ◌+◌, ◌*◌, ◌/◌, ◌%◌, ◌^◌, ◌<◌, ◌≤◌, Bool, true, false, cond, eqb, ltb, List, [], ◌∷◌, ◌++◌, length, get_or, drop, Option, Some, None, refl, sym, ap, subst, ◌∙◌, arith, drop-cons}
+use Rattle.std.specs.List.{AllByRecursion}
 use Rattle.std.proofs.lemmas.Bool.{eqb-true, ltb-false, le-ltb}
-use Rattle.std.proofs.lemmas.List.{get_or-drop, nil_from_length, length-append, length-drop}
+use Rattle.std.proofs.lemmas.List.{get_or-drop, nil_from_length, length-drop}
 use Rattle.bt_base.specs.Octets.{IsOctets, le16}
-use Rattle.bt_base.proofs.OctetLemmas.{le16-again}
 use Rattle.l2cap_signal.specs.Commands.{Content, reject, connection_request, connection_response, configuration_request, configuration_response, disconnection_request, disconnection_response, echo_request, echo_response, information_request, information_response, code_of, words_of, rest_of, payload_of, IsContent}
 use Rattle.l2cap_signal.specs.Reading.{word_at, exactly, at_least, content_of}
 use Rattle.l2cap_signal.specs.Grammar.{Says}

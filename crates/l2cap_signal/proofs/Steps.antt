@@ -1,6 +1,6 @@
 -- The answers to a payload, one step after the other.
-use Rattle.std.proofs.Common.{◌≡◌, ℕ, zero, suc, ◌+◌, ◌-◌, ◌<◌, ◌≤◌, Bool, true, false, cond, List, [], ◌∷◌, length, take, drop, eqb, refl, sym, ap, ◌∙◌, arith, length-drop, slice_get}
-use Rattle.std.specs.Prelude.{Option, Some, None, Result, Ok, Err, slice_index, nat_lt}
+use Rattle.std.proofs.Common.{◌≡◌, ℕ, zero, suc, ◌<◌, ◌≤◌, Bool, true, false, cond, List, [], ◌∷◌, length, take, drop, eqb, refl, sym, ap, ◌∙◌, arith, length-drop, slice_get}
+use Rattle.std.specs.Prelude.{Some, Err, slice_index, nat_lt}
 use Rattle.std.proofs.lemmas.Bool.{eqb-true}
 use Rattle.l2cap_signal.specs.declared.refusal.SignalRefusal.TheVariants.{BadLength, AboveMtu}
 use Rattle.l2cap_signal.specs.Reading.{Answer, word_at, judged, first, answers_within, answers}

@@ -1,5 +1,5 @@
 -- The signalling commands of L2CAP and their octets (Core 5.1, Volume 3 Part A, section 4).
-use Rattle.std.specs.Prelude.{ℕ, ◌≡◌, ◌+◌, ◌^◌, ◌<◌, ◌≤◌, List, [], ◌∷◌, ◌++◌, length}
+use Rattle.std.specs.Prelude.{ℕ, ◌^◌, ◌<◌, List, [], ◌∷◌, ◌++◌, length}
 use Rattle.std.specs.List.{flat_map, AllByRecursion}
 use Rattle.bt_base.specs.Octets.{IsOctets, le16}
 use Rattle.l2cap_signal.specs.declared.signal.Signal.{Signal}

@@ -1,5 +1,5 @@
 -- Which answers a payload has, by what a command is alone.
-use Rattle.std.specs.Prelude.{ℕ, ◌≡◌, ◌≢◌, ◌+◌, ◌^◌, ◌<◌, ◌≤◌, ◌⊎◌, List, [], ◌∷◌, ◌++◌, length, map, slice_index, slice_get, Some, Ok, Err}
+use Rattle.std.specs.Prelude.{ℕ, ◌≡◌, ◌≢◌, ◌^◌, ◌<◌, ◌≤◌, ◌⊎◌, List, [], ◌∷◌, ◌++◌, length, map, slice_index, slice_get, Some, Ok, Err}
 use Rattle.std.specs.List.{flat_map, AllByRecursion}
 use Rattle.bt_base.specs.Octets.{IsOctets}
 use Rattle.l2cap_signal.specs.declared.refusal.SignalRefusal.{SignalRefusal}

@@ -1,5 +1,5 @@
 /// A signalling command (Core 5.1, Volume 3 Part A, section 4). What it lends are octets of its payload.
-#[derive(Clone, Copy, Debug)]
+#[derive(Clone, Copy, Debug, PartialEq, Eq)]
 pub struct Signal<'a> {
     /// Ties a response to its request; 1 to 255.
     pub identifier: u8,
@@ -7,7 +7,7 @@ pub struct Signal<'a> {
 }
 
 /// What a command says, one variant to a code.
-#[derive(Clone, Copy, Debug)]
+#[derive(Clone, Copy, Debug, PartialEq, Eq)]
 pub enum SignalKind<'a> {
     /// Code 01 (section 4.1).
     Reject {

@@ -50,8 +50,8 @@ impl<'a> Signals<'a> {
     }
 }
 
-#[tactic(auto, unfolding(crate::specs::Reading::first))]
 /// The answer at the front of octets, and the octets that are still to be read.
+#[tactic(auto, unfolding(crate::specs::Reading::first))]
 fn first_of(octets: &[u8]) -> (Result<Signal<'_>, SignalRefusal>, &[u8])
     requires { 0 < length octets.now }
     ensures { (answer result.0, result.1.now) ≡ first octets.now }

@@ -1,4 +1,4 @@
-use Rattle.std.proofs.Common.{◌≡◌, sym, ap, ◌∙◌, arith, slice_get, drop, ◌∷◌, refl}
+use Rattle.std.proofs.Common.{sym, ◌∙◌, refl}
 use Rattle.l2cap_signal.proofs.Steps.{step_is, end_is}
 use Rattle.l2cap_signal.proofs.signals.Signals.next.Goals as goal
 
