@@ -1,0 +1,14 @@
+//! The configuration options of an L2CAP channel (Bluetooth Core Specification 5.1, Volume 3 Part A,
+//! section 5), and how two sides come to an agreement on them (section 7.1).
+#![tactic(auto)]
+
+mod item;
+mod options;
+mod reading;
+mod unknown;
+mod wish;
+
+pub use options::{merged, ConfigRefusal, ModeOption, Options};
+pub use reading::options_of;
+pub use unknown::UnknownTypes;
+pub use wish::{Agreed, Mode, Wish};
