@@ -54,7 +54,7 @@ item_takes (o ∷ size ∷ rest) found octet e =
     let len : length (take size rest) ≡ size = length-take-le size rest long in
     let rest_octets : IsOctets rest = λ i. octet (suc (suc i)) in
     let parts : o ∷ size ∷ rest ≡ spelling item ++ drop size rest =
-        ap (λ (x : List ℕ). o ∷ size ∷ x) (sym (take-append-drop size rest)) ∙ ap (λ (n : ℕ). o ∷ n ∷ (take size rest ++ drop size rest)) (sym len) in
+    ap (λ (x : List ℕ). o ∷ size ∷ x) (sym (take-append-drop size rest)) ∙ ap (λ (n : ℕ). o ∷ n ∷ (take size rest ++ drop size rest)) (sym len) in
     subst (λ (f : Item × List ℕ). Takes (o ∷ size ∷ rest) f.0 f.1) g.2 (record {
       fits = record { octet = octet 0; short = omega (arith, octet 1); value = octets_front size rest rest_octets; size = sized_by (size_of_kind (kind_of o)) size (length (take size rest)) len g.1 };
       parts = parts;
@@ -153,7 +153,7 @@ types-append [] ys = refl
 types-append (x ∷ xs) ys =
     ap (λ (more : List ℕ). cond (is_unknown x.octet) (x.octet ∷ more) more) (types-append xs ys) ∙ kept_first (is_unknown x.octet) x.octet (types xs) (types ys)
 
-same_options : (x y : Options) → x.mtu ≡ y.mtu → x.mode ≡ y.mode → x.fcs ≡ y.fcs → x.unknown ≡ y.unknown → x ≡ y
+pub same_options : (x y : Options) → x.mtu ≡ y.mtu → x.mode ≡ y.mode → x.fcs ≡ y.fcs → x.unknown ≡ y.unknown → x ≡ y
 same_options x y p q r s =
     let make : Option ℕ → Option ModeOption → Option ℕ → List ℕ → Options = λ mtu mode fcs unknown. record { mtu = mtu; mode = mode; fcs = fcs; unknown = unknown } in
     ap (λ (v : Option ℕ). make v x.mode x.fcs x.unknown) p
@@ -228,9 +228,9 @@ within_takes zero (o ∷ octets) items le octet e = absurd (omega arith)
 within_takes (suc n) (o ∷ octets) items le octet e =
     takes_by (o ∷ octets) items (item_at (o ∷ octets)) (omega arith) octet refl
     (λ found at more rest.
-        let less = shorter (o ∷ octets) found at in
-        let taken = item_takes (o ∷ octets) found octet at in
-        within_takes n found.1 more (omega arith) taken.behind rest)
+    let less = shorter (o ∷ octets) found at in
+    let taken = item_takes (o ∷ octets) found octet at in
+    within_takes n found.1 more (omega arith) taken.behind rest)
     e
 
 pub items_take : (octets : List ℕ) (items : List Item) → IsOctets octets → items_of octets ≡ Some items → AllByRecursion IsItem items × (octets ≡ spelled items)

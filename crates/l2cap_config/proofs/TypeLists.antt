@@ -40,12 +40,19 @@ unfolding IsDistinct
 room xs unknown =
     let all = unknown.unknown in
     let known : List ℕ = 1 ∷ 2 ∷ 3 ∷ 4 ∷ 5 ∷ xs in
-    let distinct : IsDistinct eqb known =
-        ((refl, (refl, (refl, (refl, known_apart 1 xs refl all)))),
-        ((refl, (refl, (refl, known_apart 2 xs refl all))),
-        ((refl, (refl, known_apart 3 xs refl all)),
-        ((refl, known_apart 4 xs refl all),
-        (known_apart 5 xs refl all, unknown.distinct))))) in
+    let distinct : IsDistinct eqb known = (
+      (refl, (refl, (refl, (refl, known_apart 1 xs refl all)))),
+      (
+        (refl, (refl, (refl, known_apart 2 xs refl all))),
+        (
+          (refl, (refl, known_apart 3 xs refl all)),
+          (
+            (refl, known_apart 4 xs refl all),
+            (known_apart 5 xs refl all, unknown.distinct),
+          ),
+        ),
+      ),
+    ) in
     let most = length-le_from_distinct_below known 128 distinct (λ q any. member_below known q (all_below xs all) any) in
     omega arith
 
@@ -63,7 +70,7 @@ pub unknown_push : (xs : List ℕ) (y : ℕ) → AreUnknown xs → IsTrue (is_un
 unknown_push xs y unknown this new =
     record {
       distinct = IsDistinct-push nat_eq_equiv xs y unknown.distinct (sym (contains_is xs y) ∙ new);
-      unknown = list_all-append is_unknown xs (y ∷ []) ∙ and_from (list_all is_unknown xs) _ unknown.unknown (and_from (is_unknown y) true this refl)
+      unknown = list_all-append is_unknown xs (y ∷ []) ∙ and_from (list_all is_unknown xs) _ unknown.unknown (and_from (is_unknown y) true this refl);
     }
 
 pub room_more : (xs : List ℕ) (y : ℕ) → AreUnknown xs → IsTrue (is_unknown y) → contains xs y ≡ false → length xs < 123

@@ -21,9 +21,9 @@ abbrev pub item_at : List ℕ → Option (Item × List ℕ)
 item_at [] = None
 item_at (octet ∷ []) = None
 item_at (octet ∷ size ∷ rest) =
-  if nat_lt (length rest) size then None else
-  if fits octet size then Some (record { octet = octet; value = take size rest }, drop size rest) else
-  None
+    if nat_lt (length rest) size then None else
+    if fits octet size then Some (record { octet = octet; value = take size rest }, drop size rest) else
+    None
 
 -- all options, in so many steps at most
 unfoldable pub items_within : ℕ → List ℕ → Option (List Item)

@@ -10,12 +10,12 @@ kind_of octet = octet % 128
 -- retransmission and flow control (the mode), 05 FCS
 abbrev pub size_of_kind : ℕ → Option ℕ
 size_of_kind kind =
-  if kind == 1 then Some 2 else
-  if kind == 2 then Some 2 else
-  if kind == 3 then Some 22 else
-  if kind == 4 then Some 9 else
-  if kind == 5 then Some 1 else
-  None
+    if kind == 1 then Some 2 else
+    if kind == 2 then Some 2 else
+    if kind == 3 then Some 22 else
+    if kind == 4 then Some 9 else
+    if kind == 5 then Some 1 else
+    None
 
 -- the option is not known, and no hint
 abbrev pub is_unknown : ℕ → Bool

@@ -10,9 +10,13 @@ use crate::unknown::UnknownTypes;
 use byteorder::{ByteOrder, LittleEndian};
 
 const MTU: u8 = 1;
+
 const FLUSH_TIMEOUT: u8 = 2;
+
 const QUALITY_OF_SERVICE: u8 = 3;
+
 const MODE: u8 = 4;
+
 const FCS: u8 = 5;
 
 /// An option as it stands in a list: its type octet, whose highest bit marks a hint, and its value.

@@ -1,7 +1,7 @@
 //! The options that a list of them states.
 
-ghost use Rattle.std.specs.Prelude.{◌≡◌, [], None};
-ghost use Rattle.l2cap_config.specs.Items.{no_options, joined};
+ghost use Rattle.std.specs.Prelude.{◌≡◌, ◌++◌, List};
+ghost use Rattle.l2cap_config.specs.Items.{Item, no_options, joined, options_in};
 
 use crate::unknown::UnknownTypes;
 
@@ -82,7 +82,9 @@ impl Options {
 
 /// The options of two lists, one after the other.
 pub fn merged(earlier: &Options, later: &Options) -> Options
-    ensures { result ≡ joined earlier.now later.now }
+    ensures both { result ≡ joined earlier.now later.now }
+    // They are what the lists state, joined to one.
+    ensures lists { (xs ys : List Item) → earlier.now ≡ options_in xs → later.now ≡ options_in ys → result ≡ options_in (xs ++ ys) }
 {
     let mut all = earlier.copied();
     all.join(later);

@@ -21,9 +21,10 @@ pub loop-rest-preserved : goal.loop-rest-preserved
 loop-rest-preserved c =
     let item = view c.in-Some.item in
     let rest = c.in-Some.behind.now in
-    let now : c.join.new.self ≡ joined c.loop-rest.options (options_in (item ∷ [])) = c.join.ensures ∙ ap (joined c.loop-rest.options) c.options_from.ensures in
-    (rest_octets c.loop-rest.rest.now item rest c.loop-rest.invariant.0 c.in-Some.ensures,
-    ap (λ (o : Options). continued o (items_of rest)) now ∙ sym (loop_step c.loop-rest.options c.loop-rest.rest.now item rest c.in-Some.ensures) ∙ c.loop-rest.invariant.1)
+    let now : c.join.new.self ≡ joined c.loop-rest.options (options_in (item ∷ [])) = c.join.ensures ∙ ap (joined c.loop-rest.options) c.options_from.ensures in (
+      rest_octets c.loop-rest.rest.now item rest c.loop-rest.invariant.0 c.in-Some.ensures,
+      ap (λ (o : Options). continued o (items_of rest)) now ∙ sym (loop_step c.loop-rest.options c.loop-rest.rest.now item rest c.in-Some.ensures) ∙ c.loop-rest.invariant.1,
+    )
 
 pub returns : goal.returns
 returns c = finished c.loop-rest.options c.loop-rest.rest.now _ (sym c.is_empty.ensures ∙ c.loop-rest-test.false) c.loop-rest.invariant.1
