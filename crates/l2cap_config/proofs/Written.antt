@@ -1,14 +1,14 @@
 -- Options that were written are read again.
-use Rattle.std.proofs.Common.{◌≡◌, ℕ, zero, suc, ◌+◌, ◌*◌, ◌/◌, ◌%◌, ◌^◌, ◌<◌, List, [], ◌∷◌, ◌++◌, length, Option, Some, None, Ok, refl, sym, ap, ◌∙◌, arith}
-use Rattle.std.specs.Prelude.{IfSome, option_map, slice_index}
+use Rattle.std.proofs.Common.{◌≡◌, ℕ, zero, suc, ◌+◌, ◌*◌, ◌/◌, ◌%◌, ◌^◌, ◌<◌, List, [], ◌∷◌, ◌++◌, Option, Some, None, Ok, refl, sym, ap, ◌∙◌, arith}
+use Rattle.std.specs.Prelude.{IfSome}
 use Rattle.std.specs.List.{AllByRecursion}
 use Rattle.std.specs.Option.{option_or}
 use Rattle.bt_base.specs.Octets.{IsOctets, le16}
 use Rattle.l2cap_config.specs.declared.options.ModeOption.{ModeOption}
 use Rattle.l2cap_config.specs.declared.options.Options.{Options}
 use Rattle.l2cap_config.specs.Items.{Item, IsItem, options_in, joined, no_options, mode_in, word_at}
-use Rattle.l2cap_config.specs.Reading.{stated, options_read}
-use Rattle.l2cap_config.specs.Writing.{mtu_items, mode_items, fcs_items, items_for, mode_value, written}
+use Rattle.l2cap_config.specs.Reading.{stated}
+use Rattle.l2cap_config.specs.Writing.{mtu_items, mode_items, fcs_items, items_for, mode_value}
 use Rattle.l2cap_config.specs.Laws.{FitsMode, Fits, WrittenIsRead}
 use Rattle.l2cap_config.proofs.ItemLists.{options-append, items_again, same_options}
 

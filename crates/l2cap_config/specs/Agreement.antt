@@ -1,6 +1,5 @@
 -- How a wish and the options of the other side meet (Core 5.1, Volume 3 Part A, sections 4.5, 5.4 and 7.1).
-use Rattle.std.specs.Prelude.{ℕ, Bool, true, not, ◌==◌, ◌&&◌, ◌||◌, nat_lt, min, if◌then◌else◌, length, Option, Some, None, unwrap_or}
-use Rattle.std.specs.Option.{option_map_or}
+use Rattle.std.specs.Prelude.{ℕ, Bool, not, ◌==◌, ◌&&◌, ◌||◌, nat_lt, min, if◌then◌else◌, length, Option, Some, None, unwrap_or}
 use Rattle.l2cap_config.specs.declared.options.ModeOption.{ModeOption}
 use Rattle.l2cap_config.specs.declared.options.Options.{Options}
 use Rattle.l2cap_config.specs.declared.options.ConfigRefusal.TheVariants.{BadMtu, BadMode, BadWindow, BadMps}

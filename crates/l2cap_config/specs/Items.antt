@@ -1,13 +1,11 @@
 -- Lists of configuration options, their octets, and what they state (Core 5.1, Volume 3 Part A, section 5).
-use Rattle.std.specs.Prelude.{ℕ, zero, suc, ◌≡◌, ◌+◌, ◌^◌, ◌<◌, ◌%◌, Bool, ◌==◌, nat_lt, if◌then◌else◌, List, [], ◌∷◌, ◌++◌, length, take, drop, map, filter, slice_index, Option, Some, None, option_map, Result, Ok, Err, IfSome}
-use Rattle.std.specs.List.{flat_map, AllByRecursion}
+use Rattle.std.specs.Prelude.{ℕ, ◌≡◌, ◌<◌, ◌==◌, if◌then◌else◌, List, [], ◌∷◌, length, map, filter, slice_index, Option, Some, None, option_map, IfSome}
+use Rattle.std.specs.List.{flat_map}
 use Rattle.std.specs.Option.{option_or}
 use Rattle.byteorder.specs.Endian.{little_from}
-use Rattle.bt_base.specs.Octets.{IsOctets, le16}
+use Rattle.bt_base.specs.Octets.{IsOctets}
 use Rattle.l2cap_config.specs.declared.options.ModeOption.{ModeOption}
 use Rattle.l2cap_config.specs.declared.options.Options.{Options}
-use Rattle.l2cap_config.specs.declared.options.ConfigRefusal.{ConfigRefusal}
-use Rattle.l2cap_config.specs.declared.options.ConfigRefusal.TheVariants.{BadOptionLength}
 use Rattle.l2cap_config.specs.Types.{kind_of, size_of_kind, is_unknown, joined_types}
 
 -- ---- a list of options and its octets

@@ -1,5 +1,5 @@
 -- What holds of all options.
-use Rattle.std.specs.Prelude.{ℕ, ◌≡◌, ◌^◌, ◌<◌, List, [], IfSome, Ok}
+use Rattle.std.specs.Prelude.{◌≡◌, ◌^◌, ◌<◌, [], IfSome, Ok}
 use Rattle.l2cap_config.specs.declared.options.ModeOption.{ModeOption}
 use Rattle.l2cap_config.specs.declared.options.Options.{Options}
 use Rattle.l2cap_config.specs.Reading.{options_read}

@@ -1,5 +1,5 @@
 -- The types of configuration options (Core 5.1, Volume 3 Part A, section 5).
-use Rattle.std.specs.Prelude.{ℕ, ◌≡◌, ◌<◌, ◌%◌, Bool, true, not, ◌&&◌, ◌==◌, nat_eq, nat_lt, if◌then◌else◌, IsTrue, List, [], ◌∷◌, ◌++◌, Option, Some, None, is_some, fold}
+use Rattle.std.specs.Prelude.{ℕ, ◌%◌, Bool, not, ◌&&◌, ◌==◌, nat_eq, nat_lt, if◌then◌else◌, IsTrue, List, [], ◌∷◌, ◌++◌, Option, Some, None, is_some}
 use Rattle.std.specs.List.{list_any, list_all, IsDistinct}
 
 -- a type octet without its highest bit, which marks a hint: an option that may be passed over

@@ -206,7 +206,7 @@ fn basic_mode() -> ModeOption
     ensures { result ≡ basic_mode }
 {
     ModeOption {
-        mode: 0,
+        mode: mode_number(Mode::Basic),
         window: 0,
         tries: 0,
         retransmit: 0,
@@ -220,7 +220,7 @@ fn answered_mode(window: u8, tries: u8, mps: u16) -> ModeOption
     ensures { result ≡ answered_mode window tries mps }
 {
     ModeOption {
-        mode: 3,
+        mode: mode_number(Mode::Enhanced),
         window,
         tries,
         retransmit: RETRANSMISSION_TIME,

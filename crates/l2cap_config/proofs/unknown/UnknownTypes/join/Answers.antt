@@ -1,4 +1,4 @@
-use Rattle.std.proofs.Common.{◌≡◌, ◌∙◌, ap, sym, List, ℕ, get_or}
+use Rattle.std.proofs.Common.{◌∙◌, ap, sym, List, ℕ, get_or}
 use Rattle.l2cap_config.specs.Types.{with_type}
 use Rattle.l2cap_config.proofs.TypeLists.{joined_more}
 use Rattle.l2cap_config.proofs.unknown.UnknownTypes.join.Goals as goal
