@@ -56,7 +56,7 @@ room xs unknown =
     let most = length-le_from_distinct_below known 128 distinct (λ q any. member_below known q (all_below xs all) any) in
     omega arith
 
-either_way : (x y : ℕ) → eqb x y ≡ eqb y x
+pub either_way : (x y : ℕ) → eqb x y ≡ eqb y x
 either_way x y = elim (cases_eq x y) [
   | inl e ↦ eq-eqb x y e ∙ sym (eq-eqb y x (sym e))
   | inr ne ↦ ne_eqb x y ne ∙ sym (ne_eqb y x (λ e. ne (sym e)))
