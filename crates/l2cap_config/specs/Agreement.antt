@@ -33,7 +33,7 @@ asked_mtu options = unwrap_or options.mtu 672
 
 -- ---- what is answered to a configuration request
 
--- a mode option of a response, with times of 2 and 12 seconds
+-- a mode option of a response, with times of 2 and 12 seconds (the times are this project's own)
 abbrev pub answered_mode : ℕ → ℕ → ℕ → ModeOption
 answered_mode window tries mps = record { mode = 0x03; window = window; tries = tries; retransmit = 2000; monitor = 12000; mps = mps }
 
@@ -55,7 +55,8 @@ answered_values Enhanced asked =
     if nat_lt asked.mps 8 then Unacceptable BadMps (only_mode (answered_mode asked.window asked.tries 48)) else
     Accept (only_mode (answered_mode asked.window asked.tries asked.mps))
 
--- the table, whose rows are tried from the first on
+-- the table, whose rows are tried from the first on; that order and the values that are suggested in place
+-- of refused ones are this project's own
 abbrev pub answered : Wish → Options → ConfigAnswer
 answered wish options =
     if not (length options.unknown == 0) then Unknown else
@@ -91,7 +92,7 @@ requested wish suggested = record no_options {
 abbrev pub keeps_mode : Wish → Options → Bool
 keeps_mode wish suggested = (unwrap_or suggested.mode (own_mode wish wish.mode)).mode == mode_number wish.mode
 
--- the results of a response: 0 success, 1 unacceptable, 4 pending
+-- the results of a response (4.5): 0 success, 1 unacceptable, 4 pending
 abbrev pub settled : Wish → ℕ → Options → Settled
 settled wish code options =
     if code == 0 then Accepted else
@@ -101,6 +102,7 @@ settled wish code options =
 
 -- ---- the agreement
 
+-- at most 1010 octets, so that a frame fits the greatest packet of the link; basic mode has no frames
 abbrev pub sent_mps : Mode → ModeOption → ℕ
 sent_mps Basic asked = 0
 sent_mps Enhanced asked = min asked.mps 1010
@@ -109,7 +111,7 @@ abbrev pub sent_window : Mode → ModeOption → ℕ → ℕ
 sent_window Basic asked own = 0
 sent_window Enhanced asked own = min asked.window own
 
--- what a side sends by is the other's to say, what it receives by its own
+-- what a side sends by is the other's to say, what it receives by its own (7.1)
 abbrev pub agreed_on : Wish → Options → Agreed
 agreed_on mine peer = record {
   mode = mine.mode;

@@ -6,8 +6,8 @@ use Rattle.std.specs.List.{list_any, list_all, IsDistinct}
 abbrev pub kind_of : ℕ → ℕ
 kind_of octet = octet % 128
 
--- the length of the value of a known option: 01 MTU, 02 flush timeout, 03 quality of service, 04
--- retransmission and flow control (the mode), 05 FCS
+-- the length of the value of a known option: 01 MTU (5.1), 02 flush timeout (5.2), 03 quality of service
+-- (5.3), 04 retransmission and flow control, that is the mode (5.4), 05 FCS (5.5)
 abbrev pub size_of_kind : ℕ → Option ℕ
 size_of_kind kind =
     if kind == 1 then Some 2 else

@@ -85,7 +85,7 @@ rest_of (information_response kind answer rest) = rest
 abbrev pub payload_of : Content → List ℕ
 payload_of what = flat_map le16 (words_of what) ++ rest_of what
 
--- a code, an identifier, the payload's length and the payload
+-- a code, an identifier, the payload's length and the payload (4, Figure 4.2)
 abbrev pub framed : ℕ → ℕ → List ℕ → List ℕ
 framed code identifier payload = code ∷ identifier ∷ le16 (length payload) ++ payload
 

@@ -18,7 +18,8 @@ exactly size payload what = if length payload == size then Some what else None
 abbrev pub at_least : ℕ → List ℕ → Content → Option Content
 at_least size payload what = if nat_lt (length payload) size then None else Some what
 
--- what a payload says under a code from 1 to 11, where it has a length of that code
+-- what a payload says under a code from 1 to 11, where it has a length of that code (Core 5.1, Volume 3
+-- Part A, 4.1 to 4.11)
 abbrev pub content_of : ℕ → List ℕ → Option Content
 content_of code p =
     if code == 1 then at_least 2 p (reject (word_at 0 p) (drop 2 p)) else
@@ -46,7 +47,8 @@ abbrev pub read_as : ℕ → ℕ → Option Content → Answer
 read_as code identifier None = Err (BadLength code (Some identifier))
 read_as code identifier (Some what) = Ok (record { identifier = identifier; content = what })
 
--- a command that is there whole: its identifier is judged first, then its code, then its length
+-- a command that is there whole: its identifier is judged first, then its code, then its length (4; the
+-- order is this project's own)
 abbrev pub judged : ℕ → ℕ → List ℕ → Answer
 judged code identifier payload =
     if identifier == 0 then Err (ZeroIdentifier code (Some identifier)) else
@@ -54,7 +56,8 @@ judged code identifier payload =
     read_as code identifier (content_of code payload)
 
 -- the answer at the front of octets, and the octets that are still to be read. Only a payload that is
--- read from its front is ever above the limit.
+-- read from its front is ever above the limit. The limit of 672 octets, and that one answer stands for
+-- all commands above it, are this project's own.
 unfoldable pub first : List ℕ → Answer × List ℕ
 first octets =
     let code = slice_index octets 0 in
