@@ -1,0 +1,4 @@
+pub mod TypeLists
+pub mod ItemLists
+pub mod Written
+pub mod Once

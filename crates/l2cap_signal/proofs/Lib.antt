@@ -1,0 +1,5 @@
+pub mod Steps
+pub mod Pieces
+pub mod Contents
+pub mod Judged
+pub mod Payloads
