@@ -1,5 +1,6 @@
 -- Reading headers one after the other.
 use Rattle.std.proofs.Common.{◌≡◌, ℕ, zero, suc, ◌+◌, ◌-◌, ◌*◌, ◌/◌, ◌%◌, ◌^◌, ◌<◌, ◌≤◌, Bool, true, false, cond, ltb, List, [], ◌∷◌, ◌++◌, length, take, drop, Result, Ok, Err, refl, sym, ap, subst, ◌∙◌, append_assoc, arith, inl, inr, ◌⊎◌}
+use Rattle.std.specs.Prelude.{IfOk, IsOkAnd}
 use Rattle.std.specs.List.{flat_map, AllByRecursion}
 use Rattle.std.proofs.lemmas.Bool.{ltb-true, ltb-false, lt-ltb, le-ltb, cond-true, cond-false}
 use Rattle.std.proofs.lemmas.List.{append-nil, length-append, length-drop, length-take, take-append-drop, take_at, drop_at, nil_from_length}
@@ -10,7 +11,7 @@ use Rattle.obex_headers.specs.declared.fault.ObexRefusal.TheVariants.{BadHeaderL
 use Rattle.obex_headers.specs.Packets.{PlainValue, PlainHeader, Text, Octets, One, Four, IsText, value_octets, header_octets, headers_octets, HasForm, IsHeader}
 use Rattle.obex_headers.proofs.Numbers.{IsOctets-drop, IsOctets-take, IsOctets-rest, be16_back, be32_back, be16_again, be32_again, big_number_2-lt, big_number_4-lt}
 use Rattle.obex_headers.proofs.Texts.{text_passed, text_passes}
-use Rattle.obex_headers.specs.Reading.{◌>>=◌, is_text, sized_at, text_at, octets_at, one_at, four_at, value_at, header_at, headers_at, headers_in}
+use Rattle.obex_headers.specs.Reading.{◌>>=◌, Gives, is_text, sized_at, text_at, octets_at, one_at, four_at, value_at, header_at, headers_at, headers_in}
 
 -- the value of a step that did not fail
 pub bind_ok : {A B : Type 0} (r : Result A ObexRefusal) (f : A → Result B ObexRefusal) (y : B) → (r >>= f) ≡ Ok y → (x : A) × (r ≡ Ok x) × (f x ≡ Ok y)
@@ -69,16 +70,12 @@ sized_takes octets x fits e =
 sized_front : (a b : ℕ) (part rest : List ℕ) → 256 * a + b ≡ 3 + length part → sized_at (a ∷ b ∷ (part ++ rest)) ≡ Ok (part, rest)
 unfolding sized_at
 sized_front a b part rest e =
-    let s = a ∷ b ∷ (part ++ rest) in
-    let n : big_number 2 s ≡ 3 + length part = omega arith in
-    let n3 : big_number 2 s - 3 ≡ length part = omega arith in
-    let t1 : ltb (length s) 2 ≡ false = le-ltb _ _ (omega arith) in
-    let t2 : ltb (big_number 2 s) 3 ≡ false = le-ltb _ _ (omega arith) in
-    let t3 : ltb (1 + length s) (big_number 2 s) ≡ false = le-ltb _ _ (omega (arith, length-append part rest)) in
-    cond-false _ _ _ t1 ∙ cond-false _ _ _ t2 ∙ cond-false _ _ _ t3
-      ∙ ap (λ (k : ℕ). Ok (take k (part ++ rest), drop k (part ++ rest))) n3
-      ∙ ap (λ (p : List ℕ). Ok (p, drop (length part) (part ++ rest))) (take_at part rest (length part) refl)
-      ∙ ap (λ (p : List ℕ). Ok (part, p)) (drop_at part rest (length part) refl)
+    let n : big_number 2 (a ∷ b ∷ (part ++ rest)) ≡ 3 + length part = omega arith in
+    let n3 : big_number 2 (a ∷ b ∷ (part ++ rest)) - 3 ≡ length part = omega arith in
+    let t1 : ltb (length (a ∷ b ∷ (part ++ rest))) 2 ≡ false = le-ltb _ _ (omega arith) in
+    let t2 : ltb (big_number 2 (a ∷ b ∷ (part ++ rest))) 3 ≡ false = le-ltb _ _ (omega arith) in
+    let t3 : ltb (1 + length (a ∷ b ∷ (part ++ rest))) (big_number 2 (a ∷ b ∷ (part ++ rest))) ≡ false = le-ltb _ _ (omega (arith, length-append part rest)) in
+    rw (t1, t2, t3, n3, take_at part rest (length part) refl, drop_at part rest (length part) refl) refl
 
 sized_again : (part rest : List ℕ) → 3 + length part < 2 ^ 16 → sized_at (be16 (3 + length part) ++ (part ++ rest)) ≡ Ok (part, rest)
 sized_again part rest h = sized_front ((3 + length part) / 256 % 256) ((3 + length part) % 256) part rest (omega arith)
@@ -317,3 +314,63 @@ headers_again [] h = headers_nil
 headers_again (header ∷ headers) h =
     headers_step (header_octets header ++ headers_octets headers) (header, headers_octets headers) (header_again header (headers_octets headers) h.0)
       ∙ ap (λ (r : Result (List PlainHeader) ObexRefusal). r >>= λ others. Ok (header ∷ others)) (headers_again headers h.1)
+
+-- ---- what the call answers
+
+pub is_found : {X : Type 0} (view : X → PlainHeader × List ℕ) (octets : List ℕ) (r : Result X ObexRefusal) → IsOctets octets → Gives view r (header_at octets)
+    → IfOk r (λ x. IsHeader (view x).0 × (octets ≡ header_octets (view x).0 ++ (view x).1))
+is_found view octets (Ok x) fits h = let t = header_takes octets (view x) fits h in (t.1, t.0.parts)
+is_found view octets (Err d) fits h = tt
+
+pub is_only : {X : Type 0} (view : X → PlainHeader × List ℕ) (octets : List ℕ) (header : PlainHeader) (rest : List ℕ) (r : Result X ObexRefusal) → IsHeader header → octets ≡ header_octets header ++ rest
+    → Gives view r (header_at octets) → IsOkAnd r (λ x. ((view x).0 ≡ header) × ((view x).1 ≡ rest))
+is_only view octets header rest (Ok x) h e given =
+    let same = ok_is (view x) (header, rest) (sym given ∙ ap header_at e ∙ header_again header rest h) in
+    (ap (λ (p : PlainHeader × List ℕ). p.0) same, ap (λ (p : PlainHeader × List ℕ). p.1) same)
+is_only view octets header rest (Err d) h e given = absurd (let k = sym given ∙ ap header_at e ∙ header_again header rest h in cc)
+
+-- ---- what is refused
+
+-- whole headers, and behind them octets that begin with none
+abbrev pub StopsAt : List ℕ → ObexRefusal → Type 0
+StopsAt octets refusal = (front : List PlainHeader) × (rest : List ℕ) × AllByRecursion IsHeader front × (octets ≡ headers_octets front ++ rest) × (0 < length rest) × (header_at rest ≡ Err refusal)
+
+-- a step that failed, or the step behind it did
+bind_err : {A B : Type 0} (r : Result A ObexRefusal) (f : A → Result B ObexRefusal) (d : ObexRefusal) → (r >>= f) ≡ Err d → (r ≡ Err d) ⊎ ((x : A) × (r ≡ Ok x) × (f x ≡ Err d))
+bind_err (Ok x) f d e = inr (x, refl, e)
+bind_err (Err g) f d e = inl cc
+
+not_ok : {A B : Type 0} (x : A) (d : ObexRefusal) → ◌≡◌ {A = Result A ObexRefusal} (Ok x) (Err d) → B
+not_ok x d e = absurd cc
+
+stops_at : (n : ℕ) (octets : List ℕ) (refusal : ObexRefusal) → length octets ≤ n → IsOctets octets → headers_at n octets ≡ Err refusal → StopsAt octets refusal
+unfolding headers_at
+stops_at n [] refusal h fits e = absurd cc
+stops_at zero (octet ∷ octets) refusal h fits e = absurd (omega arith)
+stops_at (suc n) (octet ∷ octets) refusal h fits e =
+    elim (bind_err (header_at (octet ∷ octets)) (λ first. headers_at n first.1 >>= λ others. Ok (first.0 ∷ others)) refusal e) [
+      | inl here ↦ ([], octet ∷ octets, tt, refl, omega arith, here)
+      | inr a ↦
+          let t = header_takes (octet ∷ octets) a.0 fits a.1 in
+          let l = header_len (octet ∷ octets) a.0 a.1 in
+          elim (bind_err (headers_at n a.0.1) (λ others. Ok (a.0.0 ∷ others)) refusal a.2) [
+            | inl later ↦
+                let s = stops_at n a.0.1 refusal (omega arith) t.0.rest_fits later in
+                (a.0.0 ∷ s.0, s.1, (t.1, s.2), t.0.parts ∙ ap (λ (y : List ℕ). header_octets a.0.0 ++ y) s.3 ∙ sym (append_assoc (header_octets a.0.0) (headers_octets s.0) s.1), s.4, s.5)
+            | inr b ↦ absurd (let k = b.2 in cc)
+          ]
+    ]
+
+pub refused_first : (octets : List ℕ) (refusal : ObexRefusal) → IsOctets octets → headers_in octets ≡ Err refusal → StopsAt octets refusal
+unfolding headers_in
+refused_first octets refusal fits e = stops_at (length octets) octets refusal (omega arith) fits e
+
+refused_behind : (front : List PlainHeader) (rest : List ℕ) (refusal : ObexRefusal) → AllByRecursion IsHeader front → headers_in rest ≡ Err refusal → headers_in (headers_octets front ++ rest) ≡ Err refusal
+refused_behind [] rest refusal h e = e
+refused_behind (header ∷ front) rest refusal h e =
+    ap headers_in (append_assoc (header_octets header) (headers_octets front) rest)
+      ∙ headers_step (header_octets header ++ (headers_octets front ++ rest)) (header, headers_octets front ++ rest) (header_again header (headers_octets front ++ rest) h.0)
+      ∙ ap (λ (r : Result (List PlainHeader) ObexRefusal). r >>= λ others. Ok (header ∷ others)) (refused_behind front rest refusal h.1 e)
+
+pub first_refused : (octets : List ℕ) (refusal : ObexRefusal) → StopsAt octets refusal → headers_in octets ≡ Err refusal
+first_refused octets refusal s = ap headers_in s.3 ∙ refused_behind s.0 s.1 refusal s.2 (headers_refused s.1 refusal s.4 s.5)

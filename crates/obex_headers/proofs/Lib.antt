@@ -2,3 +2,4 @@ pub mod Numbers
 pub mod Texts
 pub mod HeaderLaws
 pub mod PacketLaws
+pub mod WritingLaws

@@ -3,7 +3,7 @@ use Rattle.std.proofs.Common.{◌≡◌, ℕ, zero, suc, ◌+◌, ◌-◌, ◌*�
 use Rattle.std.specs.List.{flat_map, AllByRecursion}
 use Rattle.std.proofs.lemmas.Bool.{and_parts, or_cases, and_from, or_from, or_left, or_right, eqb-true, eq-eqb, ltb-true, lt-ltb}
 use Rattle.std.proofs.lemmas.List.{nil_from_length, length-append, get_or_at, get_or-append-add}
-use Rattle.byteorder.specs.Endian.{big_number}
+use Rattle.byteorder.specs.Endian.{big_number, IsRead}
 use Rattle.bt_base.specs.Octets.{IsOctets, be16}
 use Rattle.obex_headers.specs.Packets.{units_of, text_octets, IsText}
 use Rattle.obex_headers.specs.Reading.{is_text}
@@ -106,3 +106,52 @@ units_len k (a ∷ []) len = absurd (omega arith)
 units_len k (a ∷ b ∷ []) len = omega arith
 units_len zero (a ∷ b ∷ c ∷ rest) len = absurd (omega arith)
 units_len (suc j) (a ∷ b ∷ c ∷ rest) len = ap suc (units_len j (c ∷ rest) (omega arith))
+
+units_read : (k : ℕ) (t dst : List ℕ) → length t ≡ 2 * k + 2 → length dst ≡ k → IsRead big_number 2 (take (2 * k) t) dst → dst ≡ units_of t
+units_read k [] dst len l read = absurd (omega arith)
+units_read k (a ∷ []) dst len l read = absurd (omega arith)
+units_read k (a ∷ b ∷ []) dst len l read = nil_from_length dst (omega arith)
+units_read zero (a ∷ b ∷ c ∷ rest) dst len l read = absurd (omega arith)
+units_read (suc j) (a ∷ b ∷ c ∷ rest) [] len l read = absurd (omega arith)
+units_read (suc j) (a ∷ b ∷ c ∷ rest) (d ∷ ds) len l read =
+    let i : 2 * suc j ≡ suc (suc (2 * j)) = omega arith in
+    let first : d ≡ big_number 2 (take (2 * suc j) (a ∷ b ∷ c ∷ rest)) = read 0 (omega arith) in
+    let front : d ≡ big_number 2 (take (suc (suc (2 * j))) (a ∷ b ∷ c ∷ rest)) = subst (λ (k : ℕ). d ≡ big_number 2 (take k (a ∷ b ∷ c ∷ rest))) i first in
+    let unit : d ≡ 256 * a + b = omega arith in
+    let others : IsRead big_number 2 (take (2 * j) (c ∷ rest)) ds = λ k h.
+      let i' : 2 * suc k ≡ suc (suc (2 * k)) = omega arith in
+      let here : get_or ds k 0 ≡ big_number 2 (drop (2 * suc k) (take (2 * suc j) (a ∷ b ∷ c ∷ rest))) = read (suc k) (omega arith) in
+      let at_j : get_or ds k 0 ≡ big_number 2 (drop (2 * suc k) (take (suc (suc (2 * j))) (a ∷ b ∷ c ∷ rest))) = subst (λ (n : ℕ). get_or ds k 0 ≡ big_number 2 (drop (2 * suc k) (take n (a ∷ b ∷ c ∷ rest)))) i here in
+      subst (λ (n : ℕ). get_or ds k 0 ≡ big_number 2 (drop n (take (suc (suc (2 * j))) (a ∷ b ∷ c ∷ rest)))) i' at_j in
+    ap (λ (x : ℕ). x ∷ ds) unit ∙ ap (λ (xs : List ℕ). (256 * a + b) ∷ xs) (units_read j (c ∷ rest) ds (omega arith) (omega arith) others)
+
+-- the length of a text is even
+abbrev HasPairs : List ℕ → Type 0
+HasPairs t = (k : ℕ) × (length t ≡ 2 * k + 2)
+
+text_cases : (t : List ℕ) → IsText t → (t ≡ []) ⊎ HasPairs t
+text_cases t h =
+    elim h [
+      | inl none ↦ inl none
+      | inr spelled ↦ inr (length (units_of t), ap length spelled ∙ length-text (units_of t))
+    ]
+
+pub name_len : (t : List ℕ) → IsText t → length (units_of t) ≡ length t / 2 - 1
+name_len t h =
+    elim (text_cases t h) [
+      | inl none ↦ rw none refl
+      | inr pairs ↦ omega (arith, units_len pairs.0 t pairs.1, pairs.1)
+    ]
+
+pub name_read : (t dst : List ℕ) (n : ℕ) → IsText t → n ≡ length t / 2 - 1 → length dst ≡ n → IsRead big_number 2 (take (2 * n) t) dst → dst ≡ units_of t
+name_read t dst n h e len read =
+    elim (text_cases t h) [
+      | inl none ↦
+          let no : length t ≡ 0 = ap length none in
+          let empty : dst ≡ [] = nil_from_length dst (omega arith) in
+          empty ∙ sym (ap units_of none)
+      | inr pairs ↦
+          let p = pairs.1 in
+          let k : n ≡ pairs.0 = omega arith in
+          units_read pairs.0 t dst p (omega arith) (subst (λ (m : ℕ). IsRead big_number 2 (take (2 * m) t) dst) k read)
+    ]

@@ -1,5 +1,5 @@
 -- What OBEX packets are, and the one spelling of each (IrOBEX 1.5, sections 2.1, 2.2 and 3).
-use Rattle.std.specs.Prelude.{◌≡◌, ℕ, ◌+◌, ◌-◌, ◌*◌, ◌/◌, ◌<◌, ◌≤◌, ◌^◌, ◌==◌, ◌⊎◌, Bool, true, false, IsTrue, if◌then◌else◌, List, [], ◌∷◌, ◌++◌, length, drop, slice_index}
+use Rattle.std.specs.Prelude.{◌≡◌, ℕ, ◌+◌, ◌-◌, ◌*◌, ◌/◌, ◌<◌, ◌≤◌, ◌^◌, ◌==◌, ◌⊎◌, Bool, true, false, IsTrue, if◌then◌else◌, List, [], ◌∷◌, ◌++◌, length, take, drop, slice_index}
 use Rattle.std.specs.List.{flat_map, AllByRecursion}
 use Rattle.byteorder.specs.Endian.{big_number}
 use Rattle.bt_base.specs.Octets.{be16, be32}
@@ -149,3 +149,7 @@ bare code extra = record { code = code; extra = extra; headers = [] }
 -- a packet with one more header
 abbrev pub with_header : PlainPacket → PlainHeader → PlainPacket
 with_header packet header = record packet { headers = packet.headers ++ header ∷ [] }
+
+-- octets of a packet with more behind them, and the new length where the length stands
+abbrev pub grown : List ℕ → List ℕ → List ℕ
+grown octets more = take 1 octets ++ (be16 (length octets + length more) ++ (drop 3 octets ++ more))

@@ -3,6 +3,7 @@
 
 mod fault;
 mod header;
+pub mod laws;
 mod packet;
 mod reading;
 mod text;
@@ -13,7 +14,8 @@ pub use fault::ObexRefusal;
 pub use header::{Header, HeaderValue};
 pub use packet::{Packet, Phase, packet_of};
 pub use text::name_units;
-pub use walk::Headers;
+pub use walk::{Headers, headers_of};
+pub use writing::{add_header, add_placed, start_packet};
 
 
 #[cfg(test)]

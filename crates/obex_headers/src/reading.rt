@@ -1,7 +1,7 @@
 //! Reading headers from the front of octets.
 
-ghost use Rattle.std.specs.Prelude.{◌≡◌, List, ℕ, Ok, Err, MatchResult};
-ghost use Rattle.obex_headers.specs.Packets.{PlainHeader, plain_value, plain_header};
+ghost use Rattle.std.specs.Prelude.{◌≡◌, List, ℕ, ◌++◌, Ok, Err, MatchResult, IfOk, IsOkAnd};
+ghost use Rattle.obex_headers.specs.Packets.{PlainHeader, IsHeader, header_octets, plain_value, plain_header};
 ghost use Rattle.obex_headers.specs.Reading.{Gives, sized_at, text_at, octets_at, one_at, four_at, value_at, header_at, headers_in};
 
 use crate::fault::ObexRefusal;
@@ -81,9 +81,8 @@ fn value(id: u8, behind: &[u8]) -> Result<(HeaderValue<'_>, &[u8]), ObexRefusal>
     }
 }
 
-/// The header at the front, and the octets behind it.
 #[tactic(auto, unfolding(crate::specs::Reading::header_at))]
-pub fn header(octets: &[u8]) -> Result<(Header<'_>, &[u8]), ObexRefusal>
+fn read_header(octets: &[u8]) -> Result<(Header<'_>, &[u8]), ObexRefusal>
     ensures { Gives (λ x. (plain_header x.0, x.1.now)) result (header_at octets.now) }
 {
     match octets {
@@ -93,6 +92,16 @@ pub fn header(octets: &[u8]) -> Result<(Header<'_>, &[u8]), ObexRefusal>
             Ok((Header { id: *id, value }, rest))
         }
     }
+}
+
+/// The header at the front, and the octets behind it.
+pub fn header(octets: &[u8]) -> Result<(Header<'_>, &[u8]), ObexRefusal>
+    ensures read { Gives (λ x. (plain_header x.0, x.1.now)) result (header_at octets.now) }
+    ensures found { IfOk result (λ x. IsHeader (plain_header x.0) × (octets.now ≡ header_octets (plain_header x.0) ++ x.1.now)) }
+    ensures only { (header : PlainHeader) (rest : List ℕ) → IsHeader header → octets.now ≡ header_octets header ++ rest →
+        IsOkAnd result (λ x. (plain_header x.0 ≡ header) × (x.1.now ≡ rest)) }
+{
+    read_header(octets)
 }
 
 /// Judges the headers that the octets are, one after the other to the end.

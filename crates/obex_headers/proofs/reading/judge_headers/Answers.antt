@@ -10,15 +10,15 @@ returns-in_err-behind c =
     let p = err_from_is_err_and c.from_residual.result c.from_residual.ensures.1 in
     let some = eqb-false (length c.loop-rest.rest.now) 0 (sym c.is_empty.ensures ∙ c.loop-rest-test.true) in
     let left : 0 < length c.loop-rest.rest.now = omega arith in
-    rw (p.1, p.2) (stops c.args.octets.now c.loop-rest.invariant.0 c.loop-rest.rest.now c.in_err-behind.field-0.0 c.loop-rest.invariant.1 left c.in_err-behind.ensures)
+    rw (p.1, p.2) (stops c.args.octets.now c.loop-rest.invariant.0 c.loop-rest.rest.now c.in_err-behind.field-0.0 c.loop-rest.invariant.1 left c.in_err-behind.ensures.read)
 
 pub loop-rest-smaller : goal.loop-rest-smaller
-loop-rest-smaller c = header_len c.loop-rest.rest.now _ c.in_ok-behind.ensures
+loop-rest-smaller c = header_len c.loop-rest.rest.now _ c.in_ok-behind.ensures.read
 
 pub loop-rest-preserved : goal.loop-rest-preserved
 loop-rest-preserved c =
     let x = c.in_ok-behind.field-0-0 in
-    (c.loop-rest.invariant.0 ++ plain_header x ∷ [], goes_on c.args.octets.now c.loop-rest.invariant.0 c.loop-rest.rest.now (plain_header x, c.in_ok-behind.behind.now) c.loop-rest.invariant.1 c.in_ok-behind.ensures)
+    (c.loop-rest.invariant.0 ++ plain_header x ∷ [], goes_on c.args.octets.now c.loop-rest.invariant.0 c.loop-rest.rest.now (plain_header x, c.in_ok-behind.behind.now) c.loop-rest.invariant.1 c.in_ok-behind.ensures.read)
 
 pub returns : goal.returns
 returns c = (c.loop-rest.invariant.0, ends c.args.octets.now c.loop-rest.invariant.0 c.loop-rest.rest.now c.loop-rest.invariant.1 (eqb-true _ _ (sym c.loop-rest-test.ensures)))
