@@ -65,7 +65,7 @@ sized_takes octets x fits e =
     let parts : octets ≡ (be16 (3 + length (take (n - 3) d)) ++ take (n - 3) d) ++ drop (n - 3) d = joined ∙ ap (λ (k : ℕ). (be16 k ++ take (n - 3) d) ++ drop (n - 3) d) (sym whole) in
     let made : List ℕ × List ℕ = (take (n - 3) d, drop (n - 3) d) in
     subst (λ (y : List ℕ × List ℕ). Takes octets (be16 (3 + length y.0) ++ y.0) y.1 × (3 + length y.0 < 2 ^ 16) × IsOctets y.0) (ok_is made x c.1)
-      (record { parts = parts; rest_fits = IsOctets-drop (n - 3) d all_fit }, omega (arith, big_number_2-lt octets fits), IsOctets-take (n - 3) d all_fit)
+    (record { parts = parts; rest_fits = IsOctets-drop (n - 3) d all_fit }, omega (arith, big_number_2-lt octets fits), IsOctets-take (n - 3) d all_fit)
 
 sized_front : (a b : ℕ) (part rest : List ℕ) → 256 * a + b ≡ 3 + length part → sized_at (a ∷ b ∷ (part ++ rest)) ≡ Ok (part, rest)
 unfolding sized_at
@@ -116,7 +116,7 @@ four_takes id octets x l h fits e =
     let a = passed (ltb (length octets) 4) BadHeaderLength (Ok (Four (big_number 4 octets), drop 4 octets)) x e in
     let made : PlainValue × List ℕ = (Four (big_number 4 octets), drop 4 octets) in
     subst (TakesValue id octets) (ok_is made x a.1)
-      (record { parts = be32_back octets fits (ltb-false _ _ a.0); rest_fits = IsOctets-drop 4 octets fits }, (l, h, big_number_4-lt octets fits))
+    (record { parts = be32_back octets fits (ltb-false _ _ a.0); rest_fits = IsOctets-drop 4 octets fits }, (l, h, big_number_4-lt octets fits))
 
 value_takes : (id : ℕ) (octets : List ℕ) (x : PlainValue × List ℕ) → id < 256 → IsOctets octets → value_at id octets ≡ Ok x → TakesValue id octets x
 unfolding value_at
@@ -137,7 +137,7 @@ unfolding value_at text_at octets_at one_at four_at
 value_again id (Text octets) rest h =
     let t0 : ltb id 0x40 ≡ true = lt-ltb _ _ h.0 in
     cond-true _ _ _ t0 ∙ ap (λ (r : Result (List ℕ × List ℕ) ObexRefusal). r >>= λ part. cond (is_text part.0) (Ok (Text part.0, part.1)) (Err BadText)) (sized_again octets rest h.1)
-      ∙ cond-true _ _ _ (text_passes octets h.2)
+    ∙ cond-true _ _ _ (text_passes octets h.2)
 value_again id (Octets octets) rest h =
     let t0 : ltb id 0x40 ≡ false = le-ltb _ _ h.0 in
     let t1 : ltb id 0x80 ≡ true = lt-ltb _ _ h.1 in
@@ -164,7 +164,7 @@ header_takes (id ∷ octets) x fits e =
     let t = value_takes id octets a.0 (fits 0) (IsOctets-rest id octets fits) a.1 in
     let made : PlainHeader × List ℕ = (record { id = id; value = a.0.0 }, a.0.1) in
     subst (λ (y : PlainHeader × List ℕ). Takes (id ∷ octets) (header_octets y.0) y.1 × IsHeader y.0) (ok_is made x a.2)
-      (record { parts = ap (λ (y : List ℕ). id ∷ y) t.0.parts; rest_fits = t.0.rest_fits }, t.1)
+    (record { parts = ap (λ (y : List ℕ). id ∷ y) t.0.parts; rest_fits = t.0.rest_fits }, t.1)
 
 pub header_again : (header : PlainHeader) (rest : List ℕ) → IsHeader header → header_at (header_octets header ++ rest) ≡ Ok (header, rest)
 unfolding header_at
@@ -181,7 +181,7 @@ sized_len octets x e =
     let c = passed (ltb (1 + length octets) (big_number 2 octets)) BadHeaderLength _ x b.1 in
     let made : List ℕ × List ℕ = (take (big_number 2 octets - 3) (drop 2 octets), drop (big_number 2 octets - 3) (drop 2 octets)) in
     subst (λ (y : List ℕ × List ℕ). length y.1 < suc (length octets)) (ok_is made x c.1)
-      (omega (arith, length-drop (big_number 2 octets - 3) (drop 2 octets), length-drop 2 octets))
+    (omega (arith, length-drop (big_number 2 octets - 3) (drop 2 octets), length-drop 2 octets))
 
 text_len : (octets : List ℕ) (x : PlainValue × List ℕ) → text_at octets ≡ Ok x → length x.1 < suc (length octets)
 unfolding text_at
@@ -270,7 +270,7 @@ headers_step [] x e = absurd (let l = header_len [] x e in omega arith)
 headers_step (octet ∷ octets) x e =
     let l = header_len (octet ∷ octets) x e in
     ap (λ (r : Result (PlainHeader × List ℕ) ObexRefusal). r >>= λ first. headers_at (length octets) first.1 >>= λ others. Ok (first.0 ∷ others)) e
-      ∙ ap (λ (r : Result (List PlainHeader) ObexRefusal). r >>= λ others. Ok (x.0 ∷ others)) (headers_more (length octets) (length x.1) x.1 (omega arith) (omega arith))
+    ∙ ap (λ (r : Result (List PlainHeader) ObexRefusal). r >>= λ others. Ok (x.0 ∷ others)) (headers_more (length octets) (length x.1) x.1 (omega arith) (omega arith))
 
 pub headers_refused : (octets : List ℕ) (d : ObexRefusal) → 0 < length octets → header_at octets ≡ Err d → headers_in octets ≡ Err d
 unfolding headers_in headers_at
@@ -303,7 +303,7 @@ headers_at_takes (suc n) (octet ∷ octets) headers fits e =
     let first = header_takes (octet ∷ octets) a.0 fits a.1 in
     let others = headers_at_takes n a.0.1 b.0 first.0.rest_fits b.1 in
     subst (λ (hs : List PlainHeader). (octet ∷ octets ≡ headers_octets hs) × AllByRecursion IsHeader hs) (ok_is (a.0.0 ∷ b.0) headers b.2)
-      (first.0.parts ∙ ap (λ (r : List ℕ). header_octets a.0.0 ++ r) others.0, (first.1, others.1))
+    (first.0.parts ∙ ap (λ (r : List ℕ). header_octets a.0.0 ++ r) others.0, (first.1, others.1))
 
 pub headers_take : (octets : List ℕ) (headers : List PlainHeader) → IsOctets octets → headers_in octets ≡ Ok headers → (octets ≡ headers_octets headers) × AllByRecursion IsHeader headers
 unfolding headers_in
@@ -313,7 +313,7 @@ pub headers_again : (headers : List PlainHeader) → AllByRecursion IsHeader hea
 headers_again [] h = headers_nil
 headers_again (header ∷ headers) h =
     headers_step (header_octets header ++ headers_octets headers) (header, headers_octets headers) (header_again header (headers_octets headers) h.0)
-      ∙ ap (λ (r : Result (List PlainHeader) ObexRefusal). r >>= λ others. Ok (header ∷ others)) (headers_again headers h.1)
+    ∙ ap (λ (r : Result (List PlainHeader) ObexRefusal). r >>= λ others. Ok (header ∷ others)) (headers_again headers h.1)
 
 -- ---- what the call answers
 
@@ -369,8 +369,8 @@ refused_behind : (front : List PlainHeader) (rest : List ℕ) (refusal : ObexRef
 refused_behind [] rest refusal h e = e
 refused_behind (header ∷ front) rest refusal h e =
     ap headers_in (append_assoc (header_octets header) (headers_octets front) rest)
-      ∙ headers_step (header_octets header ++ (headers_octets front ++ rest)) (header, headers_octets front ++ rest) (header_again header (headers_octets front ++ rest) h.0)
-      ∙ ap (λ (r : Result (List PlainHeader) ObexRefusal). r >>= λ others. Ok (header ∷ others)) (refused_behind front rest refusal h.1 e)
+    ∙ headers_step (header_octets header ++ (headers_octets front ++ rest)) (header, headers_octets front ++ rest) (header_again header (headers_octets front ++ rest) h.0)
+    ∙ ap (λ (r : Result (List PlainHeader) ObexRefusal). r >>= λ others. Ok (header ∷ others)) (refused_behind front rest refusal h.1 e)
 
 pub first_refused : (octets : List ℕ) (refusal : ObexRefusal) → StopsAt octets refusal → headers_in octets ≡ Err refusal
 first_refused octets refusal s = ap headers_in s.3 ∙ refused_behind s.0 s.1 refusal s.2 (headers_refused s.1 refusal s.4 s.5)

@@ -45,7 +45,7 @@ be32_back (a ∷ b ∷ c ∷ d ∷ rest) h k =
     let ec : n / 256 % 256 ≡ c = omega arith in
     let ed : n % 256 ≡ d = omega arith in
     ap (λ x. x ∷ b ∷ c ∷ d ∷ rest) (sym ea) ∙ ap (λ x. (n / 16777216 % 256) ∷ x ∷ c ∷ d ∷ rest) (sym eb)
-      ∙ ap (λ x. (n / 16777216 % 256) ∷ (n / 65536 % 256) ∷ x ∷ d ∷ rest) (sym ec) ∙ ap (λ x. (n / 16777216 % 256) ∷ (n / 65536 % 256) ∷ (n / 256 % 256) ∷ x ∷ rest) (sym ed)
+    ∙ ap (λ x. (n / 16777216 % 256) ∷ (n / 65536 % 256) ∷ x ∷ d ∷ rest) (sym ec) ∙ ap (λ x. (n / 16777216 % 256) ∷ (n / 65536 % 256) ∷ (n / 256 % 256) ∷ x ∷ rest) (sym ed)
 
 -- a number again from its octets, whatever follows
 pub be16_again : (n : ℕ) (rest : List ℕ) → n < 2 ^ 16 → big_number 2 (be16 n ++ rest) ≡ n

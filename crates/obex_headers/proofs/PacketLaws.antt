@@ -64,10 +64,14 @@ front_takes phase maximum octets x e =
     let j = judge_takes (is_connect phase (get_or octets 0 0)) (take n (drop 3 octets)) d.0 (sym (fields_judged phase (get_or octets 0 0) (take n (drop 3 octets))) ∙ d.1) in
     let made : List ℕ × List ℕ = (d.0, drop n (drop 3 octets)) in
     subst (FrontIs phase maximum octets) (ok_is made x d.2)
-      (record {
-        long = ltb-false _ _ a.0; within = ltb-false _ _ b.0; len = eqb-true _ _ (not-false _ c.0); extra = j.0; headers = refl;
-        accepts = subst (Accepts (is_connect phase (get_or octets 0 0))) j.0 j.1
-      })
+    (record {
+      long = ltb-false _ _ a.0;
+      within = ltb-false _ _ b.0;
+      len = eqb-true _ _ (not-false _ c.0);
+      extra = j.0;
+      headers = refl;
+      accepts = subst (Accepts (is_connect phase (get_or octets 0 0))) j.0 j.1;
+    })
 
 pub front_fits : (phase : Phase) (maximum : ℕ) (octets : List ℕ) (x : List ℕ × List ℕ) → IsOctets octets → front_at phase maximum octets ≡ Ok x → IsOctets x.1
 front_fits phase maximum octets x fits e =
@@ -91,10 +95,10 @@ whole_from phase maximum (code ∷ octets) x headers fits front e hs =
       sound = record {
         fields = record { code_fits = fits 0; len = extra_len; version = front.accepts.version; maximum = front.accepts.maximum };
         headers = hs;
-        len = omega (arith, big_number_2-lt octets (IsOctets-rest code octets fits))
+        len = omega (arith, big_number_2-lt octets (IsOctets-rest code octets fits));
       };
       within = front.within;
-      spelling = ap (λ (y : List ℕ). code ∷ y) (split ∙ ap (λ (y : List ℕ). be16 (big_number 2 octets) ++ y) body ∙ ap (λ (k : ℕ). be16 k ++ (x.0 ++ headers_octets headers)) stated)
+      spelling = ap (λ (y : List ℕ). code ∷ y) (split ∙ ap (λ (y : List ℕ). be16 (big_number 2 octets) ++ y) body ∙ ap (λ (k : ℕ). be16 k ++ (x.0 ++ headers_octets headers)) stated);
     }
 
 pub packet_takes : (phase : Phase) (maximum : ℕ) (octets : List ℕ) (packet : PlainPacket) → IsOctets octets → packet_in phase maximum octets ≡ Ok packet → Spells phase maximum octets packet
@@ -114,8 +118,8 @@ behind_again phase code high low extra headers h =
     let rest : drop n (extra ++ headers) ≡ headers = drop_at extra headers n h.len in
     let judged : fields_in phase code extra ≡ Ok extra = fields_judged phase code extra ∙ judge_again (is_connect phase code) extra (record { version = h.version; maximum = h.maximum }) in
     ap (λ (y : List ℕ). fields_in phase code y >>= λ z. Ok (z, drop n (extra ++ headers))) back
-      ∙ ap (λ (r : Result (List ℕ) ObexRefusal). r >>= λ z. Ok (z, drop n (extra ++ headers))) judged
-      ∙ ap (λ (y : List ℕ). Ok (extra, y)) rest
+    ∙ ap (λ (r : Result (List ℕ) ObexRefusal). r >>= λ z. Ok (z, drop n (extra ++ headers))) judged
+    ∙ ap (λ (y : List ℕ). Ok (extra, y)) rest
 
 pub length-packet : (packet : PlainPacket) → length (packet_octets packet) ≡ packet_len packet
 length-packet packet = omega (arith, length-append packet.extra (headers_octets packet.headers))
@@ -130,15 +134,15 @@ front_again phase maximum packet h within =
     let t2 : ltb maximum (length s) ≡ false = le-ltb _ _ (omega arith) in
     let t3 : not (eqb (big_number 2 (be16 (packet_len packet) ++ body)) (length s)) ≡ false = not_from_true _ (eq-eqb _ _ (be16_again (packet_len packet) body h.len ∙ sym len)) in
     cond-false _ _ _ t1 ∙ cond-false _ _ _ t2 ∙ cond-false _ _ _ t3
-      ∙ behind_again phase packet.code (packet_len packet / 256 % 256) (packet_len packet % 256) packet.extra (headers_octets packet.headers) h.fields
+    ∙ behind_again phase packet.code (packet_len packet / 256 % 256) (packet_len packet % 256) packet.extra (headers_octets packet.headers) h.fields
 
 pub packet_again : (phase : Phase) (maximum : ℕ) (octets : List ℕ) (packet : PlainPacket) → Spells phase maximum octets packet → packet_in phase maximum octets ≡ Ok packet
 unfolding packet_in
 packet_again phase maximum octets packet h =
     let within : packet_len packet ≤ maximum = omega (arith, h.within, ap length h.spelling, length-packet packet) in
     ap (packet_in phase maximum) h.spelling
-      ∙ ap (λ (r : Result (List ℕ × List ℕ) ObexRefusal). r >>= λ front. headers_in front.1 >>= λ headers. Ok (record { code = packet.code; extra = front.0; headers = headers })) (front_again phase maximum packet h.sound within)
-      ∙ ap (λ (r : Result (List PlainHeader) ObexRefusal). r >>= λ headers. Ok (record { code = packet.code; extra = packet.extra; headers = headers })) (headers_again packet.headers h.sound.headers)
+    ∙ ap (λ (r : Result (List ℕ × List ℕ) ObexRefusal). r >>= λ front. headers_in front.1 >>= λ headers. Ok (record { code = packet.code; extra = front.0; headers = headers })) (front_again phase maximum packet h.sound within)
+    ∙ ap (λ (r : Result (List PlainHeader) ObexRefusal). r >>= λ headers. Ok (record { code = packet.code; extra = packet.extra; headers = headers })) (headers_again packet.headers h.sound.headers)
 
 -- ---- what the call answers
 
@@ -156,8 +160,9 @@ pub is_judged : (phase : Phase) (maximum : ℕ) (octets : List ℕ) (lent : Pack
     → front_at phase maximum octets ≡ Ok (lent.extra.now, lent.headers.now) → headers_in lent.headers.now ≡ Ok headers → GivesPacket (Ok lent) (packet_in phase maximum octets)
 unfolding packet_in
 is_judged phase maximum octets lent headers fits code front hs =
-    let made : PlainPacket = record { code = get_or octets 0 0; extra = lent.extra.now; headers = headers } in
-    (made,
+    let made : PlainPacket = record { code = get_or octets 0 0; extra = lent.extra.now; headers = headers } in (
+      made,
       ap (λ (r : Result (List ℕ × List ℕ) ObexRefusal). r >>= λ front. headers_in front.1 >>= λ headers. Ok (record { code = get_or octets 0 0; extra = front.0; headers = headers })) front
-        ∙ ap (λ (r : Result (List PlainHeader) ObexRefusal). r >>= λ headers. Ok (record { code = get_or octets 0 0; extra = lent.extra.now; headers = headers })) hs,
-      record { code = code; extra = refl; headers = (headers_take lent.headers.now headers (front_fits phase maximum octets (lent.extra.now, lent.headers.now) fits front) hs).0 })
+          ∙ ap (λ (r : Result (List PlainHeader) ObexRefusal). r >>= λ headers. Ok (record { code = get_or octets 0 0; extra = lent.extra.now; headers = headers })) hs,
+      record { code = code; extra = refl; headers = (headers_take lent.headers.now headers (front_fits phase maximum octets (lent.extra.now, lent.headers.now) fits front) hs).0 },
+    )

@@ -70,7 +70,7 @@ passes_from t l a b even =
     let low = eqb (get_or t (length t - 1) 0) 0 in
     let whole = eqb (2 * (length t / 2)) (length t) in
     or_right (eqb (length t) 0) (two && high && low && whole)
-      (and_from (two && high && low) whole (and_from (two && high) low (and_from two high (lt-ltb _ _ l) (eq-eqb _ _ a)) (eq-eqb _ _ b)) (eq-eqb _ _ even))
+    (and_from (two && high && low) whole (and_from (two && high) low (and_from two high (lt-ltb _ _ l) (eq-eqb _ _ a)) (eq-eqb _ _ b)) (eq-eqb _ _ even))
 
 spelled_passes : (us : List ℕ) → is_text (text_octets us) ≡ true
 spelled_passes us =
@@ -78,9 +78,9 @@ spelled_passes us =
     let i0 : length (text_octets us) - 2 ≡ length (flat_map be16 us) + 0 = omega (arith, length-units us) in
     let i1 : length (text_octets us) - 1 ≡ length (flat_map be16 us) + 1 = omega (arith, length-units us) in
     passes_from (text_octets us) (omega arith)
-      (ap (λ (i : ℕ). get_or (text_octets us) i 0) i0 ∙ get_or-append-add (flat_map be16 us) (0 ∷ 0 ∷ []) 0 0)
-      (ap (λ (i : ℕ). get_or (text_octets us) i 0) i1 ∙ get_or-append-add (flat_map be16 us) (0 ∷ 0 ∷ []) 1 0)
-      (omega arith)
+    (ap (λ (i : ℕ). get_or (text_octets us) i 0) i0 ∙ get_or-append-add (flat_map be16 us) (0 ∷ 0 ∷ []) 0 0)
+    (ap (λ (i : ℕ). get_or (text_octets us) i 0) i1 ∙ get_or-append-add (flat_map be16 us) (0 ∷ 0 ∷ []) 1 0)
+    (omega arith)
 
 pub text_passes : (t : List ℕ) → IsText t → is_text t ≡ true
 text_passes t h =
@@ -119,10 +119,10 @@ units_read (suc j) (a ∷ b ∷ c ∷ rest) (d ∷ ds) len l read =
     let front : d ≡ big_number 2 (take (suc (suc (2 * j))) (a ∷ b ∷ c ∷ rest)) = subst (λ (k : ℕ). d ≡ big_number 2 (take k (a ∷ b ∷ c ∷ rest))) i first in
     let unit : d ≡ 256 * a + b = omega arith in
     let others : IsRead big_number 2 (take (2 * j) (c ∷ rest)) ds = λ k h.
-      let i' : 2 * suc k ≡ suc (suc (2 * k)) = omega arith in
-      let here : get_or ds k 0 ≡ big_number 2 (drop (2 * suc k) (take (2 * suc j) (a ∷ b ∷ c ∷ rest))) = read (suc k) (omega arith) in
-      let at_j : get_or ds k 0 ≡ big_number 2 (drop (2 * suc k) (take (suc (suc (2 * j))) (a ∷ b ∷ c ∷ rest))) = subst (λ (n : ℕ). get_or ds k 0 ≡ big_number 2 (drop (2 * suc k) (take n (a ∷ b ∷ c ∷ rest)))) i here in
-      subst (λ (n : ℕ). get_or ds k 0 ≡ big_number 2 (drop n (take (suc (suc (2 * j))) (a ∷ b ∷ c ∷ rest)))) i' at_j in
+    let i' : 2 * suc k ≡ suc (suc (2 * k)) = omega arith in
+    let here : get_or ds k 0 ≡ big_number 2 (drop (2 * suc k) (take (2 * suc j) (a ∷ b ∷ c ∷ rest))) = read (suc k) (omega arith) in
+    let at_j : get_or ds k 0 ≡ big_number 2 (drop (2 * suc k) (take (suc (suc (2 * j))) (a ∷ b ∷ c ∷ rest))) = subst (λ (n : ℕ). get_or ds k 0 ≡ big_number 2 (drop (2 * suc k) (take n (a ∷ b ∷ c ∷ rest)))) i here in
+    subst (λ (n : ℕ). get_or ds k 0 ≡ big_number 2 (drop n (take (suc (suc (2 * j))) (a ∷ b ∷ c ∷ rest)))) i' at_j in
     ap (λ (x : ℕ). x ∷ ds) unit ∙ ap (λ (xs : List ℕ). (256 * a + b) ∷ xs) (units_read j (c ∷ rest) ds (omega arith) (omega arith) others)
 
 -- the length of a text is even

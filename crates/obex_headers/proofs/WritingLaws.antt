@@ -31,7 +31,7 @@ grown_packet packet header =
     let body = packet.extra ++ headers_octets packet.headers in
     let more : body ++ header_octets header ≡ packet.extra ++ headers_octets (packet.headers ++ header ∷ []) = flat_map_more header_octets packet.extra packet.headers header in
     let len : length (packet_octets packet) + length (header_octets header) ≡ packet_len (with_header packet header) =
-      omega (arith, length-packet packet, ap length more, length-append body (header_octets header), length-append packet.extra (headers_octets packet.headers), length-append packet.extra (headers_octets (packet.headers ++ header ∷ []))) in
+    omega (arith, length-packet packet, ap length more, length-append body (header_octets header), length-append packet.extra (headers_octets packet.headers), length-append packet.extra (headers_octets (packet.headers ++ header ∷ []))) in
     ap (λ (k : ℕ). (packet.code ∷ be16 k) ++ (body ++ header_octets header)) len ∙ ap (λ (y : List ℕ). (packet.code ∷ be16 (packet_len (with_header packet header))) ++ y) more
 
 -- what stands in the front after the writing, where a packet stood before
@@ -39,7 +39,7 @@ pub grown_front : (front : List ℕ) (header : PlainHeader) (rest : List ℕ) (n
     → take n (grown front (header_octets header) ++ rest) ≡ packet_octets (with_header packet header)
 grown_front front header rest n packet h e stood =
     take_at (grown front (header_octets header)) rest n (length-grown front (header_octets header) h ∙ sym e)
-      ∙ ap (λ (y : List ℕ). grown y (header_octets header)) stood ∙ grown_packet packet header
+    ∙ ap (λ (y : List ℕ). grown y (header_octets header)) stood ∙ grown_packet packet header
 
 -- the header was put behind the front, and then the length was written
 pub record IsWritten (old new : List ℕ) (at n : ℕ) (header : PlainHeader) : Type 0 where
@@ -70,19 +70,19 @@ add_3 n = omega arith
 -- the front of a header of octets, where its octets stand already
 pub front_put : (old written : List ℕ) (at n id : ℕ) → at + 3 + n ≤ length old → written ≡ be16 (3 + n) ++ drop 2 (take (length (set old at id) - (at + 1)) (drop (at + 1) (set old at id)))
     → put_mid (at + 1) (length (set old at id) - (at + 1)) (set old at id) written
-      ≡ take at old ++ (header_octets (record { id = id; value = Octets (take n (drop (at + 3) old)) }) ++ drop (at + 3 + n) old)
+    ≡ take at old ++ (header_octets (record { id = id; value = Octets (take n (drop (at + 3) old)) }) ++ drop (at + 3 + n) old)
 front_put old written at n id room e =
     let s = set old at id in
     let body = take n (drop (at + 3) old) in
     let rest = drop (at + 3 + n) old in
     let len : length body ≡ n = omega (arith, length-take n (drop (at + 3) old), length-drop (at + 3) old) in
     let past : drop 2 (take (length s - (at + 1)) (drop (at + 1) s)) ≡ body ++ rest =
-      ap (drop 2) (take_rest s (at + 1)) ∙ drop-drop 2 (at + 1) s ∙ drop-set-lt (at + 1 + 2) old at id (omega arith) ∙ ap (λ (m : ℕ). drop m old) (add_3 at)
-        ∙ sym (take-append-drop n (drop (at + 3) old)) ∙ ap (λ (y : List ℕ). body ++ y) (drop-drop n (at + 3) old) in
+    ap (drop 2) (take_rest s (at + 1)) ∙ drop-drop 2 (at + 1) s ∙ drop-set-lt (at + 1 + 2) old at id (omega arith) ∙ ap (λ (m : ℕ). drop m old) (add_3 at)
+    ∙ sym (take-append-drop n (drop (at + 3) old)) ∙ ap (λ (y : List ℕ). body ++ y) (drop-drop n (at + 3) old) in
     let nothing : drop (length s - (at + 1)) (drop (at + 1) s) ≡ [] = drop_all (length s - (at + 1)) (drop (at + 1) s) (omega (arith, length-drop (at + 1) s)) in
     ap (λ (y : List ℕ). take (at + 1) s ++ (written ++ y)) nothing ∙ ap (λ (y : List ℕ). take (at + 1) s ++ y) (append-nil written)
-      ∙ ap (λ (y : List ℕ). y ++ written) (take_more_set old at id (omega arith)) ∙ append_assoc (take at old) (id ∷ []) written
-      ∙ ap (λ (y : List ℕ). take at old ++ (id ∷ y)) (e ∙ ap (λ (y : List ℕ). be16 (3 + n) ++ y) past ∙ ap (λ (m : ℕ). be16 (3 + m) ++ (body ++ rest)) (sym len))
+    ∙ ap (λ (y : List ℕ). y ++ written) (take_more_set old at id (omega arith)) ∙ append_assoc (take at old) (id ∷ []) written
+    ∙ ap (λ (y : List ℕ). take at old ++ (id ∷ y)) (e ∙ ap (λ (y : List ℕ). be16 (3 + n) ++ y) past ∙ ap (λ (m : ℕ). be16 (3 + m) ++ (body ++ rest)) (sym len))
 
 -- ---- a whole packet, header by header
 
@@ -91,8 +91,8 @@ encoded_onto : (code : ℕ) (extra : List ℕ) (before headers : List PlainHeade
 encoded_onto code extra before [] = ap (λ (hs : List PlainHeader). packet_octets (record { code = code; extra = extra; headers = hs })) (sym (append-nil before))
 encoded_onto code extra before (header ∷ headers) =
     ap (λ (octets : List ℕ). fold (λ octets header. grown octets (header_octets header)) octets headers) (grown_packet (record { code = code; extra = extra; headers = before }) header)
-      ∙ encoded_onto code extra (before ++ header ∷ []) headers
-      ∙ ap (λ (hs : List PlainHeader). packet_octets (record { code = code; extra = extra; headers = hs })) (append_assoc before (header ∷ []) headers)
+    ∙ encoded_onto code extra (before ++ header ∷ []) headers
+    ∙ ap (λ (hs : List PlainHeader). packet_octets (record { code = code; extra = extra; headers = hs })) (append_assoc before (header ∷ []) headers)
 
 pub encode-is : (packet : PlainPacket) → encode packet ≡ packet_octets packet
 encode-is packet = encoded_onto packet.code packet.extra [] packet.headers

@@ -22,7 +22,7 @@ Gives view (Err e) read = read ≡ Err e
 -- an even number of octets that end with two zeros, or none
 abbrev pub is_text : List ℕ → Bool
 is_text octets = (length octets == 0)
-  || (nat_lt 1 (length octets) && (slice_index octets (length octets - 2) == 0) && (slice_index octets (length octets - 1) == 0) && (2 * (length octets / 2) == length octets))
+    || (nat_lt 1 (length octets) && (slice_index octets (length octets - 2) == 0) && (slice_index octets (length octets - 1) == 0) && (2 * (length octets / 2) == length octets))
 
 -- what a length of the whole header counts, behind the identifier and the length itself; and the rest
 unfoldable pub sized_at : List ℕ → Result (List ℕ × List ℕ) ObexRefusal

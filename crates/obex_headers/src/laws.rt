@@ -6,23 +6,19 @@ ghost use Rattle.obex_headers.specs.Laws.{ReadsAgain, ReadsWhatIsSpelled, Refuse
 /// What was written header by header is read again as the same packet.
 pub fn written_is_read()
     ensures { ReadsAgain }
-{
-}
+{}
 
 /// A reader gives a packet exactly where the octets are its spelling, within the maximum.
 pub fn read_is_spelled()
     ensures { ReadsWhatIsSpelled }
-{
-}
+{}
 
 /// Of several headers the first that is none decides, and all before it are whole.
 pub fn first_fault_decides()
     ensures { RefusesTheFirst }
-{
-}
+{}
 
 /// The units of a text are those that it was written with.
 pub fn units_are_kept()
     ensures { UnitsAgain }
-{
-}
+{}

@@ -17,6 +17,5 @@ pub use text::name_units;
 pub use walk::{Headers, headers_of};
 pub use writing::{add_header, add_placed, start_packet};
 
-
 #[cfg(test)]
 mod tests;

@@ -106,11 +106,7 @@ fn front(bytes: &[u8], phase: Phase, maximum: u16) -> Result<(&[u8], &[u8]), Obe
 }
 
 #[tactic(auto, unfolding(crate::specs::Reading::packet_in))]
-fn judged_packet<'a>(
-    bytes: &'a [u8],
-    phase: Phase,
-    maximum: u16,
-) -> Result<Packet<'a>, ObexRefusal>
+fn judged_packet<'a>(bytes: &'a [u8], phase: Phase, maximum: u16) -> Result<Packet<'a>, ObexRefusal>
     ensures { GivesPacket result (packet_in phase maximum bytes.now) }
 {
     let (extra, headers) = front(bytes, phase, maximum)?;
@@ -127,11 +123,7 @@ fn judged_packet<'a>(
 /// The octets are refused with the first of these that holds: `Short`, `AboveMaximum` for more than
 /// `maximum` octets, `BadLength`, `BadVersion`, and then header by header `BadHeaderLength` and
 /// `BadText`.
-pub fn packet_of<'a>(
-    bytes: &'a [u8],
-    phase: Phase,
-    maximum: u16,
-) -> Result<Packet<'a>, ObexRefusal>
+pub fn packet_of<'a>(bytes: &'a [u8], phase: Phase, maximum: u16) -> Result<Packet<'a>, ObexRefusal>
     // What is read is spelled so, every octet of it.
     ensures found { IfOk result (λ p. (packet : PlainPacket) × Spells phase maximum bytes.now packet × Shows p packet) }
     // What is spelled so is read.
