@@ -3,3 +3,5 @@ pub mod Texts
 pub mod HeaderLaws
 pub mod PacketLaws
 pub mod WritingLaws
+pub mod RunLaws
+pub mod ReaderLaws

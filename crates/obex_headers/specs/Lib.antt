@@ -1,3 +1,5 @@
 pub mod Packets
 pub mod Reading
 pub mod Laws
+pub mod Runs
+pub mod Reader

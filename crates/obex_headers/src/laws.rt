@@ -2,6 +2,7 @@
 //! calls tie these to the same definitions.
 
 ghost use Rattle.obex_headers.specs.Laws.{ReadsAgain, ReadsWhatIsSpelled, RefusesTheFirst, UnitsAgain};
+ghost use Rattle.obex_headers.specs.Runs.{SpellsByStretches};
 
 /// What was written header by header is read again as the same packet.
 pub fn written_is_read()
@@ -22,3 +23,10 @@ pub fn first_fault_decides()
 pub fn units_are_kept()
     ensures { UnitsAgain }
 {}
+
+/// The objects that packets spell, packet by packet, are those of the stretches into which the
+/// packets fall.
+pub fn objects_of_stretches()
+    ensures { SpellsByStretches }
+{
+}

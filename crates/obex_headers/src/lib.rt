@@ -6,6 +6,7 @@ mod header;
 pub mod laws;
 mod packet;
 mod reading;
+pub mod runs;
 mod text;
 mod walk;
 mod writing;
