@@ -5,3 +5,4 @@ pub mod PacketLaws
 pub mod WritingLaws
 pub mod RunLaws
 pub mod ReaderLaws
+pub mod AssemblerLaws

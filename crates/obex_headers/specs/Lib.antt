@@ -3,3 +3,5 @@ pub mod Reading
 pub mod Laws
 pub mod Runs
 pub mod Reader
+pub mod Assembling
+pub mod Assembled

@@ -1,6 +1,7 @@
 //! Laws of the spelling of packets, for every value. They speak of no call: the contracts of the
 //! calls tie these to the same definitions.
 
+ghost use Rattle.obex_headers.specs.Assembling.{AnyPieces};
 ghost use Rattle.obex_headers.specs.Laws.{ReadsAgain, ReadsWhatIsSpelled, RefusesTheFirst, UnitsAgain};
 ghost use Rattle.obex_headers.specs.Runs.{SpellsByStretches};
 
@@ -28,5 +29,12 @@ pub fn units_are_kept()
 /// packets fall.
 pub fn objects_of_stretches()
     ensures { SpellsByStretches }
+{
+}
+
+/// However a stream is cut into pieces, an assembler gives its packets and no others, and refuses
+/// it where octets begin no packet.
+pub fn any_pieces()
+    ensures { AnyPieces }
 {
 }

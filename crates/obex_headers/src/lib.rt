@@ -1,6 +1,7 @@
 //! Packets of OBEX and their headers (IrOBEX 1.5), read and written against one spelling.
 #![tactic(auto)]
 
+mod assembler;
 mod fault;
 mod header;
 pub mod laws;
@@ -11,6 +12,7 @@ mod text;
 mod walk;
 mod writing;
 
+pub use assembler::{Assembled, Assembler};
 pub use fault::ObexRefusal;
 pub use header::{Header, HeaderValue};
 pub use packet::{Packet, Phase, packet_of};
