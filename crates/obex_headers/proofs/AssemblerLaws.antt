@@ -57,7 +57,10 @@ fed_one old mid new piece (Packet octets used) calls h a on =
     let f = on (record old { held = [] }) a.5 (inl (omega arith)) in
     record {
       whole = sym (append_assoc old.held (take used piece) (flat_map taken calls)) ∙ ap (λ (y : List ℕ). y ++ flat_map taken calls) (sym a.3) ∙ ap (λ (y : List ℕ). octets ++ y) f.whole ∙ sym (append_assoc octets (packets_joined (flat_map given calls)) new.held);
-      each = (a.4, f.each); partial = f.partial; maximum = f.maximum; open_still = a.0
+      each = (a.4, f.each);
+      partial = f.partial;
+      maximum = f.maximum;
+      open_still = a.0;
     }
 fed_one old mid new piece More calls h a on =
     let f = on (record old { held = old.held ++ piece }) a.2 a.1 in
@@ -72,7 +75,7 @@ fed : (old new : Assembling) (calls : List Call) → IsPartial old.maximum old.h
 fed old new [] h run none = subst (λ (n : Assembling). Fed old [] n) (sym run) (record { whole = append-nil old.held; each = tt; partial = h; maximum = refl; open_still = ap (λ (n : Assembling). n.refusal) (sym run) ∙ none })
 fed old new (call ∷ calls) h run none =
     fed_one old run.0 new call.piece call.answer calls h run.1
-      (λ mid same partial. fed mid new calls partial (subst (λ (m : Assembling). IsRun m calls new) same run.2) none)
+    (λ mid same partial. fed mid new calls partial (subst (λ (m : Assembling). IsRun m calls new) same run.2) none)
 
 is_split : (maximum : ℕ) (calls : List Call) (new : Assembling) → IsRun (fresh maximum) calls new → new.refusal ≡ None → Splits maximum (flat_map taken calls) (flat_map given calls) new.held
 is_split maximum calls new run none =
@@ -86,11 +89,11 @@ breaks_off maximum calls piece refusal mid new run none a =
     elim a [
       | inl again ↦ absurd (let e = sym again.0 ∙ none in cc)
       | inr now ↦ record {
-          rest = mid.held ++ piece;
-          whole = ap (λ (y : List ℕ). y ++ piece) f.whole ∙ append_assoc (packets_joined (flat_map given calls)) mid.held piece;
-          each = f.each;
-          none = subst (λ (m : ℕ). BeginsNone m (mid.held ++ piece) refusal) f.maximum now.1
-        }
+        rest = mid.held ++ piece;
+        whole = ap (λ (y : List ℕ). y ++ piece) f.whole ∙ append_assoc (packets_joined (flat_map given calls)) mid.held piece;
+        each = f.each;
+        none = subst (λ (m : ℕ). BeginsNone m (mid.held ++ piece) refusal) f.maximum now.1;
+      }
     ]
 
 is_for_good : (old new : Assembling) (piece : List ℕ) (answer : Answer) (refusal : ObexRefusal) → old.refusal ≡ Some refusal → Answers old piece answer new → (answer ≡ Refused refusal) × (new ≡ old)
@@ -129,7 +132,7 @@ partial_no_packet maximum rest p x h f e =
     let stated : stated_len rest ≡ length p = ap stated_len e ∙ stated_front p x f.0 ∙ f.2 in
     let long : length rest ≡ length p + length x = ap length e ∙ length-append p x in
     let least = f.0 in
-    elim h [ | inl few ↦ omega arith | inr some ↦ too_short (length rest) (stated_len rest) (length p) (length x) some.2 stated long ]
+    elim h [ inl few ↦ omega arith | inr some ↦ too_short (length rest) (stated_len rest) (length p) (length x) some.2 stated long ]
 
 none_is_long : (maximum : ℕ) (rest : List ℕ) (refusal : ObexRefusal) → BeginsNone maximum rest refusal → (3 ≤ length rest) × ((maximum < stated_len rest) ⊎ (stated_len rest < 3))
 none_is_long maximum rest AboveMaximum h = (h.0, inl h.1)
@@ -144,7 +147,7 @@ none_no_packet maximum rest p x refusal h f e =
     let stated : stated_len rest ≡ length p = ap stated_len e ∙ stated_front p x f.0 ∙ f.2 in
     let least = f.0 in
     let most = f.1 in
-    elim ((none_is_long maximum rest refusal h).1) [ | inl above ↦ not_above maximum (stated_len rest) (length p) above stated most | inr below ↦ not_below (stated_len rest) (length p) below stated least ]
+    elim ((none_is_long maximum rest refusal h).1) [ inl above ↦ not_above maximum (stated_len rest) (length p) above stated most | inr below ↦ not_below (stated_len rest) (length p) below stated least ]
 
 none_not_partial : (maximum : ℕ) (rest : List ℕ) (refusal : ObexRefusal) → BeginsNone maximum rest refusal → IsPartial maximum rest → ⊥
 none_not_partial maximum rest refusal h p =
@@ -152,7 +155,7 @@ none_not_partial maximum rest refusal h p =
     let long = n.0 in
     elim p [
       | inl few ↦ omega arith
-      | inr some ↦ elim (n.1) [ | inl above ↦ not_most maximum (stated_len rest) above some.1 | inr below ↦ not_least (stated_len rest) below some.0 ]
+      | inr some ↦ elim (n.1) [ inl above ↦ not_most maximum (stated_len rest) above some.1 | inr below ↦ not_least (stated_len rest) below some.0 ]
     ]
 
 one_reading : (maximum : ℕ) (packets others : List (List ℕ)) (rest rest' : List ℕ) → AllByRecursion (IsFramed maximum) packets → AllByRecursion (IsFramed maximum) others → IsPartial maximum rest → IsPartial maximum rest'
@@ -176,9 +179,9 @@ no_other maximum (packet ∷ packets) (other ∷ others) rest rest' refusal h k 
 
 pub any_pieces : AnyPieces
 any_pieces = record {
-    split = is_split;
-    refused = breaks_off;
-    for_good = is_for_good;
-    one_way = λ maximum stream packets others rest rest' s t. one_reading maximum packets others rest rest' s.each t.each s.partial t.partial (sym s.whole ∙ t.whole);
-    no_both = λ maximum stream packets others rest refusal s t. no_other maximum packets others rest t.rest refusal s.each t.each s.partial t.none (sym s.whole ∙ t.whole)
-  }
+  split = is_split;
+  refused = breaks_off;
+  for_good = is_for_good;
+  one_way = λ maximum stream packets others rest rest' s t. one_reading maximum packets others rest rest' s.each t.each s.partial t.partial (sym s.whole ∙ t.whole);
+  no_both = λ maximum stream packets others rest refusal s t. no_other maximum packets others rest t.rest refusal s.each t.each s.partial t.none (sym s.whole ∙ t.whole);
+}

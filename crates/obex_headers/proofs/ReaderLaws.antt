@@ -133,7 +133,7 @@ found_ahead headers i d (Some t) b l te tn be bs so_far = absurd cc
 found_ahead headers i d None None l te tn be bs so_far = absurd cc
 found_ahead headers i d None (Some b) l te tn be bs so_far =
     sym (body_ahead (plain_header (get_or headers i d)) (plain_headers (drop (i + 1) headers)) b.now te be)
-      ∙ ap (λ (hs : List Header). ltb 0 (length (bodies (ahead_of_name (plain_headers hs))))) (sym (drop_more headers i d l)) ∙ ap (λ (bs : List (List ℕ)). ltb 0 (length bs)) so_far
+    ∙ ap (λ (hs : List Header). ltb 0 (length (bodies (ahead_of_name (plain_headers hs))))) (sym (drop_more headers i d l)) ∙ ap (λ (bs : List (List ℕ)). ltb 0 (length bs)) so_far
 
 pub nothing_found : (headers : List Header) (i : ℕ) (d : Header) (t b : Option (Bor (List ℕ))) → i < length headers → Answers t (name_text (plain_header (get_or headers i d))) → false ≡ is_some t
     → Answers b (body_of (plain_header (get_or headers i d))) → false ≡ is_some b → bodies (ahead_of_name (plain_headers (drop i headers))) ≡ bodies (ahead_of_name (plain_headers headers))
@@ -142,23 +142,26 @@ nothing_found headers i d (Some t) b l te tn be bs so_far = absurd cc
 nothing_found headers i d None (Some b) l te tn be bs so_far = absurd cc
 nothing_found headers i d None None l te tn be bs so_far =
     sym (nothing_ahead (plain_header (get_or headers i d)) (plain_headers (drop (i + 1) headers)) te be)
-      ∙ ap (λ (hs : List Header). bodies (ahead_of_name (plain_headers hs))) (sym (drop_more headers i d l)) ∙ so_far
+    ∙ ap (λ (hs : List Header). bodies (ahead_of_name (plain_headers hs))) (sym (drop_more headers i d l)) ∙ so_far
 
 -- ---- the verdict
 
 pub gather : (headers : List PlainHeader) (ns bs ns' bs' : List (Vec ℕ)) (ahead : Bool) (name octets : List ℕ) → ns' ≡ ns → bs' ≡ bs → octets_of_all ns ≡ names headers → octets_of_all bs ≡ bodies headers
     → ahead ≡ ltb 0 (length (bodies (ahead_of_name headers))) → name ≡ flat_map (λ part. part.items) ns' → octets ≡ flat_map (λ part. part.items) bs' → Gathered headers ns bs ahead name octets
 gather headers ns bs ns' bs' ahead name octets n b ne be ae me oe = record {
-    names_are = ne; bodies_are = be; ahead_is = ae;
-    name_is = me ∙ ap (flat_map (λ part. part.items)) n; octets_are = oe ∙ ap (flat_map (λ part. part.items)) b
-  }
+  names_are = ne;
+  bodies_are = be;
+  ahead_is = ae;
+  name_is = me ∙ ap (flat_map (λ part. part.items)) n;
+  octets_are = oe ∙ ap (flat_map (λ part. part.items)) b;
+}
 
 pub breaks_same : (headers : List PlainHeader) (ns bs ns' : List (Vec ℕ)) (ahead : Bool) (name octets octets' : List ℕ) (answer : Bool) → Gathered headers ns bs ahead name octets → ns' ≡ ns → octets' ≡ octets
     → answer ≡ (ltb 1 (length ns') || list_any is_long (octets_of_all ns') || ahead || ltb 16777215 (length octets')) → breaks headers ≡ answer
 breaks_same headers ns bs ns' ahead name octets octets' answer g n o e =
     breaks_is headers ns bs ahead name octets g
-      ∙ ap (λ (x : List (Vec ℕ)). ltb 1 (length x) || list_any is_long (octets_of_all x) || ahead || ltb 16777215 (length octets)) (sym n)
-      ∙ ap (λ (x : List ℕ). ltb 1 (length ns') || list_any is_long (octets_of_all ns') || ahead || ltb 16777215 (length x)) (sym o) ∙ sym e
+    ∙ ap (λ (x : List (Vec ℕ)). ltb 1 (length x) || list_any is_long (octets_of_all x) || ahead || ltb 16777215 (length octets)) (sym n)
+    ∙ ap (λ (x : List ℕ). ltb 1 (length ns') || list_any is_long (octets_of_all ns') || ahead || ltb 16777215 (length x)) (sym o) ∙ sym e
 
 pub lacks_same : (headers : List PlainHeader) (ns bs ns' bs' : List (Vec ℕ)) (ahead : Bool) (name octets : List ℕ) (answer : Bool) → Gathered headers ns bs ahead name octets → ns' ≡ ns → bs' ≡ bs
     → answer ≡ (eqb (length ns') 0 || eqb (length bs') 0) → lacks headers ≡ answer
@@ -182,10 +185,13 @@ IsLeft left added all = (rest : List PlainHeader) × AllByRecursion IsHeader res
 pub one_added : (left new : List ℕ) (run run' : List Header) (header : Header) (all : List PlainHeader) → IsLeft left (plain_headers run) all → IsHeader (plain_header header) → left ≡ header_octets (plain_header header) ++ new
     → run' ≡ run ++ header ∷ [] → IsLeft new (plain_headers run') all
 one_added left new run run' header all so_far h e pushed =
-    let n = next_of left new (plain_header header) so_far.0 so_far.1 so_far.2 h e in
-    (n.0, n.2, n.3,
+    let n = next_of left new (plain_header header) so_far.0 so_far.1 so_far.2 h e in (
+      n.0,
+      n.2,
+      n.3,
       ap (λ (r : List Header). plain_headers r ++ n.0) pushed ∙ ap (λ (r : List PlainHeader). r ++ n.0) (map_push plain_header run header) ∙ append_assoc (plain_headers run) (plain_header header ∷ []) n.0
-        ∙ ap (λ (r : List PlainHeader). plain_headers run ++ r) (sym n.1) ∙ so_far.3)
+          ∙ ap (λ (r : List PlainHeader). plain_headers run ++ r) (sym n.1) ∙ so_far.3,
+    )
 
 ended : (left : List ℕ) (added all rest : List PlainHeader) → AllByRecursion IsHeader rest → left ≡ headers_octets rest → added ++ rest ≡ all → ((header : PlainHeader) (rest : List ℕ) → IsHeader header → left ≡ header_octets header ++ rest → ⊥) → added ≡ all
 ended left added all [] h e f none = sym (append-nil added) ∙ f
@@ -228,10 +234,13 @@ pub heard_whole : (o : Option PlainPacket) (before after : List Object) (past : 
     → ends ≡ is_final put → SaysVerdict ends new (Whole object) → after ≡ before ++ object_seen object ∷ [] → Goes o before past [] after
 heard_whole o before after past put old new ends object e oe ne fe says ae =
     let grown = longer past put old new oe ne in
-    let well : ends_without past put ≡ false = ap (λ (hs : List PlainHeader). breaks hs || (is_final put && lacks hs)) (sym grown) ∙ ap (λ (b : Bool). breaks new || (b && lacks new)) (sym fe) ∙ says.0 in
-    ([], (refl, tt), λ rest. ap (λ (p : Option PlainPacket). before ++ objects_from past (p ∷ rest)) e ∙ ap (λ (os : List Object). before ++ os) (step_final past put rest well (sym fe ∙ says.1))
-      ∙ ap (λ (hs : List PlainHeader). before ++ (object_of hs ∷ objects_from [] rest)) (sym grown) ∙ ap (λ (x : Object). before ++ (x ∷ objects_from [] rest)) (sym says.2)
-      ∙ sym (append_assoc before (object_seen object ∷ []) (objects_from [] rest)) ∙ ap (λ (os : List Object). os ++ objects_from [] rest) (sym ae))
+    let well : ends_without past put ≡ false = ap (λ (hs : List PlainHeader). breaks hs || (is_final put && lacks hs)) (sym grown) ∙ ap (λ (b : Bool). breaks new || (b && lacks new)) (sym fe) ∙ says.0 in (
+      [],
+      (refl, tt),
+      λ rest. ap (λ (p : Option PlainPacket). before ++ objects_from past (p ∷ rest)) e ∙ ap (λ (os : List Object). before ++ os) (step_final past put rest well (sym fe ∙ says.1))
+          ∙ ap (λ (hs : List PlainHeader). before ++ (object_of hs ∷ objects_from [] rest)) (sym grown) ∙ ap (λ (x : Object). before ++ (x ∷ objects_from [] rest)) (sym says.2)
+          ∙ sym (append_assoc before (object_seen object ∷ []) (objects_from [] rest)) ∙ ap (λ (os : List Object). os ++ objects_from [] rest) (sym ae),
+    )
 
 -- the verdict, of the headers and by the arm that it took
 pub said : (ends : Bool) (headers headers' : List Header) (verdict verdict' : Verdict) → headers' ≡ headers → verdict ≡ verdict' → SaysVerdict ends (plain_headers headers') verdict → SaysVerdict ends (plain_headers headers) verdict'
@@ -249,9 +258,12 @@ SoFar packets i headers objects = (past : List PlainPacket) × Holds headers pas
 pub one_heard : (packets : List (Vec ℕ)) (i : ℕ) (d : Vec ℕ) (octets : List ℕ) (old new : List PlainHeader) (before after : List Object) → i < length packets → octets ≡ (get_or packets i d).items → SoFar packets i old before
     → ((past : List PlainPacket) → Holds old past → Goes (put_in octets) before past new after) → SoFar packets (i + 1) new after
 one_heard packets i d octets old new before after l e so_far goes =
-    let g = goes so_far.0 so_far.1 in
-    (g.0, g.1, sym (g.2 (heard (octets_of_all (drop (i + 1) packets)))) ∙ ap (λ (o : List ℕ). before ++ objects_from so_far.0 (put_in o ∷ heard (octets_of_all (drop (i + 1) packets)))) e
-      ∙ ap (λ (ps : List (Option PlainPacket)). before ++ objects_from so_far.0 ps) (sym (heard_more packets i d l)) ∙ so_far.2)
+    let g = goes so_far.0 so_far.1 in (
+      g.0,
+      g.1,
+      sym (g.2 (heard (octets_of_all (drop (i + 1) packets)))) ∙ ap (λ (o : List ℕ). before ++ objects_from so_far.0 (put_in o ∷ heard (octets_of_all (drop (i + 1) packets)))) e
+          ∙ ap (λ (ps : List (Option PlainPacket)). before ++ objects_from so_far.0 ps) (sym (heard_more packets i d l)) ∙ so_far.2,
+    )
 
 pub all_heard : (packets : List (Vec ℕ)) (i : ℕ) (headers : List PlainHeader) (objects : List Object) → length packets ≤ i → SoFar packets i headers objects → objects ≡ spelled (octets_of_all packets)
 all_heard packets i headers objects l so_far =

@@ -78,6 +78,7 @@ ahead_front_at true h a b more e ih =
     (more, ahead-cons h (a ++ b) ∙ cond-true _ _ _ e ∙ ap (λ (hs : List PlainHeader). h ∷ hs) ih ∙ ap (λ (hs : List PlainHeader). hs ++ more) (sym (ahead-cons h a ∙ cond-true _ _ _ e)))
 ahead_front_at false h a b more e ih =
     ([], ahead-cons h (a ++ b) ∙ cond-false _ _ _ e ∙ ap (λ (hs : List PlainHeader). hs ++ []) (sym (ahead-cons h a ∙ cond-false _ _ _ e)))
+
 ahead_front : (a b : List PlainHeader) → (more : List PlainHeader) × (ahead_of_name (a ++ b) ≡ ahead_of_name a ++ more)
 ahead_front [] b = (ahead_of_name b, refl)
 ahead_front (h ∷ a) b = let r = ahead_front a b in ahead_front_at (is_none (name_text h)) h a b r.0 refl r.1
@@ -95,7 +96,7 @@ rules_front a b h =
       one_name = omega (arith, ap length (names-append a b), length-append (names a) (names b));
       short_name = all_front (λ name. length name ≤ 255) (names a) (names b) (subst (AllByRecursion (λ name. length name ≤ 255)) (names-append a b) h.short_name);
       name_first = nil_front (bodies (ahead_of_name a)) (bodies more.0) (sym (ap bodies more.1 ∙ bodies-append (ahead_of_name a) more.0) ∙ h.name_first);
-      bounded = omega (arith, ap length (ap joined (bodies-append a b) ∙ joined-append (bodies a) (bodies b)), length-append (joined (bodies a)) (joined (bodies b)))
+      bounded = omega (arith, ap length (ap joined (bodies-append a b) ∙ joined-append (bodies a) (bodies b)), length-append (joined (bodies a)) (joined (bodies b)));
     }
 
 open_front : (a b : List PlainPacket) → IsOpen (a ++ b) → IsOpen a
@@ -147,21 +148,21 @@ through_spelling run object rest h =
     let put_all : puts run ++ rest ≡ puts h.front ++ (Some h.last ∷ rest) = ap (λ (r : List PlainPacket). puts r ++ rest) h.parts ∙ ap (λ (ps : List (Option PlainPacket)). ps ++ rest) (map-append (λ put. Some put) h.front (h.last ∷ [])) ∙ append_assoc (puts h.front) (Some h.last ∷ []) rest in
     let made : object_of all ≡ object = ap (λ (ns : List (List ℕ)). record { name = joined ns; octets = joined (bodies all) }) h.name ∙ ap (λ (n : List ℕ). record { name = n; octets = joined (bodies all) }) (joined_one object.name) ∙ ap (λ (o : List ℕ). record { name = object.name; octets = o }) (sym h.octets) in
     ap (objects_from []) put_all ∙ goes_through [] h.front (Some h.last ∷ rest) front_open ∙ step_final h.front h.last rest well h.final
-      ∙ ap (λ (hs : List PlainHeader). object_of hs ∷ objects_from [] rest) same ∙ ap (λ (o : Object). o ∷ objects_from [] rest) made
+    ∙ ap (λ (hs : List PlainHeader). object_of hs ∷ objects_from [] rest) same ∙ ap (λ (o : Object). o ∷ objects_from [] rest) made
 
 through_broken : (run : List PlainPacket) (last : Option PlainPacket) (rest : List (Option PlainPacket)) → IsOpen run → EndsWithout run last → objects_from [] ((puts run ++ last ∷ []) ++ rest) ≡ objects_from [] rest
 through_broken run None rest o e = ap (objects_from []) (append_assoc (puts run) (None ∷ []) rest) ∙ goes_through [] run (None ∷ rest) o
 through_broken run (Some put) rest o e =
     let hs = run_headers (run ++ put ∷ []) in
     let ended : ends_without run put ≡ true =
-      elim e [
-        | inl breaking ↦ or_left (breaks hs) _ (elim (cases_Bool (breaks hs)) [ | inl found ↦ found | inr none ↦ absurd (breaking (keeps hs none)) ])
-        | inr lacking ↦ or_right (breaks hs) _ (and_from (is_final put) (lacks hs) lacking.0
-            (elim (lacking.1) [
-              | inl no_name ↦ or_left (eqb (length (names hs)) 0) _ (eq-eqb _ _ (ap length no_name))
-              | inr no_body ↦ or_right (eqb (length (names hs)) 0) _ (eq-eqb _ _ (ap length no_body))
-            ]))
-      ] in
+    elim e [
+      | inl breaking ↦ or_left (breaks hs) _ (elim (cases_Bool (breaks hs)) [ inl found ↦ found | inr none ↦ absurd (breaking (keeps hs none)) ])
+      | inr lacking ↦ or_right (breaks hs) _ (and_from (is_final put) (lacks hs) lacking.0
+          (elim (lacking.1) [
+            | inl no_name ↦ or_left (eqb (length (names hs)) 0) _ (eq-eqb _ _ (ap length no_name))
+            | inr no_body ↦ or_right (eqb (length (names hs)) 0) _ (eq-eqb _ _ (ap length no_body))
+          ]))
+    ] in
     ap (objects_from []) (append_assoc (puts run) (Some put ∷ []) rest) ∙ goes_through [] run (Some put ∷ rest) o ∙ step_refused run put rest ended
 
 -- ---- from whole runs to packets
@@ -170,12 +171,12 @@ through_all : (stretches : List Stretch) (open_run : List PlainPacket) → AllBy
 through_all [] open_run all o = ap (objects_from []) (sym (append-nil (puts open_run))) ∙ goes_through [] open_run [] o
 through_all (Spelling run object ∷ stretches) open_run all o =
     ap (objects_from []) (append_assoc (puts run) (flat_map stretch_packets stretches) (puts open_run))
-      ∙ through_spelling run object (flat_map stretch_packets stretches ++ puts open_run) all.0
-      ∙ ap (λ (os : List Object). object ∷ os) (through_all stretches open_run all.1 o)
+    ∙ through_spelling run object (flat_map stretch_packets stretches ++ puts open_run) all.0
+    ∙ ap (λ (os : List Object). object ∷ os) (through_all stretches open_run all.1 o)
 through_all (Broken run last ∷ stretches) open_run all o =
     ap (objects_from []) (append_assoc (puts run ++ last ∷ []) (flat_map stretch_packets stretches) (puts open_run))
-      ∙ through_broken run last (flat_map stretch_packets stretches ++ puts open_run) all.0.0 all.0.1
-      ∙ through_all stretches open_run all.1 o
+    ∙ through_broken run last (flat_map stretch_packets stretches ++ puts open_run) all.0.0 all.0.1
+    ∙ through_all stretches open_run all.1 o
 
 pub stretches_spell : (packets : List (Option PlainPacket)) (objects : List Object) → FallsInto packets objects → objects ≡ objects_from [] packets
 stretches_spell packets objects h = h.objects_are ∙ sym (ap (objects_from []) h.packets_are ∙ through_all h.stretches h.open_run h.are_stretches h.is_open)
@@ -185,10 +186,13 @@ stretches_spell packets objects h = h.objects_are ∙ sym (ap (objects_from []) 
 -- a stretch in front
 in_front : (stretch : Stretch) (packets rest : List (Option PlainPacket)) (objects : List Object) → IsStretch stretch → packets ≡ stretch_packets stretch ++ rest → FallsInto rest objects → FallsInto packets (stretch_objects stretch ++ objects)
 in_front stretch packets rest objects is e h = record {
-    stretches = stretch ∷ h.stretches; open_run = h.open_run; are_stretches = (is, h.are_stretches); is_open = h.is_open;
-    packets_are = e ∙ ap (λ (r : List (Option PlainPacket)). stretch_packets stretch ++ r) h.packets_are ∙ sym (append_assoc (stretch_packets stretch) (flat_map stretch_packets h.stretches) (puts h.open_run));
-    objects_are = ap (λ (os : List Object). stretch_objects stretch ++ os) h.objects_are
-  }
+  stretches = stretch ∷ h.stretches;
+  open_run = h.open_run;
+  are_stretches = (is, h.are_stretches);
+  is_open = h.is_open;
+  packets_are = e ∙ ap (λ (r : List (Option PlainPacket)). stretch_packets stretch ++ r) h.packets_are ∙ sym (append_assoc (stretch_packets stretch) (flat_map stretch_packets h.stretches) (puts h.open_run));
+  objects_are = ap (λ (os : List Object). stretch_objects stretch ++ os) h.objects_are;
+}
 
 one_name : (ns : List (List ℕ)) → length ns ≤ 1 → eqb (length ns) 0 ≡ false → ns ≡ joined ns ∷ []
 one_name [] h e = absurd (eqb-false 0 0 e refl)
@@ -200,37 +204,48 @@ falls_at : (ended final : Bool) (run : List PlainPacket) (put : PlainPacket) (re
 falls_at true final run put rest o e f behind on =
     let hs = run_headers (run ++ put ∷ []) in
     let without : EndsWithout run (Some put) =
-      elim (or_cases (breaks hs) (is_final put && lacks hs) e) [
-        | inl breaking ↦ inl (broken hs breaking)
-        | inr lacking ↦
-            let p = and_parts (is_final put) (lacks hs) lacking in
-            inr (p.0, elim (or_cases (eqb (length (names hs)) 0) (eqb (length (bodies hs)) 0) p.1) [
+    elim (or_cases (breaks hs) (is_final put && lacks hs) e) [
+      | inl breaking ↦ inl (broken hs breaking)
+      | inr lacking ↦
+          let p = and_parts (is_final put) (lacks hs) lacking in
+          inr (
+            p.0,
+            elim (or_cases (eqb (length (names hs)) 0) (eqb (length (bodies hs)) 0) p.1) [
               | inl no_name ↦ inl (nil_from_length (names hs) (eqb-true _ _ no_name))
               | inr no_body ↦ inr (nil_from_length (bodies hs) (eqb-true _ _ no_body))
-            ])
-      ] in
+            ],
+          )
+    ] in
     subst (FallsInto (puts run ++ (Some put ∷ rest))) (sym (step_refused run put rest e))
-      (in_front (Broken run (Some put)) (puts run ++ (Some put ∷ rest)) rest (objects_from [] rest) (o, without) (sym (append_assoc (puts run) (Some put ∷ []) rest)) behind)
+    (in_front (Broken run (Some put)) (puts run ++ (Some put ∷ rest)) rest (objects_from [] rest) (o, without) (sym (append_assoc (puts run) (Some put ∷ []) rest)) behind)
 falls_at false true run put rest o e f behind on =
     let hs = run_headers (run ++ put ∷ []) in
     let p = or_parts (breaks hs) (is_final put && lacks hs) e in
     let rules = keeps hs p.0 in
-    let has : lacks hs ≡ false = elim (cases_Bool (lacks hs)) [ | inl found ↦ absurd (let k = sym (and_from (is_final put) (lacks hs) f found) ∙ p.1 in cc) | inr none ↦ none ] in
+    let has : lacks hs ≡ false = elim (cases_Bool (lacks hs)) [ inl found ↦ absurd (let k = sym (and_from (is_final put) (lacks hs) f found) ∙ p.1 in cc) | inr none ↦ none ] in
     let q = or_parts (eqb (length (names hs)) 0) (eqb (length (bodies hs)) 0) has in
     let no_zero = eqb-false _ _ q.1 in
     let spelling : SpellsObject (run ++ put ∷ []) (object_of hs) = record {
-      front = run; last = put; parts = refl; not_final = o.not_final; final = f; rules = rules;
-      name = one_name (names hs) rules.one_name q.0; has_body = omega arith; octets = refl
+      front = run;
+      last = put;
+      parts = refl;
+      not_final = o.not_final;
+      final = f;
+      rules = rules;
+      name = one_name (names hs) rules.one_name q.0;
+      has_body = omega arith;
+      octets = refl;
     } in
     subst (FallsInto (puts run ++ (Some put ∷ rest))) (sym (step_final run put rest e f))
-      (in_front (Spelling (run ++ put ∷ []) (object_of hs)) (puts run ++ (Some put ∷ rest)) rest (objects_from [] rest) spelling
-        (sym (ap (λ (ps : List (Option PlainPacket)). ps ++ rest) (map-append (λ put. Some put) run (put ∷ [])) ∙ append_assoc (puts run) (Some put ∷ []) rest)) behind)
+    (in_front (Spelling (run ++ put ∷ []) (object_of hs)) (puts run ++ (Some put ∷ rest)) rest (objects_from [] rest) spelling
+    (sym (ap (λ (ps : List (Option PlainPacket)). ps ++ rest) (map-append (λ put. Some put) run (put ∷ [])) ∙ append_assoc (puts run) (Some put ∷ []) rest)) behind)
 falls_at false false run put rest o e f behind on =
     let hs = run_headers (run ++ put ∷ []) in
     let p = or_parts (breaks hs) (is_final put && lacks hs) e in
     let longer : IsOpen (run ++ put ∷ []) = record { not_final = all_both (λ packet. is_final packet ≡ false) run (put ∷ []) o.not_final (f, tt); rules = keeps hs p.0 } in
     let same : puts (run ++ put ∷ []) ++ rest ≡ puts run ++ (Some put ∷ rest) = ap (λ (ps : List (Option PlainPacket)). ps ++ rest) (map-append (λ put. Some put) run (put ∷ [])) ∙ append_assoc (puts run) (Some put ∷ []) rest in
     subst (FallsInto (puts run ++ (Some put ∷ rest))) (sym (step_open run put rest e f)) (subst (λ (ps : List (Option PlainPacket)). FallsInto ps (objects_from (run ++ put ∷ []) rest)) same (on longer))
+
 falls : (run : List PlainPacket) (rest : List (Option PlainPacket)) → IsOpen run → FallsInto (puts run ++ rest) (objects_from run rest)
 falls run [] o = record { stretches = []; open_run = run; are_stretches = tt; is_open = o; packets_are = append-nil (puts run); objects_are = refl }
 falls run (None ∷ rest) o = in_front (Broken run None) (puts run ++ (None ∷ rest)) rest (objects_from [] rest) (o, tt) (sym (append_assoc (puts run) (None ∷ []) rest)) (falls [] rest open_nil)

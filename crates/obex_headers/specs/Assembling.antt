@@ -62,7 +62,7 @@ abbrev pub Answers : Assembling → List ℕ → Answer → Assembling → Type 
 Answers old piece (Packet octets used) new = (old.refusal ≡ None) × (0 < used) × (used ≤ length piece) × (octets ≡ old.held ++ take used piece) × IsFramed old.maximum octets × (new ≡ record old { held = [] })
 Answers old piece More new = (old.refusal ≡ None) × IsPartial old.maximum (old.held ++ piece) × (new ≡ record old { held = old.held ++ piece })
 Answers old piece (Refused refusal) new = ((old.refusal ≡ Some refusal) × (new ≡ old))
-  ⊎ ((old.refusal ≡ None) × BeginsNone old.maximum (old.held ++ piece) refusal × (new ≡ record old { refusal = Some refusal }))
+    ⊎ ((old.refusal ≡ None) × BeginsNone old.maximum (old.held ++ piece) refusal × (new ≡ record old { refusal = Some refusal }))
 
 -- ---- any pieces
 
@@ -102,9 +102,9 @@ fresh maximum = record { maximum = maximum; held = []; refusal = None }
 -- a refusal comes where behind them octets begin no packet; and no stream is read in two ways.
 pub record AnyPieces : Type 0 where
   pub split : (maximum : ℕ) (calls : List Call) (new : Assembling) → IsRun (fresh maximum) calls new → new.refusal ≡ None →
-    Splits maximum (flat_map taken calls) (flat_map given calls) new.held
+      Splits maximum (flat_map taken calls) (flat_map given calls) new.held
   pub refused : (maximum : ℕ) (calls : List Call) (piece : List ℕ) (refusal : ObexRefusal) (mid new : Assembling) → IsRun (fresh maximum) calls mid → mid.refusal ≡ None →
-    Answers mid piece (Refused refusal) new → BreaksOff maximum (flat_map taken calls ++ piece) (flat_map given calls) refusal
+      Answers mid piece (Refused refusal) new → BreaksOff maximum (flat_map taken calls ++ piece) (flat_map given calls) refusal
   pub for_good : (old new : Assembling) (piece : List ℕ) (answer : Answer) (refusal : ObexRefusal) → old.refusal ≡ Some refusal → Answers old piece answer new → (answer ≡ Refused refusal) × (new ≡ old)
   pub one_way : (maximum : ℕ) (stream : List ℕ) (packets others : List (List ℕ)) (rest rest' : List ℕ) → Splits maximum stream packets rest → Splits maximum stream others rest' → (packets ≡ others) × (rest ≡ rest')
   pub no_both : (maximum : ℕ) (stream : List ℕ) (packets others : List (List ℕ)) (rest : List ℕ) (refusal : ObexRefusal) → Splits maximum stream packets rest → BreaksOff maximum stream others refusal → ⊥

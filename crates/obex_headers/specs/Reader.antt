@@ -43,4 +43,4 @@ Holds headers run = (headers ≡ run_headers run) × AllByRecursion IsHeader hea
 -- spelled by then, and what the packets after it spell behind the new run.
 abbrev pub Goes : Option PlainPacket → List Object → List PlainPacket → List PlainHeader → List Object → Type 0
 Goes packet before past headers after = (next : List PlainPacket) × Holds headers next
-  × ((rest : List (Option PlainPacket)) → before ++ objects_from past (packet ∷ rest) ≡ after ++ objects_from next rest)
+    × ((rest : List (Option PlainPacket)) → before ++ objects_from past (packet ∷ rest) ≡ after ++ objects_from next rest)

@@ -97,7 +97,7 @@ pub record SpellsObject (run : List PlainPacket) (object : Object) : Type 0 wher
 abbrev pub EndsWithout : List PlainPacket → Option PlainPacket → Type 0
 EndsWithout run None = Unit {0}
 EndsWithout run (Some put) = (KeepsRules (run_headers (run ++ put ∷ [])) → ⊥)
-  ⊎ ((is_final put ≡ true) × ((names (run_headers (run ++ put ∷ [])) ≡ []) ⊎ (bodies (run_headers (run ++ put ∷ [])) ≡ [])))
+    ⊎ ((is_final put ≡ true) × ((names (run_headers (run ++ put ∷ [])) ≡ []) ⊎ (bodies (run_headers (run ++ put ∷ [])) ≡ [])))
 
 -- ---- a whole list of packets
 

@@ -134,6 +134,14 @@ impl Assembler {
         })
     }
 
+    /// Makes the assembler one that heard nothing, with the same maximum. It takes no memory.
+    pub fn reset(&mut self)
+        ensures { self.new ≡ fresh self.old.maximum }
+    {
+        self.held = 0;
+        self.refusal = None;
+    }
+
     /// Takes of the piece what the next packet wants.
     ///
     /// `Packet` gives the whole packet and how many octets of the piece were used: the next call is

@@ -29,12 +29,10 @@ pub fn units_are_kept()
 /// packets fall.
 pub fn objects_of_stretches()
     ensures { SpellsByStretches }
-{
-}
+{}
 
 /// However a stream is cut into pieces, an assembler gives its packets and no others, and refuses
 /// it where octets begin no packet.
 pub fn any_pieces()
     ensures { AnyPieces }
-{
-}
+{}

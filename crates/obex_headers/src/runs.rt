@@ -23,11 +23,17 @@ pub struct SpelledObject {
 }
 
 const NAME: u8 = 0x01;
+
 const BODY: u8 = 0x48;
+
 const END_OF_BODY: u8 = 0x49;
+
 const PUT: u8 = 0x02;
+
 const FINAL_PUT: u8 = 0x82;
+
 const MOST_UNITS: usize = 255;
+
 const MOST_OCTETS: usize = 16_777_215;
 
 /// What a packet does to the run that it goes on.

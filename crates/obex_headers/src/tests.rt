@@ -1,4 +1,8 @@
+ghost use Rattle.std.specs.Prelude.{◌<◌};
+
 use super::*;
+use runs::{SpelledObject, objects_in};
+use std::alloc::Global;
 use std::test::Fail;
 
 const CONNECT: [u8; 7] = [0x80, 0x00, 0x07, 0x10, 0x00, 0x04, 0x00];
@@ -182,4 +186,173 @@ fn refusals_come_in_their_order(rt: HostRuntime) {
     for (bytes, phase, maximum, refusal) in cases {
         assert_eq!(rt; refusal_of(bytes, phase, maximum), Some(refusal));
     }
+}
+
+// A PUT with a Name alone, and a final PUT with a body alone.
+const NAMED: [u8; 10] = [0x02, 0x00, 0x0A, 0x01, 0x00, 0x07, 0x00, 0x61, 0x00, 0x00];
+
+const BODY: [u8; 7] = [0x02, 0x00, 0x07, 0x48, 0x00, 0x04, 0x68];
+
+const END: [u8; 7] = [0x82, 0x00, 0x07, 0x49, 0x00, 0x04, 0x69];
+
+const FINAL_NAMED: [u8; 10] = [0x82, 0x00, 0x0A, 0x01, 0x00, 0x07, 0x00, 0x61, 0x00, 0x00];
+
+const BODY_FIRST: [u8; 14] = [
+    0x82, 0x00, 0x0E, 0x49, 0x00, 0x04, 0x68, 0x01, 0x00, 0x07, 0x00, 0x61, 0x00, 0x00,
+];
+
+const WRONG_LENGTH: [u8; 3] = [0x02, 0x00, 0x04];
+
+fn objects_of(alloc: Global, packets: &[&[u8]]) -> Result<Vec<SpelledObject>, Fail> {
+    let mut owned = Vec::new(alloc);
+    for packet in packets {
+        owned.push(Vec::from_slice(alloc, packet)?)?;
+    }
+    Ok(objects_in(alloc, &owned)?)
+}
+
+#[test]
+fn packets_spell_an_object(rt: HostRuntime) -> Result<(), Fail> {
+    let cases: [(&[&[u8]], &[u8]); 4] = [
+        (&[&PUT], b"hi"),
+        (&[&PUT_NOTHING], b""),
+        (&[&CONNECT, &NAMED, &BODY, &END], b"hi"),
+        (&[&NAMED, &WRONG_LENGTH, &PUT, &NAMED], b"hi"),
+    ];
+    for (packets, octets) in cases {
+        let objects = objects_of(rt.alloc(), packets)?;
+        assert_eq!(rt; objects.len(), 1);
+        for object in &objects {
+            assert_eq!(rt; object.name.as_slice(), [0x61].as_slice());
+            assert_eq!(rt; object.octets.as_slice(), octets);
+        }
+    }
+    assert_eq!(rt; objects_of(rt.alloc(), &[&PUT, &PUT_NOTHING])?.len(), 2);
+    Ok(())
+}
+
+#[test]
+fn runs_that_break_a_rule_spell_nothing(rt: HostRuntime) -> Result<(), Fail> {
+    let cases: [&[&[u8]]; 9] = [
+        // a second Name
+        &[&NAMED, &PUT],
+        // a body ahead of the Name, in an earlier packet and in the same one
+        &[&BODY, &PUT_NOTHING, &END],
+        &[&BODY_FIRST],
+        // final without a body, and without a Name
+        &[&FINAL_NAMED],
+        &[&END],
+        // another packet between, and one that is refused
+        &[&NAMED, &CONNECT, &END],
+        &[&NAMED, &WRONG_LENGTH, &END],
+        // not final
+        &[&NAMED, &BODY],
+        &[],
+    ];
+    let counts = [0, 1, 0, 0, 0, 0, 0, 0, 0];
+    for (packets, count) in cases.iter().zip(counts.iter()) {
+        assert_eq!(rt; objects_of(rt.alloc(), packets)?.len(), *count);
+    }
+    Ok(())
+}
+
+// A final PUT with a Name of that many units and an empty End of Body.
+fn named(alloc: Global, units: u16) -> Result<Vec<u8>, Fail>
+    requires { units < 1000 }
+{
+    let text = 2 * (units + 1);
+    let mut packet = Vec::new(alloc);
+    packet.push(0x82)?;
+    packet.extend_from_slice(&(9 + text).to_be_bytes())?;
+    packet.push(0x01)?;
+    packet.extend_from_slice(&(3 + text).to_be_bytes())?;
+    packet.extend_from_slice(&vec![in alloc; 0u8; text as usize]?)?;
+    packet.extend_from_slice(&[0x49, 0x00, 0x03])?;
+    Ok(packet)
+}
+
+#[test]
+fn a_name_has_at_most_255_units(rt: HostRuntime) -> Result<(), Fail> {
+    assert_eq!(rt;
+        objects_of(rt.alloc(), &[&named(rt.alloc(), 255)?])?.len(),
+        1
+    );
+    assert_eq!(rt;
+        objects_of(rt.alloc(), &[&named(rt.alloc(), 256)?])?.len(),
+        0
+    );
+    Ok(())
+}
+
+fn feed(
+    alloc: Global,
+    assembler: &mut Assembler,
+    piece: &[u8],
+    packets: &mut Vec<Vec<u8>>,
+) -> Result<Option<ObexRefusal>, Fail> {
+    let mut rest = piece;
+    while !rest.is_empty() {
+        match assembler.take(rest) {
+            Assembled::Packet(octets, used) => {
+                packets.push(Vec::from_slice(alloc, octets)?)?;
+                rest = &rest[used..];
+            }
+            Assembled::More => return Ok(None),
+            Assembled::Refused(refusal) => return Ok(Some(refusal)),
+        }
+    }
+    Ok(None)
+}
+
+#[test]
+fn any_pieces_give_the_packets_of_the_stream(rt: HostRuntime) -> Result<(), Fail> {
+    let mut stream = Vec::new(rt.alloc());
+    stream.extend_from_slice(&CONNECT)?;
+    stream.extend_from_slice(&PUT)?;
+    stream.extend_from_slice(&SUCCESS)?;
+    for size in [1usize, 2, 3, 7, 30] {
+        let mut assembler = Assembler::new(rt.alloc(), 20)?;
+        let mut packets = Vec::new(rt.alloc());
+        for piece in stream.chunks(size) {
+            assert_eq!(rt;
+                feed(rt.alloc(), &mut assembler, piece, &mut packets)?,
+                None
+            );
+        }
+        assert_eq!(rt; packets.len(), 3);
+        assert_eq!(rt; packets[0].as_slice(), CONNECT.as_slice());
+        assert_eq!(rt; packets[1].as_slice(), PUT.as_slice());
+        assert_eq!(rt; packets[2].as_slice(), SUCCESS.as_slice());
+    }
+    Ok(())
+}
+
+#[test]
+fn an_assembler_refuses_for_good_until_it_is_reset(rt: HostRuntime) -> Result<(), Fail> {
+    let mut packets = Vec::new(rt.alloc());
+    let mut assembler = Assembler::new(rt.alloc(), 19)?;
+    assert_eq!(rt;
+        feed(rt.alloc(), &mut assembler, &PUT, &mut packets)?,
+        Some(ObexRefusal::AboveMaximum)
+    );
+    assert_eq!(rt;
+        feed(rt.alloc(), &mut assembler, &SUCCESS, &mut packets)?,
+        Some(ObexRefusal::AboveMaximum)
+    );
+    assembler.reset();
+    assert_eq!(rt;
+        feed(rt.alloc(), &mut assembler, &SUCCESS, &mut packets)?,
+        None
+    );
+    assert_eq!(rt; packets.len(), 1);
+    assert_eq!(rt;
+        feed(
+            rt.alloc(),
+            &mut assembler,
+            &[0xA0, 0x00, 0x02],
+            &mut packets
+        )?,
+        Some(ObexRefusal::BadLength)
+    );
+    Ok(())
 }
