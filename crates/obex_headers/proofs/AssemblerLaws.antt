@@ -1,11 +1,11 @@
 -- Packets on a stream, however it is cut into pieces.
-use Rattle.std.proofs.Common.{◌≡◌, ℕ, zero, suc, ◌+◌, ◌-◌, ◌<◌, ◌≤◌, List, [], ◌∷◌, ◌++◌, length, take, drop, Option, Some, None, refl, sym, ap, subst, ◌∙◌, append_assoc, arith, inl, inr, ◌⊎◌}
+use Rattle.std.proofs.Common.{◌≡◌, ℕ, ◌+◌, ◌-◌, ◌<◌, ◌≤◌, List, [], ◌∷◌, ◌++◌, length, take, drop, Some, None, refl, sym, ap, subst, ◌∙◌, append_assoc, arith, inl, inr, ◌⊎◌}
 use Rattle.std.specs.List.{flat_map, AllByRecursion}
 use Rattle.std.proofs.lemmas.Bool.{cases_lt}
 use Rattle.std.proofs.lemmas.List.{append-nil, length-append, length-take, take-append-drop, take_at, drop_at}
 use Rattle.obex_headers.specs.declared.fault.ObexRefusal.{ObexRefusal}
 use Rattle.obex_headers.specs.declared.fault.ObexRefusal.TheVariants.{Short, BadLength, BadHeaderLength, BadText, AboveMaximum, BadVersion}
-use Rattle.obex_headers.specs.Assembling.{stated_len, IsFramed, IsPartial, BeginsNone, packets_joined, Splits, BreaksOff, Assembling, Answer, Packet, More, Refused, Answers, Call, IsRun, taken_by, taken, given_by, given, fresh, AnyPieces}
+use Rattle.obex_headers.specs.Assembling.{stated_len, IsFramed, IsPartial, BeginsNone, packets_joined, Splits, BreaksOff, Assembling, Answer, Packet, More, Refused, Answers, Call, IsRun, taken, given, fresh, AnyPieces}
 
 -- the length is stated by the front
 stated_front : (xs ys : List ℕ) → 3 ≤ length xs → stated_len (xs ++ ys) ≡ stated_len xs

@@ -1,15 +1,16 @@
 -- Reading headers one after the other.
 use Rattle.std.proofs.Common.{◌≡◌, ℕ, zero, suc, ◌+◌, ◌-◌, ◌*◌, ◌/◌, ◌%◌, ◌^◌, ◌<◌, ◌≤◌, Bool, true, false, cond, ltb, List, [], ◌∷◌, ◌++◌, length, take, drop, Result, Ok, Err, refl, sym, ap, subst, ◌∙◌, append_assoc, arith, inl, inr, ◌⊎◌}
 use Rattle.std.specs.Prelude.{IfOk, IsOkAnd}
-use Rattle.std.specs.List.{flat_map, AllByRecursion}
+use Rattle.std.specs.List.{AllByRecursion}
 use Rattle.std.proofs.lemmas.Bool.{ltb-true, ltb-false, lt-ltb, le-ltb, cond-true, cond-false}
 use Rattle.std.proofs.lemmas.List.{append-nil, length-append, length-drop, length-take, take-append-drop, take_at, drop_at, nil_from_length}
 use Rattle.bt_base.specs.Octets.{IsOctets, be16, be32}
 use Rattle.byteorder.specs.Endian.{big_number}
 use Rattle.obex_headers.specs.declared.fault.ObexRefusal.{ObexRefusal}
 use Rattle.obex_headers.specs.declared.fault.ObexRefusal.TheVariants.{BadHeaderLength, BadText}
-use Rattle.obex_headers.specs.Packets.{PlainValue, PlainHeader, Text, Octets, One, Four, IsText, value_octets, header_octets, headers_octets, HasForm, IsHeader}
-use Rattle.obex_headers.proofs.Numbers.{IsOctets-drop, IsOctets-take, IsOctets-rest, be16_back, be32_back, be16_again, be32_again, big_number_2-lt, big_number_4-lt}
+use Rattle.obex_headers.specs.Packets.{PlainValue, PlainHeader, Text, Octets, One, Four, value_octets, header_octets, headers_octets, HasForm, IsHeader}
+use Rattle.bt_base.proofs.OctetLemmas.{be32-number}
+use Rattle.obex_headers.proofs.Numbers.{IsOctets-drop, IsOctets-take, IsOctets-rest, be16_back, be32_back, big_number_2-lt, big_number_4-lt}
 use Rattle.obex_headers.proofs.Texts.{text_passed, text_passes}
 use Rattle.obex_headers.specs.Reading.{◌>>=◌, Gives, is_text, sized_at, text_at, octets_at, one_at, four_at, value_at, header_at, headers_at, headers_in}
 
@@ -152,7 +153,7 @@ value_again id (Four number) rest h =
     let t1 : ltb id 0x80 ≡ false = le-ltb _ _ (omega (arith, h.0)) in
     let t2 : ltb id 0xC0 ≡ false = le-ltb _ _ h.0 in
     let t3 : ltb (length (be32 number ++ rest)) 4 ≡ false = le-ltb _ _ (omega arith) in
-    cond-false _ _ _ t0 ∙ cond-false _ _ _ t1 ∙ cond-false _ _ _ t2 ∙ cond-false _ _ _ t3 ∙ ap (λ (n : ℕ). Ok (Four n, rest)) (be32_again number rest h.2)
+    cond-false _ _ _ t0 ∙ cond-false _ _ _ t1 ∙ cond-false _ _ _ t2 ∙ cond-false _ _ _ t3 ∙ ap (λ (n : ℕ). Ok (Four n, rest)) (be32-number number rest h.2)
 
 -- ---- one header
 

@@ -1,5 +1,5 @@
 -- A packet that is read is spelled so, and what is spelled is read again.
-use Rattle.std.proofs.Common.{◌≡◌, ℕ, zero, suc, ◌+◌, ◌-◌, ◌*◌, ◌/◌, ◌%◌, ◌^◌, ◌<◌, ◌≤◌, Bool, true, false, not, cond, ltb, eqb, List, [], ◌∷◌, ◌++◌, length, get_or, take, drop, Result, Ok, Err, refl, sym, ap, subst, ◌∙◌, append_assoc, arith, inl, inr, ◌⊎◌}
+use Rattle.std.proofs.Common.{◌≡◌, ℕ, suc, ◌+◌, ◌/◌, ◌%◌, ◌≤◌, Bool, true, false, not, cond, ltb, eqb, List, [], ◌∷◌, ◌++◌, length, get_or, take, drop, Result, Ok, Err, refl, sym, ap, subst, ◌∙◌, arith}
 use Rattle.std.specs.Prelude.{IsTrue, IfOk, IsOkAnd}
 use Rattle.std.specs.List.{AllByRecursion}
 use Rattle.std.proofs.lemmas.Bool.{eqb-true, eq-eqb, ltb-false, le-ltb, cond-true, cond-false, not-false, not_from_true}
@@ -12,7 +12,8 @@ use Rattle.obex_headers.specs.declared.packet.Phase.{Phase}
 use Rattle.obex_headers.specs.declared.packet.Packet.{Packet}
 use Rattle.obex_headers.specs.Packets.{PlainHeader, PlainPacket, headers_octets, IsHeader, is_connect, fields_len, version_of, maximum_of, packet_len, packet_octets, HasFields, IsPacket, Spells, Shows}
 use Rattle.obex_headers.specs.Reading.{◌>>=◌, headers_in, fields_in, behind_length, front_at, packet_in, GivesPacket}
-use Rattle.obex_headers.proofs.Numbers.{IsOctets-drop, IsOctets-rest, be16_back, be16_again, big_number_2-lt}
+use Rattle.bt_base.proofs.OctetLemmas.{be16-number}
+use Rattle.obex_headers.proofs.Numbers.{IsOctets-drop, IsOctets-rest, be16_back, big_number_2-lt}
 use Rattle.obex_headers.proofs.HeaderLaws.{bind_ok, passed, passed_else, ok_is, headers_take, headers_again}
 
 -- ---- the fields
@@ -132,7 +133,7 @@ front_again phase maximum packet h within =
     let len : length s ≡ packet_len packet = length-packet packet in
     let t1 : ltb (length s) (3 + fields_len phase packet.code) ≡ false = le-ltb _ _ (omega (arith, h.fields.len)) in
     let t2 : ltb maximum (length s) ≡ false = le-ltb _ _ (omega arith) in
-    let t3 : not (eqb (big_number 2 (be16 (packet_len packet) ++ body)) (length s)) ≡ false = not_from_true _ (eq-eqb _ _ (be16_again (packet_len packet) body h.len ∙ sym len)) in
+    let t3 : not (eqb (big_number 2 (be16 (packet_len packet) ++ body)) (length s)) ≡ false = not_from_true _ (eq-eqb _ _ (be16-number (packet_len packet) body h.len ∙ sym len)) in
     cond-false _ _ _ t1 ∙ cond-false _ _ _ t2 ∙ cond-false _ _ _ t3
     ∙ behind_again phase packet.code (packet_len packet / 256 % 256) (packet_len packet % 256) packet.extra (headers_octets packet.headers) h.fields
 

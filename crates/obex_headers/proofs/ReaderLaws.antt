@@ -1,9 +1,9 @@
 -- What the plain reader of runs computes is what the definitions say.
-use Rattle.std.proofs.Common.{◌≡◌, ℕ, zero, suc, ◌+◌, ◌<◌, ◌≤◌, Bool, true, false, ◌&&◌, ◌||◌, cond, eqb, ltb, List, [], ◌∷◌, ◌++◌, length, get_or, map, drop, Option, Some, None, Result, Ok, Err, refl, sym, ap, subst, ◌∙◌, append_assoc, arith, inl, inr, ◌⊎◌, Bor}
+use Rattle.std.proofs.Common.{◌≡◌, ℕ, zero, suc, ◌+◌, ◌<◌, ◌≤◌, Bool, true, false, ◌&&◌, ◌||◌, cond, eqb, ltb, List, [], ◌∷◌, ◌++◌, length, get_or, drop, Option, Some, None, Ok, refl, sym, ap, subst, ◌∙◌, append_assoc, arith, Bor}
 use Rattle.std.specs.Prelude.{is_none, is_some, MatchOption}
 use Rattle.std.specs.Global.{Vec}
-use Rattle.std.specs.List.{flat_map, filter_map, take_while, list_any, AllByRecursion}
-use Rattle.std.proofs.lemmas.Bool.{or_cases, or_parts, or_from, or_left, or_right, and_left, and_from, lt-ltb, eqb-true, cond-true, cond-false}
+use Rattle.std.specs.List.{flat_map, list_any, AllByRecursion}
+use Rattle.std.proofs.lemmas.Bool.{lt-ltb, cond-true, cond-false}
 use Rattle.std.proofs.lemmas.List.{append-nil, length-map, map_push, drop_more, drop_all}
 use Rattle.std.proofs.lemmas.List.Sums.{take_while-cons}
 use Rattle.bt_base.specs.Objects.{Object}
@@ -11,8 +11,7 @@ use Rattle.bt_base.specs.Octets.{IsOctets}
 use Rattle.obex_headers.specs.declared.header.Header.{Header}
 use Rattle.obex_headers.specs.declared.packet.Packet.{Packet}
 use Rattle.obex_headers.specs.declared.packet.Phase.TheVariants.{Request}
-use Rattle.obex_headers.specs.declared.fault.ObexRefusal.{ObexRefusal}
-use Rattle.obex_headers.specs.Packets.{PlainHeader, PlainPacket, PlainValue, Text, Octets, One, Four, IsHeader, IsText, header_octets, headers_octets, plain_header, Shows}
+use Rattle.obex_headers.specs.Packets.{PlainHeader, PlainPacket, PlainValue, Text, Octets, One, Four, IsHeader, IsText, header_octets, headers_octets, plain_header}
 use Rattle.obex_headers.specs.Reading.{header_at, packet_in, GivesPacket}
 use Rattle.obex_headers.specs.Runs.{is_final, put_of, put_in, heard, spelled, text_in, name_text, body_of, names, bodies, ahead_of_name, joined, run_headers, is_long, breaks, lacks, object_of, objects_from}
 use Rattle.obex_headers.specs.Reader.{plain_headers, octets_of_all, object_seen, IsPut, SaysVerdict, Holds, Goes}

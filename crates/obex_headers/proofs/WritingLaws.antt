@@ -1,5 +1,5 @@
 -- Packets as they are written, piece by piece.
-use Rattle.std.proofs.Common.{◌≡◌, ℕ, zero, suc, ◌+◌, ◌-◌, ◌*◌, ◌/◌, ◌%◌, ◌^◌, ◌<◌, ◌≤◌, List, [], ◌∷◌, ◌++◌, length, get_or, set, take, drop, refl, sym, ap, subst, ◌∙◌, append_assoc, arith}
+use Rattle.std.proofs.Common.{◌≡◌, ℕ, ◌+◌, ◌-◌, ◌≤◌, List, [], ◌∷◌, ◌++◌, length, set, take, drop, sym, ap, ◌∙◌, append_assoc, arith}
 use Rattle.std.specs.Prelude.{fold, Ok}
 use borrow.Rule.Slice.PartMut.{put_mid}
 use Rattle.std.proofs.lemmas.List.{append-nil, length-append, length-take, length-drop, length-take-le, take_at, flat_map_more, take-append-drop, take_more_set, drop-drop, drop-set-lt, drop_all, take_rest}
@@ -7,7 +7,7 @@ use Rattle.bt_base.specs.Octets.{be16}
 use Rattle.obex_headers.specs.declared.packet.Phase.{Phase}
 use Rattle.obex_headers.specs.Laws.{encode}
 use Rattle.obex_headers.specs.Reading.{packet_in}
-use Rattle.obex_headers.specs.Packets.{PlainHeader, PlainPacket, Octets, header_octets, headers_octets, packet_len, packet_octets, IsPacket, bare, with_header, grown}
+use Rattle.obex_headers.specs.Packets.{PlainHeader, PlainPacket, Octets, header_octets, headers_octets, packet_len, packet_octets, IsPacket, with_header, grown}
 use Rattle.obex_headers.proofs.PacketLaws.{length-packet, packet_again}
 
 -- the new length over what stands, where more was put behind

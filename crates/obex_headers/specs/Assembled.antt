@@ -1,5 +1,5 @@
 -- What a call of an assembler lends, and where the octets of a packet lie.
-use Rattle.std.specs.Prelude.{◌≡◌, ℕ, ◌+◌, ◌<◌, ◌≤◌, List, [], ◌++◌, length, take}
+use Rattle.std.specs.Prelude.{◌≡◌, ℕ, ◌<◌, ◌≤◌, List, [], ◌++◌, length, take}
 use Rattle.obex_headers.specs.declared.assembler.Assembled.{Assembled}
 use Rattle.obex_headers.specs.declared.assembler.Assembled.TheVariants as lent
 use Rattle.obex_headers.specs.declared.assembler.Step.{Step}

@@ -1,6 +1,6 @@
 -- Packets on a stream of octets, as RFCOMM carries them (IrOBEX 1.5, 2.2: octets 1 and 2 state the length of the whole).
 -- The definitions of a stream know no pieces.
-use Rattle.std.specs.Prelude.{◌≡◌, ℕ, ◌+◌, ◌<◌, ◌≤◌, ◌⊎◌, List, [], ◌∷◌, ◌++◌, length, take, drop, Option, Some, None}
+use Rattle.std.specs.Prelude.{◌≡◌, ℕ, ◌<◌, ◌≤◌, ◌⊎◌, List, [], ◌∷◌, ◌++◌, length, take, drop, Option, Some, None}
 use Rattle.std.specs.List.{flat_map, AllByRecursion}
 use Rattle.byteorder.specs.Endian.{big_number}
 use Rattle.obex_headers.specs.declared.fault.ObexRefusal.{ObexRefusal}

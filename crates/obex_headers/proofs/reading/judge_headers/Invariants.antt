@@ -1,4 +1,4 @@
-use Rattle.std.proofs.Common.{◌≡◌, length, List, Result, Ok}
+use Rattle.std.proofs.Common.{◌≡◌, length, List}
 use Rattle.obex_headers.specs.Packets.{PlainHeader}
 use Rattle.obex_headers.specs.Reading.{headers_in}
 use Rattle.obex_headers.proofs.HeaderLaws.{behind}
