@@ -1,0 +1,53 @@
+//! `btpush`: Object Push over a Bluetooth Classic host stack.
+//!
+//! `btpush decode` reads a stream of H4 packets from the standard input and writes a line for each
+//! to the standard output.
+#![tactic(auto)]
+
+mod run;
+mod status;
+mod words;
+
+use bt_base::{MemInbox, MemShelf, StdSink, StdSource};
+use run::run;
+use status::Status;
+use std::env;
+use std::process::ExitCode;
+
+/// The words of the command line, the program's name first. None can be had where one is no text.
+fn command_line(rt: &HostRuntime) -> Vec<String> {
+    let words = match env::args(rt) {
+        Ok(words) => words.collect(rt.alloc()),
+        Err(_) => Ok(Vec::new(rt.alloc())),
+    };
+    match words {
+        Ok(words) => words,
+        Err(_) => Vec::new(rt.alloc()),
+    }
+}
+
+fn run_on_standard_streams(rt: &HostRuntime) -> Status {
+    let words = command_line(rt);
+    let mut source = StdSource::new(rt.stdin());
+    let mut sink = StdSink::new(rt.stdout());
+    let mut trace = StdSink::new(rt.stderr());
+    let Ok(mut shelf) = MemShelf::new(rt.alloc(), &[]) else {
+        return Status::NoMemory;
+    };
+    let Ok(mut inbox) = MemInbox::new(rt.alloc(), &[]) else {
+        return Status::NoMemory;
+    };
+    run(
+        rt.alloc(),
+        &words,
+        &mut source,
+        &mut sink,
+        &mut trace,
+        &mut shelf,
+        &mut inbox,
+    )
+}
+
+fn main(rt: HostRuntime) -> ExitCode {
+    ExitCode::from(run_on_standard_streams(&rt).code())
+}
