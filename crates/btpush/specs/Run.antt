@@ -1,5 +1,5 @@
 -- What a run does (this project's own).
-use Rattle.std.specs.Prelude.{ℕ, ◌≡◌, ◌<◌, ◌≤◌, List, Option, Result, Ok, Err}
+use Rattle.std.specs.Prelude.{ℕ, ◌≡◌, ◌<◌, List, Option, Ok, Err}
 use Rattle.bt_base.specs.Counts.{HasRisen}
 use Rattle.bt_base.specs.Streams.{gained, GainedFront}
 use Rattle.h4_view.specs.declared.refusal.ViewRefusal.{ViewRefusal}

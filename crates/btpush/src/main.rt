@@ -6,6 +6,8 @@
 
 mod run;
 mod status;
+#[cfg(test)]
+mod tests;
 mod words;
 
 use bt_base::{MemInbox, MemShelf, StdSink, StdSource};
