@@ -1,2 +1,4 @@
+pub mod Knowing
+pub mod Joining
 pub mod Showing
 pub mod Stands

@@ -15,6 +15,7 @@ use Rattle.h4_view.specs.declared.refusal.ViewRefusal.{ViewRefusal}
 use Rattle.h4_view.specs.declared.refusal.ViewRefusal.TheVariants.{BadIndicator, Truncated, TooLong}
 use Rattle.h4_view.specs.declared.refusal.ViewFault.{ViewFault}
 use Rattle.h4_view.specs.declared.refusal.ViewFault.TheVariants.{Refused, ReadFault, WriteFault, NoMemory}
+use Rattle.acl_fragments.specs.Joiners.{Held}
 use Rattle.h4_view.specs.Lines.{lines, refusal_line}
 use Rattle.h4_view.specs.Shows.{Shows}
 use Rattle.h4_view.specs.Standing.{Standing}
@@ -59,13 +60,13 @@ taken_front None left octets all took e = absurd cc
 taken_front (Some known) left octets all (rest, whole, left-is) e = let same : known ≡ all = cc in (rest, sym same ∙ whole, left-is)
 
 -- nothing more happens to the sink
-pub front_stands : (input left old new : Option (List ℕ)) (framing : Framing) (offset fed : ℕ) → Standing input left old new framing offset fed → IfSome input (λ all. FrontWritten old new all)
-front_stands input left old new framing offset fed s = told input (λ all e.
+pub front_stands : (input left old new : Option (List ℕ)) (framing : Framing) (joiners : List (Option Held)) (offset fed : ℕ) → Standing input left old new framing joiners offset fed → IfSome input (λ all. FrontWritten old new all)
+front_stands input left old new framing joiners offset fed s = told input (λ all e.
     let front = taken_front input left s.octets all s.took e in
     let first = packets_first s.octets s.packets framing s.accounts in
     OfLines s.packets (first.0 ++ front.0) (subst (λ (k : ℕ). AllByRecursion (IsPacket k) s.packets) s.keeps s.accounts.each)
     (front.1 ∙ ap (λ (t : List ℕ). t ++ front.0) first.1 ∙ append_assoc (spellings s.packets) first.0 front.0)
-    (front_whole old new (lines 0 s.packets) s.written))
+    (front_whole old new (lines [] 0 s.packets) s.written))
 
 -- a fault that is no refusal leaves a front
 pub fault_shows : (input old new : Option (List ℕ)) (fault : ViewFault) → IsOfPorts fault → IfSome input (λ all. FrontWritten old new all) → IfSome input (λ all. ShowsAll all old new (Err fault))
@@ -76,12 +77,12 @@ fault_shows (Some all) old new WriteFault port front = front
 fault_shows (Some all) old new NoMemory port front = front
 
 -- the lines of the packets that a piece added, behind those of before
-lines_then : (offset : ℕ) (packets added : List Packet) → offset ≡ length (spellings packets) → lines 0 (packets ++ added) ≡ lines 0 packets ++ lines offset added
-lines_then offset packets added moves = lines-append 0 packets added ∙ ap (λ (o : ℕ). lines 0 packets ++ lines o added) (omega (arith, moves))
+lines_then : (offset : ℕ) (packets added : List Packet) → offset ≡ length (spellings packets) → lines [] 0 (packets ++ added) ≡ lines [] 0 packets ++ lines packets offset added
+lines_then offset packets added moves = lines-append [] 0 packets added ∙ ap (λ (o : ℕ). lines [] 0 packets ++ lines packets o added) (omega (arith, moves))
 
 -- the piece was shown, and a front of its text was written
-pub front_more : (input left left' old new new' : Option (List ℕ)) (framing framing' : Framing) (offset offset' fed : ℕ) (text xs : List ℕ) (fault : Option (H4Refusal × ℕ))
-    → Standing input left old new framing offset fed → Took left left' xs → Shows framing framing' offset offset' [] text xs fault → GainedFront new new' text → IfSome input (λ all. FrontWritten old new' all)
+pub front_more : (input left left' old new new' : Option (List ℕ)) (framing framing' : Framing) (joiners joiners' : List (Option Held)) (offset offset' fed : ℕ) (text xs : List ℕ) (fault : Option (H4Refusal × ℕ))
+    → Standing input left old new framing joiners offset fed → Took left left' xs → Shows framing framing' joiners joiners' offset offset' [] text xs fault → GainedFront new new' text → IfSome input (λ all. FrontWritten old new' all)
 front_more input left left' old new new' framing framing' offset offset' fed text xs fault s took shows front = told input (λ all e.
     let accounts = shows.accounts s.octets s.packets s.accounts in
     let begin = taken_front input left' (s.octets ++ xs) all (took_then input left left' s.octets xs s.took took) e in
@@ -89,13 +90,13 @@ front_more input left left' old new new' framing framing' offset offset' fed tex
     let keeps : framing'.limit ≡ acl_limit = shows.keeps ∙ s.keeps in
     OfLines (s.packets ++ shows.added) (first.0 ++ begin.0) (subst (λ (k : ℕ). AllByRecursion (IsPacket k) (s.packets ++ shows.added)) keeps accounts.each)
     (begin.1 ∙ ap (λ (t : List ℕ). t ++ begin.0) first.1 ∙ append_assoc (spellings (s.packets ++ shows.added)) first.0 begin.0)
-    (subst (λ (t : List ℕ). GainedFront old new' t) (ap (λ (t : List ℕ). lines 0 s.packets ++ t) shows.adds ∙ sym (lines_then offset s.packets shows.added s.moves))
-    (front_then old new new' (lines 0 s.packets) text s.written front)))
+    (subst (λ (t : List ℕ). GainedFront old new' t) (ap (λ (t : List ℕ). lines [] 0 s.packets ++ t) (shows.adds s.packets s.knows).0 ∙ sym (lines_then offset s.packets shows.added s.moves))
+    (front_then old new new' (lines [] 0 s.packets) text s.written front)))
 
 -- the piece was shown and written, and the view goes on
-pub standing_more : (input left left' old new new' : Option (List ℕ)) (framing framing' : Framing) (offset offset' fed n : ℕ) (text xs : List ℕ)
-    → Standing input left old new framing offset fed → Took left left' xs → Shows framing framing' offset offset' [] text xs None → new' ≡ gained new text → length xs ≡ n → fed + n ≤ input_limit
-    → Standing input left' old new' framing' offset' (fed + n)
+pub standing_more : (input left left' old new new' : Option (List ℕ)) (framing framing' : Framing) (joiners joiners' : List (Option Held)) (offset offset' fed n : ℕ) (text xs : List ℕ)
+    → Standing input left old new framing joiners offset fed → Took left left' xs → Shows framing framing' joiners joiners' offset offset' [] text xs None → new' ≡ gained new text → length xs ≡ n → fed + n ≤ input_limit
+    → Standing input left' old new' framing' joiners' offset' (fed + n)
 standing_more input left left' old new new' framing framing' offset offset' fed n text xs s took shows wrote size within = record {
   octets = s.octets ++ xs;
   packets = s.packets ++ shows.added;
@@ -105,12 +106,13 @@ standing_more input left left' old new new' framing framing' offset offset' fed 
   accounts = shows.accounts s.octets s.packets s.accounts;
   keeps = shows.keeps ∙ s.keeps;
   sound = shows.answers;
+  knows = (shows.adds s.packets s.knows).1;
   moves = omega (arith, shows.moves, s.moves, ap length (spellings-append s.packets shows.added), length-append (spellings s.packets) (spellings shows.added));
   written =
       wrote
       ∙ ap (λ (c : Option (List ℕ)). gained c text) s.written
-      ∙ gained-gained old (lines 0 s.packets) text
-      ∙ ap (λ (t : List ℕ). gained old (lines 0 s.packets ++ t)) shows.adds
+      ∙ gained-gained old (lines [] 0 s.packets) text
+      ∙ ap (λ (t : List ℕ). gained old (lines [] 0 s.packets ++ t)) (shows.adds s.packets s.knows).0
       ∙ ap (gained old) (sym (lines_then offset s.packets shows.added s.moves));
 }
 
@@ -129,9 +131,9 @@ ends_by (Some (Truncated, place)) octets packets framing accounts sound keeps be
     let size : length octets ≡ length (spellings packets) + length framing.held = ap length behind.0 ∙ length-append (spellings packets) framing.held in
     (ends.1 ∙ behind.2 ∙ counted_plain (length (spellings packets)) (omega arith), ends.0, subst (λ (k : ℕ). IsUnfinished k framing.held) keeps behind.1, omega arith)
 
-pub ended : (verdict : Option (ViewRefusal × ℕ)) (input left old new : Option (List ℕ)) (framing : Framing) (offset fed : ℕ) → Standing input left old new framing offset fed → fed < input_limit
+pub ended : (verdict : Option (ViewRefusal × ℕ)) (input left old new : Option (List ℕ)) (framing : Framing) (joiners : List (Option Held)) (offset fed : ℕ) → Standing input left old new framing joiners offset fed → fed < input_limit
     → IfSome left (λ octets. octets ≡ []) → EndsView framing verdict → IfSome input (λ all. ShowsAll all old new (Ok verdict))
-ended verdict input left old new framing offset fed s below empty ends = told input (λ all e.
+ended verdict input left old new framing joiners offset fed s below empty ends = told input (λ all e.
     let begin = taken_front input left s.octets all s.took e in
     let none : begin.0 ≡ [] = rw begin.2 at empty in
     let all-is : all ≡ s.octets = begin.1 ∙ ap (λ (t : List ℕ). s.octets ++ t) none ∙ append-nil s.octets in
@@ -156,8 +158,8 @@ bad_indicator h4.AclTooLong rest more n (word, size, others, is, fits, above, at
 bad_indicator h4.Truncated rest more n wrong = absurd wrong
 
 -- the piece was shown and written up to a refusal
-pub refused : (input left left' old new new' : Option (List ℕ)) (framing framing' : Framing) (offset offset' fed n place : ℕ) (refusal : H4Refusal) (text xs : List ℕ)
-    → Standing input left old new framing offset fed → Took left left' xs → Shows framing framing' offset offset' [] text xs (Some (refusal, place)) → new' ≡ gained new text → length xs ≡ n → fed + n ≤ input_limit
+pub refused : (input left left' old new new' : Option (List ℕ)) (framing framing' : Framing) (joiners joiners' : List (Option Held)) (offset offset' fed n place : ℕ) (refusal : H4Refusal) (text xs : List ℕ)
+    → Standing input left old new framing joiners offset fed → Took left left' xs → Shows framing framing' joiners joiners' offset offset' [] text xs (Some (refusal, place)) → new' ≡ gained new text → length xs ≡ n → fed + n ≤ input_limit
     → IfSome input (λ all. ShowsAll all old new' (Ok (Some (BadIndicator, place))))
 refused input left left' old new new' framing framing' offset offset' fed n place refusal text xs s took shows wrote size within = told input (λ all e.
     let packets : List Packet = s.packets ++ shows.added in
@@ -182,8 +184,8 @@ refused input left left' old new new' framing framing' offset offset' fed n plac
       },
       wrote
           ∙ ap (λ (c : Option (List ℕ)). gained c text) s.written
-          ∙ gained-gained old (lines 0 s.packets) text
-          ∙ ap (λ (t : List ℕ). gained old (lines 0 s.packets ++ t)) shows.adds
+          ∙ gained-gained old (lines [] 0 s.packets) text
+          ∙ ap (λ (t : List ℕ). gained old (lines [] 0 s.packets ++ t)) (shows.adds s.packets s.knows).0
           ∙ ap (gained old) (sym (lines_then offset s.packets shows.added s.moves)),
     ))
 
@@ -213,9 +215,9 @@ limit_by (Some (TooLong, place)) octets rest left packets framing accounts sound
     let front : take (input_limit - from) (framing.held ++ rest) ≡ framing.held = take_at framing.held rest (input_limit - from) (omega arith) in
     (ends.0, some, omega (arith, length-append framing.held rest), subst (λ (t : List ℕ). IsUnfinished acl_limit t) (sym front) (subst (λ (k : ℕ). IsUnfinished k framing.held) keeps behind.1))
 
-pub at_limit : (verdict : Option (ViewRefusal × ℕ)) (input left old new : Option (List ℕ)) (framing : Framing) (offset fed : ℕ) → Standing input left old new framing offset fed → input_limit ≤ fed
+pub at_limit : (verdict : Option (ViewRefusal × ℕ)) (input left old new : Option (List ℕ)) (framing : Framing) (joiners : List (Option Held)) (offset fed : ℕ) → Standing input left old new framing joiners offset fed → input_limit ≤ fed
     → EndsAtLimit framing left verdict → IfSome input (λ all. ShowsAll all old new (Ok verdict))
-at_limit verdict input left old new framing offset fed s full ends = told input (λ all e.
+at_limit verdict input left old new framing joiners offset fed s full ends = told input (λ all e.
     let begin = taken_front input left s.octets all s.took e in
     let behind = held_behind s.octets s.packets framing s.accounts s.sound in
     let size : length s.octets ≡ length (spellings s.packets) + length framing.held = ap length behind.0 ∙ length-append (spellings s.packets) framing.held in (
@@ -231,10 +233,10 @@ at_limit verdict input left old new framing offset fed s full ends = told input 
     ))
 
 -- what the end of the loop shows
-pub limit_shows : (result : Result (Option (ViewRefusal × ℕ)) ViewFault) (input left old new : Option (List ℕ)) (framing : Framing) (offset fed : ℕ) → Standing input left old new framing offset fed → input_limit ≤ fed
+pub limit_shows : (result : Result (Option (ViewRefusal × ℕ)) ViewFault) (input left old new : Option (List ℕ)) (framing : Framing) (joiners : List (Option Held)) (offset fed : ℕ) → Standing input left old new framing joiners offset fed → input_limit ≤ fed
     → IfOk result (λ verdict. EndsAtLimit framing left verdict) → IfErr result IsOfPorts → IfSome input (λ all. ShowsAll all old new result)
-limit_shows (Ok verdict) input left old new framing offset fed s full ends port = at_limit verdict input left old new framing offset fed s full ends
-limit_shows (Err fault) input left old new framing offset fed s full ends port = fault_shows input old new fault port (front_stands input left old new framing offset fed s)
+limit_shows (Ok verdict) input left old new framing joiners offset fed s full ends port = at_limit verdict input left old new framing joiners offset fed s full ends
+limit_shows (Err fault) input left old new framing joiners offset fed s full ends port = fault_shows input old new fault port (front_stands input left old new framing joiners offset fed s)
 
 took_none : (input : Option (List ℕ)) → Took input input []
 took_none None = refl
@@ -244,8 +246,8 @@ accounts_none : (framing : Framing) → framing ≡ record { limit = acl_limit; 
 accounts_none framing new = subst (λ (f : Framing). Accounts [] [] f) (sym new) (new_accounts acl_limit)
 
 -- nothing was read yet
-pub standing_none : (input old : Option (List ℕ)) (framing : Framing) (offset fed : ℕ) (text : List ℕ) → IsNewView framing offset fed text → Standing input input old old framing offset fed
-standing_none input old framing offset fed text new = record {
+pub standing_none : (input old : Option (List ℕ)) (framing : Framing) (joiners : List (Option Held)) (offset fed : ℕ) (text : List ℕ) → IsNewView framing joiners offset fed text → Standing input input old old framing joiners offset fed
+standing_none input old framing joiners offset fed text new = record {
   octets = [];
   packets = [];
   took = took_none input;
@@ -255,6 +257,7 @@ standing_none input old framing offset fed text new = record {
   keeps = ap (λ (f : Framing). f.limit) new.framer;
   sound = ap (λ (f : Framing). f.fault) new.framer;
   moves = new.at;
+  knows = new.knows;
   written = sym (gained-nil old);
 }
 
@@ -268,7 +271,7 @@ nothing_shown (Some all) old NoMemory port = OfLines [] all tt refl (front_none 
 
 -- a front of the refusal behind all lines
 all_front : (input : List ℕ) (old mid new : Option (List ℕ)) (refusal : ViewRefusal) (place : ℕ) → ShowsAll input old mid (Ok (Some (refusal, place))) → GainedFront mid new (refusal_line refusal place) → FrontWritten old new input
-all_front input old mid new refusal place (packets, view, wrote) front = OfAll packets (Some (refusal, place)) view (front_then old mid new (lines 0 packets) (refusal_line refusal place) wrote front)
+all_front input old mid new refusal place (packets, view, wrote) front = OfAll packets (Some (refusal, place)) view (front_then old mid new (lines [] 0 packets) (refusal_line refusal place) wrote front)
 
 -- the refusal's line behind all lines
 pub refusal_shown : (input old mid new : Option (List ℕ)) (refusal : ViewRefusal) (place : ℕ) (fault : ViewFault) → IfSome input (λ all. ShowsAll all old mid (Ok (Some (refusal, place)))) → IsRefusal refusal place mid new fault
@@ -276,7 +279,7 @@ pub refusal_shown : (input old mid new : Option (List ℕ)) (refusal : ViewRefus
 refusal_shown None old mid new refusal place fault shows is = tt
 refusal_shown (Some all) old mid new refusal place (Refused refusal' place') (packets, view, wrote) (r, p, w) =
     subst (λ (x : ViewRefusal). Views all old new (Err (Refused x place'))) (sym r) (subst (λ (n : ℕ). Views all old new (Err (Refused refusal n))) (sym p)
-    (packets, view, w ∙ ap (λ (c : Option (List ℕ)). gained c (refusal_line refusal place)) wrote ∙ gained-gained old (lines 0 packets) (refusal_line refusal place)))
+    (packets, view, w ∙ ap (λ (c : Option (List ℕ)). gained c (refusal_line refusal place)) wrote ∙ gained-gained old (lines [] 0 packets) (refusal_line refusal place)))
 refusal_shown (Some all) old mid new refusal place ReadFault shows is = all_front all old mid new refusal place shows is
 refusal_shown (Some all) old mid new refusal place WriteFault shows is = all_front all old mid new refusal place shows is
 refusal_shown (Some all) old mid new refusal place NoMemory shows is = all_front all old mid new refusal place shows is

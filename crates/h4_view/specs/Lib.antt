@@ -1,4 +1,6 @@
 pub mod Names
+pub mod Texts
+pub mod Details
 pub mod Lines
 pub mod Shows
 pub mod Standing

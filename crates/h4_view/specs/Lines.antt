@@ -1,20 +1,12 @@
 -- The lines of a view (this project's own).
 use Rattle.std.specs.Prelude.{ℕ, ◌+◌, List, [], ◌∷◌, ◌++◌, length, codes, decimal}
 use Rattle.hex.specs.Hex.{encode_upper}
-use Rattle.bt_base.specs.Octets.{be16}
 use Rattle.h4_framing.specs.Packets.{Packet, Command, Acl, Sync, Event, spelling}
 use Rattle.h4_view.specs.Names.{command_name, event_name}
+use Rattle.h4_view.specs.Texts.{octets_text, word_text}
+use Rattle.h4_view.specs.Details.{under}
 use Rattle.h4_view.specs.declared.refusal.ViewRefusal.{ViewRefusal}
 use Rattle.h4_view.specs.declared.refusal.ViewRefusal.TheVariants.{BadIndicator, Truncated, TooLong}
-
--- octets as upper case hexadecimal digits, or a dash for none
-abbrev pub octets_text : List ℕ → List ℕ
-octets_text [] = codes "-"
-octets_text (first ∷ more) = encode_upper (first ∷ more)
-
--- four upper case hexadecimal digits
-abbrev pub word_text : ℕ → List ℕ
-word_text word = encode_upper (be16 word)
 
 -- what a packet's line says behind the offset
 abbrev pub packet_text : Packet → List ℕ
@@ -27,10 +19,14 @@ packet_text (Event code params) = codes "evt " ++ encode_upper (code ∷ []) ++ 
 abbrev pub line : ℕ → Packet → List ℕ
 line offset packet = decimal offset ++ codes " " ++ packet_text packet ++ codes "\n"
 
--- the lines of packets that stand one after the other from that offset on
-abbrev pub lines : ℕ → List Packet → List ℕ
-lines offset [] = []
-lines offset (packet ∷ packets) = line offset packet ++ lines (offset + length (spelling packet)) packets
+-- the lines of a packet that comes after these packets
+abbrev pub lines_of : List Packet → ℕ → Packet → List ℕ
+lines_of past offset packet = line offset packet ++ under past packet
+
+-- the lines of packets that stand one after the other from that offset on, after these packets
+abbrev pub lines : List Packet → ℕ → List Packet → List ℕ
+lines past offset [] = []
+lines past offset (packet ∷ packets) = lines_of past offset packet ++ lines (past ++ packet ∷ []) (offset + length (spelling packet)) packets
 
 -- the name of a refusal
 abbrev pub refusal_name : ViewRefusal → List ℕ

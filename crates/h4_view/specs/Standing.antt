@@ -1,5 +1,5 @@
 -- What a view has come to, between two pieces of its input (this project's own).
-use Rattle.std.specs.Prelude.{ℕ, ◌≡◌, ◌<◌, ◌≤◌, List, length, Option, None, IfSome, Result, Ok, Err}
+use Rattle.std.specs.Prelude.{ℕ, ◌≡◌, ◌<◌, ◌≤◌, List, [], length, Option, None, IfSome, Result, Ok, Err}
 use Rattle.bt_base.specs.Streams.{gained}
 use Rattle.h4_framing.specs.Packets.{Packet, spellings}
 use Rattle.h4_framing.specs.Framing.{Framing}
@@ -7,11 +7,13 @@ use Rattle.h4_framing.specs.Accounts.{Accounts}
 use Rattle.h4_view.specs.declared.refusal.ViewFault.{ViewFault}
 use Rattle.h4_view.specs.declared.raw.Progress.{Progress}
 use Rattle.h4_view.specs.declared.raw.Progress.TheVariants.{More, Ended}
+use Rattle.acl_fragments.specs.Joiners.{Held}
+use Rattle.h4_view.specs.Details.{Knows}
 use Rattle.h4_view.specs.Lines.{lines}
 use Rattle.h4_view.specs.View.{acl_limit, input_limit, Took, ShowsAll}
 
 -- Octets were taken of the input, and their whole packets have their lines in the sink.
-pub record Standing (input left old new : Option (List ℕ)) (framing : Framing) (offset fed : ℕ) : Type 0 where
+pub record Standing (input left old new : Option (List ℕ)) (framing : Framing) (joiners : List (Option Held)) (offset fed : ℕ) : Type 0 where
   pub octets : List ℕ
   pub packets : List Packet
   pub took : Took input left octets
@@ -21,14 +23,15 @@ pub record Standing (input left old new : Option (List ℕ)) (framing : Framing)
   pub keeps : framing.limit ≡ acl_limit
   pub sound : framing.fault ≡ None
   pub moves : offset ≡ length (spellings packets)
-  pub written : new ≡ gained old (lines 0 packets)
+  pub knows : Knows packets joiners
+  pub written : new ≡ gained old (lines [] 0 packets)
 
 -- One piece more was read and shown, or the view ended: from each standing it leads to the next one, or to the
 -- view of the whole input.
-abbrev pub Steps : Option (List ℕ) → Option (List ℕ) → Option (List ℕ) → Option (List ℕ) → Framing → Framing → ℕ → ℕ → ℕ → ℕ → Result Progress ViewFault → Type 0
-Steps left left' new new' framing framing' offset offset' fed fed' (Ok More) =
-    (fed < fed') × ((input old : Option (List ℕ)) → Standing input left old new framing offset fed → Standing input left' old new' framing' offset' fed')
-Steps left left' new new' framing framing' offset offset' fed fed' (Ok (Ended verdict)) =
-    (input old : Option (List ℕ)) → Standing input left old new framing offset fed → IfSome input (λ all. ShowsAll all old new' (Ok verdict))
-Steps left left' new new' framing framing' offset offset' fed fed' (Err fault) =
-    (input old : Option (List ℕ)) → Standing input left old new framing offset fed → IfSome input (λ all. ShowsAll all old new' (Err fault))
+abbrev pub Steps : Option (List ℕ) → Option (List ℕ) → Option (List ℕ) → Option (List ℕ) → Framing → Framing → List (Option Held) → List (Option Held) → ℕ → ℕ → ℕ → ℕ → Result Progress ViewFault → Type 0
+Steps left left' new new' framing framing' joiners joiners' offset offset' fed fed' (Ok More) =
+    (fed < fed') × ((input old : Option (List ℕ)) → Standing input left old new framing joiners offset fed → Standing input left' old new' framing' joiners' offset' fed')
+Steps left left' new new' framing framing' joiners joiners' offset offset' fed fed' (Ok (Ended verdict)) =
+    (input old : Option (List ℕ)) → Standing input left old new framing joiners offset fed → IfSome input (λ all. ShowsAll all old new' (Ok verdict))
+Steps left left' new new' framing framing' joiners joiners' offset offset' fed fed' (Err fault) =
+    (input old : Option (List ℕ)) → Standing input left old new framing joiners offset fed → IfSome input (λ all. ShowsAll all old new' (Err fault))

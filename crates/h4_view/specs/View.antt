@@ -11,6 +11,8 @@ use Rattle.h4_view.specs.declared.refusal.ViewRefusal.{ViewRefusal}
 use Rattle.h4_view.specs.declared.refusal.ViewRefusal.TheVariants.{BadIndicator, Truncated, TooLong}
 use Rattle.h4_view.specs.declared.refusal.ViewFault.{ViewFault}
 use Rattle.h4_view.specs.declared.refusal.ViewFault.TheVariants.{Refused, ReadFault, WriteFault, NoMemory}
+use Rattle.acl_fragments.specs.Joiners.{Held}
+use Rattle.h4_view.specs.Details.{Knows}
 use Rattle.h4_view.specs.Lines.{lines, refusal_line}
 
 -- an input has at most that many octets: 64 MiB
@@ -49,12 +51,12 @@ verdict_text None = []
 verdict_text (Some (refusal, place)) = refusal_line refusal place
 
 abbrev pub view_text : List Packet → Option (ViewRefusal × ℕ) → List ℕ
-view_text packets verdict = lines 0 packets ++ verdict_text verdict
+view_text packets verdict = lines [] 0 packets ++ verdict_text verdict
 
 -- A front of the view's text was written: some of the lines of packets that the input begins with, or all lines
 -- and some of the refusal.
 pub data FrontWritten (old new : Option (List ℕ)) (input : List ℕ) : Type 0 where
-  OfLines : (packets : List Packet) (rest : List ℕ) → AllByRecursion (IsPacket acl_limit) packets → input ≡ spellings packets ++ rest → GainedFront old new (lines 0 packets) → FrontWritten old new input
+  OfLines : (packets : List Packet) (rest : List ℕ) → AllByRecursion (IsPacket acl_limit) packets → input ≡ spellings packets ++ rest → GainedFront old new (lines [] 0 packets) → FrontWritten old new input
   OfAll : (packets : List Packet) (verdict : Option (ViewRefusal × ℕ)) → IsView input packets verdict → GainedFront old new (view_text packets verdict) → FrontWritten old new input
 
 -- What a sink gains from the view of an input.
@@ -82,7 +84,7 @@ pub record Blames {A : Type 0} (source source' sink sink' : ℕ) (result : Resul
 
 -- What a sink gains from the packets of an input, before the line of the refusal.
 abbrev pub ShowsAll : List ℕ → Option (List ℕ) → Option (List ℕ) → Result (Option (ViewRefusal × ℕ)) ViewFault → Type 0
-ShowsAll input old new (Ok verdict) = (packets : List Packet) × IsView input packets verdict × (new ≡ gained old (lines 0 packets))
+ShowsAll input old new (Ok verdict) = (packets : List Packet) × IsView input packets verdict × (new ≡ gained old (lines [] 0 packets))
 ShowsAll input old new (Err (Refused refusal place)) = ⊥
 ShowsAll input old new (Err ReadFault) = FrontWritten old new input
 ShowsAll input old new (Err WriteFault) = FrontWritten old new input
@@ -110,8 +112,9 @@ IsOfPorts WriteFault = Unit {0}
 IsOfPorts NoMemory = Unit {0}
 
 -- nothing was read and nothing was shown yet
-pub record IsNewView (framing : Framing) (offset fed : ℕ) (text : List ℕ) : Type 0 where
+pub record IsNewView (framing : Framing) (joiners : List (Option Held)) (offset fed : ℕ) (text : List ℕ) : Type 0 where
   pub framer : framing ≡ record { limit = acl_limit; before = 0; held = []; fault = None }
+  pub knows : Knows [] joiners
   pub at : offset ≡ 0
   pub unread : fed ≡ 0
   pub untold : text ≡ []

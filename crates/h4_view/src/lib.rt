@@ -1,6 +1,7 @@
 //! Captures as text: a line for each packet of a stream.
 #![tactic(auto)]
 
+mod details;
 mod line;
 mod names;
 mod piece;

@@ -3,7 +3,8 @@
 ghost use Rattle.std.specs.Prelude.{◌≡◌, ◌++◌, length, codes, OnOk, IfOk, decimal};
 ghost use Rattle.h4_framing.specs.Packets.{packet, spelling, IsPacket};
 ghost use Rattle.hex.specs.Hex.{encode_upper};
-ghost use Rattle.h4_view.specs.Lines.{octets_text, word_text, packet_text, line, refusal_line};
+ghost use Rattle.h4_view.specs.Texts.{octets_text, word_text};
+ghost use Rattle.h4_view.specs.Lines.{packet_text, line, refusal_line};
 
 use crate::names::{command_name, event_name};
 use crate::refusal::ViewRefusal;
@@ -14,7 +15,7 @@ use std::alloc::Global;
 /// Text that is put together in memory.
 pub(crate) type Text = Vec<u8>;
 
-fn push_decimal(text: &mut Text, number: u64) -> Result<(), NoMemory>
+pub(crate) fn push_decimal(text: &mut Text, number: u64) -> Result<(), NoMemory>
     ensures { OnOk result (text.new.items ≡ text.old.items ++ decimal number) }
 {
     let mut buffer = itoa::Buffer::new();
@@ -22,7 +23,7 @@ fn push_decimal(text: &mut Text, number: u64) -> Result<(), NoMemory>
     Ok(())
 }
 
-fn push_hex(alloc: Global, text: &mut Text, octets: &[u8]) -> Result<(), NoMemory>
+pub(crate) fn push_hex(alloc: Global, text: &mut Text, octets: &[u8]) -> Result<(), NoMemory>
     ensures { OnOk result (text.new.items ≡ text.old.items ++ encode_upper octets.now) }
 {
     let digits = hex::encode_upper(alloc, octets)?;
@@ -40,7 +41,7 @@ fn push_octets(alloc: Global, text: &mut Text, octets: &[u8]) -> Result<(), NoMe
     push_hex(alloc, text, octets)
 }
 
-fn push_text(text: &mut Text, more: &str) -> Result<(), NoMemory>
+pub(crate) fn push_text(text: &mut Text, more: &str) -> Result<(), NoMemory>
     ensures { OnOk result (text.new.items ≡ text.old.items ++ more.now) }
 {
     text.extend_from_slice(more.as_bytes())?;

@@ -5,19 +5,19 @@ use Rattle.h4_view.proofs.Stands.{front_stands, fault_shows, front_more, standin
 use Rattle.h4_view.proofs.raw.show_next.Goals as goal
 
 pub returns-in-Err-clause-steps : goal.returns-in-Err-clause-steps
-returns-in-Err-clause-steps g c input old s = fault_shows input old _ c.in-Err.fault c.in-Err.ensures.of_port (front_stands _ _ _ _ _ _ _ s)
+returns-in-Err-clause-steps g c input old s = fault_shows input old _ c.in-Err.fault c.in-Err.ensures.of_port (front_stands _ _ _ _ _ _ _ _ s)
 
 pub returns-then-n-eq0-clause-steps : goal.returns-then-n-eq0-clause-steps
-returns-then-n-eq0-clause-steps g c input old s = ended c.ending.result _ _ _ _ _ _ _ s c.requires.below (c.in-Ok.ensures.finish (ap Ok c.if-n-eq0.true) (omega (arith, length-take c.min-room.result c.args.piece.now, c.min-room.ensures, c.requires.room, c.requires.below))) c.ending.ensures
+returns-then-n-eq0-clause-steps g c input old s = ended c.ending.result _ _ _ _ _ _ _ _ s c.requires.below (c.in-Ok.ensures.finish (ap Ok c.if-n-eq0.true) (omega (arith, length-take c.min-room.result c.args.piece.now, c.min-room.ensures, c.requires.room, c.requires.below))) c.ending.ensures
 
 pub returns-in_default-clause-steps : goal.returns-in_default-clause-steps
-returns-in_default-clause-steps g c input old s = fault_shows input old _ NoMemory tt (front_stands _ _ _ _ _ _ _ s)
+returns-in_default-clause-steps g c input old s = fault_shows input old _ NoMemory tt (front_stands _ _ _ _ _ _ _ _ s)
 
 pub returns-in-Err-write_text-clause-steps : goal.returns-in-Err-write_text-clause-steps
 returns-in-Err-write_text-clause-steps g c input old s =
     let shows = rw c.requires.text at c.in-Ok-shown.ensures in
     let front = rw c.deref.ensures.value at c.in-Err-write_text.ensures.front in
-    fault_shows input old _ c.in-Err-write_text.fault c.in-Err-write_text.ensures.of_port (front_more _ _ _ _ _ _ _ _ _ _ _ _ _ _ s c.in-Ok.ensures.took.1 shows front)
+    fault_shows input old _ c.in-Err-write_text.fault c.in-Err-write_text.ensures.of_port (front_more _ _ _ _ _ _ _ _ _ _ _ _ _ _ _ _ s c.in-Ok.ensures.took.1 shows front)
 
 pub returns-in-None-clause-steps : goal.returns-in-None-clause-steps
 returns-in-None-clause-steps g c = (
@@ -25,11 +25,11 @@ returns-in-None-clause-steps g c = (
   λ input old s.
       let shows = rw (c.requires.text, c.in-None.is) at c.in-Ok-shown.ensures in
       let wrote = rw c.deref.ensures.value at c.in_default-write_text.ensures.ok in
-      standing_more _ _ _ _ _ _ _ _ _ _ _ _ _ _ s c.in-Ok.ensures.took.1 shows wrote (omega (arith, length-take c.in-Ok.n c.read_piece.new.piece, c.in-Ok.ensures.took.0, c.read_piece.auto.piece)) (omega (arith, length-take c.min-room.result c.args.piece.now, c.in-Ok.ensures.took.0, c.min-room.ensures, c.requires.below)),
+      standing_more _ _ _ _ _ _ _ _ _ _ _ _ _ _ _ _ s c.in-Ok.ensures.took.1 shows wrote (omega (arith, length-take c.in-Ok.n c.read_piece.new.piece, c.in-Ok.ensures.took.0, c.read_piece.auto.piece)) (omega (arith, length-take c.min-room.result c.args.piece.now, c.in-Ok.ensures.took.0, c.min-room.ensures, c.requires.below)),
 )
 
 pub returns-in-Some-clause-steps : goal.returns-in-Some-clause-steps
 returns-in-Some-clause-steps g c input old s =
     let shows = rw (c.requires.text, c.in-Some.is) at c.in-Ok-shown.ensures in
     let wrote = rw c.deref.ensures.value at c.in_default-write_text.ensures.ok in
-    refused _ _ _ _ _ _ _ _ _ _ _ c.in-Ok.n c.in-Some.place c.in-Some.field-0-0 _ _ s c.in-Ok.ensures.took.1 shows wrote (omega (arith, length-take c.in-Ok.n c.read_piece.new.piece, c.in-Ok.ensures.took.0, c.read_piece.auto.piece)) (omega (arith, length-take c.min-room.result c.args.piece.now, c.in-Ok.ensures.took.0, c.min-room.ensures, c.requires.below))
+    refused _ _ _ _ _ _ _ _ _ _ _ _ _ c.in-Ok.n c.in-Some.place c.in-Some.field-0-0 _ _ s c.in-Ok.ensures.took.1 shows wrote (omega (arith, length-take c.in-Ok.n c.read_piece.new.piece, c.in-Ok.ensures.took.0, c.read_piece.auto.piece)) (omega (arith, length-take c.min-room.result c.args.piece.now, c.in-Ok.ensures.took.0, c.min-room.ensures, c.requires.below))

@@ -1,0 +1,1 @@
+use Rattle.h4_view.proofs.details.closed_by.Goals as goal
