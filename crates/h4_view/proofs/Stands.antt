@@ -16,6 +16,7 @@ use Rattle.h4_view.specs.declared.refusal.ViewRefusal.TheVariants.{BadIndicator,
 use Rattle.h4_view.specs.declared.refusal.ViewFault.{ViewFault}
 use Rattle.h4_view.specs.declared.refusal.ViewFault.TheVariants.{Refused, ReadFault, WriteFault, NoMemory}
 use Rattle.acl_fragments.specs.Joiners.{Held}
+use Rattle.h4_view.specs.Details.{Knows}
 use Rattle.h4_view.specs.Lines.{lines, refusal_line}
 use Rattle.h4_view.specs.Shows.{Shows}
 use Rattle.h4_view.specs.Standing.{Standing}
@@ -83,7 +84,7 @@ lines_then offset packets added moves = lines-append [] 0 packets added ∙ ap (
 -- the piece was shown, and a front of its text was written
 pub front_more : (input left left' old new new' : Option (List ℕ)) (framing framing' : Framing) (joiners joiners' : List (Option Held)) (offset offset' fed : ℕ) (text xs : List ℕ) (fault : Option (H4Refusal × ℕ))
     → Standing input left old new framing joiners offset fed → Took left left' xs → Shows framing framing' joiners joiners' offset offset' [] text xs fault → GainedFront new new' text → IfSome input (λ all. FrontWritten old new' all)
-front_more input left left' old new new' framing framing' offset offset' fed text xs fault s took shows front = told input (λ all e.
+front_more input left left' old new new' framing framing' joiners joiners' offset offset' fed text xs fault s took shows front = told input (λ all e.
     let accounts = shows.accounts s.octets s.packets s.accounts in
     let begin = taken_front input left' (s.octets ++ xs) all (took_then input left left' s.octets xs s.took took) e in
     let first = packets_first (s.octets ++ xs) (s.packets ++ shows.added) framing' accounts in
@@ -94,10 +95,10 @@ front_more input left left' old new new' framing framing' offset offset' fed tex
     (front_then old new new' (lines [] 0 s.packets) text s.written front)))
 
 -- the piece was shown and written, and the view goes on
-pub standing_more : (input left left' old new new' : Option (List ℕ)) (framing framing' : Framing) (joiners joiners' : List (Option Held)) (offset offset' fed n : ℕ) (text xs : List ℕ)
-    → Standing input left old new framing joiners offset fed → Took left left' xs → Shows framing framing' joiners joiners' offset offset' [] text xs None → new' ≡ gained new text → length xs ≡ n → fed + n ≤ input_limit
-    → Standing input left' old new' framing' joiners' offset' (fed + n)
-standing_more input left left' old new new' framing framing' offset offset' fed n text xs s took shows wrote size within = record {
+pub standing_more : (input left left' old new new' : Option (List ℕ)) (framing framing' : Framing) (joiners joiners' after : List (Option Held)) (offset offset' fed n : ℕ) (text xs : List ℕ)
+    → Standing input left old new framing joiners offset fed → Took left left' xs → Shows framing framing' joiners joiners' offset offset' [] text xs None → new' ≡ gained new text → length xs ≡ n → fed + n ≤ input_limit → after ≡ joiners'
+    → Standing input left' old new' framing' after offset' (fed + n)
+standing_more input left left' old new new' framing framing' joiners joiners' after offset offset' fed n text xs s took shows wrote size within back = record {
   octets = s.octets ++ xs;
   packets = s.packets ++ shows.added;
   took = took_then input left left' s.octets xs s.took took;
@@ -106,7 +107,7 @@ standing_more input left left' old new new' framing framing' offset offset' fed 
   accounts = shows.accounts s.octets s.packets s.accounts;
   keeps = shows.keeps ∙ s.keeps;
   sound = shows.answers;
-  knows = (shows.adds s.packets s.knows).1;
+  knows = subst (λ (js : List (Option Held)). Knows (s.packets ++ shows.added) js) (sym back) (shows.adds s.packets s.knows).1;
   moves = omega (arith, shows.moves, s.moves, ap length (spellings-append s.packets shows.added), length-append (spellings s.packets) (spellings shows.added));
   written =
       wrote
@@ -161,7 +162,7 @@ bad_indicator h4.Truncated rest more n wrong = absurd wrong
 pub refused : (input left left' old new new' : Option (List ℕ)) (framing framing' : Framing) (joiners joiners' : List (Option Held)) (offset offset' fed n place : ℕ) (refusal : H4Refusal) (text xs : List ℕ)
     → Standing input left old new framing joiners offset fed → Took left left' xs → Shows framing framing' joiners joiners' offset offset' [] text xs (Some (refusal, place)) → new' ≡ gained new text → length xs ≡ n → fed + n ≤ input_limit
     → IfSome input (λ all. ShowsAll all old new' (Ok (Some (BadIndicator, place))))
-refused input left left' old new new' framing framing' offset offset' fed n place refusal text xs s took shows wrote size within = told input (λ all e.
+refused input left left' old new new' framing framing' joiners joiners' offset offset' fed n place refusal text xs s took shows wrote size within = told input (λ all e.
     let packets : List Packet = s.packets ++ shows.added in
     let octets : List ℕ = s.octets ++ xs in
     let accounts = shows.accounts s.octets s.packets s.accounts in
