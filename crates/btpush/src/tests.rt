@@ -74,7 +74,13 @@ fn refusals_stand_at_their_places(rt: HostRuntime) -> Result<(), Fail> {
         )?
     );
     let acl = [2, 1, 0x20, 2, 0, 9, 9, 3, 5, 0, 1, 7];
-    assert!(rt; decodes(&rt, &acl, Status::Ok, "0 acl 2001 2\n7 sync 0005 1\n")?);
+    assert!(rt;
+        decodes(
+            &rt,
+            &acl,
+            Status::Ok,
+            "0 acl 2001 2\n  drop ShortStart\n7 sync 0005 1\n"
+        )?);
     assert!(rt;
         decodes(
             &rt,
@@ -88,7 +94,47 @@ fn refusals_stand_at_their_places(rt: HostRuntime) -> Result<(), Fail> {
             &rt,
             &acl[..9],
             Status::InputRefused,
-            "0 acl 2001 2\nrefused offset 7 Truncated\n"
+            "0 acl 2001 2\n  drop ShortStart\nrefused offset 7 Truncated\n"
+        )?
+    );
+    Ok(())
+}
+
+/// A PDU in one piece, then one in two with a piece of another link between them.
+const JOINED: [u8; 49] = [
+    2, 1, 0x20, 12, 0, 8, 0, 1, 0, 2, 1, 4, 0, 1, 0, 0x40, 0, //
+    2, 1, 0x20, 6, 0, 8, 0, 1, 0, 2, 1, //
+    2, 2, 0x20, 4, 0, 0, 0, 0x40, 0, //
+    2, 1, 0x10, 7, 0, 4, 0, 1, 0, 0x40, 0, 9, //
+];
+
+/// A group that a start leaves unfinished, one that the end of its link forgets, and a broadcast.
+const BROKEN: [u8; 46] = [
+    2, 1, 0x20, 4, 0, 1, 0, 1, 0, //
+    2, 1, 0x20, 4, 0, 1, 0, 1, 0, //
+    4, 5, 4, 0, 1, 0, 0x13, //
+    2, 1, 0x10, 1, 0, 7, //
+    2, 1, 0x60, 1, 0, 7, //
+    4, 5, 1, 0, //
+    1, 6, 4, 1, 0, //
+];
+
+#[test]
+fn pieces_and_parameters_are_judged(rt: HostRuntime) -> Result<(), Fail> {
+    assert!(rt;
+        decodes(
+            &rt,
+            &JOINED,
+            Status::Ok,
+            "0 acl 2001 12\n  pdu 0001 8\n17 acl 2001 6\n28 acl 2002 4\n  pdu 0040 0\n37 acl 1001 7\n  drop Overrun\n"
+        )?
+    );
+    assert!(rt;
+        decodes(
+            &rt,
+            &BROKEN,
+            Status::Ok,
+            "0 acl 2001 4\n9 acl 2001 4\n  unfinished\n18 evt 05 DisconnectionComplete 00010013\n25 acl 1001 1\n  drop StrayContinuation\n31 acl 6001 1\n  drop BadWord\n37 evt 05 DisconnectionComplete 00\n  bad ShortParams\n41 cmd 0406 Disconnect 00\n  bad ShortParams\n"
         )?
     );
     Ok(())
