@@ -80,7 +80,8 @@ fn refusals_stand_at_their_places(rt: HostRuntime) -> Result<(), Fail> {
             &acl,
             Status::Ok,
             "0 acl 2001 2\n  drop ShortStart\n7 sync 0005 1\n"
-        )?);
+        )?
+    );
     assert!(rt;
         decodes(
             &rt,

@@ -1,5 +1,5 @@
 -- What a piece gives stands under its packet's line.
-use Rattle.std.proofs.Common.{◌≡◌, ℕ, ◌+◌, ◌<◌, ◌≤◌, List, [], ◌∷◌, ◌++◌, length, Bool, cond, Option, Some, None, refl, sym, ap, subst, ◌∙◌, append_assoc, arith, codes}
+use Rattle.std.proofs.Common.{◌≡◌, ℕ, List, [], ◌∷◌, ◌++◌, Bool, cond, ap, subst, ◌∙◌, append_assoc, codes}
 use Rattle.hci_packets.specs.declared.acl.Boundary.{Boundary}
 use Rattle.acl_fragments.specs.declared.joined.Joined.{Joined}
 use Rattle.acl_fragments.specs.Pieces.{Piece, starts}
@@ -15,10 +15,11 @@ pub joined_shows : (old new : Held) (boundary : Boundary) (piece text text' : Li
 joined_shows old new boundary piece text text' result joins is past limit holds =
     let follows = joins.past past holds in
     let got : plain_answer result.got ≡ answer pdu_limit (open_after pdu_limit past) (starts boundary) piece = subst (λ (k : ℕ). plain_answer result.got ≡ answer k (open_after k past) (starts boundary) piece) limit follows.got in
-    let unfinished : result.unfinished ≡ leaves_unfinished (open_after pdu_limit past) (starts boundary) = subst (λ (k : ℕ). result.unfinished ≡ leaves_unfinished (open_after k past) (starts boundary)) limit follows.unfinished in
-    (is
-      ∙ append_assoc text (cond result.unfinished (codes "  unfinished\n") []) (answer_text (plain_answer result.got))
-      ∙ ap (λ (b : Bool). text ++ (cond b (codes "  unfinished\n") [] ++ answer_text (plain_answer result.got))) unfinished
-      ∙ ap (λ a. text ++ (cond (leaves_unfinished (open_after pdu_limit past) (starts boundary)) (codes "  unfinished\n") [] ++ answer_text a)) got,
-    ap (λ (h : Held). h.limit) joins.call.held ∙ limit,
-    follows.holds)
+    let unfinished : result.unfinished ≡ leaves_unfinished (open_after pdu_limit past) (starts boundary) = subst (λ (k : ℕ). result.unfinished ≡ leaves_unfinished (open_after k past) (starts boundary)) limit follows.unfinished in (
+      is
+          ∙ append_assoc text (cond result.unfinished (codes "  unfinished\n") []) (answer_text (plain_answer result.got))
+          ∙ ap (λ (b : Bool). text ++ (cond b (codes "  unfinished\n") [] ++ answer_text (plain_answer result.got))) unfinished
+          ∙ ap (λ a. text ++ (cond (leaves_unfinished (open_after pdu_limit past) (starts boundary)) (codes "  unfinished\n") [] ++ answer_text a)) got,
+      ap (λ (h : Held). h.limit) joins.call.held ∙ limit,
+      follows.holds,
+    )

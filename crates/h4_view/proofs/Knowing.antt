@@ -1,12 +1,12 @@
 -- The joiners of a view after one packet more.
-use Rattle.std.proofs.Common.{◌≡◌, ◌≢◌, ℕ, ◌+◌, ◌<◌, ◌≤◌, ◌⊎◌, List, [], ◌∷◌, ◌++◌, length, get_or, set, set-set, Bool, true, false, cond, nat_lt, eqb, ◌&&◌, Option, Some, None, replicate, refl, sym, ap, subst, ◌∙◌, inl, inr, arith}
-use Rattle.std.specs.Prelude.{fold, is_none, IfSome, MatchOption}
+use Rattle.std.proofs.Common.{◌≡◌, ◌≢◌, ℕ, ◌<◌, ◌≤◌, List, [], ◌∷◌, ◌++◌, length, get_or, set, set-set, Bool, true, false, cond, nat_lt, eqb, ◌&&◌, Option, Some, None, replicate, refl, sym, ap, subst, ◌∙◌, inl, inr, arith}
+use Rattle.std.specs.Prelude.{is_none, IfSome, MatchOption}
 use Rattle.std.proofs.lemmas.List.{get_or-set_same, get_or-set_other, length-set, length-replicate, get_or-replicate}
 use Rattle.std.proofs.lemmas.List.Sums.{fold-append}
 use Rattle.std.proofs.lemmas.Bool.Decides.{eqb_tells}
 use Rattle.std.proofs.lemmas.Bool.{ltb-false}
 use Rattle.hci_packets.specs.declared.refusal.HciRefusal.{HciRefusal}
-use Rattle.hci_packets.specs.declared.refusal.HciRefusal.TheVariants.{ShortParams, LongParams, BadHandle, BadValue}
+use Rattle.hci_packets.specs.declared.refusal.HciRefusal.TheVariants.{ShortParams, LongParams, BadHandle}
 use Rattle.hci_packets.specs.Refusals.{bad_handle}
 use Rattle.hci_packets.specs.Events.{event_refusal}
 use Rattle.hci_packets.specs.declared.acl.Boundary.{Boundary}
@@ -14,7 +14,7 @@ use Rattle.acl_fragments.specs.Pieces.{Piece, starts}
 use Rattle.acl_fragments.specs.Answers.{open_after}
 use Rattle.acl_fragments.specs.Joiners.{Held, HoldsOpen}
 use Rattle.h4_framing.specs.Packets.{Packet, Command, Acl, Sync, Event}
-use Rattle.h4_view.specs.Details.{link_of, closed_handle, closes, with_piece, with_packet, pieces_on, IsJoinerOf, HasJoiner, ClosesBy, forgotten, pdu_limit, joined_text, piece_text, under, Knows}
+use Rattle.h4_view.specs.Details.{link_of, closed_handle, with_piece, with_packet, pieces_on, IsJoinerOf, HasJoiner, ClosesBy, forgotten, pdu_limit, joined_text, piece_text, under, Knows}
 
 -- the pieces of a handle with one packet more
 pub pieces-last : (handle : ℕ) (past : List Packet) (p : Packet) → pieces_on handle (past ++ p ∷ []) ≡ with_packet handle (pieces_on handle past) p
@@ -78,8 +78,8 @@ pub knows_none : (joiners : List (Option Held)) → joiners ≡ replicate 0x0F00
 knows_none joiners is = record {
   size = ap length is ∙ length-replicate {A = Option Held} 0x0F00 None;
   each = λ handle lt.
-    let none : get_or joiners handle None ≡ None = ap (λ (js : List (Option Held)). get_or js handle None) is ∙ get_or-replicate {A = Option Held} 0x0F00 handle None None lt in
-    subst (λ (o : Option Held). IsJoinerOf [] o) (sym none) refl;
+      let none : get_or joiners handle None ≡ None = ap (λ (js : List (Option Held)). get_or js handle None) is ∙ get_or-replicate {A = Option Held} 0x0F00 handle None None lt in
+      subst (λ (o : Option Held). IsJoinerOf [] o) (sym none) refl;
 }
 
 -- an event, by what it tells the end of

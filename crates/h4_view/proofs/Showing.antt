@@ -98,25 +98,26 @@ shows_packet old mid new joiners joiners' joiners'' offset offset' text text' te
       added = ps ++ p ∷ [];
       accounts = λ fed packets h. accounts_joined fed eaten (take n rest) packets ps (p ∷ []) new (taking_accounts (fed ++ eaten) rest (packets ++ ps) mid new (taken.Whole unit n) (so_far.accounts fed packets h) takes);
       pending = λ _.
-        sym (append_assoc old.held eaten (take n rest))
-        ∙ ap (λ (t : List ℕ). t ++ take n rest) (so_far.pending refl)
-        ∙ append_assoc (spellings ps) mid.held (take n rest)
-        ∙ ap (λ (t : List ℕ). spellings ps ++ t) (sym spelled)
-        ∙ sym (spellings-last ps p)
-        ∙ sym (append-nil (spellings (ps ++ p ∷ [])))
-        ∙ ap (λ (t : List ℕ). spellings (ps ++ p ∷ []) ++ t) (sym emptied);
+          sym (append_assoc old.held eaten (take n rest))
+          ∙ ap (λ (t : List ℕ). t ++ take n rest) (so_far.pending refl)
+          ∙ append_assoc (spellings ps) mid.held (take n rest)
+          ∙ ap (λ (t : List ℕ). spellings ps ++ t) (sym spelled)
+          ∙ sym (spellings-last ps p)
+          ∙ sym (append-nil (spellings (ps ++ p ∷ [])))
+          ∙ ap (λ (t : List ℕ). spellings (ps ++ p ∷ []) ++ t) (sym emptied);
       moves = omega (arith, so_far.moves, ap length (spellings-last ps p), length-append (spellings ps) (spelling p));
       adds = λ past knows.
-        let before = so_far.adds past knows in
-        let more = adds.under (past ++ ps) before.1 in
-        (more.0
-          ∙ ap (λ (t : List ℕ). t ++ under (past ++ ps) p) adds.line
-          ∙ append_assoc text' (line offset' p) (under (past ++ ps) p)
-          ∙ ap (λ (t : List ℕ). t ++ lines_of (past ++ ps) offset' p) before.0
-          ∙ append_assoc text (lines past offset ps) (lines_of (past ++ ps) offset' p)
-          ∙ ap (λ (o : ℕ). text ++ (lines past offset ps ++ lines_of (past ++ ps) o p)) so_far.moves
-          ∙ ap (λ (t : List ℕ). text ++ t) (sym (lines-last past offset ps p)),
-        subst (λ (qs : List Packet). Knows qs joiners'') (append_assoc past ps (p ∷ [])) more.1);
+          let before = so_far.adds past knows in
+          let more = adds.under (past ++ ps) before.1 in (
+            more.0
+                ∙ ap (λ (t : List ℕ). t ++ under (past ++ ps) p) adds.line
+                ∙ append_assoc text' (line offset' p) (under (past ++ ps) p)
+                ∙ ap (λ (t : List ℕ). t ++ lines_of (past ++ ps) offset' p) before.0
+                ∙ append_assoc text (lines past offset ps) (lines_of (past ++ ps) offset' p)
+                ∙ ap (λ (o : ℕ). text ++ (lines past offset ps ++ lines_of (past ++ ps) o p)) so_far.moves
+                ∙ ap (λ (t : List ℕ). text ++ t) (sym (lines-last past offset ps p)),
+            subst (λ (qs : List Packet). Knows qs joiners'') (append_assoc past ps (p ∷ [])) more.1,
+          );
       keeps = ap (λ (f : Framing). f.limit) new-is ∙ so_far.keeps;
       answers = ap (λ (f : Framing). f.fault) new-is ∙ takes.0;
     }
@@ -168,10 +169,10 @@ shown_packet old mid new joiners joiners' joiners'' offset offset' text text' te
     record {
       eaten = so_far.eaten ++ take n rest;
       whole =
-        so_far.whole
-        ∙ ap (λ (t : List ℕ). so_far.eaten ++ t) (sym (take-append-drop n rest))
-        ∙ sym (append_assoc so_far.eaten (take n rest) (drop n rest))
-        ∙ ap (λ (t : List ℕ). (so_far.eaten ++ take n rest) ++ t) (sym behind);
+          so_far.whole
+          ∙ ap (λ (t : List ℕ). so_far.eaten ++ t) (sym (take-append-drop n rest))
+          ∙ sym (append_assoc so_far.eaten (take n rest) (drop n rest))
+          ∙ ap (λ (t : List ℕ). (so_far.eaten ++ take n rest) ++ t) (sym behind);
       shown = subst (λ (k : ℕ). Shows old new joiners joiners'' offset (offset' + k) text text'' (so_far.eaten ++ take n rest) None) (sym size-is) more;
     }
 

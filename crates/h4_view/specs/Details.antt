@@ -1,6 +1,6 @@
 -- What stands under a packet's line (this project's own).
 use Rattle.std.proofs.Common.{set}
-use Rattle.std.specs.Prelude.{ℕ, ◌≡◌, ◌+◌, ◌-◌, ◌/◌, ◌%◌, ◌<◌, zero, suc, List, [], ◌∷◌, ◌++◌, length, drop, get_or, fold, Bool, false, cond, not, is_none, ◌==◌, ◌&&◌, ◌||◌, Option, None, Some, codes, decimal}
+use Rattle.std.specs.Prelude.{ℕ, ◌≡◌, ◌-◌, ◌/◌, ◌%◌, ◌<◌, zero, suc, List, [], ◌∷◌, ◌++◌, length, drop, get_or, fold, Bool, false, cond, not, is_none, ◌==◌, ◌&&◌, ◌||◌, Option, None, Some, codes, decimal}
 use Rattle.byteorder.specs.Endian.{little_number}
 use Rattle.h4_framing.specs.Packets.{Packet, Command, Acl, Sync, Event}
 use Rattle.hci_packets.specs.declared.refusal.HciRefusal.{HciRefusal}

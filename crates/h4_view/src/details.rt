@@ -15,8 +15,8 @@ ghost use Rattle.h4_view.specs.Details.{pdu_limit, refusal_name, drop_name, bad_
 use crate::line::{Text, push_decimal, push_hex, push_text};
 use acl_fragments::{DropReason, Got, Joiner};
 use bt_base::NoMemory;
-use h4_framing::Unit;
 use byteorder::{ByteOrder, LittleEndian};
+use h4_framing::Unit;
 use hci_packets::{Boundary, HciRefusal, acl_word, command_of, event_of};
 use std::alloc::Global;
 
@@ -129,11 +129,7 @@ fn link_of(word: u16) -> Option<(usize, Boundary)>
 }
 
 /// The joiner of a handle, which is no longer there: a new one, where there was none.
-fn take_joiner(
-    alloc: Global,
-    joiners: &mut [Option<Joiner>],
-    at: usize,
-) -> Result<Joiner, NoMemory>
+fn take_joiner(alloc: Global, joiners: &mut [Option<Joiner>], at: usize) -> Result<Joiner, NoMemory>
     requires { at < length joiners.old }
     ensures taken { OnOk result (joiners.new ≡ set joiners.old at None) }
     ensures joiner { IfOk result (λ joiner. MatchOption (get_or joiners.old at None) (joiner ≡ record { limit = pdu_limit; octets = [] }) (λ there. joiner ≡ there)) }

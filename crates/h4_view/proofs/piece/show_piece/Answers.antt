@@ -1,4 +1,4 @@
-use Rattle.std.proofs.Common.{◌≡◌, ◌<◌, ◌≤◌, ◌++◌, ◌+◌, ◌^◌, length, arith}
+use Rattle.std.proofs.Common.{arith}
 use Rattle.h4_view.proofs.Showing.{shows_none, shown_packet, shown_rest, shown_refused, room_for_packet}
 use Rattle.h4_view.proofs.piece.show_piece.Goals as goal
 
