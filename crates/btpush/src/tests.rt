@@ -101,12 +101,14 @@ fn refusals_stand_at_their_places(rt: HostRuntime) -> Result<(), Fail> {
     Ok(())
 }
 
-/// A PDU in one piece, then one in two with a piece of another link between them.
-const JOINED: [u8; 49] = [
+/// A PDU in one piece, one in two with a piece of another link between them, which has an octet too
+/// many, and one with a command of identifier 0.
+const JOINED: [u8; 62] = [
     2, 1, 0x20, 12, 0, 8, 0, 1, 0, 2, 1, 4, 0, 1, 0, 0x40, 0, //
     2, 1, 0x20, 6, 0, 8, 0, 1, 0, 2, 1, //
     2, 2, 0x20, 4, 0, 0, 0, 0x40, 0, //
     2, 1, 0x10, 7, 0, 4, 0, 1, 0, 0x40, 0, 9, //
+    2, 1, 0x20, 8, 0, 4, 0, 1, 0, 2, 0, 0, 0, //
 ];
 
 /// A group that a start leaves unfinished, one that the end of its link forgets, and a broadcast.
@@ -127,7 +129,7 @@ fn pieces_and_parameters_are_judged(rt: HostRuntime) -> Result<(), Fail> {
             &rt,
             &JOINED,
             Status::Ok,
-            "0 acl 2001 12\n  pdu 0001 8\n17 acl 2001 6\n28 acl 2002 4\n  pdu 0040 0\n37 acl 1001 7\n  drop Overrun\n"
+            "0 acl 2001 12\n  pdu 0001 8\n  sig 02 01 ConnectionRequest 01004000\n17 acl 2001 6\n28 acl 2002 4\n  pdu 0040 0\n37 acl 1001 7\n  drop Overrun\n49 acl 2001 8\n  pdu 0001 4\n  sig bad ZeroIdentifier\n"
         )?
     );
     assert!(rt;

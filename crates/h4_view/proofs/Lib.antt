@@ -1,3 +1,4 @@
+pub mod Signalling
 pub mod Knowing
 pub mod Joining
 pub mod Showing

@@ -16,6 +16,7 @@ use Rattle.acl_fragments.specs.Pieces.{Piece, starts}
 use Rattle.acl_fragments.specs.Answers.{Answer, Pdu, More, Dropped, answer, open_after, leaves_unfinished}
 use Rattle.acl_fragments.specs.Joiners.{Held}
 use Rattle.h4_view.specs.Texts.{word_text}
+use Rattle.h4_view.specs.Signals.{channel_text}
 
 -- the longest PDU that a length field of two octets can state, with its header
 abbrev pub pdu_limit : ℕ
@@ -76,9 +77,9 @@ abbrev pub bad_text : Option HciRefusal → List ℕ
 bad_text None = []
 bad_text (Some refusal) = codes "  bad " ++ refusal_name refusal ++ codes "\n"
 
--- what a piece gives: a whole PDU with its channel and its length field, or why it was dropped
+-- what a piece gives: a whole PDU with its channel, its length field and what it says, or why it was dropped
 abbrev pub answer_text : Answer → List ℕ
-answer_text (Pdu channel pdu) = codes "  pdu " ++ word_text channel ++ codes " " ++ decimal (length pdu - 4) ++ codes "\n"
+answer_text (Pdu channel pdu) = codes "  pdu " ++ word_text channel ++ codes " " ++ decimal (length pdu - 4) ++ codes "\n" ++ channel_text channel (drop 4 pdu)
 answer_text More = []
 answer_text (Dropped reason) = codes "  drop " ++ drop_name reason ++ codes "\n"
 

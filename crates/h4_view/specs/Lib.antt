@@ -1,5 +1,6 @@
 pub mod Names
 pub mod Texts
+pub mod Signals
 pub mod Details
 pub mod Lines
 pub mod Shows

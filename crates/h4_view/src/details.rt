@@ -1,18 +1,18 @@
 //! What stands under a packet's line: refused parameters, and what becomes of pieces of PDUs.
 
-ghost use Rattle.std.specs.Prelude.{◌≡◌, ◌++◌, ◌∷◌, [], ◌<◌, List, ℕ, Option, Some, None, ◌-◌, codes, decimal, length, OnOk, IfOk, IfSome, if◌then◌else◌, MatchOption, get_or};
+ghost use Rattle.std.specs.Prelude.{◌≡◌, ◌++◌, ◌∷◌, [], ◌<◌, List, ℕ, Option, Some, None, codes, length, OnOk, IfOk, IfSome, if◌then◌else◌, MatchOption, get_or};
 ghost use Rattle.std.proofs.Common.{set};
 ghost use Rattle.h4_framing.specs.Packets.{Packet, Acl, Event as EventPacket, packet};
 ghost use Rattle.hci_packets.specs.Commands.{command_refusal};
 ghost use Rattle.hci_packets.specs.Events.{event_refusal};
 ghost use Rattle.hci_packets.specs.declared.acl.Boundary.{Boundary};
 ghost use Rattle.acl_fragments.specs.Pieces.{Piece, starts};
-ghost use Rattle.acl_fragments.specs.Answers.{open_after};
+ghost use Rattle.acl_fragments.specs.Answers.{Pdu, open_after};
 ghost use Rattle.acl_fragments.specs.Joiners.{HoldsOpen, Held, plain_answer};
-ghost use Rattle.h4_view.specs.Texts.{word_text};
 ghost use Rattle.h4_view.specs.Details.{pdu_limit, refusal_name, drop_name, bad_text, answer_text, joined_text, link_of, under, IsJoinerOf, HasJoiner, ClosesBy, forgotten, Knows};
 
 use crate::line::{Text, push_decimal, push_hex, push_text};
+use crate::signals::push_channel;
 use acl_fragments::{DropReason, Got, Joiner};
 use bt_base::NoMemory;
 use byteorder::{ByteOrder, LittleEndian};
@@ -99,21 +99,22 @@ fn push_got(alloc: Global, text: &mut Text, got: Got<'_>) -> Result<(), NoMemory
     ensures { OnOk result (text.new.items ≡ text.old.items ++ answer_text (plain_answer got.entry)) }
 {
     match got {
-        Got::Pdu(channel, pdu) => push_pdu(alloc, text, channel, pdu.len()),
+        Got::Pdu(channel, pdu) => push_pdu(alloc, text, channel, pdu),
         Got::More => Ok(()),
         Got::Dropped(reason) => push_reason(text, "  drop ", drop_name(reason)),
     }
 }
 
-/// Adds the line of a whole PDU of that many octets.
-fn push_pdu(alloc: Global, text: &mut Text, channel: u16, octets: usize) -> Result<(), NoMemory>
-    ensures { OnOk result (text.new.items ≡ text.old.items ++ (codes "  pdu " ++ word_text channel ++ codes " " ++ decimal (octets - 4) ++ codes "\n")) }
+/// Adds the line of a whole PDU, and what its payload says.
+fn push_pdu(alloc: Global, text: &mut Text, channel: u16, pdu: &[u8]) -> Result<(), NoMemory>
+    ensures { OnOk result (text.new.items ≡ text.old.items ++ answer_text (Pdu channel pdu.now)) }
 {
     push_text(text, "  pdu ")?;
     push_hex(alloc, text, &channel.to_be_bytes())?;
     push_text(text, " ")?;
-    push_decimal(text, octets.saturating_sub(4) as u64)?;
-    push_text(text, "\n")
+    push_decimal(text, pdu.len().saturating_sub(4) as u64)?;
+    push_text(text, "\n")?;
+    push_channel(alloc, text, channel, pdu.get(4..).unwrap_or(&[]))
 }
 
 /// The number of the handle and the boundary of a piece, where its packet's word has them and it is

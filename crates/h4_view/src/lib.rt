@@ -7,6 +7,7 @@ mod names;
 mod piece;
 mod raw;
 mod refusal;
+mod signals;
 
 pub use raw::view_raw;
 pub use refusal::{ViewFault, ViewRefusal};

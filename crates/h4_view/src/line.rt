@@ -31,7 +31,7 @@ pub(crate) fn push_hex(alloc: Global, text: &mut Text, octets: &[u8]) -> Result<
     Ok(())
 }
 
-fn push_octets(alloc: Global, text: &mut Text, octets: &[u8]) -> Result<(), NoMemory>
+pub(crate) fn push_octets(alloc: Global, text: &mut Text, octets: &[u8]) -> Result<(), NoMemory>
     ensures { OnOk result (text.new.items ≡ text.old.items ++ octets_text octets.now) }
 {
     if octets.is_empty() {
