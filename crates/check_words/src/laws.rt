@@ -1,0 +1,18 @@
+//! Laws of check words, for all octets.
+
+ghost use Rattle.check_words.specs.Laws.{CheckWordsHold, BurstsAreSeen, ChangedOctetsAreSeen};
+
+/// Octets that end in a check word leave nothing exactly where it is that of the octets before it.
+pub fn check_words_hold()
+    ensures { CheckWordsHold }
+{}
+
+/// A divisor with 1 at both ends sees each change within as many bits as its degree.
+pub fn bursts_are_seen()
+    ensures { BurstsAreSeen }
+{}
+
+/// The check word of L2CAP sees each change within two neighbouring octets.
+pub fn changed_octets_are_seen()
+    ensures { ChangedOctetsAreSeen }
+{}
