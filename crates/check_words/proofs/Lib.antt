@@ -1,3 +1,6 @@
 pub mod Sums
 pub mod Steps
 pub mod Bursts
+pub mod LowBits
+pub mod CheckWord
+pub mod Octets
