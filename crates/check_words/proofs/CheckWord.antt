@@ -82,6 +82,7 @@ check_is_kept octets =
 pub octet_more : (word octet entry : ℕ) → word < 2 ^ 16
     → low_bits 16 entry ≡ l2cap_check (bit_xor (word % 256) octet ∷ [])
     → low_bits 16 (bit_xor (word / 256) entry) ≡ remainder l2cap_generator (added (low_bits 16 word) (low_bits 8 octet ++ zeros 16))
+unfolding low_bits
 octet_more word octet entry small is =
     let front : List Bool = low_bits 8 word in
     let rest : List Bool = low_bits 8 (word / 256) in

@@ -4,3 +4,4 @@ pub mod Bursts
 pub mod LowBits
 pub mod CheckWord
 pub mod Octets
+pub mod TableValues

@@ -7,6 +7,7 @@ use Rattle.check_words.specs.Division.{plus, added, zeros}
 use Rattle.check_words.specs.CheckWords.{low_bits}
 
 pub length-low_bits : (count n : ℕ) → length (low_bits count n) ≡ count
+unfolding low_bits
 length-low_bits zero n = refl
 length-low_bits (suc count) n = ap suc (length-low_bits count (n / 2))
 
@@ -20,7 +21,7 @@ lowest_xor zero (suc (suc v)) p q = absurd (omega arith)
 lowest_xor (suc zero) (suc (suc v)) p q = absurd (omega arith)
 
 pub low_bits-xor : (count a b : ℕ) → low_bits count (bit_xor a b) ≡ added (low_bits count a) (low_bits count b)
-unfolding added
+unfolding added low_bits
 low_bits-xor zero a b = refl
 low_bits-xor (suc count) a b =
     let lowest : (bit_xor a b % 2 == 1) ≡ plus (a % 2 == 1) (b % 2 == 1) = ap (λ (k : ℕ). k == 1) (xor_mod a b 1) ∙ lowest_xor (a % 2) (b % 2) (omega arith) (omega arith) in
@@ -41,6 +42,7 @@ heads_are a b xs ys e = (cc, cc)
 
 -- two numbers with the same low bits are one, where they have no higher bits
 pub low_bits-same : (count a b : ℕ) → a < 2 ^ count → b < 2 ^ count → low_bits count a ≡ low_bits count b → a ≡ b
+unfolding low_bits
 low_bits-same zero a b p q e = omega arith
 low_bits-same (suc count) a b p q e =
     let h = heads_are (a % 2 == 1) (b % 2 == 1) (low_bits count (a / 2)) (low_bits count (b / 2)) e in
@@ -49,6 +51,7 @@ low_bits-same (suc count) a b p q e =
     omega arith
 
 pub low_bits-mod : (count n : ℕ) → low_bits count (n % 2 ^ count) ≡ low_bits count n
+unfolding low_bits
 low_bits-mod zero n = refl
 low_bits-mod (suc count) n =
     let halves : n % 2 ^ (count + 1) / 2 ≡ n / 2 % 2 ^ count = field_of n count 1 in
@@ -59,12 +62,14 @@ low_bits-mod (suc count) n =
 
 -- the bits of a number of sixteen bits are those of its two octets
 pub low_bits-halves : (n : ℕ) → low_bits 16 n ≡ low_bits 8 n ++ low_bits 8 (n / 256)
+unfolding low_bits
 low_bits-halves n =
     let e : n / 2 / 2 / 2 / 2 / 2 / 2 / 2 / 2 ≡ n / 256 = omega arith in
     ap (λ (k : ℕ). low_bits 8 n ++ low_bits 8 k) e
 
 -- a number of one octet
 pub low_bits-octet : (n : ℕ) → n < 256 → low_bits 16 n ≡ low_bits 8 n ++ zeros 8
+unfolding low_bits
 low_bits-octet n small =
     let e : n / 256 ≡ 0 = omega arith in
     low_bits-halves n ∙ ap (λ (k : ℕ). low_bits 8 n ++ low_bits 8 k) e

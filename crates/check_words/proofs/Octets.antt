@@ -17,6 +17,7 @@ pub check_more : (octets : List ℕ) (i octet word next : ℕ) → i < length oc
     → low_bits 16 word ≡ l2cap_check (take i octets)
     → low_bits 16 next ≡ remainder l2cap_generator (added (low_bits 16 word) (low_bits 8 octet ++ zeros 16))
     → low_bits 16 next ≡ l2cap_check (take (i + 1) octets)
+unfolding low_bits
 check_more octets i octet word next within is before after =
     let front : List ℕ = take i octets in
     let bits : List Bool = low_bits 8 octet in
@@ -34,6 +35,7 @@ check_more octets i octet word next within is before after =
 
 ends_with : (octets : List ℕ) (low high : ℕ)
     → remainder l2cap_generator (bits_of (octets ++ low ∷ high ∷ [])) ≡ added (l2cap_check octets) (bits_of (low ∷ high ∷ []))
+unfolding low_bits
 ends_with octets low high =
     ap (remainder l2cap_generator) (flat_map-append (low_bits 8) octets (low ∷ high ∷ []))
     ∙ remainder-kept low_part (bits_of octets) (bits_of (low ∷ high ∷ [])) refl (omega arith)
@@ -43,6 +45,7 @@ length-check : (octets : List ℕ) → length (l2cap_check octets) ≡ 16
 length-check octets = ap length (check_is_kept octets) ∙ length-kept_all low_part (zeros 16) (bits_of octets) refl
 
 pub check_words-hold : CheckWordsHold
+unfolding low_bits
 check_words-hold octets low high =
     let word : List Bool = bits_of (low ∷ high ∷ []) in
     let size : length (l2cap_check octets) ≡ length word = length-check octets in
@@ -66,6 +69,7 @@ parts_same (x ∷ a) b (y ∷ c) d size e =
     (rw (heads, h.0) refl, h.1)
 
 pub changed-seen : ChangedOctetsAreSeen
+unfolding low_bits
 changed-seen front behind first second first' second' f s f' s' differ before after =
     let burst : List Bool = low_bits 8 first ++ low_bits 8 second in
     let other : List Bool = low_bits 8 first' ++ low_bits 8 second' in

@@ -4,7 +4,7 @@ use Rattle.std.specs.List.{flat_map}
 use Rattle.check_words.specs.Division.{added, remainder, degree, zeros}
 
 -- the low bits of a number, the lowest first
-abbrev pub low_bits : ℕ → ℕ → List Bool
+unfoldable pub low_bits : ℕ → ℕ → List Bool
 low_bits zero n = []
 low_bits (suc count) n = (n % 2 == 1) ∷ low_bits count (n / 2)
 
