@@ -1,7 +1,7 @@
 -- A divisor with 1 at both ends divides no burst.
-use Rattle.std.proofs.Common.{◌≡◌, ℕ, zero, suc, ◌+◌, ◌-◌, ◌<◌, ◌≤◌, Bool, true, false, List, [], ◌∷◌, ◌++◌, length, replicate, refl, sym, ap, subst, ◌∙◌, arith, append_assoc, length-append}
+use Rattle.std.proofs.Common.{◌≡◌, ℕ, zero, suc, ◌+◌, ◌-◌, Bool, true, false, List, [], ◌∷◌, ◌++◌, length, refl, sym, ap, ◌∙◌, arith, length-append}
 use Rattle.std.proofs.lemmas.List.{length-replicate, replicate-append-replicate, same_from_push}
-use Rattle.check_words.specs.Division.{plus, added, reduced, divided, degree, remainder, zeros}
+use Rattle.check_words.specs.Division.{added, reduced, divided, degree, zeros}
 use Rattle.check_words.specs.Laws.{BurstsAreSeen}
 use Rattle.check_words.proofs.Sums.{plus-false, added-self, added-append, added-zero, zeros-added, added-comm, length-added}
 use Rattle.check_words.proofs.Steps.{divided-added, kept, kept_all, length-kept, length-kept_all, divided-kept}
@@ -29,14 +29,14 @@ kept_all-zero inner [] (suc n) same none = absurd (omega arith)
 kept_all-zero inner (x ∷ xs) (suc n) same none =
     let low : length (inner ++ true ∷ []) ≡ suc (length inner) = simp length-append (omega arith) in
     kept-zero inner xs x (omega arith)
-      (kept_all-zero inner (kept (inner ++ true ∷ []) (x ∷ xs) false) n (length-kept (inner ++ true ∷ []) (x ∷ xs) false (same ∙ sym low) ∙ low) none)
+    (kept_all-zero inner (kept (inner ++ true ∷ []) (x ∷ xs) false) n (length-kept (inner ++ true ∷ []) (x ∷ xs) false (same ∙ sym low) ∙ low) none)
 
 padded : (xs : List Bool) (n : ℕ) → added xs (zeros (length xs + n)) ≡ xs ++ zeros n
 unfolding added
 padded [] n = rw (zero_plus n) refl
   where
-  zero_plus : (k : ℕ) → 0 + k ≡ k
-  zero_plus k = omega arith
+    zero_plus : (k : ℕ) → 0 + k ≡ k
+    zero_plus k = omega arith
 padded (x ∷ xs) n =
     let e : suc (length xs) + n ≡ suc (length xs + n) = omega arith in
     rw (e, plus-false x, padded xs n) refl
@@ -50,13 +50,13 @@ stretch-zero inner state n same none =
     let size : length low ≡ d = simp length-append (omega arith) in
     let sum : length state + n ≡ n + d = omega arith in
     let shape : added state (zeros n ++ zeros d) ≡ state ++ zeros n =
-      ap (added state) (replicate-append-replicate n d false ∙ ap (λ (k : ℕ). zeros k) (sym sum)) ∙ padded state n in
+    ap (added state) (replicate-append-replicate n d false ∙ ap (λ (k : ℕ). zeros k) (sym sum)) ∙ padded state n in
     let steps : divided (true ∷ low) n (state ++ zeros n) ≡ added (kept_all low state (zeros n)) (zeros d) =
-      ap (divided (true ∷ low) n) (sym shape)
-      ∙ ap (λ (k : ℕ). divided (true ∷ low) k (added state (zeros n ++ zeros d))) (sym (length-replicate n false))
-      ∙ divided-kept low state (zeros n) (zeros d) (same ∙ sym size) (omega (arith, length-replicate d false)) (omega arith) in
+    ap (divided (true ∷ low) n) (sym shape)
+    ∙ ap (λ (k : ℕ). divided (true ∷ low) k (added state (zeros n ++ zeros d))) (sym (length-replicate n false))
+    ∙ divided-kept low state (zeros n) (zeros d) (same ∙ sym size) (omega (arith, length-replicate d false)) (omega arith) in
     let whole : added (kept_all low state (zeros n)) (zeros d) ≡ kept_all low state (zeros n) =
-      added-comm (kept_all low state (zeros n)) (zeros d) ∙ zeros-added d (kept_all low state (zeros n)) (omega (arith, length-kept_all low state (zeros n) (same ∙ sym size))) in
+    added-comm (kept_all low state (zeros n)) (zeros d) ∙ zeros-added d (kept_all low state (zeros n)) (omega (arith, length-kept_all low state (zeros n) (same ∙ sym size))) in
     kept_all-zero inner state n same (sym whole ∙ sym steps ∙ none)
 
 zeros-fall : (divisor bits : List Bool) (m n : ℕ) → divided divisor (m + n) (zeros m ++ bits) ≡ divided divisor n bits
@@ -89,12 +89,12 @@ bursts-seen inner front burst other behind burst_is other_is differ before after
     let left : divided (true ∷ low) n xs ≡ zeros d = ap (λ (k : ℕ). divided (true ∷ low) k xs) (sym steps) ∙ before ∙ ap (λ (k : ℕ). zeros k) degree_is in
     let right : divided (true ∷ low) n ys ≡ zeros d = ap (λ (k : ℕ). divided (true ∷ low) k ys) (sym steps') ∙ after ∙ ap (λ (k : ℕ). zeros k) degree_is in
     let none : divided (true ∷ low) n (added xs ys) ≡ zeros d =
-      divided-added low n xs ys (omega arith) (omega arith)
-      ∙ ap (λ (ws : List Bool). added ws (divided (true ∷ low) n ys)) left
-      ∙ ap (added (zeros d)) right
-      ∙ zeros-added d (zeros d) (omega (arith, length-replicate d false)) in
+    divided-added low n xs ys (omega arith) (omega arith)
+    ∙ ap (λ (ws : List Bool). added ws (divided (true ∷ low) n ys)) left
+    ∙ ap (added (zeros d)) right
+    ∙ zeros-added d (zeros d) (omega (arith, length-replicate d false)) in
     let alone : divided (true ∷ low) (length behind) (added burst other ++ zeros (length behind)) ≡ zeros d =
-      sym (zeros-fall (true ∷ low) (added burst other ++ zeros (length behind)) (length front) (length behind))
-      ∙ ap (divided (true ∷ low) n) (sym (difference front burst other behind (omega arith))) ∙ none in
+    sym (zeros-fall (true ∷ low) (added burst other ++ zeros (length behind)) (length front) (length behind))
+    ∙ ap (divided (true ∷ low) n) (sym (difference front burst other behind (omega arith))) ∙ none in
     let sums : length (added burst other) ≡ d = length-added burst other (omega arith) ∙ o in
     differ (added-zero burst other (omega arith) (stretch-zero inner (added burst other) (length behind) sums alone ∙ ap (λ (k : ℕ). zeros k) (sym b)))

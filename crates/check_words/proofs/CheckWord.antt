@@ -1,11 +1,11 @@
 -- The check word of L2CAP, a bit and an octet at a time.
-use Rattle.std.proofs.Common.{◌≡◌, ℕ, zero, suc, ◌+◌, ◌-◌, ◌/◌, ◌%◌, ◌^◌, ◌<◌, ◌≤◌, Bool, true, false, cond, List, [], ◌∷◌, ◌++◌, length, bit_xor, refl, sym, ap, ◌∙◌, arith, append_assoc, length-append}
+use Rattle.std.proofs.Common.{◌≡◌, ℕ, suc, ◌+◌, ◌-◌, ◌/◌, ◌%◌, ◌^◌, ◌<◌, Bool, true, false, List, [], ◌∷◌, ◌++◌, length, bit_xor, refl, sym, ap, ◌∙◌, arith, append_assoc, length-append}
 use Rattle.std.proofs.lemmas.List.{append-nil, length-replicate}
-use Rattle.check_words.specs.Division.{plus, added, divided, degree, remainder, zeros}
+use Rattle.check_words.specs.Division.{added, divided, remainder, zeros}
 use Rattle.check_words.specs.CheckWords.{low_bits, bits_of, l2cap_generator, l2cap_check}
-use Rattle.check_words.proofs.Sums.{plus-self, added-comm, added-assoc, added-left-comm, added-self, added-append, added-cancels, zeros-added, length-added}
+use Rattle.check_words.proofs.Sums.{plus-self, added-comm, added-assoc, added-left-comm, added-append, added-cancels, zeros-added, length-added}
 use Rattle.check_words.proofs.Steps.{divided-added, kept, kept_all, remainder-kept, remainder-from, length-kept_all}
-use Rattle.check_words.proofs.LowBits.{length-low_bits, low_bits-xor, low_bits-mod, low_bits-halves, low_bits-octet}
+use Rattle.check_words.proofs.LowBits.{low_bits-xor, low_bits-mod, low_bits-halves, low_bits-octet}
 
 -- the generator without its highest coefficient
 abbrev pub low_part : List Bool
@@ -89,7 +89,7 @@ octet_more word octet entry small is =
     let bits : List Bool = low_bits 8 octet in
     let mixed : low_bits 8 (bit_xor (word % 256) octet) ≡ added front bits = low_bits-xor 8 (word % 256) octet ∙ ap (λ (w : List Bool). added w bits) (low_bits-mod 8 word) in
     let single : low_bits 16 entry ≡ kept_all low_part (zeros 16) (added front bits) =
-      is ∙ check_is_kept (bit_xor (word % 256) octet ∷ []) ∙ ap (kept_all low_part (zeros 16)) (append-nil (low_bits 8 (bit_xor (word % 256) octet)) ∙ mixed) in
+    is ∙ check_is_kept (bit_xor (word % 256) octet ∷ []) ∙ ap (kept_all low_part (zeros 16)) (append-nil (low_bits 8 (bit_xor (word % 256) octet)) ∙ mixed) in
     low_bits-xor 16 (word / 256) entry
     ∙ ap (λ (w : List Bool). added w (low_bits 16 entry)) (low_bits-octet (word / 256) (omega arith))
     ∙ ap (added (rest ++ zeros 8)) single

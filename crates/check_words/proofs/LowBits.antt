@@ -1,6 +1,5 @@
 -- The low bits of a number.
-use Rattle.std.proofs.Common.{◌≡◌, ℕ, zero, suc, ◌+◌, ◌*◌, ◌/◌, ◌%◌, ◌^◌, ◌<◌, ◌≤◌, Bool, true, false, eqb, ◌==◌, List, [], ◌∷◌, ◌++◌, length, bit_xor, refl, sym, ap, ◌∙◌, arith}
-use Rattle.std.proofs.lemmas.Bool.{eqb-true, eqb-false}
+use Rattle.std.proofs.Common.{◌≡◌, ℕ, zero, suc, ◌+◌, ◌*◌, ◌/◌, ◌%◌, ◌^◌, ◌<◌, Bool, ◌==◌, List, ◌∷◌, ◌++◌, length, bit_xor, refl, ap, ◌∙◌, arith}
 use Rattle.std.proofs.lemmas.Nat.{xor_shr, xor_mod, field_of, mod-pow-add}
 use Rattle.std.proofs.Math.Nat.{pow-suc}
 use Rattle.check_words.specs.Division.{plus, added, zeros}

@@ -1,15 +1,14 @@
 -- Octets and their check words.
-use Rattle.std.proofs.Common.{◌≡◌, ◌≢◌, ◌⊎◌, ◌↔◌, ℕ, ◌+◌, ◌^◌, ◌<◌, ◌≤◌, Bool, true, false, List, [], ◌∷◌, ◌++◌, length, take, get_or, refl, sym, ap, ◌∙◌, arith, append_assoc, inl, inr}
-use Rattle.std.specs.List.{flat_map}
+use Rattle.std.proofs.Common.{◌≡◌, ◌≢◌, ℕ, ◌+◌, ◌<◌, Bool, true, false, List, [], ◌∷◌, ◌++◌, length, take, get_or, refl, sym, ap, ◌∙◌, arith, append_assoc, inl, inr}
 use Rattle.std.proofs.lemmas.Grind.{flat_map-append}
 use Rattle.std.proofs.lemmas.List.{append-nil, take_more}
 use Rattle.check_words.specs.Division.{added, remainder, zeros}
-use Rattle.check_words.specs.CheckWords.{low_bits, bits_of, l2cap_generator, l2cap_check, L2capCheckHolds}
+use Rattle.check_words.specs.CheckWords.{low_bits, bits_of, l2cap_generator, l2cap_check}
 use Rattle.check_words.specs.Laws.{CheckWordsHold, ChangedOctetsAreSeen}
 use Rattle.check_words.proofs.Sums.{added-zero, added-self}
 use Rattle.check_words.proofs.Steps.{kept_all, remainder-kept, remainder-from, kept_all-append, length-kept_all}
 use Rattle.check_words.proofs.Bursts.{bursts-seen}
-use Rattle.check_words.proofs.LowBits.{low_bits-same, low_bits-halves}
+use Rattle.check_words.proofs.LowBits.{low_bits-same}
 use Rattle.check_words.proofs.CheckWord.{low_part, check_is_kept}
 
 -- a step over octets
@@ -48,9 +47,10 @@ pub check_words-hold : CheckWordsHold
 unfolding low_bits
 check_words-hold octets low high =
     let word : List Bool = bits_of (low ∷ high ∷ []) in
-    let size : length (l2cap_check octets) ≡ length word = length-check octets in
-    ( (λ holds. added-zero (l2cap_check octets) word size (sym (ends_with octets low high) ∙ holds ∙ ap (λ (k : ℕ). zeros k) (sym (length-check octets))))
-    , (λ same. ends_with octets low high ∙ ap (λ (w : List Bool). added w word) same ∙ added-self word) )
+    let size : length (l2cap_check octets) ≡ length word = length-check octets in (
+      (λ holds. added-zero (l2cap_check octets) word size (sym (ends_with octets low high) ∙ holds ∙ ap (λ (k : ℕ). zeros k) (sym (length-check octets)))),
+      (λ same. ends_with octets low high ∙ ap (λ (w : List Bool). added w word) same ∙ added-self word),
+    )
 
 two_octets : (front behind : List ℕ) (first second : ℕ)
     → bits_of (front ++ first ∷ second ∷ behind) ≡ bits_of front ++ ((low_bits 8 first ++ low_bits 8 second) ++ bits_of behind)
@@ -75,8 +75,8 @@ changed-seen front behind first second first' second' f s f' s' differ before af
     let other : List Bool = low_bits 8 first' ++ low_bits 8 second' in
     let inner : List Bool = true ∷ (zeros 12 ++ true ∷ false ∷ []) in
     let differs : burst ≢ other = λ e.
-      let h = parts_same (low_bits 8 first) (low_bits 8 second) (low_bits 8 first') (low_bits 8 second') refl e in
-      elim differ [ inl n ↦ n (low_bits-same 8 first first' f f' h.0) | inr n ↦ n (low_bits-same 8 second second' s s' h.1) ] in
+    let h = parts_same (low_bits 8 first) (low_bits 8 second) (low_bits 8 first') (low_bits 8 second') refl e in
+    elim differ [ inl n ↦ n (low_bits-same 8 first first' f f' h.0) | inr n ↦ n (low_bits-same 8 second second' s s' h.1) ] in
     bursts-seen inner (bits_of front) burst other (bits_of behind) refl refl differs
-      (ap (remainder l2cap_generator) (sym (two_octets front behind first second)) ∙ before)
-      (ap (remainder l2cap_generator) (sym (two_octets front behind first' second')) ∙ after)
+    (ap (remainder l2cap_generator) (sym (two_octets front behind first second)) ∙ before)
+    (ap (remainder l2cap_generator) (sym (two_octets front behind first' second')) ∙ after)

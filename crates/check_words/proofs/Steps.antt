@@ -1,9 +1,9 @@
 -- Long division by steps: it is linear, and all that it keeps of bits that it is through with are as many bits as
 -- its degree.
-use Rattle.std.proofs.Common.{◌≡◌, ℕ, zero, suc, ◌+◌, ◌-◌, ◌<◌, ◌≤◌, Bool, true, false, cond, List, [], ◌∷◌, ◌++◌, length, replicate, refl, sym, ap, subst, ◌∙◌, arith, append_assoc, length-append}
+use Rattle.std.proofs.Common.{◌≡◌, ℕ, zero, suc, ◌+◌, ◌-◌, ◌<◌, ◌≤◌, Bool, true, false, cond, List, [], ◌∷◌, ◌++◌, length, refl, sym, ap, ◌∙◌, arith, length-append}
 use Rattle.std.proofs.lemmas.List.{length-replicate}
-use Rattle.check_words.specs.Division.{plus, added, reduced, divided, degree, remainder, zeros}
-use Rattle.check_words.proofs.Sums.{plus-assoc, plus-comm, added-nil, added-comm, added-assoc, added-left-comm, added-twice, added-self, length-added, added-padded, zeros-added, added-append}
+use Rattle.check_words.specs.Division.{plus, added, reduced, divided, remainder, zeros}
+use Rattle.check_words.proofs.Sums.{added-comm, added-assoc, added-left-comm, added-twice, length-added, added-padded, zeros-added}
 
 -- ---- it is linear
 
@@ -32,8 +32,8 @@ divided-added low zero xs ys same long = refl
 divided-added low (suc n) xs ys same long =
     ap (divided (true ∷ low) n) (reduced-added low xs ys same (omega arith))
     ∙ (let left : suc (length (reduced (true ∷ low) xs)) ≡ length xs = length-reduced low xs (omega arith) in
-       let right : suc (length (reduced (true ∷ low) ys)) ≡ length ys = length-reduced low ys (omega arith) in
-       divided-added low n (reduced (true ∷ low) xs) (reduced (true ∷ low) ys) (omega arith) (omega arith))
+    let right : suc (length (reduced (true ∷ low) ys)) ≡ length ys = length-reduced low ys (omega arith) in
+    divided-added low n (reduced (true ∷ low) xs) (reduced (true ∷ low) ys) (omega arith) (omega arith))
 
 -- ---- what it keeps of the bits that it is through with
 
@@ -55,7 +55,7 @@ length-kept low [] bit same = same
 length-kept low (x ∷ xs) bit same =
     let snoc : length (xs ++ false ∷ []) ≡ length low = length-snoc xs ∙ same in
     elim (plus x bit) as (λ b. length (cond b (added low (xs ++ false ∷ [])) (xs ++ false ∷ [])) ≡ length low)
-      [ true ↦ length-added low (xs ++ false ∷ []) (omega arith) ∙ snoc | false ↦ snoc ]
+    [ true ↦ length-added low (xs ++ false ∷ []) (omega arith) ∙ snoc | false ↦ snoc ]
 
 pub length-kept_all : (low state bits : List Bool) → length state ≡ length low → length (kept_all low state bits) ≡ length low
 unfolding kept_all
@@ -67,9 +67,10 @@ kept-reduced : (low state : List Bool) (bit : Bool) (bits : List Bool) → lengt
 unfolding added reduced kept
 kept-reduced low [] bit bits same long some = absurd (omega arith)
 kept-reduced low (x ∷ xs) bit bits same long some =
-    elim (plus x bit) as (λ b. reduced (true ∷ low) (b ∷ added xs bits) ≡ added (cond b (added low (xs ++ false ∷ [])) (xs ++ false ∷ [])) bits)
-      [ true ↦ ap (added low) (sym (added-padded xs bits (omega arith))) ∙ sym (added-assoc low (xs ++ false ∷ []) bits)
-      | false ↦ sym (added-padded xs bits (omega arith)) ]
+    elim (plus x bit) as (λ b. reduced (true ∷ low) (b ∷ added xs bits) ≡ added (cond b (added low (xs ++ false ∷ [])) (xs ++ false ∷ [])) bits) [
+      | true ↦ ap (added low) (sym (added-padded xs bits (omega arith))) ∙ sym (added-assoc low (xs ++ false ∷ []) bits)
+      | false ↦ sym (added-padded xs bits (omega arith))
+    ]
 
 -- with so many bits done, the kept bits stand added to the front of the others
 pub divided-kept : (low state bits behind : List Bool) → length state ≡ length low → length low ≤ length behind → 0 < length low

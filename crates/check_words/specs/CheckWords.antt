@@ -1,7 +1,7 @@
 -- The check words of L2CAP and of RFCOMM.
 use Rattle.std.specs.Prelude.{ℕ, zero, suc, ◌/◌, ◌%◌, ◌≡◌, Bool, true, false, not, ◌==◌, List, [], ◌∷◌, ◌++◌, map, replicate}
 use Rattle.std.specs.List.{flat_map}
-use Rattle.check_words.specs.Division.{added, remainder, degree, zeros}
+use Rattle.check_words.specs.Division.{added, remainder, zeros}
 
 -- the low bits of a number, the lowest first
 unfoldable pub low_bits : ℕ → ℕ → List Bool

@@ -1,6 +1,6 @@
 //! Laws of check words, for all octets.
 
-ghost use Rattle.check_words.specs.Laws.{CheckWordsHold, BurstsAreSeen, ChangedOctetsAreSeen};
+ghost use Rattle.check_words.specs.Laws.{CheckWordsHold, BurstsAreSeen, ChangedOctetsAreSeen, AreL2capValues, AreRfcommValues};
 
 /// Octets that end in a check word leave nothing exactly where it is that of the octets before it.
 pub fn check_words_hold()
@@ -15,4 +15,10 @@ pub fn bursts_are_seen()
 /// The check word of L2CAP sees each change within two neighbouring octets.
 pub fn changed_octets_are_seen()
     ensures { ChangedOctetsAreSeen }
+{}
+
+/// The definitions give the check words that were worked out elsewhere.
+pub fn worked_values()
+    ensures l2cap { AreL2capValues }
+    ensures rfcomm { AreRfcommValues }
 {}

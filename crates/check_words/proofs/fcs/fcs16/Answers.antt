@@ -1,6 +1,6 @@
-use Rattle.std.proofs.Common.{◌∙◌, sym, ap, arith, refl}
+use Rattle.std.proofs.Common.{◌∙◌, ap, arith, refl}
 use Rattle.std.proofs.lemmas.List.{take_all}
-use Rattle.check_words.specs.Division.{added, divided}
+use Rattle.check_words.specs.Division.{divided}
 use Rattle.check_words.specs.CheckWords.{low_bits, l2cap_check}
 use Rattle.check_words.proofs.Octets.{check_more}
 use Rattle.check_words.proofs.fcs.fcs16.Goals as goal

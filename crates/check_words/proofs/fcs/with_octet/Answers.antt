@@ -1,4 +1,4 @@
-use Rattle.std.proofs.Common.{◌∙◌, arith}
+use Rattle.std.proofs.Common.{arith}
 use Rattle.check_words.proofs.CheckWord.{octet_more}
 use Rattle.check_words.proofs.fcs.with_octet.Goals as goal
 
