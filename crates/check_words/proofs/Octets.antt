@@ -1,14 +1,14 @@
 -- Octets and their check words.
-use Rattle.std.proofs.Common.{◌≡◌, ◌≢◌, ℕ, ◌+◌, ◌<◌, Bool, true, false, List, [], ◌∷◌, ◌++◌, length, take, get_or, refl, sym, ap, ◌∙◌, arith, append_assoc, inl, inr}
+use Rattle.std.proofs.Common.{◌≡◌, ◌≢◌, ◌↔◌, ℕ, ◌+◌, ◌*◌, ◌/◌, ◌%◌, ◌^◌, ◌<◌, Bool, true, false, List, [], ◌∷◌, ◌++◌, length, take, get_or, refl, sym, ap, ◌∙◌, arith, append_assoc, inl, inr}
 use Rattle.std.proofs.lemmas.Grind.{flat_map-append}
 use Rattle.std.proofs.lemmas.List.{append-nil, take_more}
 use Rattle.check_words.specs.Division.{added, remainder, zeros}
-use Rattle.check_words.specs.CheckWords.{low_bits, bits_of, l2cap_generator, l2cap_check}
+use Rattle.check_words.specs.CheckWords.{low_bits, bits_of, l2cap_generator, l2cap_check, L2capCheckHolds}
 use Rattle.check_words.specs.Laws.{CheckWordsHold, ChangedOctetsAreSeen}
 use Rattle.check_words.proofs.Sums.{added-zero, added-self}
 use Rattle.check_words.proofs.Steps.{kept_all, remainder-kept, remainder-from, kept_all-append, length-kept_all}
 use Rattle.check_words.proofs.Bursts.{bursts-seen}
-use Rattle.check_words.proofs.LowBits.{low_bits-same}
+use Rattle.check_words.proofs.LowBits.{low_bits-same, low_bits-mod, low_bits-halves}
 use Rattle.check_words.proofs.CheckWord.{low_part, check_is_kept}
 
 -- a step over octets
@@ -80,3 +80,22 @@ changed-seen front behind first second first' second' f s f' s' differ before af
     bursts-seen inner (bits_of front) burst other (bits_of behind) refl refl differs
     (ap (remainder l2cap_generator) (sym (two_octets front behind first second)) ∙ before)
     (ap (remainder l2cap_generator) (sym (two_octets front behind first' second')) ∙ after)
+
+-- ---- the two octets of a check word
+
+pair_bits : (a b : ℕ) → a < 256 → b < 256 → low_bits 16 (a + 256 * b) ≡ bits_of (a ∷ b ∷ [])
+pair_bits a b low high =
+    let first : (a + 256 * b) % 2 ^ 8 ≡ a = omega arith in
+    let second : (a + 256 * b) / 256 ≡ b = omega arith in
+    low_bits-halves (a + 256 * b)
+    ∙ ap (λ (w : List Bool). w ++ low_bits 8 ((a + 256 * b) / 256)) (sym (low_bits-mod 8 (a + 256 * b)) ∙ ap (low_bits 8) first)
+    ∙ ap (λ (k : ℕ). low_bits 8 a ++ low_bits 8 k) second
+    ∙ ap (λ (w : List Bool). low_bits 8 a ++ w) (sym (append-nil (low_bits 8 b)))
+
+-- a check word of those octets holds behind them, and no other one
+pub word-holds : (octets : List ℕ) (a b check : ℕ) → a < 256 → b < 256 → check < 2 ^ 16 → low_bits 16 check ≡ l2cap_check octets
+    → L2capCheckHolds (octets ++ a ∷ b ∷ []) ↔ (check ≡ a + 256 * b)
+word-holds octets a b check low high small is =
+    let both = check_words-hold octets a b in
+    ( (λ holds. low_bits-same 16 check (a + 256 * b) small (omega arith) (is ∙ both.0 holds ∙ sym (pair_bits a b low high)))
+    , (λ same. both.1 (sym is ∙ ap (low_bits 16) same ∙ pair_bits a b low high)) )

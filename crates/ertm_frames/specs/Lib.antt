@@ -1,0 +1,4 @@
+pub mod Frames
+pub mod Answers
+pub mod Segments
+pub mod Laws

@@ -1,0 +1,53 @@
+use super::*;
+use bt_base::Cid;
+use std::test::Fail;
+
+/// The I-frame and the RR frame that the standard works out (Core 5.1, Volume 3 Part A, 3.3.5).
+const INFORMATION: [u8; 18] = [
+    0x0E, 0x00, 0x40, 0x00, 0x02, 0x00, 0, 1, 2, 3, 4, 5, 6, 7, 8, 9, 0x38, 0x61,
+];
+const READY: [u8; 8] = [0x04, 0x00, 0x40, 0x00, 0x01, 0x01, 0xD4, 0x14];
+
+#[test]
+fn frames_of_the_standard(rt: HostRuntime) -> Result<(), Fail> {
+    let octets = [0, 1, 2, 3, 4, 5, 6, 7, 8, 9];
+    let information = Frame::I {
+        tx: 1,
+        last: false,
+        req: 0,
+        sar: 0,
+        total: 0,
+        octets: &octets,
+    };
+    let ready = Frame::S {
+        kind: SKind::Rr,
+        poll: false,
+        last: false,
+        req: 1,
+    };
+    assert!(rt; frame_of(&INFORMATION, 48) == Ok(information));
+    assert!(rt; frame_of(&READY, 48) == Ok(ready));
+    let cid = Cid::of(0x0040).ok_or("a channel")?;
+    let mut into = [0xEE; 20];
+    assert_eq!(rt; put_frame(cid, &information, &mut into), 18);
+    assert_eq!(rt; &into[..18], INFORMATION.as_slice());
+    assert_eq!(rt; &into[18..], [0xEE, 0xEE].as_slice());
+    assert_eq!(rt; put_frame(cid, &ready, &mut into), 8);
+    assert_eq!(rt; &into[..8], READY.as_slice());
+    Ok(())
+}
+
+#[test]
+fn refusals_in_their_order(rt: HostRuntime) {
+    let cases: [(&[u8], u16, FrameRefusal); 6] = [
+        (&READY[..7], 48, FrameRefusal::Short),
+        (&[5, 0, 0x40, 0, 1, 1, 0xD4, 0x14], 48, FrameRefusal::Short),
+        (&[4, 0, 0x40, 0, 1, 1, 0xD4, 0x15], 48, FrameRefusal::BadFcs),
+        (&[4, 0, 0x40, 0, 3, 1, 0xD5, 0x74], 48, FrameRefusal::ReservedSet),
+        (&[4, 0, 0x40, 0, 0, 0x40, 0x15, 0xB4], 48, FrameRefusal::BadStart),
+        (&INFORMATION, 9, FrameRefusal::AboveMps),
+    ];
+    for (pdu, mps, refusal) in cases {
+        assert!(rt; frame_of(pdu, mps) == Err(refusal));
+    }
+}
