@@ -1,12 +1,13 @@
 -- From a control field and what follows it to the frame of a PDU.
-use Rattle.std.proofs.Common.{◌≡◌, ◌≢◌, ◌⊎◌, ℕ, zero, suc, ◌+◌, ◌-◌, ◌*◌, ◌/◌, ◌%◌, ◌^◌, ◌<◌, ◌≤◌, Bool, true, false, ◌==◌, List, [], ◌∷◌, ◌++◌, length, get_or, take, drop, Ok, Err, refl, sym, ap, subst, ◌∙◌, arith, inl, inr}
+use Rattle.std.proofs.Common.{◌≡◌, ℕ, zero, suc, ◌+◌, ◌-◌, ◌/◌, ◌%◌, ◌^◌, ◌<◌, ◌≤◌, false, ◌==◌, List, ◌++◌, length, drop, Ok, Err, refl, sym, ap, subst, ◌∙◌, arith, inl, inr}
 use Rattle.std.proofs.lemmas.Bool.{ne_eqb}
 use Rattle.std.proofs.lemmas.List.{get_or-drop, length-drop, length-take-le}
 use Rattle.bt_base.specs.Octets.{IsOctets, le16}
 use Rattle.check_words.specs.CheckWords.{L2capCheckHolds}
 use Rattle.ertm_frames.specs.declared.refusal.FrameRefusal.TheVariants.{Short, BadFcs, ReservedSet, BadStart, AboveMps}
-use Rattle.ertm_frames.specs.Frames.{PlainFrame, information, supervisory, bit, control_of, body_of, covered, IsInformation, Spells}
-use Rattle.ertm_frames.specs.Answers.{Answer, word_at, middle, IsWhole, IsStart, IsNoStart, IsJudged, IsMeasured, IsAnswer, information_of}
+use Rattle.ertm_frames.specs.Frames.{PlainFrame, bit, control_of, body_of, covered, IsInformation, Spells}
+use Rattle.ertm_frames.specs.Answers.{Answer, word_at, middle, IsWhole, IsStart, IsNoStart, IsAnswer}
+use Rattle.ertm_frames.specs.Steps.{IsJudged, IsMeasured, information_of}
 use Rattle.ertm_frames.proofs.Parts.{word_split, word_below, parts_are}
 
 pub bit_is : (u : ℕ) → u < 2 → bit (u == 1) ≡ u
@@ -34,9 +35,10 @@ start_is mps control total body octets (Ok frame) fits long start small total_is
       sar_fits = omega arith;
       total_fits = omega (arith, word_below 0 body fits);
       stated = λ other. absurd (other sar);
-      are_octets = subst IsOctets (sym octets_are) (octets_behind 2 body fits) } in
+      are_octets = subst IsOctets (sym octets_are) (octets_behind 2 body fits);
+    } in
     let spelled : body ≡ body_of (information_of control total octets) =
-      word_split 0 2 body fits refl long ∙ rw (sar, total_is, octets_are) refl in
+    word_split 0 2 body fits refl long ∙ rw (sar, total_is, octets_are) refl in
     let all : IsJudged mps control body (Ok (information_of control total octets)) = (control_again control total octets even small, spelled, numbers, within) in
     subst (λ (f : PlainFrame). IsJudged mps control body (Ok f)) (sym is) all
 start_is mps control total body octets (Err Short) fits long start small total_is octets_are h = h
@@ -57,7 +59,8 @@ segment_is mps control body (Ok frame) fits other small (is, within) =
       sar_fits = omega arith;
       total_fits = omega arith;
       stated = λ none. refl;
-      are_octets = fits } in
+      are_octets = fits;
+    } in
     let sar : (control / 0x4000 == 1) ≡ false = ne_eqb (control / 0x4000) 1 other.1 in
     let all : IsJudged mps control body (Ok (information_of control 0 body)) = (control_again control 0 body even small, rw sar refl, numbers, within) in
     subst (λ (f : PlainFrame). IsJudged mps control body (Ok f)) (sym is) all
@@ -81,12 +84,13 @@ answer_is mps control pdu body (Ok frame) fits all holds control_is body_is (sam
     let spelled : Spells cid frame pdu = record {
       check = word_at (length pdu - 2) pdu;
       parts = parts_are pdu fits all
-        ∙ ap (λ (k : ℕ). covered cid k (middle pdu) ++ check) (sym field)
-        ∙ ap (λ (w : List ℕ). covered cid (control_of frame) w ++ check) (sym rest);
+          ∙ ap (λ (k : ℕ). covered cid k (middle pdu) ++ check) (sym field)
+          ∙ ap (λ (w : List ℕ). covered cid (control_of frame) w ++ check) (sym rest);
       holds = holds;
       cid_fits = word_below 2 pdu fits;
       length_fits = omega (arith, word_below 0 pdu fits);
-      fits = is } in
+      fits = is;
+    } in
     ((cid, spelled), within)
 answer_is mps control pdu body (Err Short) fits all holds control_is body_is h = absurd h
 answer_is mps control pdu body (Err BadFcs) fits all holds control_is body_is h = absurd h

@@ -1,6 +1,6 @@
 -- The parts of a PDU.
-use Rattle.std.proofs.Common.{◌≡◌, ◌↔◌, ℕ, suc, ◌+◌, ◌-◌, ◌*◌, ◌/◌, ◌%◌, ◌^◌, ◌<◌, ◌≤◌, List, [], ◌∷◌, ◌++◌, length, get_or, take, drop, refl, sym, ap, subst, ◌∙◌, arith, drop-cons, append_assoc, length-append}
-use Rattle.std.proofs.lemmas.List.{get_or-drop, get_or-take, nil_from_length, length-drop, length-take-le, take-append-drop, drop-drop, take_at, drop_at}
+use Rattle.std.proofs.Common.{◌≡◌, ◌↔◌, ℕ, suc, ◌+◌, ◌-◌, ◌*◌, ◌/◌, ◌%◌, ◌^◌, ◌<◌, ◌≤◌, List, [], ◌∷◌, ◌++◌, length, get_or, take, drop, refl, sym, ap, subst, ◌∙◌, arith, drop-cons, length-append}
+use Rattle.std.proofs.lemmas.List.{nil_from_length, length-drop, length-take-le, take-append-drop, drop-drop, take_at}
 use Rattle.bt_base.specs.Octets.{IsOctets, le16}
 use Rattle.check_words.specs.CheckWords.{low_bits, l2cap_check, L2capCheckHolds}
 use Rattle.check_words.proofs.Octets.{word-holds}
@@ -45,7 +45,7 @@ pub check_is : (pdu : List ℕ) (n check : ℕ) → IsOctets pdu → n + 2 ≡ l
     → L2capCheckHolds pdu ↔ (check ≡ word_at n pdu)
 check_is pdu n check fits e small is =
     subst (λ (x : List ℕ). L2capCheckHolds x ↔ (check ≡ word_at n pdu)) (sym (last_two pdu n e))
-      (word-holds (take n pdu) (get_or pdu n 0) (get_or pdu (n + 1) 0) check (fits n) (fits (n + 1)) small is)
+    (word-holds (take n pdu) (get_or pdu n 0) (get_or pdu (n + 1) 0) check (fits n) (fits (n + 1)) small is)
 
 -- a whole PDU is what the check word is over, and the check word
 pub parts_are : (pdu : List ℕ) → IsOctets pdu → IsWhole pdu
@@ -59,8 +59,8 @@ parts_are pdu fits all =
     let whole : n - 2 + 2 ≡ n = omega arith in
     let check : List ℕ = le16 (word_at (n - 2) pdu) in
     let tail : drop m (drop 6 pdu) ≡ check =
-      drop-drop m 6 pdu ∙ ap (λ (k : ℕ). drop k pdu) end ∙ word_split (n - 2) n pdu fits (sym whole) (omega arith)
-      ∙ ap (λ (x : List ℕ). check ++ x) (nothing_behind n pdu refl) in
+    drop-drop m 6 pdu ∙ ap (λ (k : ℕ). drop k pdu) end ∙ word_split (n - 2) n pdu fits (sym whole) (omega arith)
+    ∙ ap (λ (x : List ℕ). check ++ x) (nothing_behind n pdu refl) in
     let behind : drop 6 pdu ≡ middle pdu ++ check = sym (take-append-drop m (drop 6 pdu)) ∙ ap (λ (x : List ℕ). middle pdu ++ x) tail in
     word_split 0 2 pdu fits refl (omega arith)
     ∙ ap (λ (x : List ℕ). le16 (word_at 0 pdu) ++ x) (word_split 2 4 pdu fits refl (omega arith))
@@ -68,9 +68,8 @@ parts_are pdu fits all =
     ∙ ap (λ (x : List ℕ). le16 (word_at 0 pdu) ++ (le16 (word_at 2 pdu) ++ (le16 (word_at 4 pdu) ++ x))) behind
     ∙ ap (λ (k : ℕ). covered_with k (word_at 2 pdu) (word_at 4 pdu) (middle pdu) ++ check) length_is
   where
-  covered_with : ℕ → ℕ → ℕ → List ℕ → List ℕ
-  covered_with k cid control body = le16 k ++ (le16 cid ++ (le16 control ++ body))
-
+    covered_with : ℕ → ℕ → ℕ → List ℕ → List ℕ
+    covered_with k cid control body = le16 k ++ (le16 cid ++ (le16 control ++ body))
 
 -- ---- and back
 

@@ -1,16 +1,17 @@
 -- What is spelled is read as what it is, and as nothing else.
-use Rattle.std.proofs.Common.{◌≡◌, ◌≢◌, ◌⊎◌, ℕ, zero, suc, ◌+◌, ◌-◌, ◌*◌, ◌/◌, ◌%◌, ◌^◌, ◌<◌, ◌≤◌, Bool, true, false, ◌==◌, if◌then◌else◌, List, [], ◌∷◌, ◌++◌, length, drop, Ok, Err, refl, sym, ap, subst, ◌∙◌, arith, length-append, inl, inr}
+use Rattle.std.proofs.Common.{◌≡◌, ◌≢◌, ◌⊎◌, ℕ, ◌+◌, ◌*◌, ◌/◌, ◌%◌, ◌^◌, ◌<◌, Bool, true, false, ◌==◌, if◌then◌else◌, List, [], ◌∷◌, ◌++◌, length, Ok, Err, refl, sym, ap, subst, ◌∙◌, arith, inl, inr}
 use Rattle.std.proofs.lemmas.Bool.{ne_eqb, cases_eq}
 use Rattle.bt_base.specs.Octets.{le16}
 use Rattle.bt_base.proofs.OctetLemmas.{le16-same}
 use Rattle.check_words.specs.CheckWords.{L2capCheckHolds}
+use Rattle.check_words.proofs.Octets.{changed-seen}
 use Rattle.ertm_frames.specs.declared.frame.SKind.{SKind}
 use Rattle.ertm_frames.specs.declared.frame.SKind.TheVariants.{Rr, Rej, Rnr, Srej}
 use Rattle.ertm_frames.specs.declared.refusal.FrameRefusal.{FrameRefusal}
 use Rattle.ertm_frames.specs.declared.refusal.FrameRefusal.TheVariants.{Short, BadFcs, ReservedSet, BadStart, AboveMps}
-use Rattle.ertm_frames.specs.Frames.{PlainFrame, information, supervisory, bit, function_of, control_of, body_of, covered, IsInformation, IsFrame, Spells}
+use Rattle.ertm_frames.specs.Frames.{PlainFrame, information, supervisory, bit, function_of, control_of, body_of, covered, IsFrame, Spells}
 use Rattle.ertm_frames.specs.Answers.{Answer, word_at, middle, IsWhole, IsWithin, Faults, Refuses, IsAnswer}
-use Rattle.ertm_frames.specs.Laws.{OneAnswer, OneFrame}
+use Rattle.ertm_frames.specs.Laws.{OneAnswer, OneFrame, WrittenIsRead, ChangedFramesAreSeen}
 use Rattle.ertm_frames.proofs.Parts.{number, spelled_whole, spelled_middle}
 
 bit_below : (b : Bool) → bit b < 2
@@ -75,10 +76,11 @@ bodies_same : (sar total total' : ℕ) (octets octets' : List ℕ) → total < 2
     → (if sar == 1 then le16 total else []) ++ octets ≡ (if sar == 1 then le16 total' else []) ++ octets' → (total ≡ total') × (octets ≡ octets')
 bodies_same sar total total' octets octets' fits fits' stated stated' same =
     elim (cases_eq sar 1) [
-      inl e ↦
-        let both = two_heads (total % 256) (total / 256 % 256) (total' % 256) (total' / 256 % 256) octets octets' (sym (body_start total octets sar e) ∙ same ∙ body_start total' octets' sar e) in
-        (le16-same total total' fits fits' both.0, both.1)
-      | inr ne ↦ (stated ne ∙ sym (stated' ne), sym (body_other total octets sar ne) ∙ same ∙ body_other total' octets' sar ne) ]
+      | inl e ↦
+          let both = two_heads (total % 256) (total / 256 % 256) (total' % 256) (total' / 256 % 256) octets octets' (sym (body_start total octets sar e) ∙ same ∙ body_start total' octets' sar e) in
+          (le16-same total total' fits fits' both.0, both.1)
+      | inr ne ↦ (stated ne ∙ sym (stated' ne), sym (body_other total octets sar ne) ∙ same ∙ body_other total' octets' sar ne)
+    ]
 
 frame_same : (frame frame' : PlainFrame) → IsFrame frame → IsFrame frame' → control_of frame ≡ control_of frame' → body_of frame ≡ body_of frame' → frame ≡ frame'
 frame_same (information tx f req sar total octets) (information tx' f' req' sar' total' octets') is is' control body =
@@ -113,7 +115,8 @@ says cid frame pdu s =
       all = spelled_whole cid (control_of frame) s.check (body_of frame) s.length_fits;
       channel = number cid s.cid_fits;
       control = number (control_of frame) (control_below frame s.fits);
-      body = spelled_middle cid (control_of frame) s.check (body_of frame) } in
+      body = spelled_middle cid (control_of frame) s.check (body_of frame);
+    } in
     subst (Says cid frame) (sym s.parts) here
 
 pub one-frame : OneFrame
@@ -133,24 +136,28 @@ no_fault mps frame BadFcs is within h = h
 no_fault mps (information tx f req sar total octets) ReservedSet is within h = absurd (omega (arith, h.0))
 no_fault mps (supervisory kind poll f req) ReservedSet is within h =
     elim h.1 [
-      inl reserved ↦ elim reserved [
-        inl low ↦ low (omega (arith, function_below kind, bit_below poll, bit_below f))
+      | inl reserved ↦ elim reserved [
+        | inl low ↦ low (omega (arith, function_below kind, bit_below poll, bit_below f))
         | inr high ↦ elim high [
-          inl inner ↦ inner (omega (arith, function_below kind, bit_below poll, bit_below f))
-          | inr top ↦ top (omega (arith, function_below kind, bit_below poll, bit_below f)) ] ]
-      | inr some ↦ absurd (omega arith) ]
+          | inl inner ↦ inner (omega (arith, function_below kind, bit_below poll, bit_below f))
+          | inr top ↦ top (omega (arith, function_below kind, bit_below poll, bit_below f))
+        ]
+      ]
+      | inr some ↦ absurd (omega arith)
+    ]
 no_fault mps (information tx f req sar total octets) BadStart is within h =
     let e : sar ≡ 1 = omega (arith, h.0.1, is.tx_fits, is.req_fits, is.sar_fits, bit_below f) in
     absurd (omega (arith, h.1, length-body tx req sar total f octets e))
 no_fault mps (supervisory kind poll f req) BadStart is within h = absurd (omega (arith, h.0.0))
 no_fault mps (information tx f req sar total octets) AboveMps is within h =
     elim h [
-      inl start ↦
-        let e : sar ≡ 1 = omega (arith, start.0.1, is.tx_fits, is.req_fits, is.sar_fits, bit_below f) in
-        absurd (omega (arith, start.1, within, length-body tx req sar total f octets e))
+      | inl start ↦
+          let e : sar ≡ 1 = omega (arith, start.0.1, is.tx_fits, is.req_fits, is.sar_fits, bit_below f) in
+          absurd (omega (arith, start.1, within, length-body tx req sar total f octets e))
       | inr other ↦
-        let ne : sar ≢ 1 = λ e. other.0.1 (omega (arith, is.tx_fits, is.req_fits, is.sar_fits, bit_below f)) in
-        absurd (omega (arith, other.1, within, ap length (body_other total octets sar ne))) ]
+          let ne : sar ≢ 1 = λ e. other.0.1 (omega (arith, is.tx_fits, is.req_fits, is.sar_fits, bit_below f)) in
+          absurd (omega (arith, other.1, within, ap length (body_other total octets sar ne)))
+    ]
 no_fault mps (supervisory kind poll f req) AboveMps is within h =
     elim h [ inl start ↦ absurd (omega (arith, start.0.0)) | inr other ↦ absurd (omega (arith, other.0.0)) ]
 
@@ -204,3 +211,20 @@ one-answer mps pdu (Ok frame) (Ok frame') ((cid, s), within) ((cid', s'), within
 one-answer mps pdu (Ok frame) (Err refusal) p q = absurd (accepted mps frame pdu refusal p q)
 one-answer mps pdu (Err refusal) (Ok frame) p q = absurd (accepted mps frame pdu refusal q p)
 one-answer mps pdu (Err refusal) (Err refusal') p q = ap Err (one_refusal mps pdu refusal refusal' p q)
+
+pub written-read : WrittenIsRead
+written-read cid mps frame pdu given s within is = one-answer mps pdu given (Ok frame) is ((cid, s), within)
+
+pub changed-refused : ChangedFramesAreSeen
+changed-refused cid mps frame front behind first second first' second' given f s f' s' differ spelled is = refused given is
+  where
+    other : L2capCheckHolds (front ++ first' ∷ second' ∷ behind) → ⊥
+    other = changed-seen front behind first second first' second' f s f' s' differ spelled.holds
+
+    refused : (a : Answer) → IsAnswer mps (front ++ first' ∷ second' ∷ behind) a → (a ≡ Err Short) ⊎ (a ≡ Err BadFcs)
+    refused (Ok frame') h = absurd (other h.0.1.holds)
+    refused (Err Short) h = inl refl
+    refused (Err BadFcs) h = inr refl
+    refused (Err ReservedSet) h = absurd (other h.1)
+    refused (Err BadStart) h = absurd (other h.1)
+    refused (Err AboveMps) h = absurd (other h.1)

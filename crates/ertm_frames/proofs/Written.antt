@@ -1,5 +1,5 @@
 -- A frame that was written.
-use Rattle.std.proofs.Common.{◌≡◌, ℕ, ◌+◌, ◌*◌, ◌/◌, ◌%◌, ◌^◌, ◌<◌, ◌≤◌, List, [], ◌∷◌, ◌++◌, length, take, drop, refl, sym, ap, subst, ◌∙◌, arith, append_assoc, length-append}
+use Rattle.std.proofs.Common.{◌≡◌, ℕ, ◌+◌, ◌/◌, ◌%◌, ◌^◌, ◌<◌, ◌≤◌, List, ◌++◌, length, take, drop, sym, ap, subst, ◌∙◌, arith, append_assoc, length-append}
 use Rattle.std.proofs.lemmas.List.{take_at, drop_at, drop-drop}
 use Rattle.bt_base.specs.Octets.{le16}
 use Rattle.check_words.specs.CheckWords.{low_bits, l2cap_check, L2capCheckHolds}
@@ -16,7 +16,6 @@ module _ (cid end check : ℕ) (frame : PlainFrame) (old mid new : List ℕ)
     (small : check < 2 ^ 16)
     (check_is : low_bits 16 check ≡ l2cap_check (take end mid))
     (written : new ≡ take end mid ++ (le16 check ++ drop (end + 2) mid)) where
-
   part : List ℕ
   part = covered cid (control_of frame) (body_of frame)
 
@@ -57,4 +56,5 @@ module _ (cid end check : ℕ) (frame : PlainFrame) (old mid new : List ℕ)
     holds = subst L2capCheckHolds (sym pdu_is) holds;
     cid_fits = cid_fits;
     length_fits = size;
-    fits = fits }
+    fits = fits;
+  }

@@ -20,7 +20,7 @@ abbrev pub bit : Bool → ℕ
 bit true = 1
 bit false = 0
 
--- the supervisory function bits (3.3.2, Table 3.5)
+-- the supervisory function bits (3.3.2)
 abbrev pub function_of : SKind → ℕ
 function_of Rr = 0
 function_of Rej = 1

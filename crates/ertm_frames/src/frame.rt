@@ -1,4 +1,7 @@
-/// What an S-frame tells (Core 5.1, Volume 3 Part A, 3.3.2, Table 3.5).
+/// The SAR of the start of an SDU (Core 5.1, Volume 3 Part A, 3.3.2).
+pub(crate) const START: u8 = 1;
+
+/// What an S-frame tells (Core 5.1, Volume 3 Part A, 3.3.2).
 #[derive(Clone, Copy, Debug, PartialEq, Eq)]
 pub enum SKind {
     /// Receiver ready.

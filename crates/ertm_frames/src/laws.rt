@@ -1,9 +1,8 @@
 //! Laws of the frames and their octets, for every PDU.
 
-ghost use Rattle.ertm_frames.specs.Laws.{OneAnswer, OneFrame, OneSdu};
+ghost use Rattle.ertm_frames.specs.Laws.{OneAnswer, OneFrame, OneSdu, WrittenIsRead, ChangedFramesAreSeen};
 
-/// A PDU has one answer: one frame that it spells, or one refusal. So a frame that was written is the
-/// one that is read.
+/// A PDU has one answer: one frame that it spells, or one refusal.
 pub fn one_answer()
     ensures answer { OneAnswer }
     ensures frame { OneFrame }
@@ -12,4 +11,14 @@ pub fn one_answer()
 /// Segments are those of at most one SDU.
 pub fn one_sdu()
     ensures { OneSdu }
+{}
+
+/// A frame that was written is the one that is read.
+pub fn written_is_read()
+    ensures { WrittenIsRead }
+{}
+
+/// A frame with a change in two neighbouring octets is refused as `Short` or `BadFcs`.
+pub fn changed_frames_are_seen()
+    ensures { ChangedFramesAreSeen }
 {}

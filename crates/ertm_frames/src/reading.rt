@@ -1,15 +1,13 @@
 //! A PDU as a frame.
 
 ghost use Rattle.std.specs.Prelude.{◌≡◌, ◌≢◌, ◌≤◌, ◌<◌, ◌+◌, ◌/◌, ◌%◌, ◌↔◌, ℕ, IsTrue, length};
-ghost use Rattle.ertm_frames.specs.Answers.{answer, word_at, IsAnswer, IsJudged, IsChecked, IsMeasured, IsSupervisory, IsStart, HasReservedBit};
+ghost use Rattle.ertm_frames.specs.Answers.{answer, word_at, IsAnswer, IsSupervisory, IsStart, HasReservedBit};
+ghost use Rattle.ertm_frames.specs.Steps.{IsJudged, IsChecked, IsMeasured};
 
-use crate::frame::{Frame, SKind};
+use crate::frame::{Frame, SKind, START};
 use crate::refusal::FrameRefusal;
 use byteorder::{ByteOrder, LittleEndian};
 use check_words::fcs16;
-
-/// The SAR of the start of an SDU.
-const START: u16 = 1;
 
 /// The frame that a whole PDU spells, with its basic header (Core 5.1, Volume 3 Part A, 3.3).
 ///
@@ -53,7 +51,7 @@ fn judged(control: u16, body: &[u8], mps: u16) -> Result<Frame<'_>, FrameRefusal
     if control % 2 == 1 {
         return supervisory(control, body);
     }
-    if control / 0x4000 == START {
+    if control / 0x4000 == u16::from(START) {
         return start(control, body, mps);
     }
     measured(control, 0, body, mps)

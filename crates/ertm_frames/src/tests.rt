@@ -6,6 +6,7 @@ use std::test::Fail;
 const INFORMATION: [u8; 18] = [
     0x0E, 0x00, 0x40, 0x00, 0x02, 0x00, 0, 1, 2, 3, 4, 5, 6, 7, 8, 9, 0x38, 0x61,
 ];
+
 const READY: [u8; 8] = [0x04, 0x00, 0x40, 0x00, 0x01, 0x01, 0xD4, 0x14];
 
 #[test]
@@ -43,8 +44,16 @@ fn refusals_in_their_order(rt: HostRuntime) {
         (&READY[..7], 48, FrameRefusal::Short),
         (&[5, 0, 0x40, 0, 1, 1, 0xD4, 0x14], 48, FrameRefusal::Short),
         (&[4, 0, 0x40, 0, 1, 1, 0xD4, 0x15], 48, FrameRefusal::BadFcs),
-        (&[4, 0, 0x40, 0, 3, 1, 0xD5, 0x74], 48, FrameRefusal::ReservedSet),
-        (&[4, 0, 0x40, 0, 0, 0x40, 0x15, 0xB4], 48, FrameRefusal::BadStart),
+        (
+            &[4, 0, 0x40, 0, 3, 1, 0xD5, 0x74],
+            48,
+            FrameRefusal::ReservedSet,
+        ),
+        (
+            &[4, 0, 0x40, 0, 0, 0x40, 0x15, 0xB4],
+            48,
+            FrameRefusal::BadStart,
+        ),
         (&INFORMATION, 9, FrameRefusal::AboveMps),
     ];
     for (pdu, mps, refusal) in cases {

@@ -4,7 +4,7 @@ ghost use Rattle.std.specs.Prelude.{◌≡◌, ◌≤◌, ◌<◌, ◌+◌, ◌^
 ghost use Rattle.bt_base.specs.Octets.{le16};
 ghost use Rattle.ertm_frames.specs.Frames.{plain, control_of, body_of, covered, bit, function_of, IsFrame, Spells};
 
-use crate::frame::{Frame, SKind};
+use crate::frame::{Frame, SKind, START};
 use bt_base::Cid;
 use check_words::fcs16;
 
@@ -46,7 +46,7 @@ fn put_covered(cid: u16, frame: &Frame<'_>, into: &mut [u8]) -> usize
     let [low, high] = control_of(frame).to_le_bytes();
     match *frame {
         Frame::I {
-            sar: 1,
+            sar: START,
             total,
             octets,
             ..
@@ -77,9 +77,16 @@ fn control_of(frame: &Frame<'_>) -> u16
 {
     match *frame {
         Frame::I {
-            tx, last, req, sar, ..
+            tx,
+            last,
+            req,
+            sar,
+            ..
         } => {
-            0x02 * u16::from(tx) + 0x80 * bit(last) + 0x100 * u16::from(req) + 0x4000 * u16::from(sar)
+            0x02 * u16::from(tx)
+                + 0x80 * bit(last)
+                + 0x100 * u16::from(req)
+                + 0x4000 * u16::from(sar)
         }
         Frame::S {
             kind,
@@ -87,7 +94,10 @@ fn control_of(frame: &Frame<'_>) -> u16
             last,
             req,
         } => {
-            0x01 + 0x04 * function_of(kind) + 0x10 * bit(poll) + 0x80 * bit(last) + 0x100 * u16::from(req)
+            0x01 + 0x04 * function_of(kind)
+                + 0x10 * bit(poll)
+                + 0x80 * bit(last)
+                + 0x100 * u16::from(req)
         }
     }
 }

@@ -9,4 +9,4 @@ returns c =
     let all = c.in_ok-control.ensures in
     let n : length pdu - 2 - 6 ≡ length pdu - 8 = omega arith in
     answer_is c.args.mps c.in_ok-control.control pdu _ (answer c.judged.result) (λ i. omega (arith, c.type_inv.pdu i)) all.0 all.1 all.2
-      (ap (λ k. take k (drop 6 pdu)) n) c.judged.ensures
+    (ap (λ k. take k (drop 6 pdu)) n) c.judged.ensures
