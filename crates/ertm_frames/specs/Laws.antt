@@ -4,7 +4,7 @@ use Rattle.std.specs.List.{flat_map}
 use Rattle.ertm_frames.specs.declared.refusal.FrameRefusal.TheVariants.{Short, BadFcs}
 use Rattle.ertm_frames.specs.Answers.{Answer, IsWithin, IsAnswer}
 use Rattle.ertm_frames.specs.Frames.{PlainFrame, Spells}
-use Rattle.ertm_frames.specs.Segments.{Segment, SpellsSdu}
+use Rattle.ertm_frames.specs.Segments.{Segment, SpellsSdu, SpellSdus}
 
 -- a PDU has one answer: one frame with the PDU for its spelling, or one refusal
 abbrev pub OneAnswer : Type 0
@@ -17,6 +17,10 @@ OneFrame = (cid cid' : ℕ) (frame frame' : PlainFrame) (pdu : List ℕ) → Spe
 -- segments are those of at most one SDU: what they carry, joined
 abbrev pub OneSdu : Type 0
 OneSdu = (segments : List Segment) (sdu : List ℕ) → SpellsSdu segments sdu → sdu ≡ flat_map (λ segment. segment.octets) segments
+
+-- and at most one list of SDUs
+abbrev pub OneSduList : Type 0
+OneSduList = (segments : List Segment) (sdus sdus' : List (List ℕ)) → SpellSdus segments sdus → SpellSdus segments sdus' → sdus ≡ sdus'
 
 -- a frame that was written, and is within what the receiver takes, is the answer
 abbrev pub WrittenIsRead : Type 0

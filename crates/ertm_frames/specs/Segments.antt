@@ -32,3 +32,8 @@ pub record IsCut (segments : List Segment) (sdu : List ℕ) : Type 0 where
 -- the segments, in their order, are those of the SDU
 abbrev pub SpellsSdu : List Segment → List ℕ → Type 0
 SpellsSdu segments sdu = (segments ≡ whole sdu ∷ []) ⊎ IsCut segments sdu
+
+-- the segments, in their order, are those of the SDUs, one after the other
+abbrev pub SpellSdus : List Segment → List (List ℕ) → Type 0
+SpellSdus segments [] = segments ≡ []
+SpellSdus segments (sdu ∷ sdus) = (own : List Segment) × (behind : List Segment) × (segments ≡ own ++ behind) × SpellsSdu own sdu × SpellSdus behind sdus

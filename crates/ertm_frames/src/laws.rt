@@ -1,6 +1,6 @@
 //! Laws of the frames and their octets, for every PDU.
 
-ghost use Rattle.ertm_frames.specs.Laws.{OneAnswer, OneFrame, OneSdu, WrittenIsRead, ChangedFramesAreSeen};
+ghost use Rattle.ertm_frames.specs.Laws.{OneAnswer, OneFrame, OneSdu, OneSduList, WrittenIsRead, ChangedFramesAreSeen};
 
 /// A PDU has one answer: one frame that it spells, or one refusal.
 pub fn one_answer()
@@ -8,9 +8,10 @@ pub fn one_answer()
     ensures frame { OneFrame }
 {}
 
-/// Segments are those of at most one SDU.
-pub fn one_sdu()
-    ensures { OneSdu }
+/// Segments are those of at most one SDU, and of at most one list of SDUs.
+pub fn one_reading_of_segments()
+    ensures sdu { OneSdu }
+    ensures list { OneSduList }
 {}
 
 /// A frame that was written is the one that is read.

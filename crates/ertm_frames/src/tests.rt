@@ -60,3 +60,29 @@ fn refusals_in_their_order(rt: HostRuntime) {
         assert!(rt; frame_of(pdu, mps) == Err(refusal));
     }
 }
+
+#[test]
+fn heads_of_written_frames(rt: HostRuntime) -> Result<(), Fail> {
+    let cid = Cid::of(0x0040).ok_or("a channel")?;
+    let mut into = [0; 60];
+    let reject = Frame::S {
+        kind: SKind::Rej,
+        poll: false,
+        last: false,
+        req: 5,
+    };
+    assert_eq!(rt; put_frame(cid, &reject, &mut into), 8);
+    assert_eq!(rt; &into[4..6], [0x05, 0x05].as_slice());
+    let start = Frame::I {
+        tx: 0,
+        last: false,
+        req: 0,
+        sar: 1,
+        total: 100,
+        octets: &[0x5A; 46],
+    };
+    assert_eq!(rt; put_frame(cid, &start, &mut into), 56);
+    assert_eq!(rt; &into[..8], [0x34, 0, 0x40, 0, 0, 0x40, 100, 0].as_slice());
+    assert!(rt; frame_of(&into[..56], 46) == Ok(start));
+    Ok(())
+}
