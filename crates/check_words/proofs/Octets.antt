@@ -96,6 +96,7 @@ pair_bits a b low high =
 pub word-holds : (octets : List ℕ) (a b check : ℕ) → a < 256 → b < 256 → check < 2 ^ 16 → low_bits 16 check ≡ l2cap_check octets
     → L2capCheckHolds (octets ++ a ∷ b ∷ []) ↔ (check ≡ a + 256 * b)
 word-holds octets a b check low high small is =
-    let both = check_words-hold octets a b in
-    ( (λ holds. low_bits-same 16 check (a + 256 * b) small (omega arith) (is ∙ both.0 holds ∙ sym (pair_bits a b low high)))
-    , (λ same. both.1 (sym is ∙ ap (low_bits 16) same ∙ pair_bits a b low high)) )
+    let both = check_words-hold octets a b in (
+      (λ holds. low_bits-same 16 check (a + 256 * b) small (omega arith) (is ∙ both.0 holds ∙ sym (pair_bits a b low high))),
+      (λ same. both.1 (sym is ∙ ap (low_bits 16) same ∙ pair_bits a b low high)),
+    )

@@ -1,5 +1,6 @@
 -- What the check words tell, and values of theirs that were worked out elsewhere.
-use Rattle.std.specs.Prelude.{ℕ, ◌≡◌, ◌≢◌, ◌<◌, ◌⊎◌, ◌↔◌, Bool, true, List, [], ◌∷◌, ◌++◌, length}
+use Rattle.std.specs.Prelude.{ℕ, ◌≡◌, ◌≢◌, ◌<◌, ◌⊎◌, ◌↔◌, Bool, true, List, [], ◌∷◌, ◌++◌, length, slice_index}
+use Rattle.check_words.specs.declared.table.TheConstants.{CHECK_WORDS}
 use Rattle.check_words.specs.Division.{degree, remainder, zeros}
 use Rattle.check_words.specs.CheckWords.{low_bits, bits_of, l2cap_check, rfcomm_check, L2capCheckHolds}
 
@@ -7,6 +8,11 @@ use Rattle.check_words.specs.CheckWords.{low_bits, bits_of, l2cap_check, rfcomm_
 abbrev pub CheckWordsHold : Type 0
 CheckWordsHold = (octets : List ℕ) (low high : ℕ) →
     L2capCheckHolds (octets ++ low ∷ high ∷ []) ↔ (l2cap_check octets ≡ bits_of (low ∷ high ∷ []))
+
+-- Each value of the table is the check word of its octet: what the octet's eight bits, with sixteen zeros behind
+-- them, leave.
+abbrev pub TableIsRight : Type 0
+TableIsRight = (octet : ℕ) → octet < 256 → low_bits 16 (slice_index CHECK_WORDS octet) ≡ l2cap_check (octet ∷ [])
 
 -- A burst is seen. Bits that a divisor with the coefficients 1 at both ends divides, with other bits than before
 -- in a stretch as long as the divisor's degree, leave something.

@@ -1,10 +1,15 @@
 //! Laws of check words, for all octets.
 
-ghost use Rattle.check_words.specs.Laws.{CheckWordsHold, BurstsAreSeen, ChangedOctetsAreSeen, AreL2capValues, AreRfcommValues};
+ghost use Rattle.check_words.specs.Laws.{CheckWordsHold, TableIsRight, BurstsAreSeen, ChangedOctetsAreSeen, AreL2capValues, AreRfcommValues};
 
 /// Octets that end in a check word leave nothing exactly where it is that of the octets before it.
 pub fn check_words_hold()
     ensures { CheckWordsHold }
+{}
+
+/// Each value of the table is what the division of its octet leaves.
+pub fn table_is_right()
+    ensures { TableIsRight }
 {}
 
 /// A divisor with 1 at both ends sees each change within as many bits as its degree.

@@ -1,3 +1,5 @@
+ghost use Rattle.std.specs.Prelude.{◌≡◌, ◌+◌, ◌≤◌, length};
+
 use super::*;
 use bt_base::Cid;
 use std::test::Fail;
@@ -6,36 +8,30 @@ use std::test::Fail;
 const INFORMATION: [u8; 18] = [
     0x0E, 0x00, 0x40, 0x00, 0x02, 0x00, 0, 1, 2, 3, 4, 5, 6, 7, 8, 9, 0x38, 0x61,
 ];
-
 const READY: [u8; 8] = [0x04, 0x00, 0x40, 0x00, 0x01, 0x01, 0xD4, 0x14];
 
 #[test]
-fn frames_of_the_standard(rt: HostRuntime) -> Result<(), Fail> {
-    let octets = [0, 1, 2, 3, 4, 5, 6, 7, 8, 9];
-    let information = Frame::I {
-        tx: 1,
-        last: false,
-        req: 0,
-        sar: 0,
-        total: 0,
-        octets: &octets,
-    };
-    let ready = Frame::S {
-        kind: SKind::Rr,
-        poll: false,
-        last: false,
-        req: 1,
-    };
-    assert!(rt; frame_of(&INFORMATION, 48) == Ok(information));
-    assert!(rt; frame_of(&READY, 48) == Ok(ready));
-    let cid = Cid::of(0x0040).ok_or("a channel")?;
-    let mut into = [0xEE; 20];
-    assert_eq!(rt; put_frame(cid, &information, &mut into), 18);
-    assert_eq!(rt; &into[..18], INFORMATION.as_slice());
-    assert_eq!(rt; &into[18..], [0xEE, 0xEE].as_slice());
-    assert_eq!(rt; put_frame(cid, &ready, &mut into), 8);
-    assert_eq!(rt; &into[..8], READY.as_slice());
-    Ok(())
+fn frames_of_the_standard(rt: HostRuntime) {
+    match frame_of(&INFORMATION, 48) {
+        Ok(Frame::I {
+            tx: 1,
+            last: false,
+            req: 0,
+            sar: 0,
+            total: 0,
+            octets,
+        }) => { assert_eq!(rt; octets.len(), 10) }
+        _ => panic!(rt; "an I-frame"),
+    }
+    match frame_of(&READY, 48) {
+        Ok(Frame::S {
+            kind: SKind::Rr,
+            poll: false,
+            last: false,
+            req: 1,
+        }) => {}
+        _ => panic!(rt; "an RR frame"),
+    }
 }
 
 #[test]
@@ -61,10 +57,31 @@ fn refusals_in_their_order(rt: HostRuntime) {
     }
 }
 
+/// Writes an I-frame with TxSeq 1 and these octets, and answers how many octets it has.
+fn put_information(cid: Cid, octets: &[u8], into: &mut [u8]) -> usize
+    requires few { length octets.now ≤ 10 }
+    requires room { 8 + length octets.now ≤ length into.old }
+    ensures { result ≡ 8 + length octets.now }
+{
+    let frame = Frame::I {
+        tx: 1,
+        last: false,
+        req: 0,
+        sar: 0,
+        total: 0,
+        octets,
+    };
+    put_frame(cid, &frame, into)
+}
+
 #[test]
-fn heads_of_written_frames(rt: HostRuntime) -> Result<(), Fail> {
+fn written_frames(rt: HostRuntime) -> Result<(), Fail> {
     let cid = Cid::of(0x0040).ok_or("a channel")?;
-    let mut into = [0; 60];
+    let mut into = [0xEE; 20];
+    let end = put_information(cid, &[0, 1, 2, 3, 4, 5, 6, 7, 8, 9], &mut into);
+    assert_eq!(rt; end, 18);
+    assert_eq!(rt; &into[..18], INFORMATION.as_slice());
+    assert_eq!(rt; &into[18..], [0xEE, 0xEE].as_slice());
     let reject = Frame::S {
         kind: SKind::Rej,
         poll: false,
@@ -73,16 +90,5 @@ fn heads_of_written_frames(rt: HostRuntime) -> Result<(), Fail> {
     };
     assert_eq!(rt; put_frame(cid, &reject, &mut into), 8);
     assert_eq!(rt; &into[4..6], [0x05, 0x05].as_slice());
-    let start = Frame::I {
-        tx: 0,
-        last: false,
-        req: 0,
-        sar: 1,
-        total: 100,
-        octets: &[0x5A; 46],
-    };
-    assert_eq!(rt; put_frame(cid, &start, &mut into), 56);
-    assert_eq!(rt; &into[..8], [0x34, 0, 0x40, 0, 0, 0x40, 100, 0].as_slice());
-    assert!(rt; frame_of(&into[..56], 46) == Ok(start));
     Ok(())
 }
