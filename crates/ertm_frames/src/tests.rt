@@ -8,28 +8,33 @@ use std::test::Fail;
 const INFORMATION: [u8; 18] = [
     0x0E, 0x00, 0x40, 0x00, 0x02, 0x00, 0, 1, 2, 3, 4, 5, 6, 7, 8, 9, 0x38, 0x61,
 ];
+
 const READY: [u8; 8] = [0x04, 0x00, 0x40, 0x00, 0x01, 0x01, 0xD4, 0x14];
 
 #[test]
 fn frames_of_the_standard(rt: HostRuntime) {
     match frame_of(&INFORMATION, 48) {
-        Ok(Frame::I {
-            tx: 1,
-            last: false,
-            req: 0,
-            sar: 0,
-            total: 0,
-            octets,
-        }) => { assert_eq!(rt; octets.len(), 10) }
+        Ok(
+            Frame::I {
+                tx: 1,
+                last: false,
+                req: 0,
+                sar: 0,
+                total: 0,
+                octets,
+            },
+        ) => { assert_eq!(rt; octets.len(), 10) }
         _ => panic!(rt; "an I-frame"),
     }
     match frame_of(&READY, 48) {
-        Ok(Frame::S {
-            kind: SKind::Rr,
-            poll: false,
-            last: false,
-            req: 1,
-        }) => {}
+        Ok(
+            Frame::S {
+                kind: SKind::Rr,
+                poll: false,
+                last: false,
+                req: 1,
+            },
+        ) => {}
         _ => panic!(rt; "an RR frame"),
     }
 }

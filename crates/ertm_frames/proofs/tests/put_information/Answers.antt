@@ -8,4 +8,5 @@ put_frame-requires-clause-fits c = record {
   sar_fits = omega arith;
   total_fits = omega arith;
   stated = λ other. refl;
-  are_octets = λ i. omega (arith, c.type_inv.octets i) }
+  are_octets = λ i. omega (arith, c.type_inv.octets i);
+}
