@@ -1,0 +1,12 @@
+//! Data elements of the Service Discovery Protocol (Core 5.1, Volume 3 Part B, 3), read and written
+//! against one spelling.
+#![tactic(auto)]
+
+mod element;
+mod fault;
+mod header;
+mod identifier;
+
+pub use element::{Children, Element};
+pub use fault::SdpRefusal;
+pub use identifier::uuid_of;
