@@ -1,5 +1,5 @@
 -- What data elements are (Core 5.1, Volume 3 Part B, 3): values without memory, and trees of them.
-use Rattle.std.specs.Prelude.{ℕ, zero, suc, ◌+◌, ◌≡◌, ◌==◌, ◌^◌, ◌≤◌, ℤ, Bool, not, List, [], ◌∷◌, ◌++◌, length, slice_index, if◌then◌else◌, max, ⊤}
+use Rattle.std.specs.Prelude.{ℕ, ◌==◌, ℤ, Bool, not, List, [], ◌∷◌, ◌++◌, length, slice_index, if◌then◌else◌}
 use Rattle.byteorder.specs.Endian.{big_bytes, big_number, twos_complement}
 use Rattle.sdp_elements.specs.declared.header.Kind.{Kind}
 use Rattle.sdp_elements.specs.declared.header.Kind.TheVariants as kinds

@@ -1,5 +1,5 @@
 -- The header of a data element and the length of its content (Core 5.1, Volume 3 Part B, 3.2 and 3.3).
-use Rattle.std.specs.Prelude.{◌≡◌, ℕ, ◌+◌, ◌*◌, ◌/◌, ◌%◌, ◌^◌, ◌<◌, ◌≤◌, ⊤, ◌⊎◌, Bool, true, false, ◌||◌, ◌==◌, nat_lt, nat_le, if◌then◌else◌, List, [], length, Option, Some, None, Result, Ok, Err}
+use Rattle.std.specs.Prelude.{◌≡◌, ℕ, ◌/◌, ◌%◌, ◌^◌, ◌≤◌, ⊤, ◌⊎◌, Bool, ◌||◌, ◌==◌, nat_lt, nat_le, if◌then◌else◌, List, Option, Some, None, Result, Ok, Err}
 use Rattle.byteorder.specs.Endian.{big_number}
 use Rattle.sdp_elements.specs.declared.fault.SdpRefusal.{SdpRefusal}
 use Rattle.sdp_elements.specs.declared.fault.SdpRefusal.TheVariants.{BadHeader, BadUuidSize}

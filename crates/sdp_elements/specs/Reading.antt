@@ -1,12 +1,11 @@
 -- Reading a data element from left to right, with the first refusal that is met.
-use Rattle.std.specs.Prelude.{◌≡◌, ℕ, zero, suc, ◌+◌, ◌<◌, ◌≤◌, ◌%◌, Bool, true, false, ◌&&◌, ◌==◌, List, [], ◌∷◌, length, take, drop, Result, Ok, Err, nat_lt, if◌then◌else◌}
+use Rattle.std.specs.Prelude.{◌≡◌, ℕ, zero, suc, ◌+◌, ◌≤◌, ◌%◌, Bool, true, false, ◌&&◌, ◌==◌, List, [], ◌∷◌, length, take, drop, Result, Ok, Err, nat_lt, if◌then◌else◌}
 use Rattle.sdp_elements.specs.declared.fault.SdpRefusal.{SdpRefusal}
 use Rattle.sdp_elements.specs.declared.fault.SdpRefusal.TheVariants.{TooDeep, LengthMismatch}
 use Rattle.sdp_elements.specs.declared.header.Kind.{Kind}
 use Rattle.sdp_elements.specs.declared.header.Kind.TheVariants as kinds
-use Rattle.sdp_elements.specs.declared.element.Element.{Element}
 use Rattle.sdp_elements.specs.Headers.{header_at, length_octets, content_len}
-use Rattle.sdp_elements.specs.Elements.{PlainElement, Value, Sequence, Alternative, Tree, Leaf, SequenceOf, AlternativeOf, Trees, Finish, Then, element_in, plain}
+use Rattle.sdp_elements.specs.Elements.{PlainElement, Value, Sequence, Alternative, Tree, Leaf, SequenceOf, AlternativeOf, Trees, Finish, Then, element_in}
 
 infixl 10 ◌>>=◌
 abbrev pub ◌>>=◌ : {A B : Type 0} → Result A SdpRefusal → (A → Result B SdpRefusal) → Result B SdpRefusal
@@ -88,10 +87,10 @@ parts_in levels content = parts_at (tree_at LengthMismatch levels) (length conte
 
 -- ---- what functions answer
 
--- an element that stands at the front, by how many octets it has
-abbrev pub GivesFront : List ℕ → Result (Element × ℕ) SdpRefusal → Result (PlainElement × List ℕ) SdpRefusal → Type 0
-GivesFront octets (Ok found) read = (0 < found.1) × (found.1 ≤ length octets) × (read ≡ Ok (plain found.0, drop found.1 octets))
-GivesFront octets (Err e) read = read ≡ Err e
+-- what stands at the front of octets, seen by view, and by used how many octets it has: the rest is behind it
+abbrev pub Gives : {X Y : Type 0} → (X → Y) → (X → ℕ) → List ℕ → Result X SdpRefusal → Result (Y × List ℕ) SdpRefusal → Type 0
+Gives view used octets (Ok x) read = (used x ≤ length octets) × (read ≡ Ok (view x, drop (used x) octets))
+Gives view used octets (Err e) read = read ≡ Err e
 
 -- the parts that a lent element holds are those of the tree
 abbrev pub Shows : ℕ → PlainElement → Tree → Type 0

@@ -1,7 +1,8 @@
 //! The header of a data element: its type and the size index (Core 5.1, Volume 3 Part B, 3.2, 3.3).
 
-ghost use Rattle.std.specs.Prelude.{◌≡◌, ◌<◌, ◌≤◌, ◌+◌, ◌^◌, length, IfSome, IfNone};
-ghost use Rattle.sdp_elements.specs.Headers.{kind_at, has_index, header_at, length_octets, fixed_len, content_len};
+ghost use Rattle.std.specs.Prelude.{◌≡◌, ◌<◌, ◌≤◌, ◌+◌, ◌^◌, length, true, IfSome, IfNone, IfOk};
+ghost use Rattle.sdp_elements.specs.Reading.{Gives, content_at};
+ghost use Rattle.sdp_elements.specs.Headers.{kind_at, has_index, header_at, length_octets, fixed_len, content_len, HasLength};
 
 use crate::fault::SdpRefusal;
 use byteorder::{BigEndian, ByteOrder};
@@ -52,7 +53,7 @@ fn has_index(kind: Kind, index: u8) -> bool
 
 /// The type that a header names. `BadUuidSize` and `BadHeader` are answered for a size that the type
 /// does not have, `BadHeader` for a type that is reserved.
-pub fn header(octet: u8) -> Result<Kind, SdpRefusal>
+pub fn header_of(octet: u8) -> Result<Kind, SdpRefusal>
     ensures { result ≡ header_at octet }
 {
     match kind_of(octet / 8) {
@@ -106,4 +107,23 @@ fn content_len(kind: Kind, index: u8, octets: &[u8]) -> Option<usize>
         return Some(fixed_len(kind, index));
     }
     Some(BigEndian::read_uint(octets, width) as usize)
+}
+
+/// The content behind a header and its length octets, and how many octets both have; `past` is the
+/// refusal where the octets end first.
+#[tactic(auto, unfolding(crate::specs::Reading::content_at))]
+pub fn content(past: SdpRefusal, kind: Kind, index: u8, octets: &[u8]) -> Result<(&[u8], usize), SdpRefusal>
+    requires { has_index kind index ≡ true }
+    ensures read { Gives (λ x. x.0.now) (λ x. x.1) octets.now result (content_at past kind index octets.now) }
+    ensures len { IfOk result (λ x. HasLength kind (length x.0.now)) }
+{
+    let width = length_octets(index);
+    let Some(len) = content_len(kind, index, octets) else {
+        return Err(past);
+    };
+    let end = width + len;
+    if octets.len() < end {
+        return Err(past);
+    }
+    Ok((&octets[width..end], end))
 }

@@ -6,7 +6,9 @@ mod element;
 mod fault;
 mod header;
 mod identifier;
+mod reading;
 
 pub use element::{Children, Element};
 pub use fault::SdpRefusal;
 pub use identifier::uuid_of;
+

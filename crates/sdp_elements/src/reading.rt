@@ -1,0 +1,83 @@
+//! Reading elements from the front of octets.
+
+ghost use Rattle.std.specs.Prelude.{◌≡◌, ◌<◌, length, true, IfOk};
+ghost use Rattle.sdp_elements.specs.Headers.{HasLength, has_index};
+ghost use Rattle.sdp_elements.specs.Elements.{element_in, plain};
+ghost use Rattle.sdp_elements.specs.Reading.{Gives, is_holder, behind_header, front_at};
+
+use crate::element::{Children, Element};
+use crate::fault::SdpRefusal;
+use crate::header::{Kind, content, header_of};
+use crate::identifier::uuid_in;
+use byteorder::{BigEndian, ByteOrder};
+
+/// The element of this type that the content is.
+fn element_in(kind: Kind, content: &[u8]) -> Element<'_>
+    requires { HasLength kind (length content.now) }
+    ensures { plain result ≡ element_in kind content.now }
+{
+    match kind {
+        Kind::Nil => Element::Nil,
+        Kind::Unsigned => Element::Unsigned(
+            content.len() as u8,
+            BigEndian::read_uint128(content, content.len()),
+        ),
+        Kind::Signed => Element::Signed(
+            content.len() as u8,
+            BigEndian::read_int128(content, content.len()),
+        ),
+        Kind::Uuid => Element::Uuid(uuid_in(content)),
+        Kind::Text => Element::Text(content),
+        Kind::Boolean => Element::Boolean(content[0] != 0),
+        Kind::Sequence => Element::Sequence(Children { left: content }),
+        Kind::Alternative => Element::Alternative(Children { left: content }),
+        Kind::Url => Element::Url(content),
+    }
+}
+
+/// Whether elements of this type hold others.
+fn is_holder(kind: Kind) -> bool
+    ensures { result ≡ is_holder kind }
+{
+    matches!(kind, Kind::Sequence | Kind::Alternative)
+}
+
+/// The element behind a header of this type, and how many of the octets it has.
+#[tactic(auto, unfolding(crate::specs::Reading::behind_header))]
+fn behind_header(
+    past: SdpRefusal,
+    levels: u8,
+    kind: Kind,
+    index: u8,
+    octets: &[u8],
+) -> Result<(Element<'_>, usize), SdpRefusal>
+    requires { has_index kind index ≡ true }
+    ensures { Gives (λ x. plain x.0) (λ x. x.1) octets.now result (behind_header past levels kind index octets.now) }
+{
+    if is_holder(kind) && levels == 0 {
+        return Err(SdpRefusal::TooDeep);
+    }
+    let (content, used) = content(past, kind, index, octets)?;
+    Ok((element_in(kind, content), used))
+}
+
+/// The element at the front, its parts not judged, and how many octets it has. So many `levels` of
+/// elements that hold others may begin; `past` is the refusal where the octets end first.
+#[tactic(auto, unfolding(crate::specs::Reading::front_at))]
+pub fn front(
+    past: SdpRefusal,
+    levels: u8,
+    bytes: &[u8],
+) -> Result<(Element<'_>, usize), SdpRefusal>
+    ensures read { Gives (λ x. plain x.0) (λ x. x.1) bytes.now result (front_at past levels bytes.now) }
+    ensures some { IfOk result (λ x. 0 < x.1) }
+{
+    let [octet, behind @ ..] = bytes else {
+        return Err(past);
+    };
+    let kind = header_of(*octet)?;
+    match behind_header(past, levels, kind, octet % 8, behind) {
+        Ok((element, used)) => Ok((element, 1 + used)),
+        Err(refusal) => Err(refusal),
+    }
+}
