@@ -33,6 +33,12 @@ mutual
     Finish : Trees
     Then : Tree → Trees → Trees
 
+-- the octets of the parts
+abbrev pub content_of : PlainElement → List ℕ
+content_of (Value value) = []
+content_of (Sequence content) = content
+content_of (Alternative content) = content
+
 -- ---- identifiers
 
 -- the Base UUID behind its first four octets: 0000-1000-8000-00805F9B34FB (2.5.1)

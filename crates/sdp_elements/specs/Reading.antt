@@ -1,5 +1,5 @@
 -- Reading a data element from left to right, with the first refusal that is met.
-use Rattle.std.specs.Prelude.{◌≡◌, ℕ, zero, suc, ◌+◌, ◌≤◌, ◌%◌, Bool, true, false, ◌&&◌, ◌==◌, List, [], ◌∷◌, length, take, drop, Result, Ok, Err, nat_lt, if◌then◌else◌}
+use Rattle.std.specs.Prelude.{◌≡◌, ℕ, zero, suc, ◌+◌, ◌-◌, ◌<◌, ⊤, ◌≤◌, ◌%◌, Bool, true, false, ◌&&◌, ◌==◌, List, [], ◌∷◌, length, take, drop, Result, Ok, Err, nat_lt, if◌then◌else◌}
 use Rattle.sdp_elements.specs.declared.fault.SdpRefusal.{SdpRefusal}
 use Rattle.sdp_elements.specs.declared.fault.SdpRefusal.TheVariants.{TooDeep, LengthMismatch}
 use Rattle.sdp_elements.specs.declared.header.Kind.{Kind}
@@ -92,8 +92,19 @@ abbrev pub Gives : {X Y : Type 0} → (X → Y) → (X → ℕ) → List ℕ →
 Gives view used octets (Ok x) read = (used x ≤ length octets) × (read ≡ Ok (view x, drop (used x) octets))
 Gives view used octets (Err e) read = read ≡ Err e
 
+-- an element that holds others begins only where a level is left
+abbrev pub IsWithin : ℕ → PlainElement → Type 0
+IsWithin levels (Value value) = ⊤
+IsWithin levels (Sequence content) = 0 < levels
+IsWithin levels (Alternative content) = 0 < levels
+
 -- the parts that a lent element holds are those of the tree
 abbrev pub Shows : ℕ → PlainElement → Tree → Type 0
 Shows levels (Value value) tree = tree ≡ Leaf value
 Shows levels (Sequence content) tree = (parts : Trees) × (parts_in levels content ≡ Ok parts) × (tree ≡ SequenceOf parts)
 Shows levels (Alternative content) tree = (parts : Trees) × (parts_in levels content ≡ Ok parts) × (tree ≡ AlternativeOf parts)
+
+-- the same as Gives for an element with all its parts, of which so many levels of elements that hold others were let in
+abbrev pub GivesTree : {X : Type 0} → (X → PlainElement) → (X → ℕ) → ℕ → List ℕ → Result X SdpRefusal → Result (Tree × List ℕ) SdpRefusal → Type 0
+GivesTree view used levels octets (Ok x) read = (used x ≤ length octets) × ((tree : Tree) × (read ≡ Ok (tree, drop (used x) octets)) × Shows (levels - 1) (view x) tree)
+GivesTree view used levels octets (Err e) read = read ≡ Err e

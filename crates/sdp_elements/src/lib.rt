@@ -11,4 +11,4 @@ mod reading;
 pub use element::{Children, Element};
 pub use fault::SdpRefusal;
 pub use identifier::uuid_of;
-
+pub use reading::element_of;

@@ -2,14 +2,17 @@
 
 ghost use Rattle.std.specs.Prelude.{◌≡◌, ◌<◌, length, true, IfOk};
 ghost use Rattle.sdp_elements.specs.Headers.{HasLength, has_index};
-ghost use Rattle.sdp_elements.specs.Elements.{element_in, plain};
-ghost use Rattle.sdp_elements.specs.Reading.{Gives, is_holder, behind_header, front_at};
+ghost use Rattle.sdp_elements.specs.Elements.{element_in, plain, content_of};
+ghost use Rattle.sdp_elements.specs.Reading.{Gives, GivesTree, IsWithin, is_holder, behind_header, front_at, tree_at};
 
 use crate::element::{Children, Element};
 use crate::fault::SdpRefusal;
 use crate::header::{Kind, content, header_of};
 use crate::identifier::uuid_in;
 use byteorder::{BigEndian, ByteOrder};
+
+/// How many sequences and alternatives may stand in each other.
+const LEVELS: u8 = 8;
 
 /// The element of this type that the content is.
 fn element_in(kind: Kind, content: &[u8]) -> Element<'_>
@@ -52,7 +55,8 @@ fn behind_header(
     octets: &[u8],
 ) -> Result<(Element<'_>, usize), SdpRefusal>
     requires { has_index kind index ≡ true }
-    ensures { Gives (λ x. plain x.0) (λ x. x.1) octets.now result (behind_header past levels kind index octets.now) }
+    ensures read { Gives (λ x. plain x.0) (λ x. x.1) octets.now result (behind_header past levels kind index octets.now) }
+    ensures within { IfOk result (λ x. IsWithin levels (plain x.0)) }
 {
     if is_holder(kind) && levels == 0 {
         return Err(SdpRefusal::TooDeep);
@@ -71,6 +75,7 @@ pub fn front(
 ) -> Result<(Element<'_>, usize), SdpRefusal>
     ensures read { Gives (λ x. plain x.0) (λ x. x.1) bytes.now result (front_at past levels bytes.now) }
     ensures some { IfOk result (λ x. 0 < x.1) }
+    ensures within { IfOk result (λ x. IsWithin levels (plain x.0)) }
 {
     let [octet, behind @ ..] = bytes else {
         return Err(past);
@@ -80,4 +85,59 @@ pub fn front(
         Ok((element, used)) => Ok((element, 1 + used)),
         Err(refusal) => Err(refusal),
     }
+}
+
+/// The octets of the parts that an element holds.
+fn content_of<'a>(element: &Element<'a>) -> &'a [u8]
+    ensures { result.now ≡ content_of (plain element.now) }
+{
+    match element {
+        Element::Sequence(children) | Element::Alternative(children) => children.left,
+        Element::Nil
+        | Element::Unsigned(..)
+        | Element::Signed(..)
+        | Element::Uuid(_)
+        | Element::Text(_)
+        | Element::Boolean(_)
+        | Element::Url(_) => &[],
+    }
+}
+
+/// The element at the front with all its parts judged, and how many octets it has. A part is within
+/// what holds it, and one level less is left there.
+fn judge<'a>(
+    past: SdpRefusal,
+    levels: u8,
+    bytes: &'a [u8],
+) -> Result<(Element<'a>, usize), SdpRefusal>
+    ensures tree { GivesTree (λ x. plain x.0) (λ x. x.1) levels bytes.now result (tree_at past levels bytes.now) }
+    ensures some { IfOk result (λ x. 0 < x.1) }
+{
+    let (element, used) = match front(past, levels, bytes) {
+        Ok(found) => found,
+        Err(refusal) => return Err(refusal),
+    };
+    let mut left = content_of(&element);
+    while !left.is_empty() {
+        match judge(SdpRefusal::LengthMismatch, levels - 1, left) {
+            Ok((_, part)) => left = &left[part..],
+            Err(refusal) => return Err(refusal),
+        }
+    }
+    Ok((element, used))
+}
+
+/// The element at the front, with how many octets it has (Core 5.1, Volume 3 Part B, 3). Its parts
+/// are judged too, and `Children` walks them.
+///
+/// Lengths are read in any form. At most eight sequences or alternatives stand in each other. Parts
+/// are judged from the front inwards; at one part the refusals come in this order: `BadHeader` or
+/// `BadUuidSize`, `TooDeep`, and then `Short` where the input ends within the outermost element, or
+/// `LengthMismatch` where a part passes the end of the element that holds it.
+pub fn element_of<'a>(bytes: &'a [u8]) -> Result<(Element<'a>, usize), SdpRefusal>
+    // Which element or refusal it is.
+    ensures exact { GivesTree (λ x. plain x.0) (λ x. x.1) 8 bytes.now result (tree_at SdpRefusal.Short 8 bytes.now) }
+    ensures some { IfOk result (λ x. 0 < x.1) }
+{
+    judge(SdpRefusal::Short, LEVELS, bytes)
 }
