@@ -1,2 +1,5 @@
 pub mod Lengths
 pub mod ReadingLaws
+pub mod WritingLaws
+pub mod FormLaws
+pub mod TreeLaws

@@ -1,3 +1,4 @@
 pub mod Headers
 pub mod Elements
 pub mod Reading
+pub mod Spelling

@@ -1,7 +1,8 @@
 //! Identifiers of services and protocols (Core 5.1, Volume 3 Part B, 2.5.1).
 
-ghost use Rattle.std.specs.Prelude.{◌≡◌, ◌⊎◌, length};
-ghost use Rattle.sdp_elements.specs.Elements.{short_uuid, uuid_in};
+ghost use Rattle.std.specs.Prelude.{◌≡◌, ◌⊎◌, length, drop};
+ghost use Rattle.std.specs.Str.{bytes_eq};
+ghost use Rattle.sdp_elements.specs.Elements.{short_uuid, uuid_in, base_end};
 
 use byteorder::{BigEndian, ByteOrder};
 use uuid::Uuid;
@@ -31,4 +32,12 @@ pub fn uuid_in(content: &[u8]) -> Uuid
         return Uuid::from_bytes(octets);
     }
     uuid_of(BigEndian::read_uint(content, content.len()) as u32)
+}
+
+/// Whether an identifier is the Base UUID but for its first four octets.
+pub fn is_short(octets: &[u8]) -> bool
+    requires { length octets.now ≡ 16 }
+    ensures { result ≡ bytes_eq (drop 4 octets.now) base_end }
+{
+    octets[4..] == BASE[4..]
 }

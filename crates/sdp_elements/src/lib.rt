@@ -7,8 +7,11 @@ mod fault;
 mod header;
 mod identifier;
 mod reading;
+mod walk;
+mod writing;
 
 pub use element::{Children, Element};
 pub use fault::SdpRefusal;
 pub use identifier::uuid_of;
 pub use reading::element_of;
+pub use writing::put_element;

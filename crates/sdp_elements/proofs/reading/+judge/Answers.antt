@@ -1,4 +1,4 @@
-use Rattle.std.proofs.Common.{◌<◌, ◌-◌, length, drop, take, subst, sym, ap, ◌∙◌, arith, refl}
+use Rattle.std.proofs.Common.{◌-◌, length, drop, subst, sym, ◌∙◌, arith, refl}
 use Rattle.std.proofs.lemmas.Bool.{eqb-true, eqb-false}
 use Rattle.sdp_elements.specs.Elements.{plain, content_of}
 use Rattle.sdp_elements.proofs.ReadingLaws.{Decides, decides_all, front_refused, goes_on_by, tree_refused, tree_found}
