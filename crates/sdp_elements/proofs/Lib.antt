@@ -3,3 +3,4 @@ pub mod ReadingLaws
 pub mod WritingLaws
 pub mod FormLaws
 pub mod TreeLaws
+pub mod ContractLaws

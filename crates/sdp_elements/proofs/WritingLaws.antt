@@ -8,7 +8,7 @@ pub written_behind : (front content old mid : List ℕ) (at end : ℕ) → mid �
 written_behind front content old mid at end e l m =
     let rest : drop at mid ≡ drop at old = ap (drop at) e ∙ drop_at front (drop at old) at (sym l) in
     let behind : drop end mid ≡ drop end old =
-      ap (λ (n : ℕ). drop n mid) m ∙ sym (drop-drop (length content) at mid) ∙ ap (drop (length content)) rest ∙ drop-drop (length content) at old ∙ ap (λ (n : ℕ). drop n old) (sym m) in
+    ap (λ (n : ℕ). drop n mid) m ∙ sym (drop-drop (length content) at mid) ∙ ap (drop (length content)) rest ∙ drop-drop (length content) at old ∙ ap (λ (n : ℕ). drop n old) (sym m) in
     ap (λ (xs : List ℕ). take at xs ++ (content ++ drop end mid)) e ∙ ap (λ (xs : List ℕ). xs ++ (content ++ drop end mid)) (take_at front (drop at old) at (sym l))
     ∙ ap (λ (xs : List ℕ). front ++ (content ++ xs)) behind ∙ sym (append_assoc front content (drop end old))
 

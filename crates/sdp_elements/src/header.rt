@@ -112,7 +112,12 @@ fn content_len(kind: Kind, index: u8, octets: &[u8]) -> Option<usize>
 /// The content behind a header and its length octets, and how many octets both have; `past` is the
 /// refusal where the octets end first.
 #[tactic(auto, unfolding(crate::specs::Reading::content_at))]
-pub fn content(past: SdpRefusal, kind: Kind, index: u8, octets: &[u8]) -> Result<(&[u8], usize), SdpRefusal>
+pub fn content(
+    past: SdpRefusal,
+    kind: Kind,
+    index: u8,
+    octets: &[u8],
+) -> Result<(&[u8], usize), SdpRefusal>
     requires { has_index kind index ≡ true }
     ensures read { Gives (λ x. x.0.now) (λ x. x.1) octets.now result (content_at past kind index octets.now) }
     ensures len { IfOk result (λ x. HasLength kind (length x.0.now)) }

@@ -1,8 +1,9 @@
 //! Reading elements from the front of octets.
 
-ghost use Rattle.std.specs.Prelude.{◌≡◌, ◌<◌, length, true, IfOk};
+ghost use Rattle.std.specs.Prelude.{◌≡◌, ℕ, ◌<◌, ◌≤◌, List, ◌++◌, length, take, drop, true, Ok, IfOk, IsOkAnd};
 ghost use Rattle.sdp_elements.specs.Headers.{HasLength, has_index};
-ghost use Rattle.sdp_elements.specs.Elements.{element_in, plain, content_of};
+ghost use Rattle.sdp_elements.specs.Elements.{Tree, element_in, plain, content_of};
+ghost use Rattle.sdp_elements.specs.Spelling.{IsSpelledBy, depth, Stands};
 ghost use Rattle.sdp_elements.specs.Reading.{Gives, GivesTree, IsWithin, is_holder, behind_header, front_at, tree_at};
 
 use crate::element::{Children, Element};
@@ -68,11 +69,7 @@ fn behind_header(
 /// The element at the front, its parts not judged, and how many octets it has. So many `levels` of
 /// elements that hold others may begin; `past` is the refusal where the octets end first.
 #[tactic(auto, unfolding(crate::specs::Reading::front_at))]
-pub fn front(
-    past: SdpRefusal,
-    levels: u8,
-    bytes: &[u8],
-) -> Result<(Element<'_>, usize), SdpRefusal>
+pub fn front(past: SdpRefusal, levels: u8, bytes: &[u8]) -> Result<(Element<'_>, usize), SdpRefusal>
     ensures read { Gives (λ x. plain x.0) (λ x. x.1) bytes.now result (front_at past levels bytes.now) }
     ensures some { IfOk result (λ x. 0 < x.1) }
     ensures within { IfOk result (λ x. IsWithin levels (plain x.0)) }
@@ -112,6 +109,7 @@ fn judge<'a>(
 ) -> Result<(Element<'a>, usize), SdpRefusal>
     ensures tree { GivesTree (λ x. plain x.0) (λ x. x.1) levels bytes.now result (tree_at past levels bytes.now) }
     ensures some { IfOk result (λ x. 0 < x.1) }
+    ensures front { IfOk result (λ x. front_at past levels bytes.now ≡ Ok (plain x.0, drop x.1 bytes.now)) }
 {
     let (element, used) = match front(past, levels, bytes) {
         Ok(found) => found,
@@ -135,9 +133,13 @@ fn judge<'a>(
 /// `BadUuidSize`, `TooDeep`, and then `Short` where the input ends within the outermost element, or
 /// `LengthMismatch` where a part passes the end of the element that holds it.
 pub fn element_of<'a>(bytes: &'a [u8]) -> Result<(Element<'a>, usize), SdpRefusal>
-    // Which element or refusal it is.
+    // What is read is spelled so, and the parts that are lent are those of the tree.
+    ensures found { IfOk result (λ x. (tree : Tree) × IsSpelledBy tree (take x.1 bytes.now) × (depth tree ≤ 8) × Stands (plain x.0) tree) }
+    // What is spelled so at the front is read.
+    ensures only { (tree : Tree) (front rest : List ℕ) → IsSpelledBy tree front → depth tree ≤ 8 → bytes.now ≡ front ++ rest →
+        IsOkAnd result (λ x. Stands (plain x.0) tree × (x.1 ≡ length front)) }
+    // Which refusal it is.
     ensures exact { GivesTree (λ x. plain x.0) (λ x. x.1) 8 bytes.now result (tree_at SdpRefusal.Short 8 bytes.now) }
-    ensures some { IfOk result (λ x. 0 < x.1) }
 {
     judge(SdpRefusal::Short, LEVELS, bytes)
 }

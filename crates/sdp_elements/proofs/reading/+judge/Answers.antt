@@ -22,6 +22,8 @@ returns-in-Err-judge-clause-tree t c =
     c.loop-left.invariant (omega arith) c.in-Err-judge.ensures.tree
 
 pub returns-clause-tree : goal.returns-clause-tree
-returns-clause-tree t c =
-    (c.in-Ok.ensures.read.0, tree_found c.args.past c.args.levels c.args.bytes.now (plain c.in-Ok.found.0) (drop c.in-Ok.found.1 c.args.bytes.now) c.loop-left.left.now c.in-Ok.ensures.read.1 c.in-Ok.ensures.within
-    c.loop-left.invariant (eqb-true _ _ (sym c.loop-left-test.ensures)))
+returns-clause-tree t c = (
+  c.in-Ok.ensures.read.0,
+  tree_found c.args.past c.args.levels c.args.bytes.now (plain c.in-Ok.found.0) (drop c.in-Ok.found.1 c.args.bytes.now) c.loop-left.left.now c.in-Ok.ensures.read.1 c.in-Ok.ensures.within
+      c.loop-left.invariant (eqb-true _ _ (sym c.loop-left-test.ensures)),
+)
