@@ -15,3 +15,6 @@ pub use fault::SdpRefusal;
 pub use identifier::uuid_of;
 pub use reading::element_of;
 pub use writing::put_element;
+
+#[cfg(test)]
+mod tests;
