@@ -4,3 +4,4 @@ pub mod WritingLaws
 pub mod FormLaws
 pub mod TreeLaws
 pub mod ContractLaws
+pub mod SpellingLaws

@@ -6,6 +6,7 @@ mod element;
 mod fault;
 mod header;
 mod identifier;
+pub mod laws;
 mod reading;
 mod walk;
 mod writing;
