@@ -189,9 +189,10 @@ behind_takes : (past : SdpRefusal) (levels : ℕ) (kind : Kind) (octet : ℕ) (o
 unfolding behind_header
 behind_takes past levels kind octet octets x header h e =
     let index = octet % 8 in
+    let index_fits : index < 8 = omega arith in
     let a = passed _ TooDeep _ x e in
     let b = bind_ok (content_at past kind index octets) (λ found. Ok (element_in kind found.0, found.1)) x a.1 in
-    let t = content_takes past kind index octets b.0 (omega arith) header.1 h b.1 in
+    let t = content_takes past kind index octets b.0 index_fits header.1 h b.1 in
     let made : PlainElement × List ℕ = (element_in kind b.0.0, b.0.1) in
     subst (λ (y : PlainElement × List ℕ). TakesFront (octet ∷ octets) y.0 y.1) (ok_is made x b.2)
     (record {

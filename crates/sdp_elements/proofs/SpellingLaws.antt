@@ -26,9 +26,9 @@ use Rattle.sdp_elements.proofs.TreeLaws.{tree_takes, tree_again}
 
 pub reads_what_is_spelled : ReadsWhatIsSpelled
 reads_what_is_spelled octets rest tree h = (
-    λ e. let t = tree_takes Short 8 octets (tree, rest) h e in (t.front, t.spelled, t.within, t.parts),
-    λ s. ap (tree_at Short 8) s.3 ∙ tree_again tree Short 8 s.0 rest s.1 s.2,
-  )
+  λ e. let t = tree_takes Short 8 octets (tree, rest) h e in (t.front, t.spelled, t.within, t.parts),
+  λ s. ap (tree_at Short 8) s.3 ∙ tree_again tree Short 8 s.0 rest s.1 s.2,
+)
 
 at_left : (a b : ℕ) → a ≤ max a b
 at_left a b = omega arith
@@ -59,10 +59,16 @@ sized_form kind content has fits =
     elim (cases_lt n 256) [
       | inl one ↦ (5, record { index_fits = omega arith; has = has 5 (omega arith); len_fits = inr (omega arith, one) }, ap (λ (f : List ℕ). f ++ content) (cond-true (ltb n 256) _ _ (lt-ltb _ _ one)))
       | inr more ↦ elim (cases_lt n 65536) [
-        | inl two ↦ (6, record { index_fits = omega arith; has = has 6 (omega arith); len_fits = inr (omega arith, two) },
-          ap (λ (f : List ℕ). f ++ content) (cond-false (ltb n 256) _ _ (le-ltb _ _ more) ∙ cond-true (ltb n 65536) _ _ (lt-ltb _ _ two)))
-        | inr four ↦ (7, record { index_fits = omega arith; has = has 7 (omega arith); len_fits = inr (omega arith, fits) },
-          ap (λ (f : List ℕ). f ++ content) (cond-false (ltb n 256) _ _ (le-ltb _ _ more) ∙ cond-false (ltb n 65536) _ _ (le-ltb _ _ four)))
+        | inl two ↦ (
+          6,
+          record { index_fits = omega arith; has = has 6 (omega arith); len_fits = inr (omega arith, two) },
+          ap (λ (f : List ℕ). f ++ content) (cond-false (ltb n 256) _ _ (le-ltb _ _ more) ∙ cond-true (ltb n 65536) _ _ (lt-ltb _ _ two)),
+        )
+        | inr four ↦ (
+          7,
+          record { index_fits = omega arith; has = has 7 (omega arith); len_fits = inr (omega arith, fits) },
+          ap (λ (f : List ℕ). f ++ content) (cond-false (ltb n 256) _ _ (le-ltb _ _ more) ∙ cond-false (ltb n 65536) _ _ (le-ltb _ _ four)),
+        )
       ]
     ]
 
@@ -162,18 +168,22 @@ short_is_form : (a b c d : ℕ) (rest : List ℕ) → IsOctets (a ∷ b ∷ c �
 short_is_form a b c d rest h base true zeros =
     let z = zeros refl in
     let same : a ∷ b ∷ c ∷ d ∷ rest ≡ short_uuid (big_number 2 (c ∷ d ∷ [])) =
-      ap (λ (x : ℕ). x ∷ b ∷ c ∷ d ∷ rest) z.0 ∙ ap (λ (x : ℕ). 0 ∷ x ∷ c ∷ d ∷ rest) z.1 ∙ ap (λ (y : List ℕ). 0 ∷ 0 ∷ c ∷ d ∷ y) base ∙ ap (λ (y : List ℕ). y ++ base_end) (sym (half_again c d (h 2) (h 3))) in
+    ap (λ (x : ℕ). x ∷ b ∷ c ∷ d ∷ rest) z.0 ∙ ap (λ (x : ℕ). 0 ∷ x ∷ c ∷ d ∷ rest) z.1 ∙ ap (λ (y : List ℕ). 0 ∷ 0 ∷ c ∷ d ∷ y) base ∙ ap (λ (y : List ℕ). y ++ base_end) (sym (half_again c d (h 2) (h 3))) in
     record {
-      kind = kinds.Uuid; index = 1; content = c ∷ d ∷ [];
+      kind = kinds.Uuid;
+      index = 1;
+      content = c ∷ d ∷ [];
       size = record { index_fits = omega arith; has = refl; len_fits = inl (omega arith, refl) };
       element_is = ap (λ (y : List ℕ). Value (Uuid y)) same;
       octets_are = refl;
     }
 short_is_form a b c d rest h base false zeros =
     let same : a ∷ b ∷ c ∷ d ∷ rest ≡ short_uuid (big_number 4 (a ∷ b ∷ c ∷ d ∷ [])) =
-      ap (λ (y : List ℕ). a ∷ b ∷ c ∷ d ∷ y) base ∙ ap (λ (y : List ℕ). y ++ base_end) (sym (be32-again a b c d [] (h 0) (h 1) (h 2) (h 3))) in
+    ap (λ (y : List ℕ). a ∷ b ∷ c ∷ d ∷ y) base ∙ ap (λ (y : List ℕ). y ++ base_end) (sym (be32-again a b c d [] (h 0) (h 1) (h 2) (h 3))) in
     record {
-      kind = kinds.Uuid; index = 2; content = a ∷ b ∷ c ∷ d ∷ [];
+      kind = kinds.Uuid;
+      index = 2;
+      content = a ∷ b ∷ c ∷ d ∷ [];
       size = record { index_fits = omega arith; has = refl; len_fits = inl (omega arith, refl) };
       element_is = ap (λ (y : List ℕ). Value (Uuid y)) same;
       octets_are = refl;
@@ -181,7 +191,9 @@ short_is_form a b c d rest h base false zeros =
 
 full_is_form : (octets : List ℕ) → length octets ≡ 16 → IsForm (Value (Uuid octets)) (0x1C ∷ octets)
 full_is_form octets len = record {
-  kind = kinds.Uuid; index = 4; content = octets;
+  kind = kinds.Uuid;
+  index = 4;
+  content = octets;
   size = record { index_fits = omega arith; has = refl; len_fits = inl (omega arith, len) };
   element_is = ap (λ (y : List ℕ). Value (Uuid y)) (sym (whole_uuid octets len));
   octets_are = refl;
@@ -203,7 +215,7 @@ uuid_is_form (a ∷ b ∷ c ∷ d ∷ rest) len h =
     let octets = a ∷ b ∷ c ∷ d ∷ rest in
     elim (either (bytes_eq rest base_end)) [
       | inl same ↦ subst (IsForm (Value (Uuid octets))) (sym (cond-true (bytes_eq rest base_end) _ _ same))
-        (short_is_form a b c d rest h (bytes_eq-true rest base_end same) ((a == 0) && (b == 0)) (zeros_of a b))
+          (short_is_form a b c d rest h (bytes_eq-true rest base_end same) ((a == 0) && (b == 0)) (zeros_of a b))
       | inr other ↦ subst (IsForm (Value (Uuid octets))) (sym (cond-false (bytes_eq rest base_end) _ _ other)) (full_is_form octets len)
     ]
 

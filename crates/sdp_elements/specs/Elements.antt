@@ -3,6 +3,7 @@ use Rattle.std.specs.Prelude.{ℕ, ◌==◌, ℤ, Bool, not, List, [], ◌∷◌
 use Rattle.byteorder.specs.Endian.{big_bytes, big_number, twos_complement}
 use Rattle.sdp_elements.specs.declared.header.Kind.{Kind}
 use Rattle.sdp_elements.specs.declared.header.Kind.TheVariants as kinds
+use Rattle.sdp_elements.specs.declared.element.Children.{Children}
 use Rattle.sdp_elements.specs.declared.element.Element.{Element}
 use Rattle.sdp_elements.specs.declared.element.Element.TheVariants as lent
 
@@ -67,6 +68,10 @@ element_in kinds.Sequence content = Sequence content
 element_in kinds.Alternative content = Alternative content
 element_in kinds.Url content = Value (Url content)
 
+-- the octets of the parts that are left to walk
+abbrev pub left_of : Children → List ℕ
+left_of children = children.left.now
+
 -- what a lent element is
 abbrev pub plain : Element → PlainElement
 plain lent.Nil = Value Nil
@@ -75,6 +80,6 @@ plain (lent.Signed width number) = Value (Signed width number)
 plain (lent.Uuid id) = Value (Uuid id)
 plain (lent.Text octets) = Value (Text octets.now)
 plain (lent.Boolean truth) = Value (Boolean truth)
-plain (lent.Sequence children) = Sequence children.left.now
-plain (lent.Alternative children) = Alternative children.left.now
+plain (lent.Sequence children) = Sequence (left_of children)
+plain (lent.Alternative children) = Alternative (left_of children)
 plain (lent.Url octets) = Value (Url octets.now)

@@ -1,7 +1,7 @@
 //! The parts of an element, one by one.
 
 ghost use Rattle.std.specs.Prelude.{◌≡◌, ◌≤◌, ℕ, List, ◌++◌, length, take, IfOk, IsOkAnd, IfSome, IfNone, IsSomeAnd};
-ghost use Rattle.sdp_elements.specs.Elements.{PlainElement, Tree, Trees, Then, plain};
+ghost use Rattle.sdp_elements.specs.Elements.{PlainElement, Tree, Trees, Then, left_of, plain};
 ghost use Rattle.sdp_elements.specs.Spelling.{IsForm, AreSpelledBy, Stands};
 
 use crate::element::{Children, Element};
@@ -24,13 +24,13 @@ impl<'a> Children<'a> {
     /// each later call is `None` too.
     pub fn next(&mut self) -> Option<Element<'a>>
         // What is given stood in front.
-        ensures found { IfSome result (λ x. (front : List ℕ) × IsForm (plain x) front × (self.old.left.now ≡ front ++ self.new.left.now)) }
+        ensures found { IfSome result (λ x. (front : List ℕ) × IsForm (plain x) front × (left_of self.old ≡ front ++ left_of self.new)) }
         // A part that stands in front is given.
-        ensures only { (element : PlainElement) (front rest : List ℕ) → IsForm element front → self.old.left.now ≡ front ++ rest →
-            IsSomeAnd result (λ x. plain x ≡ element) × (self.new.left.now ≡ rest) }
+        ensures only { (element : PlainElement) (front rest : List ℕ) → IsForm element front → left_of self.old ≡ front ++ rest →
+            IsSomeAnd result (λ x. plain x ≡ element) × (left_of self.new ≡ rest) }
         // Of parts that were judged it is the first, and the others are left.
-        ensures parts { (first : Tree) (others : Trees) → AreSpelledBy (Then first others) self.old.left.now →
-            IsSomeAnd result (λ x. Stands (plain x) first) × AreSpelledBy others self.new.left.now }
+        ensures parts { (first : Tree) (others : Trees) → AreSpelledBy (Then first others) (left_of self.old) →
+            IsSomeAnd result (λ x. Stands (plain x) first) × AreSpelledBy others (left_of self.new) }
         ensures none { IfNone result (self.new ≡ self.old) }
     {
         match part(self.left) {
