@@ -18,7 +18,7 @@ use Rattle.sdp_elements.specs.Headers.{has_index, length_octets, fixed_len}
 use Rattle.sdp_elements.specs.Elements.{PlainValue, Nil, Unsigned, Signed, Uuid, Text, Boolean, Url, PlainElement, Value, Tree, Leaf, SequenceOf, AlternativeOf, Trees, Finish, Then, element_in, base_end, short_uuid, uuid_in}
 use Rattle.sdp_elements.specs.Reading.{tree_at}
 use Rattle.sdp_elements.specs.Spelling.{type_number, HasSize, form, IsForm, IsSpelledBy, AreSpelledBy, depth, width_index, numbered, sized, uuid_octets, truth_octet, value_octets, IsWidth, HasSpelling}
-use Rattle.sdp_elements.specs.Laws.{ReadsWhatIsSpelled, OneReading, ReadsAgain, HasOctets, tree_octets, parts_octets, TreeHasSpelling, PartsHaveSpelling}
+use Rattle.sdp_elements.specs.Laws.{ReadsWhatIsSpelled, OneReading, WritesAForm, ReadsAgain, HasOctets, tree_octets, parts_octets, TreeHasSpelling, PartsHaveSpelling}
 use Rattle.sdp_elements.proofs.ReadingLaws.{ok_is}
 use Rattle.sdp_elements.proofs.TreeLaws.{tree_takes, tree_again}
 
@@ -233,6 +233,13 @@ value_is_form (Uuid octets) h o = uuid_is_form octets h o
 value_is_form (Text octets) h o = sized_is_form kinds.Text octets from_five h
 value_is_form (Boolean truth) h o = boolean_is_form truth
 value_is_form (Url octets) h o = sized_is_form kinds.Url octets from_five h
+
+pub writes_a_form : WritesAForm
+writes_a_form = record {
+  value = value_is_form;
+  sequence = λ content h. sized_is_form kinds.Sequence content from_five h;
+  alternative = λ content h. sized_is_form kinds.Alternative content from_five h;
+}
 
 -- ---- trees
 
