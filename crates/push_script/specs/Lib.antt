@@ -1,0 +1,5 @@
+pub mod Words
+pub mod Outcomes
+pub mod Names
+pub mod Runs
+pub mod Scenarios
