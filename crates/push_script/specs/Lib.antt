@@ -3,3 +3,4 @@ pub mod Outcomes
 pub mod Names
 pub mod Runs
 pub mod Scenarios
+pub mod Reports

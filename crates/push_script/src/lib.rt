@@ -5,6 +5,7 @@
 mod names;
 mod outcome;
 mod pen;
+mod report;
 mod runs;
 mod scenario;
 mod word;
@@ -12,6 +13,7 @@ mod writing;
 
 pub use names::Names;
 pub use outcome::{Outcome, put_outcome};
+pub use report::Peaks;
 pub use runs::Runs;
 pub use scenario::Scenario;
 pub use word::{Side, Way, Word, put_word};

@@ -1,20 +1,37 @@
 //! The names of the objects of a scenario.
 
-ghost use Rattle.std.specs.Prelude.{◌≡◌, ◌≤◌, ◌<◌, ◌++◌, ◌∷◌, [], List, ℕ, length, MatchOption, IfOk, OnOk, OnErr, string_bytes, slice_index_or};
+ghost use Rattle.std.specs.Prelude.{◌≡◌, ◌≤◌, ◌<◌, ◌++◌, ◌∷◌, [], List, ℕ, length, MatchOption, IfOk, OnOk, OnErr, string_bytes, slice_index_or, count_by, nat_le};
 ghost use Rattle.push_script.specs.Names.{IsName, utf16_length, begins_character};
 
 use bt_base::NoMemory;
 use std::alloc::Global;
 use std::marker::Model;
 
+fn begins_character(octet: u8) -> bool
+    ensures { result ≡ begins_character octet }
+{
+    octet < 0x80 || octet >= 0xC0
+}
+
+fn characters(text: &[u8]) -> usize
+    ensures count { result ≡ count_by begins_character text.now }
+    ensures few { result ≤ length text.now }
+{
+    text.iter().filter(|octet| begins_character(**octet)).count()
+}
+
+fn long_characters(text: &[u8]) -> usize
+    ensures count { result ≡ count_by (λ octet. nat_le 0xF0 octet) text.now }
+    ensures few { result ≤ length text.now }
+{
+    text.iter().filter(|octet| **octet >= 0xF0).count()
+}
+
 /// How many UTF-16 units a text has.
 pub(crate) fn utf16_length(text: &str) -> usize
     ensures { result ≡ utf16_length text.now }
 {
-    let octets = text.as_bytes();
-    let characters = octets.iter().filter(|octet| **octet < 0x80 || **octet >= 0xC0).count();
-    let long = octets.iter().filter(|octet| **octet >= 0xF0).count();
-    characters + long
+    characters(text.as_bytes()) + long_characters(text.as_bytes())
 }
 
 /// The name of an object: 1 to 100 UTF-16 units without a NUL or a line feed.
@@ -58,8 +75,8 @@ impl Model for Names {
 impl Names {
     /// How many there are.
     pub fn len(&self) -> usize
-        ensures { result ≡ length self.now }
-        ensures few { result ≤ 64 }
+        ensures count { result ≡ length self.now }
+        ensures few { length self.now ≤ 64 }
     {
         self.names.len()
     }
