@@ -4,3 +4,7 @@ pub mod Names
 pub mod Runs
 pub mod Scenarios
 pub mod Reports
+pub mod Parts
+pub mod Stated
+pub mod Keys
+pub mod Radio

@@ -13,7 +13,7 @@ push_head number outcome = decimal number ++ codes " " ++ outcome_text outcome +
 
 -- the line of a push
 abbrev pub push_line : ℕ → Outcome → List ℕ → List ℕ
-push_line number outcome name = push_head number outcome ++ name ++ codes "\n"
+push_line number outcome name = push_head number outcome ++ (name ++ codes "\n")
 
 -- the lines of pushes, numbered from that number on
 abbrev pub push_lines : ℕ → List Outcome → List (List ℕ) → List ℕ

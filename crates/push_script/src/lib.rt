@@ -2,18 +2,24 @@
 //! came of it.
 #![tactic(auto)]
 
+mod keys;
 mod names;
 mod outcome;
+mod parts;
 mod pen;
+mod radio;
+mod refusal;
 mod report;
 mod runs;
 mod scenario;
+mod stated;
 mod word;
 mod writing;
 
 pub use names::Names;
 pub use outcome::{Outcome, put_outcome};
-pub use report::Peaks;
+pub use refusal::{ScriptFault, ScriptRefusal};
+pub use report::{Peaks, put_report};
 pub use runs::Runs;
 pub use scenario::Scenario;
 pub use word::{Side, Way, Word, put_word};

@@ -17,7 +17,9 @@ fn characters(text: &[u8]) -> usize
     ensures count { result ≡ count_by begins_character text.now }
     ensures few { result ≤ length text.now }
 {
-    text.iter().filter(|octet| begins_character(**octet)).count()
+    text.iter()
+        .filter(|octet| begins_character(**octet))
+        .count()
 }
 
 fn long_characters(text: &[u8]) -> usize

@@ -2,8 +2,9 @@
 
 ghost use Rattle.std.specs.Prelude.{◌≡◌, ◌+◌, ◌<◌, ◌≤◌, ◌^◌, ◌++◌, [], List, ℕ, length, codes, decimal};
 ghost use Rattle.push_script.specs.Outcomes.{outcome_text};
-ghost use Rattle.push_script.specs.Reports.{push_head, push_line, peaks_text, pair_line, report_text, Tells};
+ghost use Rattle.push_script.specs.Reports.{push_head, push_line, peaks_text, pair_line, push_line, push_lines, report_text, Tells};
 
+use crate::names::Name;
 use crate::outcome::{Outcome, outcome_of};
 use crate::scenario::Scenario;
 use arrayvec::ArrayString;
@@ -80,7 +81,81 @@ fn peaks_of(kept: u32, peaks: &Peaks) -> ReportText
     push_decimal(&mut text, kept);
     push_text(&mut text, "\n");
     push_pair(&mut text, "buffers ", peaks.buffers_a, peaks.buffers_b);
-    push_pair(&mut text, "window ", peaks.window_a as u16, peaks.window_b as u16);
+    push_pair(
+        &mut text,
+        "window ",
+        peaks.window_a as u16,
+        peaks.window_b as u16,
+    );
     push_pair(&mut text, "credits ", peaks.credits_a, peaks.credits_b);
     text
+}
+
+/// Writes a piece.
+fn put_piece<K: Sink>(sink: &mut K, piece: &[u8]) -> Result<(), PortFault>
+    ensures { Tells (K.content sink.old) (K.content sink.new) (K.faults sink.old) (K.faults sink.new) (K.shortages sink.old) (K.shortages sink.new) piece.now result }
+{
+    sink.put(piece)
+}
+
+/// Writes a text and a line feed.
+fn put_ended<K: Sink>(sink: &mut K, text: &[u8]) -> Result<(), PortFault>
+    ensures { Tells (K.content sink.old) (K.content sink.new) (K.faults sink.old) (K.faults sink.new) (K.shortages sink.old) (K.shortages sink.new) (text.now ++ codes "\n") result }
+{
+    if let Err(fault) = put_piece(sink, text) {
+        return Err(fault);
+    }
+    put_piece(sink, b"\n")
+}
+
+/// Writes the line of a push.
+fn put_push<K: Sink>(
+    sink: &mut K,
+    number: u32,
+    outcome: Outcome,
+    name: &str,
+) -> Result<(), PortFault>
+    ensures { Tells (K.content sink.old) (K.content sink.new) (K.faults sink.old) (K.faults sink.new) (K.shortages sink.old) (K.shortages sink.new) (push_line number outcome name.now) result }
+{
+    let head = head_of(number, outcome);
+    if let Err(fault) = put_piece(sink, head.as_str().as_bytes()) {
+        return Err(fault);
+    }
+    put_ended(sink, name.as_bytes())
+}
+
+/// Writes the lines of the pushes.
+fn put_pushes<K: Sink>(sink: &mut K, outcomes: &[Outcome], names: &[Name]) -> Result<(), PortFault>
+    requires each { length outcomes.now ≡ length names.now }
+    requires few { length names.now ≤ 64 }
+    ensures { Tells (K.content sink.old) (K.content sink.new) (K.faults sink.old) (K.faults sink.new) (K.shortages sink.old) (K.shortages sink.new) (push_lines 1 outcomes.now names.now) result }
+{
+    for (i, name) in names.iter().enumerate() {
+        if let Err(fault) = put_push(sink, i as u32 + 1, outcomes[i], name.text()) {
+            return Err(fault);
+        }
+    }
+    Ok(())
+}
+
+/// Writes the report on a scenario: a line for each object with its number, what came of it and its
+/// name, then how many objects were kept and the greatest values that the run reached.
+///
+/// It needs as many outcomes as the scenario has objects. A fault of the sink is answered, and a
+/// front of the report may then have been written.
+pub fn put_report<K: Sink>(
+    scenario: &Scenario,
+    outcomes: &[Outcome],
+    kept: u32,
+    peaks: &Peaks,
+    sink: &mut K,
+) -> Result<(), PortFault>
+    requires each { length outcomes.now ≡ length scenario.now.names }
+    ensures { Tells (K.content sink.old) (K.content sink.new) (K.faults sink.old) (K.faults sink.new) (K.shortages sink.old) (K.shortages sink.new) (report_text scenario.now.names outcomes.now kept peaks.now) result }
+{
+    if let Err(fault) = put_pushes(sink, outcomes, scenario.names.as_slice()) {
+        return Err(fault);
+    }
+    let text = peaks_of(kept, peaks);
+    put_piece(sink, text.as_str().as_bytes())
 }
