@@ -1,10 +1,10 @@
 -- Texts that are told to a sink one after the other are one text.
-use Rattle.std.proofs.Common.{◌≡◌, ℕ, zero, suc, ◌+◌, ◌<◌, ◌≤◌, List, [], ◌∷◌, ◌++◌, length, get_or, take, drop, Option, Some, None, Result, Ok, Err, refl, sym, ap, subst, ◌∙◌, append_assoc, arith, inl, inr, drop-cons, add-one}
+use Rattle.std.proofs.Common.{◌≡◌, ℕ, ◌+◌, ◌<◌, ◌≤◌, List, [], ◌++◌, length, get_or, drop, Option, Result, Ok, Err, refl, sym, ap, subst, ◌∙◌, append_assoc, arith, inl, inr, drop-cons, add-one}
 use Rattle.std.proofs.lemmas.List.{append-nil, nil_from_length, length-drop}
 use Rattle.std.proofs.lemmas.Bool.{cases_lt}
 use Rattle.std.specs.Prelude.{codes}
-use Rattle.bt_base.specs.Counts.{HasCause, HasRisen}
-use Rattle.bt_base.specs.Streams.{gained, IsPut}
+use Rattle.bt_base.specs.Counts.{HasCause}
+use Rattle.bt_base.specs.Streams.{gained}
 use Rattle.bt_base.specs.declared.ports.PortFault.{PortFault}
 use Rattle.bt_base.specs.declared.ports.PortFault.TheVariants.{Failed, NoMemory}
 use Rattle.bt_base.proofs.PortLaws.{gained-gained, front_then, front_longer, gained-nil, front_none}

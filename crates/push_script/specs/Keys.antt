@@ -1,12 +1,12 @@
 -- The keys of a scenario and the lines that state them (this project's own).
-use Rattle.std.specs.Prelude.{ℕ, Bool, true, false, ◌||◌, cond, ◌==◌, nat_lt, List, codes, Option, Some, None, Result, Ok, Err, is_some}
+use Rattle.std.specs.Prelude.{ℕ, Bool, true, false, cond, ◌==◌, nat_lt, List, codes, Option, Some, None, Result, Ok, Err, is_some}
 use Rattle.std.specs.Str.{bytes_eq}
 use Rattle.bt_base.specs.declared.settings.Transport.{Transport}
 use Rattle.bt_base.specs.declared.settings.Transport.TheVariants as transports
 use Rattle.bt_base.specs.declared.settings.Serves.{Serves}
 use Rattle.bt_base.specs.declared.settings.Serves.TheVariants as services
 use Rattle.push_script.specs.declared.refusal.ScriptRefusal.{ScriptRefusal}
-use Rattle.push_script.specs.declared.refusal.ScriptRefusal.TheVariants.{BadLine, UnknownKey, Repeated, OutOfRange, NoTransport, NoObject, TooManyObjects, LossyRfcomm, NotUtf8, TooLong, NotBuilt}
+use Rattle.push_script.specs.declared.refusal.ScriptRefusal.TheVariants.{BadLine, Repeated, OutOfRange, NotBuilt}
 use Rattle.push_script.specs.declared.stated.Key.{Key}
 use Rattle.push_script.specs.declared.stated.Key.TheVariants as keyed
 use Rattle.push_script.specs.Stated.{Stated}

@@ -8,3 +8,4 @@ pub mod Parts
 pub mod Stated
 pub mod Keys
 pub mod Radio
+pub mod Reading

@@ -1,5 +1,5 @@
 -- The names of objects (this project's own).
-use Rattle.std.specs.Prelude.{ℕ, ◌+◌, ◌≤◌, ◌≡◌, Bool, false, not, ◌&&◌, ◌||◌, ◌==◌, nat_le, nat_lt, count_by, List, length}
+use Rattle.std.specs.Prelude.{ℕ, ◌+◌, ◌≤◌, ◌≡◌, Bool, false, ◌||◌, ◌==◌, nat_le, nat_lt, count_by, List}
 use Rattle.std.specs.List.{list_any}
 
 -- the octet begins a character of UTF-8 text (The Unicode Standard, 3.9): it is none of 80 to BF

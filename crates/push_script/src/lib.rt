@@ -2,12 +2,15 @@
 //! came of it.
 #![tactic(auto)]
 
+mod draft;
 mod keys;
+mod lines;
 mod names;
 mod outcome;
 mod parts;
 mod pen;
 mod radio;
+mod reading;
 mod refusal;
 mod report;
 mod runs;
@@ -18,9 +21,13 @@ mod writing;
 
 pub use names::Names;
 pub use outcome::{Outcome, put_outcome};
+pub use reading::scenario_of;
 pub use refusal::{ScriptFault, ScriptRefusal};
 pub use report::{Peaks, put_report};
 pub use runs::Runs;
 pub use scenario::Scenario;
 pub use word::{Side, Way, Word, put_word};
 pub use writing::put_scenario;
+
+#[cfg(test)]
+mod tests;

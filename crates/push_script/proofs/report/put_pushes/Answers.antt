@@ -1,5 +1,5 @@
 use Rattle.std.proofs.Common.{refl, ◌∙◌, arith}
-use Rattle.push_script.proofs.Telling.{told_next, told_stop, told_all}
+use Rattle.push_script.proofs.Telling.{told_next, told_stop}
 use Rattle.push_script.proofs.report.put_pushes.Goals as goal
 
 pub returns-in-Err : goal.returns-in-Err
