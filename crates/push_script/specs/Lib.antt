@@ -9,3 +9,5 @@ pub mod Stated
 pub mod Keys
 pub mod Radio
 pub mod Reading
+pub mod Turns
+pub mod Laws

@@ -4,6 +4,7 @@
 
 mod draft;
 mod keys;
+pub mod laws;
 mod lines;
 mod names;
 mod outcome;

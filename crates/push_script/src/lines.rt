@@ -1,6 +1,6 @@
 //! The lines of a scenario.
 
-ghost use Rattle.std.specs.Prelude.{◌≡◌, ◌≢◌, ◌<◌, ◌∷◌, length, OnOk, MatchOption};
+ghost use Rattle.std.specs.Prelude.{◌≡◌, ◌≢◌, ◌<◌, ◌≤◌, ◌∷◌, length, OnOk, MatchOption};
 ghost use Rattle.std.specs.List.{list_any, position_or_len, before_first, after_first};
 ghost use Rattle.push_script.specs.declared.stated.Key.TheVariants as keyed;
 ghost use Rattle.push_script.specs.Names.{IsName, ends_name};
@@ -131,6 +131,7 @@ fn take_setting(draft: Draft, key: Key, value: &str) -> Result<Draft, LineFault>
 pub(crate) fn whole(draft: &Draft) -> Result<Transport, ScriptRefusal>
     ensures value { result ≡ whole draft.now }
     ensures some { OnOk result (0 < length draft.now.names) }
+    ensures few { OnOk result (length draft.now.names ≤ 64) }
 {
     let Some(transport) = draft.keys.transport else {
         return Err(ScriptRefusal::NoTransport);

@@ -110,7 +110,6 @@ fn finish(draft: Draft) -> Result<Scenario, ScriptRefusal>
     let settings = settings_of(transport, &keys);
     let (acl_length, acl_count) = acl_of(&keys);
     let chunk = chunk_of(&keys);
-    let _few = names.len();
     Ok(Scenario {
         settings,
         acl_length,

@@ -66,6 +66,7 @@ fn written_again(rt: HostRuntime) -> Result<(), Fail> {
         .ok()
         .ok_or("room for the text again")?;
     assert_eq!(rt; text.as_slice(), whole.as_slice());
+    assert_eq!(rt; again.names.len(), 1);
     let peaks = Peaks {
         buffers_a: 8,
         buffers_b: 2,
