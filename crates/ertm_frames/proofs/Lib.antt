@@ -1,0 +1,5 @@
+pub mod Parts
+pub mod Judging
+pub mod Written
+pub mod Spelled
+pub mod Joined

@@ -1,0 +1,13 @@
+pub mod Words
+pub mod Outcomes
+pub mod Names
+pub mod Runs
+pub mod Scenarios
+pub mod Reports
+pub mod Parts
+pub mod Stated
+pub mod Keys
+pub mod Radio
+pub mod Reading
+pub mod Turns
+pub mod Laws

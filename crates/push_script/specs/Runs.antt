@@ -1,0 +1,20 @@
+-- The runs of words of a radio script (this project's own).
+use Rattle.std.specs.Prelude.{ℕ, ◌≤◌, ◌<◌, ◌^◌}
+use Rattle.push_script.specs.declared.word.Word.{Word}
+use Rattle.push_script.specs.declared.word.Word.TheVariants.{Pass, Lose, Repeat, Damage, Cut, Timer, Drop, Cancel}
+
+-- The numbers of a word are in range: octets change from the fourth to the last but one that a frame can have and
+-- one of them really changes, and at least one packet is cut off.
+abbrev pub IsWord : Word → Type 0
+IsWord (Damage way at mask) = (4 ≤ at) × (at ≤ 65534) × (1 ≤ mask) × (mask ≤ 65535)
+IsWord (Cut way packets) = (1 ≤ packets) × (packets ≤ 65535)
+IsWord Pass = Unit {0}
+IsWord (Lose way) = Unit {0}
+IsWord (Repeat way) = Unit {0}
+IsWord (Timer side) = Unit {0}
+IsWord Drop = Unit {0}
+IsWord Cancel = Unit {0}
+
+-- a word stands 1 to 4,294,967,295 times
+abbrev pub IsRun : ℕ × Word → Type 0
+IsRun (count, word) = (1 ≤ count) × (count < 2 ^ 32) × IsWord word

@@ -1,0 +1,34 @@
+//! The text of a scenario, as it is read and as it is written, and the text of the report on what
+//! came of it.
+#![tactic(auto)]
+
+mod draft;
+mod keys;
+pub mod laws;
+mod lines;
+mod names;
+mod outcome;
+mod parts;
+mod pen;
+mod radio;
+mod reading;
+mod refusal;
+mod report;
+mod runs;
+mod scenario;
+mod stated;
+mod word;
+mod writing;
+
+pub use names::Names;
+pub use outcome::{Outcome, put_outcome};
+pub use reading::scenario_of;
+pub use refusal::{ScriptFault, ScriptRefusal};
+pub use report::{Peaks, put_report};
+pub use runs::Runs;
+pub use scenario::Scenario;
+pub use word::{Side, Way, Word, put_word};
+pub use writing::put_scenario;
+
+#[cfg(test)]
+mod tests;

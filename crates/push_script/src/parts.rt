@@ -1,0 +1,173 @@
+//! The parts of a line: its words and its numbers.
+
+ghost use Rattle.std.specs.Prelude.{◌≡◌, ◌==◌, ◌≤◌, ◌<◌, ◌^◌, Option, None, Some, length, MatchOption, IfSome, IfOk};
+ghost use Rattle.std.specs.Option.{option_map};
+ghost use Rattle.std.specs.List.{before_first, list_all};
+ghost use Rattle.push_script.specs.Parts.{first_word, rest_of, is_digit, has_leading_zero, is_number, number_of, hex_value, mask_of, way_of, side_of, transport_of, serves_of, switch_of, pair_of};
+
+use crate::word::{Side, Way};
+use bt_base::{Serves, Transport};
+
+/// What stands before the first blank of a line, and what stands behind it, if there is one.
+pub(crate) fn split_word(line: &str) -> (&str, Option<&str>)
+    ensures word { result.0.now ≡ first_word line.now }
+    ensures rest { option_map (λ x. x.now) result.1 ≡ rest_of line.now }
+{
+    match line.split_once(' ') {
+        Some((word, rest)) => (word, Some(rest)),
+        None => (line, None),
+    }
+}
+
+fn all_digits(text: &[u8]) -> bool
+    ensures { result ≡ list_all is_digit text.now }
+{
+    text.iter().all(|octet| is_digit(*octet))
+}
+
+fn is_digit(octet: u8) -> bool
+    ensures { result ≡ is_digit octet }
+{
+    octet >= b'0' && octet <= b'9'
+}
+
+/// Whether the first digit of several is a zero.
+fn has_leading_zero(text: &[u8]) -> bool
+    ensures { result ≡ has_leading_zero text.now }
+{
+    match text {
+        [first, _, ..] => *first == b'0',
+        _ => false,
+    }
+}
+
+/// Whether a text is 1 to 10 decimal digits, the first of them no zero unless it is alone.
+fn is_number(text: &[u8]) -> bool
+    ensures { result ≡ is_number text.now }
+{
+    if text.is_empty() {
+        return false;
+    }
+    if text.len() > 10 {
+        return false;
+    }
+    if has_leading_zero(text) {
+        return false;
+    }
+    all_digits(text)
+}
+
+/// The number that a text spells.
+pub(crate) fn number_of(text: &str) -> Option<u64>
+    ensures { result ≡ number_of text.now }
+{
+    if !is_number(text.as_bytes()) {
+        return None;
+    }
+    text.parse().ok()
+}
+
+/// A direction of the air.
+pub(crate) fn way_of(text: &str) -> Option<Way>
+    ensures { result ≡ way_of text.now }
+{
+    if text == "ab" {
+        Some(Way::Ab)
+    } else if text == "ba" {
+        Some(Way::Ba)
+    } else {
+        None
+    }
+}
+
+/// A host.
+pub(crate) fn side_of(text: &str) -> Option<Side>
+    ensures { result ≡ side_of text.now }
+{
+    if text == "a" {
+        Some(Side::A)
+    } else if text == "b" {
+        Some(Side::B)
+    } else {
+        None
+    }
+}
+
+/// A transport.
+pub(crate) fn transport_of(text: &str) -> Option<Transport>
+    ensures { result ≡ transport_of text.now }
+{
+    if text == "l2cap" {
+        Some(Transport::L2cap)
+    } else if text == "rfcomm" {
+        Some(Transport::Rfcomm)
+    } else {
+        None
+    }
+}
+
+/// The transports that a server offers.
+pub(crate) fn serves_of(text: &str) -> Option<Serves>
+    ensures { result ≡ serves_of text.now }
+{
+    if text == "both" {
+        Some(Serves::Both)
+    } else if text == "l2cap" {
+        Some(Serves::L2cap)
+    } else if text == "rfcomm" {
+        Some(Serves::Rfcomm)
+    } else {
+        None
+    }
+}
+
+/// Whether something is on.
+pub(crate) fn switch_of(text: &str) -> Option<bool>
+    ensures { result ≡ switch_of text.now }
+{
+    if text == "on" {
+        Some(true)
+    } else if text == "off" {
+        Some(false)
+    } else {
+        None
+    }
+}
+
+/// The value of an upper case hexadecimal digit.
+fn hex_value(digit: u8) -> Option<u16>
+    ensures value { result ≡ hex_value digit }
+    ensures small { IfSome result (λ n. n < 16) }
+{
+    match digit {
+        b'0'..=b'9' => Some((digit - b'0') as u16),
+        b'A'..=b'F' => Some((digit - b'A') as u16 + 10),
+        _ => None,
+    }
+}
+
+/// The number of four upper case hexadecimal digits.
+pub(crate) fn mask_of(text: &[u8]) -> Option<u16>
+    ensures { result ≡ mask_of text.now }
+{
+    match text {
+        [a, b, c, d] => {
+            let a = hex_value(*a)?;
+            let b = hex_value(*b)?;
+            let c = hex_value(*c)?;
+            let d = hex_value(*d)?;
+            Some(((a * 16 + b) * 16 + c) * 16 + d)
+        }
+        _ => None,
+    }
+}
+
+/// Two numbers with a blank between them.
+pub(crate) fn pair_of(text: &str) -> Option<(u64, u64)>
+    ensures { result ≡ pair_of text.now }
+{
+    let (first, second) = split_word(text);
+    let first = number_of(first)?;
+    let second = number_of(second?)?;
+    Some((first, second))
+}

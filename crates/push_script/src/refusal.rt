@@ -1,0 +1,71 @@
+//! Why a scenario is refused.
+
+use bt_base::NoMemory;
+use thiserror::Error;
+
+/// Why a line of a scenario is refused.
+#[derive(Clone, Copy, Debug, PartialEq, Eq)]
+pub enum ScriptRefusal {
+    /// The line has not the shape that its key or its word wants.
+    BadLine,
+    /// No key has that name.
+    UnknownKey,
+    /// The key was stated before.
+    Repeated,
+    /// A number, or the length of a name, is outside its range.
+    OutOfRange,
+    /// The keys end without a transport.
+    NoTransport,
+    /// The keys end without an object.
+    NoObject,
+    /// There are 64 objects already.
+    TooManyObjects,
+    /// The word loses or changes frames, which RFCOMM does not recover.
+    LossyRfcomm,
+    /// The text is not UTF-8.
+    NotUtf8,
+    /// The text is longer than 1,048,576 octets.
+    TooLong,
+    /// The line asks for something that this stack does not do yet.
+    NotBuilt,
+}
+
+/// Why a text gives no scenario.
+#[derive(Clone, Copy, Debug, PartialEq, Eq, Drop, Error)]
+pub enum ScriptFault {
+    /// The text is refused, at that line, counted from 1.
+    #[error("line {0}: {1:?}")]
+    Refused(u32, ScriptRefusal),
+    /// No memory could be had.
+    #[error("no memory could be had")]
+    NoMemory,
+}
+
+/// Why a line was not taken.
+#[derive(Clone, Copy, Debug, PartialEq, Eq)]
+pub(crate) enum LineFault {
+    Refused(ScriptRefusal),
+    NoMemory,
+}
+
+impl From<NoMemory> for LineFault {
+    ghost use Rattle.std.specs.Prelude.{◌≡◌};
+    ghost use Rattle.push_script.specs.declared.refusal.LineFault.TheVariants.{NoMemory};
+
+    ghost from_gives = { λ _ fault. fault ≡ NoMemory };
+
+    fn from(_error: NoMemory) -> LineFault {
+        LineFault::NoMemory
+    }
+}
+
+impl From<ScriptRefusal> for LineFault {
+    ghost use Rattle.std.specs.Prelude.{◌≡◌};
+    ghost use Rattle.push_script.specs.declared.refusal.LineFault.TheVariants.{Refused};
+
+    ghost from_gives = { λ refusal fault. fault ≡ Refused refusal };
+
+    fn from(refusal: ScriptRefusal) -> LineFault {
+        LineFault::Refused(refusal)
+    }
+}

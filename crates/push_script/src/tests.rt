@@ -1,0 +1,102 @@
+use super::*;
+use bt_base::MemSink;
+use std::alloc::Global;
+use std::test::*;
+
+fn refusal_of(alloc: Global, text: &[u8]) -> Option<(u32, ScriptRefusal)> {
+    match scenario_of(alloc, text) {
+        Err(ScriptFault::Refused(line, refusal)) => Some((line, refusal)),
+        _ => None,
+    }
+}
+
+#[test]
+fn refusals_with_their_lines(rt: HostRuntime) {
+    let table: [(&[u8], u32, ScriptRefusal); 12] = [
+        (b"", 1, ScriptRefusal::NoTransport),
+        (
+            b"transport l2cap\ncolor red\n",
+            2,
+            ScriptRefusal::UnknownKey,
+        ),
+        (
+            b"transport l2cap\nwindow 33\n",
+            2,
+            ScriptRefusal::OutOfRange,
+        ),
+        (b"transport l2cap\nradio\n", 2, ScriptRefusal::NoObject),
+        (b"# none\n\ntransport air", 3, ScriptRefusal::BadLine),
+        (b"chunk 1\nchunk 2\n", 2, ScriptRefusal::Repeated),
+        (b"object \n", 1, ScriptRefusal::OutOfRange),
+        (b"object a\nobject b\n", 2, ScriptRefusal::NotBuilt),
+        (b"transport rfcomm\n", 1, ScriptRefusal::NotBuilt),
+        (
+            b"transport l2cap\nobject a\nradio\n0 pass\n",
+            4,
+            ScriptRefusal::OutOfRange,
+        ),
+        (
+            b"transport l2cap\nobject a\nradio\n1 lose ab\n",
+            4,
+            ScriptRefusal::NotBuilt,
+        ),
+        (b"srm off\n\xFF\n", 2, ScriptRefusal::NotUtf8),
+    ];
+    for (text, line, refusal) in &table {
+        assert!(rt; refusal_of(rt.alloc(), *text) == Some((*line, *refusal)));
+    }
+}
+
+#[test]
+fn written_again(rt: HostRuntime) -> Result<(), Fail> {
+    let short =
+        b"object gr\xC3\xB6\xC3\x9Fe.txt\ntransport l2cap\nacl 27 1\nchunk 1\nradio\n60 pass\n1 drop";
+    let whole =
+        b"transport l2cap\nserves both\nacl 27 1\nchunk 1\nmtu 1024\nmps 1010\nwindow 10\ntries 4\ncredits 7\nobex 1024\nsrm off\nobject gr\xC3\xB6\xC3\x9Fe.txt\nradio\n60 pass\n1 drop\n";
+    let scenario = scenario_of(rt.alloc(), short).ok().ok_or("a scenario")?;
+    assert_eq!(rt; scenario.script.at(1), Some((1, Word::Drop)));
+    let text = put_scenario(rt.alloc(), &scenario)
+        .ok()
+        .ok_or("room for the text")?;
+    assert_eq!(rt; text.as_slice(), whole.as_slice());
+    let again = scenario_of(rt.alloc(), &text)
+        .ok()
+        .ok_or("a scenario again")?;
+    let text = put_scenario(rt.alloc(), &again)
+        .ok()
+        .ok_or("room for the text again")?;
+    assert_eq!(rt; text.as_slice(), whole.as_slice());
+    assert_eq!(rt; again.names.len(), 1);
+    let peaks = Peaks {
+        buffers_a: 8,
+        buffers_b: 2,
+        window_a: 10,
+        window_b: 0,
+        credits_a: 0,
+        credits_b: 0,
+    };
+    let mut sink = MemSink::new(rt.alloc(), &[]).ok().ok_or("a sink")?;
+    let put = put_report(&again, &[Outcome::Refused(0xD0)], 0, &peaks, &mut sink);
+    assert!(rt; put.is_ok());
+    assert_eq!(rt;
+        sink.octets(),
+        b"1 refused D0 gr\xC3\xB6\xC3\x9Fe.txt\nkept 0\nbuffers 8 2\nwindow 10 0\ncredits 0 0\n".as_slice()
+    );
+    Ok(())
+}
+
+#[test]
+fn words_and_outcomes(rt: HostRuntime) {
+    let mut into = [b'.'; 24];
+    let word = Word::Damage {
+        way: Way::Ba,
+        at: 65534,
+        mask: 0x0A1F,
+    };
+    let n = put_word(&word, &mut into);
+    assert_eq!(rt; into[..n], b"damage ba 65534 0A1F"[..]);
+    let n = put_outcome(&Outcome::PeerFault(3, 12), &mut into);
+    assert_eq!(rt; into[..n], b"peer-fault 3 12"[..]);
+    let n = put_word(&Word::Timer(Side::B), &mut into);
+    assert_eq!(rt; into[..n], b"timer b"[..]);
+}

@@ -1,0 +1,5 @@
+pub mod Headers
+pub mod Elements
+pub mod Reading
+pub mod Spelling
+pub mod Laws

@@ -1,0 +1,24 @@
+//! Laws of the spelling of data elements, for every value. They speak of no call: the contracts of
+//! the calls tie these to the same definitions.
+
+ghost use Rattle.sdp_elements.specs.Laws.{ReadsWhatIsSpelled, OneReading, WritesAForm, ReadsAgain};
+
+/// Reading gives an element within eight levels exactly where the octets begin with its spelling.
+pub fn read_is_spelled()
+    ensures { ReadsWhatIsSpelled }
+{}
+
+/// No octets begin with the spellings of two elements.
+pub fn one_reading()
+    ensures { OneReading }
+{}
+
+/// The shortest form of an element is one of its forms, whatever octets stand for its parts.
+pub fn shortest_is_form()
+    ensures { WritesAForm }
+{}
+
+/// What was written in the shortest form is read again.
+pub fn written_is_read()
+    ensures { ReadsAgain }
+{}

@@ -1,0 +1,21 @@
+//! Data elements of the Service Discovery Protocol (Core 5.1, Volume 3 Part B, 3), read and written
+//! against one spelling.
+#![tactic(auto)]
+
+mod element;
+mod fault;
+mod header;
+mod identifier;
+pub mod laws;
+mod reading;
+mod walk;
+mod writing;
+
+pub use element::{Children, Element};
+pub use fault::SdpRefusal;
+pub use identifier::uuid_of;
+pub use reading::element_of;
+pub use writing::put_element;
+
+#[cfg(test)]
+mod tests;
