@@ -1,13 +1,11 @@
 -- Lines of signalling commands, one after the other.
-use Rattle.std.proofs.Common.{◌≡◌, ◌==◌, false, ℕ, ◌+◌, ◌<◌, List, [], ◌∷◌, ◌++◌, length, get_or, take, drop, slice_get, Option, Some, None, refl, ap, sym, ◌∙◌, append_assoc, arith}
+use Rattle.std.proofs.Common.{◌≡◌, ◌==◌, false, ℕ, ◌+◌, ◌<◌, List, [], ◌∷◌, ◌++◌, length, get_or, take, refl, ap, sym, ◌∙◌, append_assoc, arith}
 use Rattle.std.specs.List.{flat_map}
 use Rattle.std.proofs.lemmas.List.{append-nil, take_all}
 use Rattle.hex.specs.Hex.{encode_with, encode_upper, upper_digits}
 use Rattle.bt_base.specs.Octets.{le16}
 use Rattle.l2cap_signal.proofs.Pieces.{words_more}
-use Rattle.l2cap_signal.specs.Reading.{Answer}
 use Rattle.h4_view.specs.Texts.{octets_text}
-use Rattle.h4_view.specs.Signals.{signal_text}
 
 -- digits of octets, and of those behind them
 encode-append : (table a b : List ℕ) → encode_with table (a ++ b) ≡ encode_with table a ++ encode_with table b
@@ -44,20 +42,3 @@ parts_end ws rest i old now new some at so_far wrote =
     ∙ ap (λ (t : List ℕ). (old ++ encode_upper (flat_map le16 t)) ++ encode_upper rest) (take_all i ws (omega (arith, at)))
     ∙ append_assoc old (encode_upper (flat_map le16 ws)) (encode_upper rest)
     ∙ ap (λ (t : List ℕ). old ++ t) (sym (encode-append upper_digits (flat_map le16 ws) rest) ∙ sym (some_parts ws rest some))
-
--- the lines of a list with that answer in front
-pub signals_step : (list : List Answer) (given : Answer) (old all now new : List ℕ) → Some given ≡ slice_get list 0 → now ++ flat_map signal_text list ≡ old ++ all → new ≡ now ++ signal_text given
-    → (new ++ flat_map signal_text (drop 1 list) ≡ old ++ all) × (length (drop 1 list) < length list)
-signals_step [] given old all now new is so_far wrote = absurd cc
-signals_step (x ∷ list) given old all now new is so_far wrote =
-    let same : given ≡ x = cc in (
-      ap (λ (t : List ℕ). t ++ flat_map signal_text list) (wrote ∙ ap (λ (a : Answer). now ++ signal_text a) same)
-          ∙ append_assoc now (signal_text x) (flat_map signal_text list)
-          ∙ so_far,
-      omega arith,
-    )
-
--- no answer is left
-pub signals_end : (list : List Answer) (old all now : List ℕ) → None ≡ slice_get list 0 → now ++ flat_map signal_text list ≡ old ++ all → now ≡ old ++ all
-signals_end [] old all now is so_far = sym (append-nil now) ∙ so_far
-signals_end (x ∷ list) old all now is so_far = absurd cc

@@ -1,5 +1,5 @@
 -- What stands under a PDU of the signalling channel (this project's own).
-use Rattle.std.specs.Prelude.{ℕ, List, [], ◌∷◌, ◌++◌, drop, cond, ◌==◌, Ok, Err, codes}
+use Rattle.std.specs.Prelude.{ℕ, List, [], ◌∷◌, ◌++◌, cond, ◌==◌, Ok, Err, codes}
 use Rattle.std.specs.List.{flat_map}
 use Rattle.hex.specs.Hex.{encode_upper}
 use Rattle.l2cap_signal.specs.declared.refusal.SignalRefusal.{SignalRefusal}

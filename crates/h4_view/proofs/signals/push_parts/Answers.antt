@@ -1,4 +1,4 @@
-use Rattle.std.proofs.Common.{◌≡◌, ◌++◌, length, arith}
+use Rattle.std.proofs.Common.{arith}
 use Rattle.h4_view.proofs.Signalling.{parts_none, parts_step, parts_end}
 use Rattle.h4_view.proofs.signals.push_parts.Goals as goal
 
