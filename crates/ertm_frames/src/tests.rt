@@ -97,3 +97,42 @@ fn written_frames(rt: HostRuntime) -> Result<(), Fail> {
     assert_eq!(rt; &into[4..6], [0x05, 0x05].as_slice());
     Ok(())
 }
+
+/// Writes the start of an SDU of 100 octets, and answers how many octets the frame has.
+fn put_start(cid: Cid, octets: &[u8], into: &mut [u8]) -> usize
+    requires few { length octets.now ≤ 46 }
+    requires room { 10 + length octets.now ≤ length into.old }
+    ensures { result ≡ 10 + length octets.now }
+{
+    let frame = Frame::I {
+        tx: 0,
+        last: false,
+        req: 0,
+        sar: 1,
+        total: 100,
+        octets,
+    };
+    put_frame(cid, &frame, into)
+}
+
+#[test]
+fn start_of_an_sdu(rt: HostRuntime) -> Result<(), Fail> {
+    let cid = Cid::of(0x0040).ok_or("a channel")?;
+    let mut into = [0u8; 56];
+    assert_eq!(rt; put_start(cid, &[7u8; 46], &mut into), 56);
+    assert_eq!(rt; &into[..8], [0x34, 0, 0x40, 0, 0, 0x40, 0x64, 0].as_slice());
+    match frame_of(&into, 46) {
+        Ok(
+            Frame::I {
+                tx: 0,
+                last: false,
+                req: 0,
+                sar: 1,
+                total: 100,
+                octets,
+            },
+        ) => { assert_eq!(rt; octets, [7u8; 46].as_slice()) }
+        _ => panic!(rt; "a start"),
+    }
+    Ok(())
+}
