@@ -13,7 +13,11 @@ pub(crate) struct FaultCounts {
 }
 
 impl FaultCounts {
-    pub(crate) fn new() -> FaultCounts {
+    /// The counts of a port that was not called yet.
+    pub(crate) fn new() -> FaultCounts
+        ensures faults { result.faults ≡ 0 }
+        ensures shortages { result.shortages ≡ 0 }
+    {
         FaultCounts {
             faults: 0,
             shortages: 0,

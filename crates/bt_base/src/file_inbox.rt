@@ -43,7 +43,9 @@ fn file_name(alloc: Global, units: &[u16]) -> Result<String, AllocError> {
 impl<'a, R: Files> FileInbox<'a, R> {
     /// An inbox that stores in `folder`, which is made at the first `begin` where it is missing.
     pub fn new(files: &'a R, alloc: Global, folder: &'a str) -> FileInbox<'a, R>
-        ensures { is_some result.file ≡ false }
+        ensures idle { is_some result.file ≡ false }
+        ensures faults { result.counts.faults ≡ 0 }
+        ensures shortages { result.counts.shortages ≡ 0 }
     {
         FileInbox {
             files,

@@ -1,6 +1,6 @@
 //! A shelf over a folder of files. It tells no content.
 
-ghost use Rattle.std.specs.Prelude.{None};
+ghost use Rattle.std.specs.Prelude.{◌≡◌, None};
 
 use crate::fault_counts::FaultCounts;
 use crate::ports::{PortFault, Shelf};
@@ -21,7 +21,10 @@ pub struct FileShelf<'a, R> {
 
 impl<'a, R: Files> FileShelf<'a, R> {
     /// The files of `folder`, which are opened anew at each call.
-    pub fn new(files: &'a R, alloc: Global, folder: &'a str) -> FileShelf<'a, R> {
+    pub fn new(files: &'a R, alloc: Global, folder: &'a str) -> FileShelf<'a, R>
+        ensures faults { result.counts.faults ≡ 0 }
+        ensures shortages { result.counts.shortages ≡ 0 }
+    {
         FileShelf {
             files,
             alloc,

@@ -13,8 +13,10 @@ pub struct StdSource<R> {
 }
 
 impl<R: Read> StdSource<R> {
-    /// A source that reads from `reader`.
-    pub fn new(reader: R) -> StdSource<R> {
+    /// A source that reads from `reader`, and has not failed yet.
+    pub fn new(reader: R) -> StdSource<R>
+        ensures counts { result.faults ≡ 0 }
+    {
         StdSource { reader, faults: 0 }
     }
 }
@@ -46,8 +48,10 @@ pub struct StdSink<P> {
 }
 
 impl<P: Print> StdSink<P> {
-    /// A sink that writes to `printer`.
-    pub fn new(printer: P) -> StdSink<P> {
+    /// A sink that writes to `printer`, and has not failed yet.
+    pub fn new(printer: P) -> StdSink<P>
+        ensures counts { result.faults ≡ 0 }
+    {
         StdSink { printer, faults: 0 }
     }
 }

@@ -20,12 +20,12 @@ command_at opcode ps =
     (cond (eqb opcode 0x1005) ReadBufferSize
     (cond (eqb opcode 0x1009) ReadBdAddr (Other opcode ps)))))))
 
-abbrev row : ℕ → Option ℕ
-row n = Some n
+abbrev octets_wanted : ℕ → Option ℕ
+octets_wanted n = Some n
 
 -- each test fails where none of the rows is chosen
 all_fail : (a b c d e f g : Bool)
-    → cond a (row 13) (cond b (row 3) (cond c (row 7) (cond d (row 0) (cond e (row 1) (cond f (row 0) (cond g (row 0) None)))))) ≡ None
+    → cond a (octets_wanted 13) (cond b (octets_wanted 3) (cond c (octets_wanted 7) (cond d (octets_wanted 0) (cond e (octets_wanted 1) (cond f (octets_wanted 0) (cond g (octets_wanted 0) None)))))) ≡ None
     → (a ≡ false) × (b ≡ false) × (c ≡ false) × (d ≡ false) × (e ≡ false) × (f ≡ false) × (g ≡ false)
 all_fail true b c d e f g none = absurd cc
 all_fail false true c d e f g none = absurd cc
