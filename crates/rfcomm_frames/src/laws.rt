@@ -1,0 +1,1 @@
+//! Laws of the frames and control messages and their octets.
