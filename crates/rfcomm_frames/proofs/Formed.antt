@@ -23,12 +23,12 @@ apart octets room =
     ∙ ap (λ (xs : List ℕ). get_or octets 0 0 ∷ xs) (drop-cons octets 1 0 (omega arith))
     ∙ ap (λ (xs : List ℕ). get_or octets 0 0 ∷ get_or octets 1 0 ∷ xs) (sym (take-append-drop n rest) ∙ ap (λ (xs : List ℕ). take n rest ++ xs) end)
 
-part_fits : (front behind octets : List ℕ) → octets ≡ front ++ behind → IsOctets octets → IsOctets behind
+pub part_fits : (front behind octets : List ℕ) → octets ≡ front ++ behind → IsOctets octets → IsOctets behind
 part_fits front behind octets is fits i =
     let there = subst IsOctets is fits in
     rw (← get_or-append-add front behind i 0) (there (length front + i))
 
-prefix_fits : (front behind : List ℕ) → IsOctets (front ++ behind) → IsOctets front
+pub prefix_fits : (front behind : List ℕ) → IsOctets (front ++ behind) → IsOctets front
 prefix_fits [] behind fits i = omega arith
 prefix_fits (x ∷ front) behind fits zero = fits 0
 prefix_fits (x ∷ front) behind fits (suc i) = prefix_fits front behind (λ k. fits (suc k)) i

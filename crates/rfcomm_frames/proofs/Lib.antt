@@ -6,3 +6,4 @@ pub mod Checked
 pub mod Puts
 pub mod Written
 pub mod Messages
+pub mod Found

@@ -1,10 +1,11 @@
--- A frame that was written.
+-- Frames and control messages that were written.
 use Rattle.std.proofs.Common.{◌≡◌, ℕ, ◌+◌, ◌-◌, ◌^◌, ◌<◌, ◌≤◌, Bool, true, false, List, [], ◌∷◌, ◌++◌, length, take, drop, if◌then◌else◌, refl, sym, ap, subst, ◌∙◌, append_assoc, arith, length-append}
 use Rattle.std.proofs.lemmas.List.{take_at, drop_at, take-append-le}
 use Rattle.check_words.specs.CheckWords.{low_bits, rfcomm_check}
 use Rattle.rfcomm_frames.specs.declared.frame.MuxKind.{MuxKind}
 use Rattle.rfcomm_frames.specs.Lengths.{shortest}
 use Rattle.rfcomm_frames.specs.Frames.{PlainFrame, address_of, control_octet, carries, credit_octets, body_of, unchecked, HasForm, IsFrame, Spells}
+use Rattle.rfcomm_frames.specs.Controls.{PlainControl, type_of, value_of, IsControl, SpellsControl, written}
 use Rattle.rfcomm_frames.proofs.Lengths.{states-shortest}
 use Rattle.rfcomm_frames.proofs.Forms.{covered_is}
 use Rattle.rfcomm_frames.proofs.Puts.{IsWritten, piece_then}
@@ -77,3 +78,18 @@ module _ (frame : PlainFrame) (old mid new : List ℕ) (end all size word : ℕ)
 
   pub frame_rest : drop all new ≡ drop all old
   frame_rest = ap (drop all) new_is ∙ drop_at whole (drop all old) all length-whole
+
+-- a type octet with the length field and the value behind it
+pub control_spells : (control : PlainControl) (old mid new : List ℕ) (start all : ℕ) (fits : IsControl control) → length (value_of control) < 2 ^ 15
+    → start ≡ 1 → all ≡ start + length (shortest (length (value_of control)) ++ value_of control)
+    → IsWritten old mid 0 (type_of control ∷ []) start → IsWritten mid new start (shortest (length (value_of control)) ++ value_of control) all
+    → SpellsControl control (take all new)
+control_spells control old mid new start all fits few start_is all_is first second =
+    let sized : List ℕ = shortest (length (value_of control)) ++ value_of control in
+    let whole = piece_then 0 start all (type_of control ∷ []) sized old mid new (omega arith) start_is all_is first second in
+    record {
+      field = shortest (length (value_of control));
+      parts = ap (take all) whole ∙ take_at (written control) (drop all old) all (omega arith);
+      states = states-shortest (length (value_of control)) few;
+      fits = fits;
+    }

@@ -4,3 +4,4 @@ pub mod Answers
 pub mod Controls
 pub mod ControlAnswers
 pub mod Reading
+pub mod Laws

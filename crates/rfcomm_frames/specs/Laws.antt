@@ -1,0 +1,50 @@
+-- Frames and control messages read both ways.
+use Rattle.std.specs.Prelude.{ℕ, ◌≡◌, ◌≢◌, ◌<◌, Bool, true, false, List, [], ◌∷◌, ◌++◌, length, Ok, Err}
+use Rattle.check_words.specs.CheckWords.{bits_of}
+use Rattle.rfcomm_frames.specs.Frames.{PlainFrame, carries, covered, Spells}
+use Rattle.rfcomm_frames.specs.Answers.{Answer, IsAnswer}
+use Rattle.rfcomm_frames.specs.Controls.{PlainControl, SpellsControl}
+use Rattle.rfcomm_frames.specs.ControlAnswers.{ControlAnswer, IsControlAnswer}
+
+-- octets have one answer: one frame with these octets, or one refusal
+abbrev pub OneAnswer : Type 0
+OneAnswer = (octets : List ℕ) (first second : Answer) → IsAnswer octets first → IsAnswer octets second → first ≡ second
+
+-- octets are those of at most one frame
+abbrev pub OneFrame : Type 0
+OneFrame = (frame frame' : PlainFrame) (octets : List ℕ) → Spells frame octets → Spells frame' octets → frame ≡ frame'
+
+-- octets have one answer: one message at their front and how many octets it has, or one refusal
+abbrev pub OneControlAnswer : Type 0
+OneControlAnswer = (octets : List ℕ) (first second : ControlAnswer) → IsControlAnswer octets first → IsControlAnswer octets second → first ≡ second
+
+-- octets, with others behind them or not, begin with at most one message
+abbrev pub OneControl : Type 0
+OneControl = (control control' : PlainControl) (octets octets' behind behind' : List ℕ) →
+    SpellsControl control octets → SpellsControl control' octets' → octets ++ behind ≡ octets' ++ behind' → (control ≡ control') × (octets ≡ octets')
+
+-- a frame that was written is the answer
+abbrev pub WrittenIsRead : Type 0
+WrittenIsRead = (frame : PlainFrame) (octets : List ℕ) (given : Answer) → Spells frame octets → IsAnswer octets given → given ≡ Ok frame
+
+-- a message that was written is the answer, with its octets, whatever stands behind them
+abbrev pub WrittenControlIsRead : Type 0
+WrittenControlIsRead = (control : PlainControl) (octets behind : List ℕ) (given : ControlAnswer) →
+    SpellsControl control octets → IsControlAnswer (octets ++ behind) given → given ≡ Ok (control, length octets)
+
+-- what the check word of a frame is over, and the check word
+abbrev pub guarded : (frame : PlainFrame) (octets : List ℕ) → Spells frame octets → List ℕ
+guarded frame octets spelled = covered spelled.form.field frame ++ spelled.form.check ∷ []
+
+-- there are no two frames that differ there only within a stretch of eight bits
+abbrev pub ChangedFramesAreSeen : Type 0
+ChangedFramesAreSeen = (frame frame' : PlainFrame) (octets octets' : List ℕ) (spelled : Spells frame octets) (spelled' : Spells frame' octets')
+    (front burst other behind : List Bool) →
+    bits_of (guarded frame octets spelled) ≡ front ++ (burst ++ behind) → bits_of (guarded frame' octets' spelled') ≡ front ++ (other ++ behind) →
+    length burst ≡ 8 → length other ≡ 8 → burst ≡ other
+
+-- a frame that carries no information, with one octet other than before, is no frame that carries none
+abbrev pub ChangedOctetsAreSeen : Type 0
+ChangedOctetsAreSeen = (frame frame' : PlainFrame) (front behind : List ℕ) (octet octet' : ℕ) →
+    octet < 256 → octet' < 256 → octet ≢ octet' → carries frame.kind ≡ false → carries frame'.kind ≡ false →
+    Spells frame (front ++ octet ∷ behind) → Spells frame' (front ++ octet' ∷ behind) → ⊥
