@@ -1,5 +1,5 @@
 -- The check word of octets that have the form of a frame.
-use Rattle.std.proofs.Common.{◌≡◌, ◌≢◌, ℕ, ◌-◌, ◌<◌, List, length, get_or, take, if◌then◌else◌, refl, sym, ap, ◌∙◌}
+use Rattle.std.proofs.Common.{◌≡◌, ◌≢◌, ℕ, ◌-◌, ◌<◌, List, length, get_or, take, if◌then◌else◌, sym, ap, ◌∙◌}
 use Rattle.check_words.specs.CheckWords.{low_bits, rfcomm_check, RfcommCheckHolds}
 use Rattle.check_words.proofs.LowBits.{low_bits-same}
 use Rattle.rfcomm_frames.specs.Frames.{PlainFrame, carries, covered, HasForm, Spells}

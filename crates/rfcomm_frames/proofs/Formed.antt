@@ -1,12 +1,11 @@
 -- From the parts of octets to the frame that they have the form of.
-use Rattle.std.proofs.Common.{◌≡◌, ◌≢◌, ℕ, zero, suc, ◌+◌, ◌-◌, ◌/◌, ◌%◌, ◌<◌, ◌≤◌, Bool, true, false, ◌==◌, List, [], ◌∷◌, ◌++◌, length, get_or, take, drop, Option, is_some, refl, sym, ap, subst, ◌∙◌, arith, drop-cons}
-use Rattle.std.proofs.lemmas.List.{take-append-drop, drop-drop, nil_from_length, length-drop, get_or-drop, get_or-append-add}
+use Rattle.std.proofs.Common.{◌≡◌, ℕ, zero, suc, ◌+◌, ◌-◌, ◌/◌, ◌%◌, ◌≤◌, Bool, false, ◌==◌, List, [], ◌∷◌, ◌++◌, length, get_or, take, drop, Option, is_some, refl, sym, ap, subst, ◌∙◌, arith, drop-cons}
+use Rattle.std.proofs.lemmas.List.{take-append-drop, drop-drop, nil_from_length, length-drop, get_or-append-add}
 use Rattle.bt_base.specs.Octets.{IsOctets}
 use Rattle.rfcomm_frames.specs.declared.frame.MuxKind.{MuxKind}
 use Rattle.rfcomm_frames.specs.Lengths.{States}
 use Rattle.rfcomm_frames.specs.Frames.{PlainFrame, address_of, control_octet, carries, has_credits, credit_octets, HasForm}
-use Rattle.rfcomm_frames.proofs.Heads.{address_parts, address_again, control_same}
-use Rattle.rfcomm_frames.proofs.Forms.{says, body_same}
+use Rattle.rfcomm_frames.proofs.Heads.{address_again}
 
 -- octets with their first two and their last one apart
 apart : (octets : List ℕ) → 4 ≤ length octets

@@ -1,6 +1,6 @@
 -- What the octets of a frame say.
-use Rattle.std.proofs.Common.{◌≡◌, ℕ, suc, ◌+◌, ◌-◌, ◌%◌, ◌<◌, ◌≤◌, Bool, true, false, List, [], ◌∷◌, ◌++◌, length, get_or, take, drop, Option, Some, None, is_some, if◌then◌else◌, refl, sym, ap, subst, ◌∙◌, arith, append_assoc, length-append, inl, inr}
-use Rattle.std.proofs.lemmas.List.{append-nil, take_at, same_from_push, get_or_push, get_or-append-add}
+use Rattle.std.proofs.Common.{◌≡◌, ℕ, ◌+◌, ◌-◌, ◌≤◌, Bool, true, false, List, [], ◌∷◌, ◌++◌, length, get_or, take, drop, Option, Some, None, is_some, if◌then◌else◌, refl, sym, ap, subst, ◌∙◌, arith, length-append, inl, inr}
+use Rattle.std.proofs.lemmas.List.{append-nil, take_at, get_or_push, get_or-append-add}
 use Rattle.rfcomm_frames.specs.declared.frame.MuxKind.{MuxKind}
 use Rattle.rfcomm_frames.specs.Lengths.{States}
 use Rattle.rfcomm_frames.specs.Frames.{PlainFrame, address_of, control_octet, carries, has_credits, credit_octets, body_of, covered, HasForm}
@@ -103,24 +103,29 @@ no_octets : (credits : Option ℕ) → is_some credits ≡ false → credit_octe
 no_octets None is = refl
 no_octets (Some n) is = absurd cc
 
-covered_by : (frame : PlainFrame) (octets : List ℕ) (form : HasForm frame octets) (b : Bool) → carries frame.kind ≡ b
-    → take (if b then 2 else length octets - 1) octets ≡ address_of frame ∷ control_octet frame.kind frame.pf ∷ (if b then [] else form.field)
-covered_by frame octets form true is = ap (take 2) form.parts
-covered_by frame octets form false is =
-    let none : frame.octets ≡ [] = form.fits.alone is in
+-- without information, what the check word is over is all that stands before it
+pub all_covered : (frame : PlainFrame) (octets : List ℕ) (form : HasForm frame octets) → carries frame.kind ≡ false
+    → octets ≡ covered form.field frame ++ form.check ∷ []
+all_covered frame octets form is =
     let closed : is_some frame.credits ≡ false = form.fits.granting ∙ no_credits frame.dlci frame.kind frame.pf is in
     let head : List ℕ = address_of frame ∷ control_octet frame.kind frame.pf ∷ [] in
     let plain_body : body_of form.field frame ≡ form.field =
-    ap (λ (info : List ℕ). form.field ++ (credit_octets frame.credits ++ info)) none
+    ap (λ (info : List ℕ). form.field ++ (credit_octets frame.credits ++ info)) (form.fits.alone is)
     ∙ ap (λ (c : List ℕ). form.field ++ (c ++ [])) (no_octets frame.credits closed)
     ∙ append-nil form.field in
-    let whole : octets ≡ (head ++ form.field) ++ form.check ∷ [] =
-    form.parts ∙ ap (λ (body : List ℕ). head ++ (body ++ form.check ∷ [])) plain_body in
-    let long : length (head ++ form.field) ≡ 2 + length form.field = length-append head form.field in
-    let size : length octets - 1 ≡ 2 + length form.field = omega (arith, ap length whole, length-append (head ++ form.field) (form.check ∷ [])) in
-    ap (λ (k : ℕ). take k octets) size
-    ∙ ap (take (2 + length form.field)) whole
-    ∙ take_at (head ++ form.field) (form.check ∷ []) (2 + length form.field) long
+    form.parts
+    ∙ ap (λ (body : List ℕ). head ++ (body ++ form.check ∷ [])) plain_body
+    ∙ ap (λ (b : Bool). head ++ ((if b then [] else form.field) ++ form.check ∷ [])) (sym is)
+
+covered_by : (frame : PlainFrame) (octets : List ℕ) (form : HasForm frame octets) (b : Bool) → carries frame.kind ≡ b
+    → take (if b then 2 else length octets - 1) octets ≡ covered form.field frame
+covered_by frame octets form true is =
+    ap (take 2) form.parts ∙ ap (λ (b : Bool). address_of frame ∷ control_octet frame.kind frame.pf ∷ (if b then [] else form.field)) (sym is)
+covered_by frame octets form false is =
+    let part : List ℕ = covered form.field frame in
+    let whole : octets ≡ part ++ form.check ∷ [] = all_covered frame octets form is in
+    let size : length octets - 1 ≡ length part = omega (arith, ap length whole, length-append part (form.check ∷ [])) in
+    ap (λ (k : ℕ). take k octets) size ∙ ap (take (length part)) whole ∙ take_at part (form.check ∷ []) (length part) refl
 
 pub covered_is : (frame : PlainFrame) (octets : List ℕ) (form : HasForm frame octets)
     → take (if carries frame.kind then 2 else length octets - 1) octets ≡ covered form.field frame

@@ -1,5 +1,5 @@
 -- The control message at the front of octets.
-use Rattle.std.proofs.Common.{◌≡◌, ◌≢◌, ℕ, suc, ◌+◌, ◌-◌, ◌%◌, ◌<◌, ◌≤◌, List, [], ◌∷◌, ◌++◌, length, slice_index, take, drop, Option, Some, None, refl, sym, ap, subst, ◌∙◌, arith, append_assoc, length-append}
+use Rattle.std.proofs.Common.{◌≡◌, ◌≢◌, ℕ, suc, ◌+◌, ◌-◌, ◌%◌, ◌<◌, ◌≤◌, List, ◌∷◌, ◌++◌, length, slice_index, take, drop, Some, None, sym, ap, subst, ◌∙◌, arith, append_assoc, length-append}
 use Rattle.std.proofs.lemmas.List.{take_at, take-append-drop, length-take-le}
 use Rattle.bt_base.specs.Octets.{IsOctets}
 use Rattle.rfcomm_frames.specs.Lengths.{States}
@@ -7,17 +7,14 @@ use Rattle.rfcomm_frames.specs.Controls.{PlainControl, type_of, value_of, Spells
 use Rattle.rfcomm_frames.specs.ControlAnswers.{HasFront, RefusesControl}
 use Rattle.rfcomm_frames.specs.declared.refusal.MuxRefusal.TheVariants.{LengthMismatch}
 use Rattle.rfcomm_frames.specs.Reading.{message}
-use Rattle.rfcomm_frames.proofs.Lengths.{field_same}
+use Rattle.rfcomm_frames.proofs.Lengths.{heads_are, field_same}
 use Rattle.rfcomm_frames.proofs.Formed.{part_fits, prefix_fits}
 use Rattle.rfcomm_frames.proofs.Messages.{message-spelled, message-some}
-
-tails_same : (x y : ℕ) (xs ys : List ℕ) → x ∷ xs ≡ y ∷ ys → (x ≡ y) × (xs ≡ ys)
-tails_same x y xs ys e = (cc, cc)
 
 pub no_front : (octets behind : List ℕ) (kind : ℕ) → octets ≡ kind ∷ behind
     → ((field rest : List ℕ) (n : ℕ) → States field n → behind ≢ field ++ rest) → ¬ HasFront octets
 no_front octets behind kind is none front =
-    none front.field front.behind front.count front.states (tails_same kind front.kind behind (front.field ++ front.behind) (sym is ∙ front.parts)).1
+    none front.field front.behind front.count front.states (heads_are kind front.kind behind (front.field ++ front.behind) (sym is ∙ front.parts)).1
 
 -- a type octet, the length field behind it and what stands behind that
 module _ (octets behind field rest : List ℕ) (kind count : ℕ) (is : octets ≡ kind ∷ behind) (states : States field count) (parts : behind ≡ field ++ rest) where
@@ -36,7 +33,7 @@ module _ (octets behind field rest : List ℕ) (kind count : ℕ) (is : octets �
       let more : List ℕ = drop used octets in
       let whole : octets ≡ type_of control ∷ (spelled.field ++ (value ++ more)) =
       sym (take-append-drop used octets) ∙ ap (λ (xs : List ℕ). xs ++ more) spelled.parts ∙ ap (λ (xs : List ℕ). type_of control ∷ xs) (append_assoc spelled.field value more) in
-      let heads = tails_same kind (type_of control) behind (spelled.field ++ (value ++ more)) (sym is ∙ whole) in
+      let heads = heads_are kind (type_of control) behind (spelled.field ++ (value ++ more)) (sym is ∙ whole) in
       let same = field_same field spelled.field rest (value ++ more) count (length value) states spelled.states (sym parts ∙ heads.1) in
       record { type_is = sym heads.0; size = same.0; value_is = same.2 }
 

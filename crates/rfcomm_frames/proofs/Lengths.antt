@@ -1,5 +1,5 @@
 -- Length fields are read in one way.
-use Rattle.std.proofs.Common.{◌≡◌, ◌≢◌, ℕ, suc, ◌+◌, ◌*◌, ◌/◌, ◌%◌, ◌^◌, ◌<◌, ◌≤◌, List, [], ◌∷◌, ◌++◌, length, refl, sym, ap, subst, ◌∙◌, arith, inl, inr}
+use Rattle.std.proofs.Common.{◌≡◌, ◌≢◌, ℕ, ◌+◌, ◌*◌, ◌/◌, ◌%◌, ◌^◌, ◌<◌, List, ◌∷◌, ◌++◌, refl, sym, ap, subst, ◌∙◌, arith, inl, inr}
 use Rattle.std.proofs.lemmas.Bool.{lt-ltb, le-ltb, cases_lt}
 use Rattle.bt_base.specs.Octets.{IsOctets}
 use Rattle.rfcomm_frames.specs.Lengths.{one_octet, two_octets, States, shortest}
@@ -29,7 +29,7 @@ two_split octets inner behind first second n fits is next even n_is =
     let states : States (two_octets n) n = inr (omega arith, refl) in
     (two_octets n, states, both ∙ ap (λ (k : ℕ). k ∷ second ∷ behind) low ∙ ap (λ (k : ℕ). (2 * (n % 128)) ∷ k ∷ behind) high)
 
-heads_are : (x y : ℕ) (xs ys : List ℕ) → x ∷ xs ≡ y ∷ ys → (x ≡ y) × (xs ≡ ys)
+pub heads_are : (x y : ℕ) (xs ys : List ℕ) → x ∷ xs ≡ y ∷ ys → (x ≡ y) × (xs ≡ ys)
 heads_are x y xs ys e = (cc, cc)
 
 in_front : (field other behind : List ℕ) → field ≡ other → field ++ behind ≡ other ++ behind

@@ -7,3 +7,5 @@ pub mod Puts
 pub mod Written
 pub mod Messages
 pub mod Found
+pub mod OneAnswer
+pub mod OneControl

@@ -1,9 +1,9 @@
 -- What a value says under a type octet is what is spelled so.
-use Rattle.std.proofs.Common.{◌≡◌, ◌≢◌, ℕ, zero, suc, ◌+◌, ◌-◌, ◌*◌, ◌/◌, ◌%◌, ◌^◌, ◌<◌, ◌≤◌, Bool, true, false, ◌==◌, if◌then◌else◌, List, [], ◌∷◌, ◌++◌, length, get_or, drop, Option, Some, None, refl, sym, ap, subst, ◌∙◌, arith, drop-cons, inl, inr}
+use Rattle.std.proofs.Common.{◌≡◌, ◌≢◌, ℕ, zero, suc, ◌+◌, ◌-◌, ◌*◌, ◌/◌, ◌%◌, ◌^◌, ◌<◌, Bool, true, false, ◌==◌, List, [], ◌∷◌, ◌++◌, length, get_or, drop, Some, None, refl, sym, ap, subst, ◌∙◌, arith, drop-cons, inl, inr}
 use Rattle.std.proofs.lemmas.Bool.{cases_eq, eq-eqb, ne_eqb}
 use Rattle.std.proofs.lemmas.List.{nil_from_length, length-drop}
 use Rattle.bt_base.specs.Octets.{IsOctets, le16}
-use Rattle.bt_base.proofs.OctetLemmas.{le16-again, le16-number}
+use Rattle.bt_base.proofs.OctetLemmas.{le16-again}
 use Rattle.byteorder.specs.Endian.{little_from}
 use Rattle.rfcomm_frames.specs.Frames.{bit}
 use Rattle.rfcomm_frames.specs.Controls.{PlainControl, pn, msc, test, rpn, rls, nsc, other, type_of, value_of, IsControl, IsOtherType}
@@ -152,6 +152,23 @@ message-some kind v control small odd fits e =
     other_type n1 n2 n3 n4 n5 n6 = record {
       octet = small;
       ends = odd;
-      unknown = ((λ k. n1 (omega arith)), ((λ k. n1 (omega arith)), ((λ k. n2 (omega arith)), ((λ k. n2 (omega arith)), ((λ k. n3 (omega arith)), ((λ k. n3 (omega arith)),
-          ((λ k. n4 (omega arith)), ((λ k. n4 (omega arith)), ((λ k. n5 (omega arith)), ((λ k. n5 (omega arith)), (n6, tt)))))))))));
+      unknown = (
+        (λ k. n1 (omega arith)),
+        (
+          (λ k. n1 (omega arith)),
+          (
+            (λ k. n2 (omega arith)),
+            (
+              (λ k. n2 (omega arith)),
+              (
+                (λ k. n3 (omega arith)),
+                (
+                  (λ k. n3 (omega arith)),
+                  ((λ k. n4 (omega arith)), ((λ k. n4 (omega arith)), ((λ k. n5 (omega arith)), ((λ k. n5 (omega arith)), (n6, tt))))),
+                ),
+              ),
+            ),
+          ),
+        ),
+      );
     }

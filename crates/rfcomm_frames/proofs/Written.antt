@@ -2,9 +2,8 @@
 use Rattle.std.proofs.Common.{◌≡◌, ℕ, ◌+◌, ◌-◌, ◌^◌, ◌<◌, ◌≤◌, Bool, true, false, List, [], ◌∷◌, ◌++◌, length, take, drop, if◌then◌else◌, refl, sym, ap, subst, ◌∙◌, append_assoc, arith, length-append}
 use Rattle.std.proofs.lemmas.List.{take_at, drop_at, take-append-le}
 use Rattle.check_words.specs.CheckWords.{low_bits, rfcomm_check}
-use Rattle.rfcomm_frames.specs.declared.frame.MuxKind.{MuxKind}
 use Rattle.rfcomm_frames.specs.Lengths.{shortest}
-use Rattle.rfcomm_frames.specs.Frames.{PlainFrame, address_of, control_octet, carries, credit_octets, body_of, unchecked, HasForm, IsFrame, Spells}
+use Rattle.rfcomm_frames.specs.Frames.{PlainFrame, address_of, control_octet, carries, credit_octets, unchecked, HasForm, IsFrame, Spells}
 use Rattle.rfcomm_frames.specs.Controls.{PlainControl, type_of, value_of, IsControl, SpellsControl, written}
 use Rattle.rfcomm_frames.proofs.Lengths.{states-shortest}
 use Rattle.rfcomm_frames.proofs.Forms.{covered_is}

@@ -1,5 +1,5 @@
 -- Frames and control messages read both ways.
-use Rattle.std.specs.Prelude.{ℕ, ◌≡◌, ◌≢◌, ◌<◌, Bool, true, false, List, [], ◌∷◌, ◌++◌, length, Ok, Err}
+use Rattle.std.specs.Prelude.{ℕ, ◌≡◌, ◌≢◌, ◌<◌, Bool, false, List, [], ◌∷◌, ◌++◌, length, Ok}
 use Rattle.check_words.specs.CheckWords.{bits_of}
 use Rattle.rfcomm_frames.specs.Frames.{PlainFrame, carries, covered, Spells}
 use Rattle.rfcomm_frames.specs.Answers.{Answer, IsAnswer}
@@ -41,7 +41,7 @@ abbrev pub ChangedFramesAreSeen : Type 0
 ChangedFramesAreSeen = (frame frame' : PlainFrame) (octets octets' : List ℕ) (spelled : Spells frame octets) (spelled' : Spells frame' octets')
     (front burst other behind : List Bool) →
     bits_of (guarded frame octets spelled) ≡ front ++ (burst ++ behind) → bits_of (guarded frame' octets' spelled') ≡ front ++ (other ++ behind) →
-    length burst ≡ 8 → length other ≡ 8 → burst ≡ other
+    length burst ≡ 8 → length other ≡ 8 → burst ≢ other → ⊥
 
 -- a frame that carries no information, with one octet other than before, is no frame that carries none
 abbrev pub ChangedOctetsAreSeen : Type 0

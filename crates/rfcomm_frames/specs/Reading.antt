@@ -1,5 +1,5 @@
 -- The steps of reading: a control octet, a length field, a value under its type octet.
-use Rattle.std.specs.Prelude.{ℕ, ◌-◌, ◌*◌, ◌/◌, ◌%◌, List, [], ◌∷◌, length, slice_index, Option, Some, None, Ok, Err, Bool, ◌==◌, if◌then◌else◌}
+use Rattle.std.specs.Prelude.{ℕ, ◌-◌, ◌*◌, ◌/◌, ◌%◌, List, length, slice_index, Option, Some, None, Ok, Err, Bool, ◌==◌, if◌then◌else◌}
 use Rattle.byteorder.specs.Endian.{little_from}
 use Rattle.rfcomm_frames.specs.declared.refusal.MuxRefusal.TheVariants.{Short, BadExtension, BadControl, LengthMismatch, BadFcs}
 use Rattle.rfcomm_frames.specs.Frames.{HasForm}

@@ -27,11 +27,20 @@ pub enum Control<'a> {
         signals: u8,
     },
     /// TEST: octets that come back.
-    Test { command: bool, octets: &'a [u8] },
+    Test {
+        command: bool,
+        octets: &'a [u8],
+    },
     /// RPN: the settings of a port.
-    Rpn { command: bool, value: &'a [u8] },
+    Rpn {
+        command: bool,
+        value: &'a [u8],
+    },
     /// RLS: the state of a line.
-    Rls { command: bool, value: &'a [u8] },
+    Rls {
+        command: bool,
+        value: &'a [u8],
+    },
     /// NSC: a command with this type octet was not understood.
     Nsc(u8),
     /// A type octet that is none of these, and the value.

@@ -61,7 +61,14 @@ fn put_value(control: &Control<'_>, at: usize, into: &mut [u8]) -> usize
         } => {
             let [low, high] = frame.to_le_bytes();
             let value = [
-                dlci, flow, priority, timer, low, high, retransmissions, credits,
+                dlci,
+                flow,
+                priority,
+                timer,
+                low,
+                high,
+                retransmissions,
+                credits,
             ];
             put_sized(&value, at, into)
         }

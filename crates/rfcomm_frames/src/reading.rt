@@ -6,7 +6,7 @@ ghost use Rattle.rfcomm_frames.specs.Frames.{carries, has_credits, credit_octets
 ghost use Rattle.rfcomm_frames.specs.Answers.{answer, IsAnswer, IsControlOctet};
 ghost use Rattle.rfcomm_frames.specs.Reading.{IsFormed};
 
-use crate::frame::{carries, covered_size, has_credits, MuxFrame, MuxKind};
+use crate::frame::{MuxFrame, MuxKind, carries, covered_size, has_credits};
 use crate::length::split_length;
 use crate::refusal::MuxRefusal;
 use check_words::fcs8;

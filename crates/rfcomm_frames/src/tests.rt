@@ -4,9 +4,11 @@ use super::*;
 const ASKED: [u8; 14] = [
     0x03, 0xEF, 0x15, 0x83, 0x11, 0x12, 0xF0, 0x00, 0x00, 0x7F, 0x00, 0x00, 0x07, 0x70,
 ];
+
 const GRANTED: [u8; 14] = [
     0x01, 0xEF, 0x15, 0x81, 0x11, 0x12, 0xE0, 0x00, 0x00, 0x7F, 0x00, 0x00, 0x07, 0xAA,
 ];
+
 const OPENING: [u8; 4] = [0x4B, 0x3F, 0x01, 0x32];
 
 #[test]
@@ -55,6 +57,121 @@ fn read_and_written_again(rt: HostRuntime) {
                 assert_eq!(rt; into[bytes.len()], 0xEE);
             }
             Err(_) => { panic!(rt; "a frame") }
+        }
+    }
+}
+
+#[test]
+fn other_spellings_of_frames(rt: HostRuntime) {
+    // A small length in two octets is read, and is written in one.
+    let long: [u8; 7] = [0x03, 0xEF, 0x04, 0x00, 0xAA, 0xBB, 0x70];
+    let mut into = [0xEE; 8];
+    match frame_of(&long) {
+        Ok(frame) => {
+            assert_eq!(rt; frame.octets, [0xAA, 0xBB].as_slice());
+            assert_eq!(rt; put_frame(&frame, &mut into), 6);
+            assert_eq!(rt; &into, &[0x03, 0xEF, 0x05, 0xAA, 0xBB, 0x70, 0xEE, 0xEE]);
+        }
+        Err(_) => { panic!(rt; "a frame") }
+    }
+    // A credit octet is in neither the length nor the check word.
+    let granting: [u8; 6] = [0x4B, 0xFF, 0x03, 0x07, 0xAA, fcs8(&[0x4B, 0xFF])];
+    match frame_of(&granting) {
+        Ok(
+            MuxFrame {
+                dlci: 18,
+                cr: true,
+                kind: MuxKind::Uih,
+                pf: true,
+                credits: Some(7),
+                octets: [0xAA],
+            },
+        ) => {}
+        _ => panic!(rt; "a frame with credits"),
+    }
+    // Channels that no service has are read.
+    for address in [0x05, 0xF9, 0xFD] {
+        let octets = [address, 0x2F, 0x01, fcs8(&[address, 0x2F, 0x01])];
+        assert!(rt; frame_of(&octets).is_ok());
+    }
+}
+
+/// Octets of the information of the control channel, with one octet more behind them.
+const PARAMETERS: [u8; 11] = [
+    0x83, 0x11, 0x12, 0xF0, 0x00, 0x00, 0x7F, 0x00, 0x00, 0x07, 0xEE,
+];
+
+#[test]
+fn parameters_of_a_channel(rt: HostRuntime) {
+    match control_of(&PARAMETERS) {
+        Ok(
+            (
+                Control::Pn {
+                    command: true,
+                    dlci: 18,
+                    flow: 0xF0,
+                    priority: 0,
+                    timer: 0,
+                    frame: 127,
+                    retransmissions: 0,
+                    credits: 7,
+                },
+                10,
+            ),
+        ) => {}
+        _ => panic!(rt; "a PN command"),
+    }
+}
+
+#[test]
+fn refusals_of_control_messages(rt: HostRuntime) {
+    let cases: [(&[u8], MuxRefusal); 11] = [
+        (&[], MuxRefusal::Short),
+        (&[0x83], MuxRefusal::Short),
+        (&[0x82], MuxRefusal::Short),
+        (&[0x83, 0x10], MuxRefusal::Short),
+        (&[0x82, 0x01], MuxRefusal::BadExtension),
+        // The value passes the end, or has another length than those of its type.
+        (&[0x23, 0x05, 0xAA], MuxRefusal::LengthMismatch),
+        (
+            &[0x83, 0x0F, 1, 2, 3, 4, 5, 6, 7],
+            MuxRefusal::LengthMismatch,
+        ),
+        (&[0xE3, 0x03, 1], MuxRefusal::LengthMismatch),
+        (&[0xE1, 0x07, 1, 2, 3], MuxRefusal::LengthMismatch),
+        (&[0x11, 0x01], MuxRefusal::LengthMismatch),
+        (&[0x11, 0x05, 1, 2], MuxRefusal::LengthMismatch),
+    ];
+    for (octets, refusal) in cases {
+        assert!(rt; control_of(octets) == Err(refusal));
+    }
+}
+
+#[test]
+fn control_messages_written_again(rt: HostRuntime) {
+    let cases: [&[u8]; 10] = [
+        &PARAMETERS[..10],
+        &[0x81, 0x11, 0x12, 0xE0, 0x00, 0x00, 0xFF, 0x7F, 0x00, 0x07],
+        &[0xE3, 0x05, 0x4B, 0x8D],
+        &[0xE1, 0x05, 0x4B, 0x8D],
+        &[0x23, 0x07, 1, 2, 3],
+        &[0x93, 0x03, 0x4B],
+        &[0x91, 0x11, 0x4B, 0x03, 0x03, 0, 0x11, 0x13, 0x7F, 0x3F],
+        &[0x53, 0x05, 0x4B, 0x01],
+        &[0x11, 0x03, 0x63],
+        // With the C/R bit, NSC is a type that has no meaning.
+        &[0x13, 0x03, 0x63],
+    ];
+    for octets in cases {
+        let mut into = [0xEE; 12];
+        match control_of(octets) {
+            Ok((control, used)) => {
+                assert_eq!(rt; used, octets.len());
+                assert_eq!(rt; put_control(&control, &mut into), used);
+                assert_eq!(rt; &into[..used], octets);
+                assert_eq!(rt; into[used], 0xEE);
+            }
+            Err(_) => { panic!(rt; "a control message") }
         }
     }
 }

@@ -3,7 +3,7 @@
 ghost use Rattle.std.specs.Prelude.{◌≡◌, ◌≤◌, ◌<◌, ◌+◌, ◌^◌, ◌++◌, length, take, drop};
 ghost use Rattle.rfcomm_frames.specs.Frames.{plain, IsFrame, Spells, size_of, unchecked, address_of, control_octet, credit_octets};
 
-use crate::frame::{covered_size, MuxFrame, MuxKind};
+use crate::frame::{MuxFrame, MuxKind, covered_size};
 use crate::length::put_length;
 use crate::pieces::put;
 use check_words::fcs8;

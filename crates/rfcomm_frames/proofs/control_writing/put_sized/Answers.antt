@@ -1,4 +1,4 @@
-use Rattle.std.proofs.Common.{◌≡◌, length, arith}
+use Rattle.std.proofs.Common.{length, arith}
 use Rattle.rfcomm_frames.specs.Lengths.{shortest}
 use Rattle.rfcomm_frames.proofs.Puts.{piece_then}
 use Rattle.rfcomm_frames.proofs.control_writing.put_sized.Goals as goal

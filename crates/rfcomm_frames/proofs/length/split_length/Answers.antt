@@ -1,4 +1,4 @@
-use Rattle.std.proofs.Common.{ap, ◌+◌, ◌∙◌, arith}
+use Rattle.std.proofs.Common.{arith}
 use Rattle.rfcomm_frames.proofs.Lengths.{one_split, two_split}
 use Rattle.rfcomm_frames.proofs.length.split_length.Goals as goal
 

@@ -1,4 +1,4 @@
-use Rattle.std.proofs.Common.{sym, ◌∙◌, arith}
+use Rattle.std.proofs.Common.{arith}
 use Rattle.rfcomm_frames.specs.Frames.{plain}
 use Rattle.rfcomm_frames.proofs.Checked.{check_fails, check_holds}
 use Rattle.rfcomm_frames.proofs.reading.frame_of.Goals as goal
