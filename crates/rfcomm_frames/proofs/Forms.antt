@@ -22,25 +22,29 @@ some_field field n states =
       | inr two ↦ omega (arith, ap length two.1)
     ]
 
-pub says : (frame : PlainFrame) (octets : List ℕ) (form : HasForm frame octets) → Says frame form.field form.check octets
-says frame octets form =
-    let body : List ℕ = body_of form.field frame in
-    let whole : List ℕ = address_of frame ∷ control_octet frame.kind frame.pf ∷ (body ++ form.check ∷ []) in
-    let long : length body ≡ length form.field + length (credit_octets frame.credits ++ frame.octets) = length-append form.field (credit_octets frame.credits ++ frame.octets) in
-    let some = some_field form.field (length frame.octets) form.states in
-    let size : length whole ≡ 3 + length body = omega (arith, length-append body (form.check ∷ [])) in
+pub says_parts : (frame : PlainFrame) (field octets : List ℕ) (n check : ℕ) → States field n
+    → octets ≡ address_of frame ∷ control_octet frame.kind frame.pf ∷ (body_of field frame ++ check ∷ []) → Says frame field check octets
+says_parts frame field octets n check states parts =
+    let body : List ℕ = body_of field frame in
+    let whole : List ℕ = address_of frame ∷ control_octet frame.kind frame.pf ∷ (body ++ check ∷ []) in
+    let long : length body ≡ length field + length (credit_octets frame.credits ++ frame.octets) = length-append field (credit_octets frame.credits ++ frame.octets) in
+    let some = some_field field n states in
+    let size : length whole ≡ 3 + length body = omega (arith, length-append body (check ∷ [])) in
     let count : length whole - 3 ≡ length body = omega arith in
     let place : length whole - 1 ≡ 2 + length body = omega arith in
-    let here : Says frame form.field form.check whole = record {
+    let here : Says frame field check whole = record {
       room = omega arith;
       address = refl;
       control = refl;
-      middle = ap (λ (k : ℕ). take k (body ++ form.check ∷ [])) count ∙ take_at body (form.check ∷ []) (length body) refl;
+      middle = ap (λ (k : ℕ). take k (body ++ check ∷ [])) count ∙ take_at body (check ∷ []) (length body) refl;
       last = ap (λ (k : ℕ). get_or whole k 0) place
-          ∙ get_or-append-add (address_of frame ∷ control_octet frame.kind frame.pf ∷ []) (body ++ form.check ∷ []) (length body) 0
-          ∙ get_or_push body form.check 0 (length body) refl;
+          ∙ get_or-append-add (address_of frame ∷ control_octet frame.kind frame.pf ∷ []) (body ++ check ∷ []) (length body) 0
+          ∙ get_or_push body check 0 (length body) refl;
     } in
-    subst (Says frame form.field form.check) (sym form.parts) here
+    subst (Says frame field check) (sym parts) here
+
+pub says : (frame : PlainFrame) (octets : List ℕ) (form : HasForm frame octets) → Says frame form.field form.check octets
+says frame octets form = says_parts frame form.field octets (length frame.octets) form.check form.states form.parts
 
 -- ---- a body is that of one frame
 
@@ -51,17 +55,19 @@ credits_same None (Some n') info info' same e = absurd cc
 credits_same (Some n) None info info' same e = absurd cc
 credits_same (Some n) (Some n') info info' same e = (cc, cc)
 
-pub body_same : (field field' info info' : List ℕ) (credits credits' : Option ℕ) → States field (length info) → States field' (length info')
+body_same : (field field' info info' : List ℕ) (n n' : ℕ) (credits credits' : Option ℕ) → States field n → States field' n'
     → is_some credits ≡ is_some credits' → field ++ (credit_octets credits ++ info) ≡ field' ++ (credit_octets credits' ++ info')
-    → (field ≡ field') × (credits ≡ credits') × (info ≡ info')
-body_same field field' info info' credits credits' states states' granting e =
-    let f = field_same field field' (credit_octets credits ++ info) (credit_octets credits' ++ info') (length info) (length info') states states' e in
+    → (n ≡ n') × (field ≡ field') × (credits ≡ credits') × (info ≡ info')
+body_same field field' info info' n n' credits credits' states states' granting e =
+    let f = field_same field field' (credit_octets credits ++ info) (credit_octets credits' ++ info') n n' states states' e in
     let c = credits_same credits credits' info info' granting f.2 in
-    (f.1, c.0, c.1)
+    (f.0, f.1, c.0, c.1)
 
-pub record SameForm (frame frame' : PlainFrame) (field field' : List ℕ) (check check' : ℕ) : Type 0 where
+-- the same octets, by their places, of two frames whose credits stand where they may
+pub record SameParts (frame frame' : PlainFrame) (field field' : List ℕ) (n n' check check' : ℕ) : Type 0 where
   pub frame_is : frame ≡ frame'
   pub field_is : field ≡ field'
+  pub number_is : n ≡ n'
   pub check_is : check ≡ check'
 
 rebuilt : (dlci : ℕ) (cr : Bool) (kind : MuxKind) (pf : Bool) (credits : Option ℕ) (octets : List ℕ) (f : PlainFrame)
@@ -69,11 +75,13 @@ rebuilt : (dlci : ℕ) (cr : Bool) (kind : MuxKind) (pf : Bool) (credits : Optio
     → f ≡ record { dlci = dlci; cr = cr; kind = kind; pf = pf; credits = credits; octets = octets }
 rebuilt dlci cr kind pf credits octets f p q r s t u = rw (← p, ← q, ← r, ← s, ← t, ← u) refl
 
-pub one_form : (frame frame' : PlainFrame) (octets : List ℕ) (form : HasForm frame octets) (form' : HasForm frame' octets)
-    → SameForm frame frame' form.field form'.field form.check form'.check
-one_form frame frame' octets form form' =
-    let s = says frame octets form in
-    let s' = says frame' octets form' in
+abbrev pub IsGranting : PlainFrame → Type 0
+IsGranting frame = is_some frame.credits ≡ has_credits frame.dlci frame.kind frame.pf
+
+pub same_parts : (frame frame' : PlainFrame) (field field' octets : List ℕ) (n n' check check' : ℕ) → States field n → States field' n'
+    → IsGranting frame → IsGranting frame' → Says frame field check octets → Says frame' field' check' octets
+    → SameParts frame frame' field field' n n' check check'
+same_parts frame frame' field field' octets n n' check check' states states' grants grants' s s' =
     let a = address_parts frame (get_or octets 0 0) s.address in
     let a' = address_parts frame' (get_or octets 0 0) s'.address in
     let k = control_same frame.kind frame'.kind frame.pf frame'.pf (sym s.control ∙ s'.control) in
@@ -82,17 +90,24 @@ one_form frame frame' octets form form' =
     let kind : frame.kind ≡ frame'.kind = k.0 in
     let pf : frame.pf ≡ frame'.pf = k.1 in
     let granting : is_some frame.credits ≡ is_some frame'.credits =
-    form.fits.granting
+    grants
     ∙ ap (λ (d : ℕ). has_credits d frame.kind frame.pf) dlci
     ∙ ap (λ (x : MuxKind). has_credits frame'.dlci x frame.pf) kind
     ∙ ap (λ (x : Bool). has_credits frame'.dlci frame'.kind x) pf
-    ∙ sym form'.fits.granting in
-    let b = body_same form.field form'.field frame.octets frame'.octets frame.credits frame'.credits form.states form'.states granting (sym s.middle ∙ s'.middle) in
+    ∙ sym grants' in
+    let b = body_same field field' frame.octets frame'.octets n n' frame.credits frame'.credits states states' granting (sym s.middle ∙ s'.middle) in
     record {
-      frame_is = rebuilt frame'.dlci frame'.cr frame'.kind frame'.pf frame'.credits frame'.octets frame dlci cr kind pf b.1 b.2;
-      field_is = b.0;
+      frame_is = rebuilt frame'.dlci frame'.cr frame'.kind frame'.pf frame'.credits frame'.octets frame dlci cr kind pf b.2 b.3;
+      field_is = b.1;
+      number_is = b.0;
       check_is = sym s.last ∙ s'.last;
     }
+
+pub one_form : (frame frame' : PlainFrame) (octets : List ℕ) (form : HasForm frame octets) (form' : HasForm frame' octets)
+    → SameParts frame frame' form.field form'.field (length frame.octets) (length frame'.octets) form.check form'.check
+one_form frame frame' octets form form' =
+    same_parts frame frame' form.field form'.field octets (length frame.octets) (length frame'.octets) form.check form'.check form.states form'.states
+    form.fits.granting form'.fits.granting (says frame octets form) (says frame' octets form')
 
 -- ---- what the check word is over
 

@@ -1,5 +1,5 @@
 -- Length fields are read in one way.
-use Rattle.std.proofs.Common.{◌≡◌, ◌≢◌, ℕ, ◌+◌, ◌*◌, ◌/◌, ◌%◌, ◌^◌, ◌<◌, List, ◌∷◌, ◌++◌, refl, sym, ap, subst, ◌∙◌, arith, inl, inr}
+use Rattle.std.proofs.Common.{◌≡◌, ◌≢◌, ℕ, ◌+◌, ◌*◌, ◌/◌, ◌%◌, ◌^◌, ◌<◌, List, ◌∷◌, ◌++◌, refl, sym, ap, subst, ◌∙◌, arith, inl, inr, length, ◌≤◌}
 use Rattle.std.proofs.lemmas.Bool.{lt-ltb, le-ltb, cases_lt}
 use Rattle.bt_base.specs.Octets.{IsOctets}
 use Rattle.rfcomm_frames.specs.Lengths.{one_octet, two_octets, States, shortest}
@@ -60,3 +60,17 @@ states-shortest n few =
       | inl less ↦ inl (less, rw (lt-ltb n 128 less) refl)
       | inr more ↦ inr (few, rw (le-ltb n 128 more) refl)
     ]
+
+-- a field that states the number is as long as the shortest one, or longer
+pub shortest_no_longer : (field : List ℕ) (n : ℕ) → States field n → (length (shortest n) ≤ length field) × (n < 2 ^ 15)
+shortest_no_longer field n (inl (small, is)) =
+    let e : length (shortest n) ≡ 1 = rw (lt-ltb n 128 small) refl in
+    (omega (arith, ap length is), omega arith)
+shortest_no_longer field n (inr (few, is)) = (omega (arith, ap length is, at_most_two n), few)
+  where
+    at_most_two : (k : ℕ) → length (shortest k) ≤ 2
+    at_most_two k =
+        elim (cases_lt k 128) [
+          | inl less ↦ let e : length (shortest k) ≡ 1 = rw (lt-ltb k 128 less) refl in omega arith
+          | inr more ↦ let e : length (shortest k) ≡ 2 = rw (le-ltb k 128 more) refl in omega arith
+        ]

@@ -71,7 +71,7 @@ listed-all xs zero place e = sym (nil_from_length (drop place xs) (omega (arith,
 listed-all xs (suc n) place e =
     ap (λ (ys : List ℕ). get_or xs place 0 ∷ ys) (listed-all xs n (suc place) (omega arith)) ∙ sym (drop-cons xs place 0 (omega arith))
 
-exactly-some : (size : ℕ) (value : List ℕ) (what control : PlainControl) → exactly size value what ≡ Some control → (length value ≡ size) × (what ≡ control)
+pub exactly-some : (size : ℕ) (value : List ℕ) (what control : PlainControl) → exactly size value what ≡ Some control → (length value ≡ size) × (what ≡ control)
 exactly-some size value what control e =
     elim (cases_eq (length value) size) [
       | inl same ↦ (same, let f : Some what ≡ Some control = rw (eq-eqb (length value) size same) at e in cc)

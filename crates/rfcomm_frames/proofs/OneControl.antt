@@ -1,14 +1,15 @@
 -- Control messages are read in one way.
-use Rattle.std.proofs.Common.{◌≡◌, ℕ, ◌%◌, List, ◌∷◌, ◌++◌, length, slice_index, take, drop, Some, Ok, Err, refl, sym, ap, subst, ◌∙◌, arith, append_assoc, length-append}
+use Rattle.std.proofs.Common.{◌≡◌, ◌⊎◌, ◌≤◌, ℕ, ◌%◌, inl, inr, List, ◌∷◌, ◌++◌, length, slice_index, take, drop, Some, Ok, Err, refl, sym, ap, subst, ◌∙◌, arith, append_assoc, length-append}
 use Rattle.std.proofs.lemmas.List.{take_at, take-append-drop, length-take-le}
 use Rattle.rfcomm_frames.specs.declared.refusal.MuxRefusal.{MuxRefusal}
 use Rattle.rfcomm_frames.specs.declared.refusal.MuxRefusal.TheVariants.{Short, BadExtension, BadControl, LengthMismatch, BadFcs}
+use Rattle.rfcomm_frames.specs.Lengths.{States, shortest}
 use Rattle.rfcomm_frames.specs.Controls.{PlainControl, pn, msc, test, rpn, rls, nsc, other, type_of, value_of, IsControl, SpellsControl}
-use Rattle.rfcomm_frames.specs.ControlAnswers.{RefusesControl}
-use Rattle.rfcomm_frames.specs.Reading.{message}
-use Rattle.rfcomm_frames.specs.Laws.{OneControl, OneControlAnswer, WrittenControlIsRead}
-use Rattle.rfcomm_frames.proofs.Lengths.{heads_are, field_same}
-use Rattle.rfcomm_frames.proofs.Messages.{message-spelled}
+use Rattle.rfcomm_frames.specs.ControlAnswers.{HasFront, RefusesControl}
+use Rattle.rfcomm_frames.specs.Reading.{exactly, message}
+use Rattle.rfcomm_frames.specs.Laws.{OneControl, OneControlAnswer, WrittenControlIsRead, WrongValuesAreRefused, WrittenControlIsNoLonger}
+use Rattle.rfcomm_frames.proofs.Lengths.{heads_are, field_same, shortest_no_longer}
+use Rattle.rfcomm_frames.proofs.Messages.{message-spelled, exactly-some}
 
 -- a type and a value are those of one message
 control_same : (control control' : PlainControl) → IsControl control → IsControl control' → type_of control ≡ type_of control' → value_of control ≡ value_of control' → control ≡ control'
@@ -95,3 +96,63 @@ pub written-control-read : WrittenControlIsRead
 written-control-read control octets behind given s is =
     let front : take (length octets) (octets ++ behind) ≡ octets = take_at octets behind (length octets) refl in
     one-control-answer (octets ++ behind) given (Ok (control, length octets)) is (omega (arith, length-append octets behind), subst (SpellsControl control) (sym front) s)
+
+-- ---- wrong lengths
+
+front_is : (kind n : ℕ) (field behind : List ℕ) → States field n → HasFront (kind ∷ (field ++ behind))
+front_is kind n field behind states = record { kind = kind; field = field; behind = behind; count = n; parts = refl; states = states }
+
+-- a message that begins such octets has the type, and the length that is stated
+begins : (kind n : ℕ) (field behind : List ℕ) (control : PlainControl) (used : ℕ) → States field n → (s : SpellsControl control (take used (kind ∷ (field ++ behind))))
+    → (kind ≡ type_of control) × (n ≡ length (value_of control)) × (length (value_of control) ≤ length behind)
+begins kind n field behind control used states s =
+    let value : List ℕ = value_of control in
+    let more : List ℕ = drop used (kind ∷ (field ++ behind)) in
+    let heads = heads_are kind (type_of control) (field ++ behind) (s.field ++ (value ++ more)) (whole_is control used (kind ∷ (field ++ behind)) s) in
+    let f = field_same field s.field behind (value ++ more) n (length value) states s.states heads.1 in
+    (heads.0, f.0, omega (arith, ap length f.2, length-append value more))
+
+-- of these types a message has so many octets
+message_is : (control : PlainControl) (kind : ℕ) → IsControl control → kind ≡ type_of control → message kind (value_of control) ≡ Some control
+message_is control kind is e = ap (λ (k : ℕ). message k (value_of control)) e ∙ message-spelled control is
+
+exact_length : (size : ℕ) (value : List ℕ) (what control : PlainControl) → exactly size value what ≡ Some control → length value ≡ size
+exact_length size value what control e = (exactly-some size value what control e).0
+
+module _ (kind : ℕ) (control : PlainControl) (read : message kind (value_of control) ≡ Some control) where
+  at_kind : (known : ℕ) → kind ≡ known → message known (value_of control) ≡ Some control
+  at_kind known is = ap (λ (k : ℕ). message k (value_of control)) (sym is) ∙ read
+
+  pn_length : (kind ≡ 0x81) ⊎ (kind ≡ 0x83) → length (value_of control) ≡ 8
+  pn_length (inl is) = exact_length 8 (value_of control) _ control (at_kind 0x81 is)
+  pn_length (inr is) = exact_length 8 (value_of control) _ control (at_kind 0x83 is)
+
+  msc_length : (kind ≡ 0xE1) ⊎ (kind ≡ 0xE3) → length (value_of control) ≡ 2
+  msc_length (inl is) = exact_length 2 (value_of control) _ control (at_kind 0xE1 is)
+  msc_length (inr is) = exact_length 2 (value_of control) _ control (at_kind 0xE3 is)
+
+  nsc_length : kind ≡ 0x11 → length (value_of control) ≡ 1
+  nsc_length is = exact_length 1 (value_of control) _ control (at_kind 0x11 is)
+
+pub wrong_values-refused : WrongValuesAreRefused
+wrong_values-refused kind n field behind given odd states wrong is =
+    let octets : List ℕ = kind ∷ (field ++ behind) in
+    let none : (control : PlainControl) (used : ℕ) → ¬ SpellsControl control (take used octets) = λ control used s.
+    let b = begins kind n field behind control used states s in
+    let read = message_is control kind s.fits b.0 in
+    elim wrong [
+      | inl short ↦ omega (arith, b.1, b.2)
+      | inr fixed ↦ elim fixed [
+        | inl eight ↦ eight.1 (b.1 ∙ pn_length kind control read eight.0)
+        | inr rest ↦ elim rest [
+          | inl two ↦ two.1 (b.1 ∙ msc_length kind control read two.0)
+          | inr one ↦ one.1 (b.1 ∙ nsc_length kind control read one.0)
+        ]
+      ]
+    ] in
+    one-control-answer octets given (Err LengthMismatch) is (front_is kind n field behind states, odd, none)
+
+pub control-no-longer : WrittenControlIsNoLonger
+control-no-longer control octets s =
+    let short = shortest_no_longer s.field (length (value_of control)) s.states in
+    (omega (arith, ap length s.parts, length-append s.field (value_of control), length-append (shortest (length (value_of control))) (value_of control), short.0), short.1)

@@ -1,9 +1,11 @@
 -- Frames and control messages read both ways.
-use Rattle.std.specs.Prelude.{ℕ, ◌≡◌, ◌≢◌, ◌<◌, Bool, false, List, [], ◌∷◌, ◌++◌, length, Ok}
+use Rattle.std.specs.Prelude.{ℕ, ◌%◌, ◌^◌, ◌≡◌, ◌≢◌, ◌<◌, ◌≤◌, ◌⊎◌, Bool, false, is_some, List, [], ◌∷◌, ◌++◌, length, Ok, Err}
 use Rattle.check_words.specs.CheckWords.{bits_of}
-use Rattle.rfcomm_frames.specs.Frames.{PlainFrame, carries, covered, Spells}
+use Rattle.rfcomm_frames.specs.declared.refusal.MuxRefusal.TheVariants.{LengthMismatch}
+use Rattle.rfcomm_frames.specs.Lengths.{States}
+use Rattle.rfcomm_frames.specs.Frames.{PlainFrame, address_of, control_octet, carries, has_credits, body_of, covered, size_of, Spells}
 use Rattle.rfcomm_frames.specs.Answers.{Answer, IsAnswer}
-use Rattle.rfcomm_frames.specs.Controls.{PlainControl, SpellsControl}
+use Rattle.rfcomm_frames.specs.Controls.{PlainControl, value_of, written, SpellsControl}
 use Rattle.rfcomm_frames.specs.ControlAnswers.{ControlAnswer, IsControlAnswer}
 
 -- octets have one answer: one frame with these octets, or one refusal
@@ -31,6 +33,31 @@ WrittenIsRead = (frame : PlainFrame) (octets : List ℕ) (given : Answer) → Sp
 abbrev pub WrittenControlIsRead : Type 0
 WrittenControlIsRead = (control : PlainControl) (octets behind : List ℕ) (given : ControlAnswer) →
     SpellsControl control octets → IsControlAnswer (octets ++ behind) given → given ≡ Ok (control, length octets)
+
+-- Octets laid out as those of a frame, whatever stands in place of the check word, whose length field states another
+-- number of octets than there are of information, or that have information where the kind carries none, are refused
+-- for their length.
+abbrev pub WrongLengthsAreRefused : Type 0
+WrongLengthsAreRefused = (frame : PlainFrame) (field : List ℕ) (n check : ℕ) (given : Answer) →
+    States field n → is_some frame.credits ≡ has_credits frame.dlci frame.kind frame.pf →
+    (n ≢ length frame.octets) ⊎ ((carries frame.kind ≡ false) × (frame.octets ≢ [])) →
+    IsAnswer (address_of frame ∷ control_octet frame.kind frame.pf ∷ (body_of field frame ++ check ∷ [])) given → given ≡ Err LengthMismatch
+
+-- A type octet that ends and a length field with a value behind it that is shorter than stated, or with a length
+-- other than 8 for PN, 2 for MSC, 1 for NSC, are refused for their length.
+abbrev pub WrongValuesAreRefused : Type 0
+WrongValuesAreRefused = (kind n : ℕ) (field behind : List ℕ) (given : ControlAnswer) →
+    kind % 2 ≡ 1 → States field n →
+    (length behind < n) ⊎ (((kind ≡ 0x81) ⊎ (kind ≡ 0x83)) × (n ≢ 8)) ⊎ (((kind ≡ 0xE1) ⊎ (kind ≡ 0xE3)) × (n ≢ 2)) ⊎ ((kind ≡ 0x11) × (n ≢ 1)) →
+    IsControlAnswer (kind ∷ (field ++ behind)) given → given ≡ Err LengthMismatch
+
+-- what was read is written in as many octets or fewer, and may be written
+abbrev pub WrittenIsNoLonger : Type 0
+WrittenIsNoLonger = (frame : PlainFrame) (octets : List ℕ) → Spells frame octets → (size_of frame ≤ length octets) × (length frame.octets < 2 ^ 15)
+
+abbrev pub WrittenControlIsNoLonger : Type 0
+WrittenControlIsNoLonger = (control : PlainControl) (octets : List ℕ) → SpellsControl control octets →
+    (length (written control) ≤ length octets) × (length (value_of control) < 2 ^ 15)
 
 -- what the check word of a frame is over, and the check word
 abbrev pub guarded : (frame : PlainFrame) (octets : List ℕ) → Spells frame octets → List ℕ

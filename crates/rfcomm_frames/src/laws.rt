@@ -1,6 +1,6 @@
 //! Laws of the frames and control messages and their octets, for all octets.
 
-ghost use Rattle.rfcomm_frames.specs.Laws.{OneAnswer, OneFrame, OneControlAnswer, OneControl, WrittenIsRead, WrittenControlIsRead, ChangedFramesAreSeen, ChangedOctetsAreSeen};
+ghost use Rattle.rfcomm_frames.specs.Laws.{OneAnswer, OneFrame, OneControlAnswer, OneControl, WrittenIsRead, WrittenControlIsRead, WrongLengthsAreRefused, WrongValuesAreRefused, WrittenIsNoLonger, WrittenControlIsNoLonger, ChangedFramesAreSeen, ChangedOctetsAreSeen};
 
 /// Octets have one answer: one frame that they spell, or one refusal.
 pub fn one_answer()
@@ -18,6 +18,19 @@ pub fn one_control_answer()
 pub fn written_is_read()
     ensures frame { WrittenIsRead }
     ensures control { WrittenControlIsRead }
+{}
+
+/// Octets whose length field does not fit what is there, in a frame or in a control message, are
+/// refused as `LengthMismatch`.
+pub fn wrong_lengths_are_refused()
+    ensures frame { WrongLengthsAreRefused }
+    ensures control { WrongValuesAreRefused }
+{}
+
+/// What was read may be written, in no more octets than it was read from.
+pub fn written_is_no_longer()
+    ensures frame { WrittenIsNoLonger }
+    ensures control { WrittenControlIsNoLonger }
 {}
 
 /// A change within eight neighbouring bits of what the check word is over, or of the check word, is

@@ -1,3 +1,5 @@
+ghost use Rattle.std.specs.Prelude.{◌≤◌, length};
+
 use super::*;
 
 /// Frames of an opening channel: PN both ways on the control channel, and an SABM on channel 18.
@@ -45,35 +47,39 @@ fn refusals_of_frames(rt: HostRuntime) {
     }
 }
 
-#[test]
-fn read_and_written_again(rt: HostRuntime) {
-    let cases: [&[u8]; 3] = [&ASKED, &GRANTED, &OPENING];
-    for bytes in cases {
-        let mut into = [0xEE; 16];
-        match frame_of(bytes) {
-            Ok(frame) => {
-                assert_eq!(rt; put_frame(&frame, &mut into), bytes.len());
-                assert_eq!(rt; &into[..bytes.len()], bytes);
-                assert_eq!(rt; into[bytes.len()], 0xEE);
-            }
-            Err(_) => { panic!(rt; "a frame") }
-        }
+/// Writes the frame that octets spell, and answers how many octets it has.
+fn put_frame_again(octets: &[u8], into: &mut [u8]) -> usize
+    requires { length octets.now ≤ length into.old }
+    ensures { result ≤ length into.old }
+{
+    match frame_of(octets) {
+        Ok(frame) => put_frame(&frame, into),
+        Err(_) => 0,
     }
 }
 
 #[test]
-fn other_spellings_of_frames(rt: HostRuntime) {
-    // A small length in two octets is read, and is written in one.
-    let long: [u8; 7] = [0x03, 0xEF, 0x04, 0x00, 0xAA, 0xBB, 0x70];
-    let mut into = [0xEE; 8];
-    match frame_of(&long) {
-        Ok(frame) => {
-            assert_eq!(rt; frame.octets, [0xAA, 0xBB].as_slice());
-            assert_eq!(rt; put_frame(&frame, &mut into), 6);
-            assert_eq!(rt; &into, &[0x03, 0xEF, 0x05, 0xAA, 0xBB, 0x70, 0xEE, 0xEE]);
-        }
-        Err(_) => { panic!(rt; "a frame") }
+fn frames_written_again(rt: HostRuntime) {
+    let cases: [(&[u8], &[u8]); 4] = [
+        (&ASKED, &ASKED),
+        (&GRANTED, &GRANTED),
+        (&OPENING, &OPENING),
+        // A small length in two octets is read, and is written in one.
+        (
+            &[0x03, 0xEF, 0x04, 0x00, 0xAA, 0xBB, 0x70],
+            &[0x03, 0xEF, 0x05, 0xAA, 0xBB, 0x70],
+        ),
+    ];
+    for (read, written) in cases {
+        let mut into = [0xEE; 16];
+        let end = put_frame_again(read, &mut into);
+        assert_eq!(rt; &into[..end], written);
+        assert_eq!(rt; &into[end..], &[0xEE; 16][end..]);
     }
+}
+
+#[test]
+fn credits_and_channels(rt: HostRuntime) {
     // A credit octet is in neither the length nor the check word.
     let granting: [u8; 6] = [0x4B, 0xFF, 0x03, 0x07, 0xAA, fcs8(&[0x4B, 0xFF])];
     match frame_of(&granting) {
@@ -147,6 +153,17 @@ fn refusals_of_control_messages(rt: HostRuntime) {
     }
 }
 
+/// Writes the control message at the front of octets, and answers how many octets it has.
+fn put_control_again(octets: &[u8], into: &mut [u8]) -> usize
+    requires { length octets.now ≤ length into.old }
+    ensures { result ≤ length into.old }
+{
+    match control_of(octets) {
+        Ok((control, _)) => put_control(&control, into),
+        Err(_) => 0,
+    }
+}
+
 #[test]
 fn control_messages_written_again(rt: HostRuntime) {
     let cases: [&[u8]; 10] = [
@@ -164,14 +181,8 @@ fn control_messages_written_again(rt: HostRuntime) {
     ];
     for octets in cases {
         let mut into = [0xEE; 12];
-        match control_of(octets) {
-            Ok((control, used)) => {
-                assert_eq!(rt; used, octets.len());
-                assert_eq!(rt; put_control(&control, &mut into), used);
-                assert_eq!(rt; &into[..used], octets);
-                assert_eq!(rt; into[used], 0xEE);
-            }
-            Err(_) => { panic!(rt; "a control message") }
-        }
+        let end = put_control_again(octets, &mut into);
+        assert_eq!(rt; &into[..end], octets);
+        assert_eq!(rt; &into[end..], &[0xEE; 12][end..]);
     }
 }
