@@ -5,7 +5,11 @@ use Rattle.bt_base.specs.Octets.{IsOctets}
 use Rattle.rfcomm_frames.specs.declared.frame.MuxKind.{MuxKind}
 use Rattle.rfcomm_frames.specs.Lengths.{States}
 use Rattle.rfcomm_frames.specs.Frames.{PlainFrame, address_of, control_octet, carries, has_credits, credit_octets, HasForm}
-use Rattle.rfcomm_frames.proofs.Heads.{address_again}
+use Rattle.rfcomm_frames.specs.declared.refusal.MuxRefusal.TheVariants.{LengthMismatch}
+use Rattle.rfcomm_frames.specs.Answers.{HasHead, Refuses}
+use Rattle.rfcomm_frames.specs.Reading.{IsSplit}
+use Rattle.rfcomm_frames.proofs.Forms.{says}
+use Rattle.rfcomm_frames.proofs.Heads.{address_parts, address_again, control_same}
 
 -- octets with their first two and their last one apart
 apart : (octets : List ℕ) → 4 ≤ length octets
@@ -69,3 +73,17 @@ module _ (octets body : List ℕ) (kind : MuxKind) (dlci : ℕ) (pf : Bool) (fit
           alone = alone;
         };
       }
+
+  -- a body that is that of no such frame
+  pub unformed : (granting : Bool) → granting ≡ has_credits dlci kind pf → ((credits : Option ℕ) (info : List ℕ) → ¬ IsSplit granting body credits info)
+      → Refuses octets LengthMismatch
+  unformed granting granting_is none =
+      let head : HasHead octets = (room, ends, (kind, pf, control_is)) in (
+        head,
+        λ frame form.
+            let s = says frame octets form in
+            let k = control_same frame.kind kind frame.pf pf (sym s.control ∙ control_is) in
+            let d : frame.dlci ≡ dlci = (address_parts frame (get_or octets 0 0) s.address).0 ∙ sym dlci_is in
+            let granted : is_some frame.credits ≡ granting = form.fits.granting ∙ rw (d, k.0, k.1) (sym granting_is) in
+            none frame.credits frame.octets (form.field, form.states, granted, body_is ∙ s.middle),
+      )

@@ -4,7 +4,7 @@ use Rattle.std.specs.List.{AllByRecursion}
 use Rattle.bt_base.specs.Octets.{IsOctets, le16}
 use Rattle.rfcomm_frames.specs.declared.control.Control.{Control}
 use Rattle.rfcomm_frames.specs.declared.control.Control.TheVariants.{Pn, Msc, Test, Rpn, Rls, Nsc, Other}
-use Rattle.rfcomm_frames.specs.Lengths.{States, shortest}
+use Rattle.rfcomm_frames.specs.Lengths.{States, sized}
 use Rattle.rfcomm_frames.specs.Frames.{bit}
 
 -- what a control message says, apart from where its octets lie in memory
@@ -26,7 +26,7 @@ plain_control (Rls command value) = rls command value.now
 plain_control (Nsc kind) = nsc kind
 plain_control (Other kind value) = other kind value.now
 
--- the type octet: bit 0 is the extension bit, bit 1 is set in a command (TS 07.10, 5.4.6.2). NSC is a response.
+-- the type octet: bit 0 is the extension bit, bit 1 is set in a command (TS 07.10, 5.4.6). NSC is a response.
 abbrev pub type_of : PlainControl → ℕ
 type_of (pn command dlci flow priority timer frame retransmissions credits) = 0x81 + 0x02 * bit command
 type_of (msc command dlci signals) = 0xE1 + 0x02 * bit command
@@ -78,4 +78,4 @@ pub record SpellsControl (control : PlainControl) (octets : List ℕ) : Type 0 w
 
 -- what is written of a control message
 abbrev pub written : PlainControl → List ℕ
-written control = type_of control ∷ (shortest (length (value_of control)) ++ value_of control)
+written control = type_of control ∷ sized (value_of control)

@@ -1,5 +1,5 @@
--- The length fields of frames and of control messages (TS 07.10, 5.2.1.4 and 5.4.6.1).
-use Rattle.std.specs.Prelude.{ℕ, ◌+◌, ◌*◌, ◌/◌, ◌%◌, ◌^◌, ◌<◌, ◌≡◌, ◌⊎◌, List, [], ◌∷◌, nat_lt, if◌then◌else◌}
+-- The length fields of frames and of control messages (TS 07.10, 5.2.1.5 and 5.4.6).
+use Rattle.std.specs.Prelude.{ℕ, ◌+◌, ◌*◌, ◌/◌, ◌%◌, ◌^◌, ◌<◌, ◌≡◌, ◌⊎◌, List, [], ◌∷◌, ◌++◌, length, nat_lt, if◌then◌else◌}
 
 -- in one octet bit 0 is set, and the number stands above it
 abbrev pub one_octet : ℕ → List ℕ
@@ -17,3 +17,7 @@ States field n = ((n < 128) × (field ≡ one_octet n)) ⊎ ((n < 2 ^ 15) × (fi
 -- the field that is written: one octet where that has room
 abbrev pub shortest : ℕ → List ℕ
 shortest n = if nat_lt n 128 then one_octet n else two_octets n
+
+-- octets behind the field that states how many they are
+abbrev pub sized : List ℕ → List ℕ
+sized octets = shortest (length octets) ++ octets

@@ -1,8 +1,9 @@
--- The steps of reading: a control octet, a length field, a value under its type octet.
-use Rattle.std.specs.Prelude.{ℕ, ◌-◌, ◌*◌, ◌/◌, ◌%◌, List, length, slice_index, Option, Some, None, Ok, Err, Bool, ◌==◌, if◌then◌else◌}
+-- The steps of reading: the body of a frame, a frame without its check word, a value under its type octet.
+use Rattle.std.specs.Prelude.{ℕ, ◌-◌, ◌*◌, ◌/◌, ◌%◌, List, length, slice_index, Option, Some, None, Ok, Err, Bool, ◌==◌, if◌then◌else◌, ◌≡◌, ◌++◌, is_some}
 use Rattle.byteorder.specs.Endian.{little_from}
 use Rattle.rfcomm_frames.specs.declared.refusal.MuxRefusal.TheVariants.{Short, BadExtension, BadControl, LengthMismatch, BadFcs}
-use Rattle.rfcomm_frames.specs.Frames.{HasForm}
+use Rattle.rfcomm_frames.specs.Lengths.{States}
+use Rattle.rfcomm_frames.specs.Frames.{credit_octets, HasForm}
 use Rattle.rfcomm_frames.specs.Answers.{Answer, Refuses}
 use Rattle.rfcomm_frames.specs.Controls.{PlainControl, pn, msc, test, rpn, rls, nsc, other}
 
@@ -33,6 +34,11 @@ message kind v =
     if response == 0x51 then Some (rls command v) else
     if kind == 0x11 then not_supported v else
     Some (other kind v)
+
+-- a length field, the credits where a frame has them, and as much information as the field states
+abbrev pub IsSplit : Bool → List ℕ → Option ℕ → List ℕ → Type 0
+IsSplit granting body credits octets =
+    (field : List ℕ) × States field (length octets) × (is_some credits ≡ granting) × (body ≡ field ++ (credit_octets credits ++ octets))
 
 -- what is answered before the check word is looked at
 abbrev pub IsFormed : List ℕ → Answer → Type 0

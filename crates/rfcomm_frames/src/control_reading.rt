@@ -43,6 +43,7 @@ fn message(kind: u8, value: &[u8]) -> Option<Control<'_>>
 {
     let flag = kind / 2 % 2;
     let command = flag == 1;
+    // The type octet of the response.
     match kind - 2 * flag {
         0x81 => parameters(command, value),
         0xE1 => modem_signals(command, value),

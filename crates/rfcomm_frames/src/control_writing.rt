@@ -1,7 +1,7 @@
 //! A control message as its octets.
 
 ghost use Rattle.std.specs.Prelude.{◌≡◌, ◌≤◌, ◌<◌, ◌+◌, ◌^◌, ◌++◌, length, take, drop};
-ghost use Rattle.rfcomm_frames.specs.Lengths.{shortest};
+ghost use Rattle.rfcomm_frames.specs.Lengths.{sized};
 ghost use Rattle.rfcomm_frames.specs.Controls.{plain_control, type_of, value_of, IsControl, SpellsControl, written};
 
 use crate::control::Control;
@@ -44,9 +44,9 @@ fn type_of(control: &Control<'_>) -> u8
 /// them.
 fn put_value(control: &Control<'_>, at: usize, into: &mut [u8]) -> usize
     requires few { length (value_of (plain_control control.now)) < 2 ^ 15 }
-    requires room { at + length (shortest (length (value_of (plain_control control.now))) ++ value_of (plain_control control.now)) ≤ length into.old }
-    ensures end { result ≡ at + length (shortest (length (value_of (plain_control control.now))) ++ value_of (plain_control control.now)) }
-    ensures written { into.new ≡ take at into.old ++ ((shortest (length (value_of (plain_control control.now))) ++ value_of (plain_control control.now)) ++ drop result into.old) }
+    requires room { at + length (sized (value_of (plain_control control.now))) ≤ length into.old }
+    ensures end { result ≡ at + length (sized (value_of (plain_control control.now))) }
+    ensures written { into.new ≡ take at into.old ++ (sized (value_of (plain_control control.now)) ++ drop result into.old) }
 {
     match *control {
         Control::Pn {
@@ -84,9 +84,9 @@ fn put_value(control: &Control<'_>, at: usize, into: &mut [u8]) -> usize
 /// behind them.
 fn put_sized(octets: &[u8], at: usize, into: &mut [u8]) -> usize
     requires few { length octets.now < 2 ^ 15 }
-    requires room { at + length (shortest (length octets.now) ++ octets.now) ≤ length into.old }
-    ensures end { result ≡ at + length (shortest (length octets.now) ++ octets.now) }
-    ensures written { into.new ≡ take at into.old ++ ((shortest (length octets.now) ++ octets.now) ++ drop result into.old) }
+    requires room { at + length (sized octets.now) ≤ length into.old }
+    ensures end { result ≡ at + length (sized octets.now) }
+    ensures written { into.new ≡ take at into.old ++ (sized octets.now ++ drop result into.old) }
 {
     let start = put_length(octets.len(), at, into);
     put(octets, start, into)

@@ -6,7 +6,7 @@ ghost use Rattle.rfcomm_frames.specs.Lengths.{States, shortest};
 use crate::pieces::put;
 
 /// The number that the length field at the front of octets states, and the octets behind the field
-/// (TS 07.10, 5.2.1.4). None where no length field is there whole.
+/// (TS 07.10, 5.2.1.5). None where no length field is there whole.
 pub(crate) fn split_length(octets: &[u8]) -> Option<(usize, &[u8])>
     ensures some { IfSome result (λ found. (field : List ℕ) × States field found.0 × (octets.now ≡ field ++ found.1.now)) }
     ensures none { IfNone result ((field behind : List ℕ) (n : ℕ) → States field n → octets.now ≢ field ++ behind) }

@@ -1,10 +1,9 @@
 //! Octets as a frame.
 
-ghost use Rattle.std.specs.Prelude.{◌≡◌, ◌≢◌, ◌/◌, ◌%◌, ◌++◌, ◌==◌, ℕ, List, [], Bool, true, Option, length, is_some, IfSome, IfNone};
-ghost use Rattle.rfcomm_frames.specs.Lengths.{States};
-ghost use Rattle.rfcomm_frames.specs.Frames.{carries, has_credits, credit_octets, control_octet};
+ghost use Rattle.std.specs.Prelude.{◌≡◌, ◌↔◌, ◌/◌, ◌%◌, ◌++◌, ◌==◌, ℕ, List, [], true, false, Option, is_some, IsTrue, IfSome, IfNone};
+ghost use Rattle.rfcomm_frames.specs.Frames.{carries, credit_octets, control_octet};
 ghost use Rattle.rfcomm_frames.specs.Answers.{answer, IsAnswer, IsControlOctet};
-ghost use Rattle.rfcomm_frames.specs.Reading.{IsFormed};
+ghost use Rattle.rfcomm_frames.specs.Reading.{IsFormed, IsSplit};
 
 use crate::frame::{MuxFrame, MuxKind, carries, covered_size, has_credits};
 use crate::length::split_length;
@@ -49,7 +48,7 @@ fn formed(bytes: &[u8]) -> Result<MuxFrame<'_>, MuxRefusal>
     let Some((credits, octets)) = split_body(has_credits(dlci, kind, pf), body) else {
         return Err(MuxRefusal::LengthMismatch);
     };
-    if !carries(kind) && !octets.is_empty() {
+    if !may_carry(kind, octets) {
         return Err(MuxRefusal::LengthMismatch);
     }
     Ok(MuxFrame {
@@ -77,11 +76,18 @@ fn kind_of(control: u8) -> Option<MuxKind>
     }
 }
 
+/// Whether a frame of a kind may carry this information.
+fn may_carry(kind: MuxKind, octets: &[u8]) -> bool
+    ensures { IsTrue result ↔ (carries kind ≡ false → octets.now ≡ []) }
+{
+    carries(kind) || octets.is_empty()
+}
+
 /// The credits, where a frame has them, and the information between control octet and check word.
 /// None where its length field does not state all of that information.
 fn split_body(granting: bool, body: &[u8]) -> Option<(Option<u8>, &[u8])>
-    ensures some { IfSome result (λ found. (field : List ℕ) × States field (length found.1.now) × (is_some found.0 ≡ granting) × (body.now ≡ field ++ (credit_octets found.0 ++ found.1.now))) }
-    ensures none { IfNone result ((field octets : List ℕ) (credits : Option ℕ) → States field (length octets) → is_some credits ≡ granting → body.now ≢ field ++ (credit_octets credits ++ octets)) }
+    ensures some { IfSome result (λ found. IsSplit granting body.now found.0 found.1.now) }
+    ensures none { IfNone result ((credits : Option ℕ) (octets : List ℕ) → ¬ IsSplit granting body.now credits octets) }
 {
     let (count, rest) = split_length(body)?;
     let (credits, octets) = split_credits(granting, rest)?;

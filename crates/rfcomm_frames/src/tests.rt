@@ -78,6 +78,17 @@ fn frames_written_again(rt: HostRuntime) {
     }
 }
 
+/// 200 octets of information need a length field of two octets.
+#[test]
+fn long_information(rt: HostRuntime) {
+    let mut octets = [0xAA; 205];
+    octets[..4].copy_from_slice(&[0x03, 0xEF, 0x90, 0x01]);
+    octets[204] = 0x70;
+    let mut into = [0xEE; 205];
+    assert_eq!(rt; put_frame_again(&octets, &mut into), 205);
+    assert_eq!(rt; &into, &octets);
+}
+
 #[test]
 fn credits_and_channels(rt: HostRuntime) {
     // A credit octet is in neither the length nor the check word.
