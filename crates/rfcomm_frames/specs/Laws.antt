@@ -1,11 +1,12 @@
 -- Frames and control messages read both ways.
-use Rattle.std.specs.Prelude.{ℕ, ◌%◌, ◌^◌, ◌≡◌, ◌≢◌, ◌<◌, ◌≤◌, ◌⊎◌, Bool, false, is_some, List, [], ◌∷◌, ◌++◌, length, Ok, Err}
+use Rattle.std.specs.Prelude.{ℕ, ◌%◌, ◌^◌, ◌≡◌, ◌≢◌, ◌<◌, ◌≤◌, ◌⊎◌, Bool, true, false, Some, None, is_some, List, [], ◌∷◌, ◌++◌, length, Ok, Err}
 use Rattle.check_words.specs.CheckWords.{bits_of}
+use Rattle.rfcomm_frames.specs.declared.frame.MuxKind.TheVariants.{Sabm, Uih}
 use Rattle.rfcomm_frames.specs.declared.refusal.MuxRefusal.TheVariants.{LengthMismatch}
-use Rattle.rfcomm_frames.specs.Lengths.{States}
-use Rattle.rfcomm_frames.specs.Frames.{PlainFrame, address_of, control_octet, carries, has_credits, body_of, covered, size_of, Spells}
+use Rattle.rfcomm_frames.specs.Lengths.{States, shortest}
+use Rattle.rfcomm_frames.specs.Frames.{PlainFrame, address_of, control_octet, carries, has_credits, body_of, covered, unchecked, size_of, Spells}
 use Rattle.rfcomm_frames.specs.Answers.{Answer, IsAnswer}
-use Rattle.rfcomm_frames.specs.Controls.{PlainControl, value_of, written, SpellsControl}
+use Rattle.rfcomm_frames.specs.Controls.{PlainControl, pn, value_of, written, SpellsControl}
 use Rattle.rfcomm_frames.specs.ControlAnswers.{ControlAnswer, IsControlAnswer}
 
 -- octets have one answer: one frame with these octets, or one refusal
@@ -75,3 +76,12 @@ abbrev pub ChangedOctetsAreSeen : Type 0
 ChangedOctetsAreSeen = (frame frame' : PlainFrame) (front behind : List ℕ) (octet octet' : ℕ) →
     octet < 256 → octet' < 256 → octet ≢ octet' → carries frame.kind ≡ false → carries frame'.kind ≡ false →
     Spells frame (front ++ octet ∷ behind) → Spells frame' (front ++ octet' ∷ behind) → ⊥
+
+-- The octets, but for check words, of an SABM frame on channel 18, of a UIH frame there with 7 credits and one octet,
+-- of the PN command that asks for channel 18 with frames of 127 octets and 7 credits, and of the length 200.
+abbrev pub AreWorkedValues : Type 0
+AreWorkedValues =
+    (unchecked (record { dlci = 18; cr = true; kind = Sabm; pf = true; credits = None; octets = [] }) ≡ 0x4B ∷ 0x3F ∷ 0x01 ∷ [])
+    × (unchecked (record { dlci = 18; cr = true; kind = Uih; pf = true; credits = Some 7; octets = 0xAA ∷ [] }) ≡ 0x4B ∷ 0xFF ∷ 0x03 ∷ 0x07 ∷ 0xAA ∷ [])
+    × (written (pn true 18 0xF0 0 0 127 0 7) ≡ 0x83 ∷ 0x11 ∷ 0x12 ∷ 0xF0 ∷ 0x00 ∷ 0x00 ∷ 0x7F ∷ 0x00 ∷ 0x00 ∷ 0x07 ∷ [])
+    × (shortest 200 ≡ 0x90 ∷ 0x01 ∷ [])

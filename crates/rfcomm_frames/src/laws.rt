@@ -1,6 +1,6 @@
 //! Laws of the frames and control messages and their octets, for all octets.
 
-ghost use Rattle.rfcomm_frames.specs.Laws.{OneAnswer, OneFrame, OneControlAnswer, OneControl, WrittenIsRead, WrittenControlIsRead, WrongLengthsAreRefused, WrongValuesAreRefused, WrittenIsNoLonger, WrittenControlIsNoLonger, ChangedFramesAreSeen, ChangedOctetsAreSeen};
+ghost use Rattle.rfcomm_frames.specs.Laws.{OneAnswer, OneFrame, OneControlAnswer, OneControl, WrittenIsRead, WrittenControlIsRead, WrongLengthsAreRefused, WrongValuesAreRefused, WrittenIsNoLonger, WrittenControlIsNoLonger, ChangedFramesAreSeen, ChangedOctetsAreSeen, AreWorkedValues};
 
 /// Octets have one answer: one frame that they spell, or one refusal.
 pub fn one_answer()
@@ -38,4 +38,9 @@ pub fn written_is_no_longer()
 pub fn changed_frames_are_seen()
     ensures bits { ChangedFramesAreSeen }
     ensures octets { ChangedOctetsAreSeen }
+{}
+
+/// The definitions give octets that were worked out by hand.
+pub fn worked_values()
+    ensures { AreWorkedValues }
 {}
