@@ -1,10 +1,10 @@
 -- A divisor with 1 at both ends divides no burst.
-use Rattle.std.proofs.Common.{◌≡◌, ℕ, zero, suc, ◌+◌, ◌-◌, Bool, true, false, List, [], ◌∷◌, ◌++◌, length, refl, sym, ap, ◌∙◌, arith, length-append}
+use Rattle.std.proofs.Common.{◌≡◌, ℕ, zero, suc, ◌+◌, ◌-◌, ◌≤◌, Bool, true, false, List, [], ◌∷◌, ◌++◌, length, refl, sym, ap, ◌∙◌, arith, length-append}
 use Rattle.std.proofs.lemmas.List.{length-replicate, replicate-append-replicate, same_from_push}
-use Rattle.check_words.specs.Division.{added, reduced, divided, degree, zeros}
+use Rattle.check_words.specs.Division.{added, reduced, divided, remainder, zeros}
 use Rattle.check_words.specs.Laws.{BurstsAreSeen}
-use Rattle.check_words.proofs.Sums.{plus-false, added-self, added-append, added-zero, zeros-added, added-comm, length-added}
-use Rattle.check_words.proofs.Steps.{divided-added, kept, kept_all, length-kept, length-kept_all, divided-kept}
+use Rattle.check_words.proofs.Sums.{plus-false, added-self, added-append, added-zero, added-twice, zeros-added, added-comm, length-added}
+use Rattle.check_words.proofs.Steps.{divided-added, length-divided, kept, kept_all, length-kept, length-kept_all, divided-kept}
 
 zeros-snoc : (n : ℕ) → zeros (suc n) ≡ zeros n ++ false ∷ []
 zeros-snoc zero = refl
@@ -71,30 +71,45 @@ difference front burst other behind same =
     ∙ ap (λ (xs : List Bool). xs ++ added (burst ++ behind) (other ++ behind)) (added-self front)
     ∙ ap (λ (xs : List Bool). zeros (length front) ++ xs) (added-append burst other behind behind same ∙ ap (λ (xs : List Bool). added burst other ++ xs) (added-self behind))
 
-pub bursts-seen : BurstsAreSeen
-bursts-seen inner front burst other behind burst_is other_is differ before after =
+-- stretches that leave the same, whatever is added at the front of all bits, are one
+pub bursts-same : (inner start front burst other behind : List Bool)
+    → length burst ≡ suc (length inner) → length other ≡ suc (length inner) → length start ≤ length (front ++ (burst ++ behind))
+    → remainder (true ∷ (inner ++ true ∷ [])) (added start (front ++ (burst ++ behind))) ≡ remainder (true ∷ (inner ++ true ∷ [])) (added start (front ++ (other ++ behind)))
+    → burst ≡ other
+bursts-same inner start front burst other behind b o within same =
     let low : List Bool = inner ++ true ∷ [] in
     let d : ℕ = suc (length inner) in
     let size : length low ≡ d = simp length-append (omega arith) in
-    let b : length burst ≡ d = omega arith in
-    let o : length other ≡ d = omega arith in
     let xs : List Bool = front ++ (burst ++ behind) in
     let ys : List Bool = front ++ (other ++ behind) in
     let long : length xs ≡ length front + (d + length behind) = length-append front (burst ++ behind) ∙ ap (λ (k : ℕ). length front + k) (length-append burst behind ∙ ap (λ (k : ℕ). k + length behind) b) in
     let long' : length ys ≡ length front + (d + length behind) = length-append front (other ++ behind) ∙ ap (λ (k : ℕ). length front + k) (length-append other behind ∙ ap (λ (k : ℕ). k + length behind) o) in
+    let us : List Bool = added start xs in
+    let vs : List Bool = added start ys in
+    let all : length us ≡ length front + (d + length behind) = length-added start xs within ∙ long in
+    let all' : length vs ≡ length front + (d + length behind) = length-added start ys (omega arith) ∙ long' in
     let n : ℕ = length front + length behind in
-    let degree_is : degree (true ∷ low) ≡ d = omega arith in
-    let steps : length xs - (suc (length low) - 1) ≡ n = omega arith in
-    let steps' : length ys - (suc (length low) - 1) ≡ n = omega arith in
-    let left : divided (true ∷ low) n xs ≡ zeros d = ap (λ (k : ℕ). divided (true ∷ low) k xs) (sym steps) ∙ before ∙ ap (λ (k : ℕ). zeros k) degree_is in
-    let right : divided (true ∷ low) n ys ≡ zeros d = ap (λ (k : ℕ). divided (true ∷ low) k ys) (sym steps') ∙ after ∙ ap (λ (k : ℕ). zeros k) degree_is in
+    let steps : length us - (suc (length low) - 1) ≡ n = omega arith in
+    let steps' : length vs - (suc (length low) - 1) ≡ n = omega arith in
+    let equal : divided (true ∷ low) n us ≡ divided (true ∷ low) n vs =
+    ap (λ (k : ℕ). divided (true ∷ low) k us) (sym steps) ∙ same ∙ ap (λ (k : ℕ). divided (true ∷ low) k vs) steps' in
+    let left : length (divided (true ∷ low) n vs) ≡ d = omega (arith, length-divided low n vs (omega arith)) in
+    let sum : length (added xs ys) ≡ length ys = length-added xs ys (omega arith) in
     let none : divided (true ∷ low) n (added xs ys) ≡ zeros d =
-    divided-added low n xs ys (omega arith) (omega arith)
-    ∙ ap (λ (ws : List Bool). added ws (divided (true ∷ low) n ys)) left
-    ∙ ap (added (zeros d)) right
-    ∙ zeros-added d (zeros d) (omega (arith, length-replicate d false)) in
+    ap (divided (true ∷ low) n) (sym (added-twice start xs ys (omega arith)))
+    ∙ divided-added low n us vs (omega arith) (omega arith)
+    ∙ ap (λ (ws : List Bool). added ws (divided (true ∷ low) n vs)) equal
+    ∙ added-self (divided (true ∷ low) n vs)
+    ∙ ap (λ (k : ℕ). zeros k) left in
     let alone : divided (true ∷ low) (length behind) (added burst other ++ zeros (length behind)) ≡ zeros d =
     sym (zeros-fall (true ∷ low) (added burst other ++ zeros (length behind)) (length front) (length behind))
     ∙ ap (divided (true ∷ low) n) (sym (difference front burst other behind (omega arith))) ∙ none in
     let sums : length (added burst other) ≡ d = length-added burst other (omega arith) ∙ o in
-    differ (added-zero burst other (omega arith) (stretch-zero inner (added burst other) (length behind) sums alone ∙ ap (λ (k : ℕ). zeros k) (sym b)))
+    added-zero burst other (omega arith) (stretch-zero inner (added burst other) (length behind) sums alone ∙ ap (λ (k : ℕ). zeros k) (sym b))
+
+pub bursts-seen : BurstsAreSeen
+unfolding added
+bursts-seen inner front burst other behind burst_is other_is differ before after =
+    let b : length burst ≡ suc (length inner) = omega (arith, length-append inner (true ∷ [])) in
+    let o : length other ≡ suc (length inner) = omega (arith, length-append inner (true ∷ [])) in
+    differ (bursts-same inner [] front burst other behind b o (omega arith) (before ∙ sym after))

@@ -4,7 +4,7 @@ use Rattle.std.proofs.lemmas.List.{append-nil, length-replicate}
 use Rattle.check_words.specs.Division.{added, divided, remainder, zeros}
 use Rattle.check_words.specs.CheckWords.{low_bits, bits_of, l2cap_generator, l2cap_check}
 use Rattle.check_words.proofs.Sums.{plus-self, added-comm, added-assoc, added-left-comm, added-append, added-cancels, zeros-added, length-added}
-use Rattle.check_words.proofs.Steps.{divided-added, kept, kept_all, remainder-kept, remainder-from, length-kept_all}
+use Rattle.check_words.proofs.Steps.{divided-added, kept, kept_all, remainder-from, remainder-behind}
 use Rattle.check_words.proofs.LowBits.{low_bits-xor, low_bits-mod, low_bits-halves, low_bits-octet}
 
 -- the generator without its highest coefficient
@@ -73,10 +73,7 @@ kept_all-front low front rest bits same size some =
 -- ---- octets
 
 pub check_is_kept : (octets : List ℕ) → l2cap_check octets ≡ kept_all low_part (zeros 16) (bits_of octets)
-check_is_kept octets =
-    remainder-kept low_part (bits_of octets) (zeros 16) refl (omega arith)
-    ∙ added-comm (kept_all low_part (zeros 16) (bits_of octets)) (zeros 16)
-    ∙ zeros-added 16 (kept_all low_part (zeros 16) (bits_of octets)) (omega (arith, length-kept_all low_part (zeros 16) (bits_of octets) refl))
+check_is_kept octets = remainder-behind low_part (bits_of octets) (omega arith)
 
 -- one octet more, by the check word of a single octet
 pub octet_more : (word octet entry : ℕ) → word < 2 ^ 16

@@ -5,3 +5,6 @@ pub mod LowBits
 pub mod CheckWord
 pub mod Octets
 pub mod TableValues
+pub mod RfcommWord
+pub mod RfcommValues
+pub mod RfcommChanges

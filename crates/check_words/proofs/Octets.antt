@@ -11,6 +11,18 @@ use Rattle.check_words.proofs.Bursts.{bursts-seen}
 use Rattle.check_words.proofs.LowBits.{low_bits-same, low_bits-mod, low_bits-halves}
 use Rattle.check_words.proofs.CheckWord.{low_part, check_is_kept}
 
+-- the bits that are kept after one octet more
+pub kept_all-octet : (low state : List Bool) (octets : List ℕ) (i octet : ℕ) → i < length octets → octet ≡ get_or octets i 0
+    → kept_all low state (bits_of (take (i + 1) octets)) ≡ kept_all low (kept_all low state (bits_of (take i octets))) (low_bits 8 octet)
+kept_all-octet low state octets i octet within is =
+    let front : List ℕ = take i octets in
+    let bits : List Bool = low_bits 8 octet in
+    let more : take (i + 1) octets ≡ front ++ octet ∷ [] = take_more octets i 0 within ∙ ap (λ (k : ℕ). front ++ k ∷ []) (sym is) in
+    ap (λ (xs : List ℕ). kept_all low state (bits_of xs)) more
+    ∙ ap (kept_all low state) (flat_map-append (low_bits 8) front (octet ∷ []))
+    ∙ ap (λ (b : List Bool). kept_all low state (bits_of front ++ b)) (append-nil bits)
+    ∙ kept_all-append low state (bits_of front) bits
+
 -- a step over octets
 pub check_more : (octets : List ℕ) (i octet word next : ℕ) → i < length octets → octet ≡ get_or octets i 0
     → low_bits 16 word ≡ l2cap_check (take i octets)
@@ -18,17 +30,12 @@ pub check_more : (octets : List ℕ) (i octet word next : ℕ) → i < length oc
     → low_bits 16 next ≡ l2cap_check (take (i + 1) octets)
 unfolding low_bits
 check_more octets i octet word next within is before after =
-    let front : List ℕ = take i octets in
     let bits : List Bool = low_bits 8 octet in
-    let more : take (i + 1) octets ≡ front ++ octet ∷ [] = take_more octets i 0 within ∙ ap (λ (k : ℕ). front ++ k ∷ []) (sym is) in
     after
     ∙ remainder-from low_part (low_bits 16 word) bits refl (omega arith)
-    ∙ ap (λ (s : List Bool). kept_all low_part s bits) (before ∙ check_is_kept front)
-    ∙ sym (kept_all-append low_part (zeros 16) (bits_of front) bits)
-    ∙ ap (λ (b : List Bool). kept_all low_part (zeros 16) (bits_of front ++ b)) (sym (append-nil bits))
-    ∙ ap (kept_all low_part (zeros 16)) (sym (flat_map-append (low_bits 8) front (octet ∷ [])))
-    ∙ sym (check_is_kept (front ++ octet ∷ []))
-    ∙ ap l2cap_check (sym more)
+    ∙ ap (λ (s : List Bool). kept_all low_part s bits) (before ∙ check_is_kept (take i octets))
+    ∙ sym (kept_all-octet low_part (zeros 16) octets i octet within is)
+    ∙ sym (check_is_kept (take (i + 1) octets))
 
 -- ---- the laws
 

@@ -35,6 +35,13 @@ divided-added low (suc n) xs ys same long =
     let right : suc (length (reduced (true ∷ low) ys)) ≡ length ys = length-reduced low ys (omega arith) in
     divided-added low n (reduced (true ∷ low) xs) (reduced (true ∷ low) ys) (omega arith) (omega arith))
 
+pub length-divided : (low : List Bool) (n : ℕ) (xs : List Bool) → n + length low ≤ length xs → n + length (divided (true ∷ low) n xs) ≡ length xs
+unfolding divided
+length-divided low zero xs long = omega arith
+length-divided low (suc n) xs long =
+    let one : suc (length (reduced (true ∷ low) xs)) ≡ length xs = length-reduced low xs (omega arith) in
+    omega (arith, length-divided low n (reduced (true ∷ low) xs) (omega arith))
+
 -- ---- what it keeps of the bits that it is through with
 
 -- the kept bits after one bit more
@@ -110,3 +117,11 @@ pub kept_all-append : (low state bits more : List Bool) → kept_all low state (
 unfolding kept_all
 kept_all-append low state [] more = refl
 kept_all-append low state (bit ∷ bits) more = kept_all-append low (kept low state bit) bits more
+
+-- bits with zeros behind them, from no kept bits on
+pub remainder-behind : (low bits : List Bool) → 0 < length low → remainder (true ∷ low) (bits ++ zeros (length low)) ≡ kept_all low (zeros (length low)) bits
+remainder-behind low bits some =
+    let n : ℕ = length low in
+    let size : length (zeros n) ≡ n = length-replicate n false in
+    ap (remainder (true ∷ low)) (sym (zeros-added n (bits ++ zeros n) (omega (arith, length-append bits (zeros n)))))
+    ∙ remainder-from low (zeros n) bits size some

@@ -6,7 +6,7 @@ use Rattle.check_words.specs.Division.{added, reduced, divided}
 use Rattle.check_words.specs.CheckWords.{low_bits, l2cap_check}
 use Rattle.check_words.specs.declared.table.TheConstants.{CHECK_WORDS}
 
-same_bits : List Bool → List Bool → Bool
+unfoldable pub same_bits : List Bool → List Bool → Bool
 same_bits [] [] = true
 same_bits [] (y ∷ ys) = false
 same_bits (x ∷ xs) [] = false
@@ -18,7 +18,7 @@ beq-true true false e = absurd cc
 beq-true false true e = absurd cc
 beq-true false false e = refl
 
-same_bits-true : (xs ys : List Bool) → same_bits xs ys ≡ true → xs ≡ ys
+pub same_bits-true : (xs ys : List Bool) → same_bits xs ys ≡ true → xs ≡ ys
 unfolding same_bits
 same_bits-true [] [] e = refl
 same_bits-true [] (y ∷ ys) e = absurd cc

@@ -29,7 +29,15 @@ l2cap_check octets = remainder l2cap_generator (bits_of octets ++ zeros 16)
 abbrev pub L2capCheckHolds : List ℕ → Type 0
 L2capCheckHolds octets = remainder l2cap_generator (bits_of octets) ≡ zeros 16
 
--- The eight bits of the check word of RFCOMM over octets, in the order of the air: the complement of what their
--- division leaves with eight zeros behind them and their first eight bits inverted (TS 07.10, Annex B).
+-- what the division by the generator of RFCOMM leaves of octets with eight zeros behind them and their first eight
+-- bits inverted (TS 07.10, Annex B)
+abbrev pub rfcomm_rest : List ℕ → List Bool
+rfcomm_rest octets = remainder rfcomm_generator (added (replicate 8 true) (bits_of octets ++ zeros 8))
+
+-- the eight bits of the check word of RFCOMM over octets, in the order of the air: the complement of what is left
 abbrev pub rfcomm_check : List ℕ → List Bool
-rfcomm_check octets = map not (remainder rfcomm_generator (added (replicate 8 true) (bits_of octets ++ zeros 8)))
+rfcomm_check octets = map not (rfcomm_rest octets)
+
+-- the word is the check word of RFCOMM over the octets: it holds
+abbrev pub RfcommCheckHolds : List ℕ → ℕ → Type 0
+RfcommCheckHolds octets word = low_bits 8 word ≡ rfcomm_check octets

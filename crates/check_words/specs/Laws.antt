@@ -1,8 +1,10 @@
 -- What the check words tell, and values of theirs that were worked out elsewhere.
 use Rattle.std.specs.Prelude.{ℕ, ◌≡◌, ◌≢◌, ◌<◌, ◌⊎◌, ◌↔◌, Bool, true, List, [], ◌∷◌, ◌++◌, length, slice_index}
 use Rattle.check_words.specs.declared.table.TheConstants.{CHECK_WORDS}
+use Rattle.check_words.specs.declared.rfcomm_table.TheConstants.{RESTS}
 use Rattle.check_words.specs.Division.{degree, remainder, zeros}
-use Rattle.check_words.specs.CheckWords.{low_bits, bits_of, l2cap_check, rfcomm_check, L2capCheckHolds}
+use Rattle.check_words.specs.CheckWords.{low_bits, bits_of, l2cap_check, rfcomm_generator, rfcomm_check, L2capCheckHolds, RfcommCheckHolds}
+use Rattle.check_words.specs.Register.{register_after}
 
 -- Octets that end in a check word leave nothing exactly where it is the check word of those before it.
 abbrev pub CheckWordsHold : Type 0
@@ -13,6 +15,13 @@ CheckWordsHold = (octets : List ℕ) (low high : ℕ) →
 -- them, leave.
 abbrev pub TableIsRight : Type 0
 TableIsRight = (octet : ℕ) → octet < 256 → low_bits 16 (slice_index CHECK_WORDS octet) ≡ l2cap_check (octet ∷ [])
+
+-- Each value of the table of RFCOMM is what its octet's eight bits, with eight zeros behind them, leave, and it is
+-- the register's value after these eight bits.
+abbrev pub RfcommTableIsRight : Type 0
+RfcommTableIsRight = (octet : ℕ) → octet < 256 →
+    (low_bits 8 (slice_index RESTS octet) ≡ remainder rfcomm_generator (bits_of (octet ∷ []) ++ zeros 8))
+    × (slice_index RESTS octet ≡ register_after 8 octet)
 
 -- A burst is seen. Bits that a divisor with the coefficients 1 at both ends divides, with other bits than before
 -- in a stretch as long as the divisor's degree, leave something.
@@ -29,6 +38,26 @@ abbrev pub ChangedOctetsAreSeen : Type 0
 ChangedOctetsAreSeen = (front behind : List ℕ) (first second first' second' : ℕ) →
     first < 256 → second < 256 → first' < 256 → second' < 256 → (first ≢ first') ⊎ (second ≢ second') →
     L2capCheckHolds (front ++ first ∷ second ∷ behind) → L2capCheckHolds (front ++ first' ∷ second' ∷ behind) → ⊥
+
+-- A burst is seen by the check word of RFCOMM too. Octets with a check word behind them that holds, with other bits
+-- than before in a stretch of eight bits, have one that does not hold.
+abbrev pub RfcommBurstsAreSeen : Type 0
+RfcommBurstsAreSeen = (octets octets' : List ℕ) (word word' : ℕ) (front burst other behind : List Bool) →
+    bits_of (octets ++ word ∷ []) ≡ front ++ (burst ++ behind) → bits_of (octets' ++ word' ∷ []) ≡ front ++ (other ++ behind) →
+    length burst ≡ 8 → length other ≡ 8 → burst ≢ other →
+    RfcommCheckHolds octets word → RfcommCheckHolds octets' word' → ⊥
+
+-- So is one octet, the check word among them, that is other than before.
+abbrev pub RfcommChangedOctetsAreSeen : Type 0
+RfcommChangedOctetsAreSeen = (octets octets' front behind : List ℕ) (word word' octet octet' : ℕ) →
+    octets ++ word ∷ [] ≡ front ++ octet ∷ behind → octets' ++ word' ∷ [] ≡ front ++ octet' ∷ behind →
+    octet < 256 → octet' < 256 → octet ≢ octet' →
+    RfcommCheckHolds octets word → RfcommCheckHolds octets' word' → ⊥
+
+-- Two neighbouring octets may change unseen: the heads of an SABM frame on DLCI 0 and of a DISC frame on DLCI 20
+-- have the same check word.
+abbrev pub TwoChangedOctetsMayPass : Type 0
+TwoChangedOctetsMayPass = rfcomm_check (0x03 ∷ 0x3F ∷ 0x01 ∷ []) ≡ rfcomm_check (0x53 ∷ 0x53 ∷ 0x01 ∷ [])
 
 -- the check words of the frames that are worked out for L2CAP: an I-frame and an RR frame (Core 5.1, Volume 3
 -- Part A, 3.3.5)

@@ -1,3 +1,4 @@
 pub mod Division
 pub mod CheckWords
+pub mod Register
 pub mod Laws

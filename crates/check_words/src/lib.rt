@@ -3,9 +3,12 @@
 
 mod fcs;
 pub mod laws;
+mod rfcomm;
+mod rfcomm_table;
 mod table;
 
 pub use fcs::fcs16;
+pub use rfcomm::fcs8;
 
 #[cfg(test)]
 mod tests;

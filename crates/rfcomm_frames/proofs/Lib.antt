@@ -1,0 +1,11 @@
+pub mod Lengths
+pub mod Heads
+pub mod Forms
+pub mod Formed
+pub mod Checked
+pub mod Puts
+pub mod Written
+pub mod Messages
+pub mod Found
+pub mod OneAnswer
+pub mod OneControl

@@ -1,0 +1,46 @@
+//! Laws of the frames and control messages and their octets, for all octets.
+
+ghost use Rattle.rfcomm_frames.specs.Laws.{OneAnswer, OneFrame, OneControlAnswer, OneControl, WrittenIsRead, WrittenControlIsRead, WrongLengthsAreRefused, WrongValuesAreRefused, WrittenIsNoLonger, WrittenControlIsNoLonger, ChangedFramesAreSeen, ChangedOctetsAreSeen, AreWorkedValues};
+
+/// Octets have one answer: one frame that they spell, or one refusal.
+pub fn one_answer()
+    ensures answer { OneAnswer }
+    ensures frame { OneFrame }
+{}
+
+/// So have octets that should begin with a control message.
+pub fn one_control_answer()
+    ensures answer { OneControlAnswer }
+    ensures control { OneControl }
+{}
+
+/// What was written is what is read: a frame, and a control message with whatever is behind it.
+pub fn written_is_read()
+    ensures frame { WrittenIsRead }
+    ensures control { WrittenControlIsRead }
+{}
+
+/// Octets whose length field does not fit what is there, in a frame or in a control message, are
+/// refused as `LengthMismatch`.
+pub fn wrong_lengths_are_refused()
+    ensures frame { WrongLengthsAreRefused }
+    ensures control { WrongValuesAreRefused }
+{}
+
+/// What was read may be written, in no more octets than it was read from.
+pub fn written_is_no_longer()
+    ensures frame { WrittenIsNoLonger }
+    ensures control { WrittenControlIsNoLonger }
+{}
+
+/// A change within eight neighbouring bits of what the check word is over, or of the check word, is
+/// seen, and so is any changed octet of a frame that carries no information.
+pub fn changed_frames_are_seen()
+    ensures bits { ChangedFramesAreSeen }
+    ensures octets { ChangedOctetsAreSeen }
+{}
+
+/// The definitions give octets that were worked out by hand.
+pub fn worked_values()
+    ensures { AreWorkedValues }
+{}
