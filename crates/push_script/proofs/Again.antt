@@ -22,7 +22,7 @@ use Rattle.push_script.proofs.TextLines.{name_line, word_line, late_lines, all_l
 use Rattle.push_script.specs.Features.{built, asked, word_feature}
 use Rattle.push_script.specs.Keys.{key_of, with_key}
 use Rattle.push_script.specs.Laws.{IsBuilt, IsReadAs}
-use Rattle.push_script.specs.Reading.{Script, script_of, with_value, is_ignored, radio_begun, run_read, line_read, at_line, finished, lines, lines_read, no_draft, reading, text_limit}
+use Rattle.push_script.specs.Reading.{Script, script_of, with_value, is_ignored, radio_begun, run_read, line_read, at_line, finished, with_defaults, lines, lines_read, no_draft, reading, text_limit}
 use Rattle.push_script.proofs.Numbers.{digits_number}
 use Rattle.push_script.proofs.Splitting.{is_graphic, seen, ended, lines_again, text_of_lines}
 use Rattle.push_script.proofs.WordsAgain.{run_again}
@@ -117,7 +117,7 @@ chunk_built missing true = refl
 chunk_built missing false = refl
 
 finished_again : (s : Scenario) → finished (running (up_to_srm s) s.names s.script) ≡ Ok (script_of s)
-unfolding finished
+unfolding finished with_defaults
 finished_again s = let none : (length s.names == 0) ≡ false = ne_eqb (length s.names) 0 (λ e. omega (arith, s.some)) in rw none refl
 
 all_read : (missing : List Feature) (s : Scenario) → Yields missing (running (up_to_srm s) s.names s.script) [] (script_of s)

@@ -6,3 +6,4 @@ pub mod WordsAgain
 pub mod KeysAgain
 pub mod TextLines
 pub mod Again
+pub mod Making

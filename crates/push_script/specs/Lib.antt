@@ -11,5 +11,6 @@ pub mod Keys
 pub mod Radio
 pub mod Reading
 pub mod Turns
+pub mod Made
 pub mod Laws
 pub mod Props

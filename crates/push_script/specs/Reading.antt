@@ -137,10 +137,9 @@ pub record IsSettings (chosen : Transport) (stated : Stated) (settings : Setting
   pub obex : settings.obex ≡ stated_or stated.obex (default_number keyed.Obex)
   pub srm : settings.srm ≡ stated_or stated.srm false
 
--- The scenario that the lines give: what was not stated has its default. Where the line `radio` was read the keys
--- are whole already.
-unfoldable pub finished : Known → Result Script ScriptRefusal
-finished draft = whole draft >>= λ transport. Ok (record {
+-- what the lines state over that transport; what they do not state has its default
+unfoldable pub with_defaults : Transport → Known → Script
+with_defaults transport draft = record {
   transport = transport;
   serves = stated_or draft.keys.serves services.Both;
   acl = stated_or draft.keys.acl (1021, 8);
@@ -154,7 +153,11 @@ finished draft = whole draft >>= λ transport. Ok (record {
   srm = stated_or draft.keys.srm false;
   names = draft.names;
   runs = draft.runs;
-})
+}
+
+-- The scenario that the lines give. Where the line `radio` was read the keys are whole already.
+unfoldable pub finished : Known → Result Script ScriptRefusal
+finished draft = whole draft >>= λ transport. Ok (with_defaults transport draft)
 
 -- The lines from that number on, read one after the other, and then the end, which stands behind the last line.
 abbrev pub lines_read : List Feature → ℕ → Result Known (ℕ × ScriptRefusal) → List (List ℕ) → Result Script (ℕ × ScriptRefusal)

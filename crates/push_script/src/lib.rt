@@ -7,6 +7,7 @@ mod feature;
 mod keys;
 pub mod laws;
 mod lines;
+mod made;
 mod names;
 mod outcome;
 mod parts;
@@ -22,6 +23,7 @@ mod word;
 mod writing;
 
 pub use feature::Feature;
+pub use made::make_scenario;
 pub use names::Names;
 pub use outcome::{Outcome, put_outcome};
 pub use reading::{scenario_of, scenario_without};

@@ -2,7 +2,7 @@
 
 ghost use Rattle.std.specs.Prelude.{◌≡◌, ◌+◌, ◌<◌, ◌≤◌, Option, Some, length, count_by, IfSome, Ok};
 ghost use Rattle.push_script.specs.Features.{missing_features};
-ghost use Rattle.push_script.specs.Reading.{no_draft, is_feed, IsSettings, stated_or, finished, Finishes, lines, lines_read, text_limit, reading, Reads};
+ghost use Rattle.push_script.specs.Reading.{no_draft, is_feed, IsSettings, stated_or, script_of, with_defaults, finished, Finishes, lines, lines_read, text_limit, reading, Reads};
 ghost use Rattle.push_script.specs.Stated.{IsBetween};
 
 use crate::draft::Draft;
@@ -20,7 +20,7 @@ use std::alloc::Global;
 const TEXT_LIMIT: usize = 1_048_576;
 
 /// Nothing was read yet.
-fn no_draft(alloc: Global) -> Draft
+pub(crate) fn no_draft(alloc: Global) -> Draft
     ensures { result ≡ no_draft }
 {
     Draft {
@@ -94,15 +94,13 @@ fn chunk_of(keys: &Keys) -> u16
     number_or(keys.chunk, 1, 4096, 1024)
 }
 
-/// The scenario that the lines give.
-#[tactic(auto, unfolding(crate::specs::Reading::finished))]
-fn finish(draft: Draft) -> Result<Scenario, ScriptRefusal>
-    ensures { Finishes result (finished draft) }
+/// What the lines state over a transport; what they do not state has its default.
+#[tactic(auto, unfolding(crate::specs::Reading::with_defaults))]
+pub(crate) fn scenario_with(transport: Transport, draft: Draft) -> Scenario
+    requires some { 0 < length draft.names }
+    requires transport { draft.keys.transport ≡ Some transport }
+    ensures { script_of result ≡ with_defaults transport draft }
 {
-    let transport = match whole(&draft) {
-        Ok(transport) => transport,
-        Err(refusal) => return Err(refusal),
-    };
     let Draft {
         keys,
         names,
@@ -112,14 +110,26 @@ fn finish(draft: Draft) -> Result<Scenario, ScriptRefusal>
     let settings = settings_of(transport, &keys);
     let (acl_length, acl_count) = acl_of(&keys);
     let chunk = chunk_of(&keys);
-    Ok(Scenario {
+    Scenario {
         settings,
         acl_length,
         acl_count,
         chunk,
         names,
         script: runs,
-    })
+    }
+}
+
+/// The scenario that the lines give.
+#[tactic(auto, unfolding(crate::specs::Reading::finished))]
+fn finish(draft: Draft) -> Result<Scenario, ScriptRefusal>
+    ensures { Finishes result (finished draft) }
+{
+    let transport = match whole(&draft) {
+        Ok(transport) => transport,
+        Err(refusal) => return Err(refusal),
+    };
+    Ok(scenario_with(transport, draft))
 }
 
 /// Reads the lines of a text.

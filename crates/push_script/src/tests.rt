@@ -1,5 +1,6 @@
 use super::*;
-use bt_base::MemSink;
+use crate::made::Draws;
+use bt_base::{MemShelf, MemSink, Shelf};
 use std::alloc::Global;
 use std::test::*;
 
@@ -156,5 +157,48 @@ fn three_objects_with_losses(rt: HostRuntime) -> Result<(), Fail> {
         assert_eq!(rt; again.script.at(i), scenario.script.at(i));
     }
     assert_eq!(rt; again.script.at(4), Some((1, Word::Repeat(Way::Ab))));
+    Ok(())
+}
+
+#[test]
+fn draws_of_a_number(rt: HostRuntime) {
+    let mut draws = Draws::new(1);
+    for draw in [16838, 5758, 10113, 17515, 31051, 5627, 23010, 7419] {
+        assert_eq!(rt; draws.draw(), draw);
+    }
+}
+
+#[test]
+fn made_of_two_numbers(rt: HostRuntime) -> Result<(), Fail> {
+    let table: [(u32, u32, [u8; 4], &[u8]); 2] = [
+        (
+            1,
+            26838,
+            [84, 246, 189, 223],
+            b"transport rfcomm\nobject m1\nobject m2\nobject m3\nobject m4\nobject m5\nobject m6\nobject m7\nobject m8\nradio\n1581248 pass",
+        ),
+        (
+            2,
+            20908,
+            [78, 19, 149, 19],
+            b"transport l2cap\nobject m1\nobject m2\nobject m3\nobject m4\nobject m5\nobject m6\nobject m7\nobject m8\nradio\n40 pass\n1 lose ab\n1 repeat ab\n4751424 pass",
+        ),
+    ];
+    for (number, size, octets, text) in &table {
+        let mut shelf = MemShelf::new(rt.alloc(), &[]).ok().ok_or("a shelf")?;
+        let made = make_scenario(rt.alloc(), *number, &mut shelf)
+            .ok()
+            .ok_or("a scenario")?;
+        assert_eq!(rt; shelf.size("m1"), Ok(*size));
+        let mut front = [0; 4];
+        assert!(rt; shelf.fill("m1", 0, &mut front).is_ok());
+        assert_eq!(rt; front, *octets);
+        let stated = scenario_without(rt.alloc(), &[], *text)
+            .ok()
+            .ok_or("the scenario that is stated")?;
+        let stated = put_scenario(rt.alloc(), &stated).ok().ok_or("a text")?;
+        let made = put_scenario(rt.alloc(), &made).ok().ok_or("a text")?;
+        assert_eq!(rt; made.as_slice(), stated.as_slice());
+    }
     Ok(())
 }
