@@ -39,10 +39,10 @@ const MISSING: [Feature; 6] = [
 
 impl Feature {
     /// The features that this stack does not have yet.
-    pub fn missing() -> [Feature; 6]
-        ensures { result ≡ missing_features }
+    pub fn missing() -> &'static [Feature]
+        ensures { result.now ≡ missing_features }
     {
-        MISSING
+        &MISSING
     }
 
     fn is(self, other: Feature) -> bool

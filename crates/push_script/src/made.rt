@@ -1,12 +1,11 @@
 //! Scenarios that are made from a number.
 
-ghost use Rattle.std.specs.Prelude.{◌≡◌, ◌+◌, ◌*◌, ◌/◌, ◌%◌, ◌<◌, ◌≤◌, ◌^◌, ◌==◌, All, Some, length, IfOk, OnOk};
+ghost use Rattle.std.specs.Prelude.{◌≡◌, ◌+◌, ◌<◌, ◌≤◌, All, Some, length, IfOk, OnOk};
 ghost use Rattle.std.specs.List.{AllByRecursion, sum_by};
 ghost use Rattle.push_script.specs.Names.{IsName};
 ghost use Rattle.push_script.specs.Runs.{IsRun, IsBorne};
-ghost use Rattle.push_script.specs.Turns.{turns};
 ghost use Rattle.push_script.specs.Reading.{script_of, with_defaults};
-ghost use Rattle.push_script.specs.Made.{next_state, drawn, state_after, length_of_draw, octet_of_draw, made_octets, lengths_from, objects_from, made_names, first_state, made_objects, is_even, made_transport, made_runs, made_script, shelved, object_need, stated_only, IsPartlyShelved};
+ghost use Rattle.push_script.specs.Made.{next_state, drawn, state_after, length_of_draw, made_octets, lengths_from, objects_from, made_names, first_state, made_objects, made_transport, made_runs, made_script, shelved, object_need, stated_only, IsPartlyShelved};
 
 use crate::names::{Name, Names};
 use crate::reading::{no_draft, scenario_with};

@@ -197,5 +197,5 @@ pub fn scenario_without(
 pub fn scenario_of(alloc: Global, text: &[u8]) -> Result<Scenario, ScriptFault>
     ensures { Reads result (reading missing_features text.now) }
 {
-    scenario_without(alloc, &Feature::missing(), text)
+    scenario_without(alloc, Feature::missing(), text)
 }

@@ -44,7 +44,7 @@ fn refusals_with_their_lines(rt: HostRuntime) {
         (b"srm off\n\xFF\n", 2, ScriptRefusal::NotUtf8),
     ];
     for (text, line, refusal) in &table {
-        assert!(rt; refusal_of(rt.alloc(), &Feature::missing(), *text) == Some((*line, *refusal)));
+        assert!(rt; refusal_of(rt.alloc(), Feature::missing(), *text) == Some((*line, *refusal)));
     }
 }
 
