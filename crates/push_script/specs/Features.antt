@@ -49,7 +49,8 @@ word_feature (Cut way packets) = Some Retransmission
 word_feature Pass = None
 word_feature Drop = None
 
--- the feature that the line of a key asks for; a line that states the default asks for none
+-- The feature that the line of a key asks for. A line that states the default asks for none, nor does the first line of
+-- an object.
 abbrev pub asked : Key → Bool → Option Feature
 asked key true = None
 asked key false = key_feature key

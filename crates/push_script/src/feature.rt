@@ -27,7 +27,7 @@ pub enum Feature {
     SingleResponse,
 }
 
-/// The features that this stack does not have yet.
+/// The features that this stack does not have yet: one that is built leaves this list.
 const MISSING: [Feature; 6] = [
     Feature::Retries,
     Feature::Pushes,
@@ -89,7 +89,8 @@ pub(crate) fn word_feature(word: Word) -> Option<Feature>
     }
 }
 
-/// The feature that the line of a key asks for; a line that states the default asks for none.
+/// The feature that the line of a key asks for. A line that states the default asks for none, nor
+/// does the first line of an object.
 pub(crate) fn asked(key: Key, default: bool) -> Option<Feature>
     ensures { result ≡ asked key default }
 {

@@ -1,5 +1,5 @@
-//! The text of a scenario, as it is read and as it is written, and the text of the report on what
-//! came of it.
+//! The text of a scenario, as it is read and as it is written, the text of the report on what came of
+//! it, and scenarios that are made from a number.
 #![tactic(auto)]
 
 mod draft;

@@ -15,7 +15,7 @@ use crate::word::{Way, Word};
 use bt_base::{MemShelf, NoMemory, Transport};
 use std::alloc::Global;
 
-/// The generator of the draws.
+/// The generator of the draws: a linear congruential one, whose upper bits are drawn.
 #[derive(Drop)]
 pub(crate) struct Draws {
     state: u32,
@@ -124,7 +124,7 @@ fn shelve(
 ) -> Result<(), NoMemory>
     requires each { length lengths.now ≡ length names.now }
     ensures shelf { OnOk result (shelf.new ≡ shelved (objects_from names.now lengths.now draws.old.state) shelf.old) }
-    ensures some { IsPartlyShelved (objects_from names.now lengths.now draws.old.state) shelf.old shelf.new }
+    ensures partly { IsPartlyShelved (objects_from names.now lengths.now draws.old.state) shelf.old shelf.new }
 {
     for (i, name) in names.iter().enumerate() {
         let octets = draws.octets(alloc, lengths[i])?;
@@ -172,7 +172,7 @@ fn made_transport(even: bool) -> Transport
 pub fn make_scenario(alloc: Global, number: u32, shelf: &mut MemShelf) -> Result<Scenario, NoMemory>
     ensures scenario { IfOk result (λ scenario. script_of scenario ≡ made_script number) }
     ensures shelf { OnOk result (shelf.new ≡ shelved (made_objects number) shelf.old) }
-    ensures some { IsPartlyShelved (made_objects number) shelf.old shelf.new }
+    ensures partly { IsPartlyShelved (made_objects number) shelf.old shelf.new }
 {
     let even = number % 2 == 0;
     let mut draws = Draws::new(number);

@@ -5,8 +5,8 @@ use Rattle.push_script.proofs.made.shelve.Goals as goal
 pub loop-i-init : goal.loop-i-init
 loop-i-init c = shelved_none _ _ _ _
 
-pub returns-in_err-octets-clause-some : goal.returns-in_err-octets-clause-some
-returns-in_err-octets-clause-some c = partly _ _ _ _ _ _ _ c.loop-i.invariant
+pub returns-in_err-octets-clause-partly : goal.returns-in_err-octets-clause-partly
+returns-in_err-octets-clause-partly c = partly _ _ _ _ _ _ _ c.loop-i.invariant
 
 pub add-requires : goal.add-requires
 add-requires c =
