@@ -16,7 +16,7 @@ use Rattle.push_script.specs.Reading.{script_of, reading, text_limit}
 abbrev pub NumbersAgain : Type 0
 NumbersAgain = (n : ℕ) → n < 10 ^ 10 → number_of (decimal n) ≡ Some n
 
--- a line that states that value, or its default, asks for no feature that is missing
+-- the line of a key, which states its default or not, asks for no feature that is missing
 abbrev pub KeyIsBuilt : List Feature → Key → Bool → Type 0
 KeyIsBuilt missing key default = built missing (asked key default) ≡ Ok tt
 

@@ -178,8 +178,8 @@ no_draft = record {
 abbrev pub text_limit : ℕ
 text_limit = 1048576
 
--- What a text is read as by a stack that lacks these features: it is judged for its length first, then as UTF-8, and then line by line. A text that is
--- not UTF-8 is refused at the line of the first octet that is none.
+-- What a text is read as by a stack that lacks these features: it is judged for its length first, then as UTF-8, and
+-- then line by line. A text that is not UTF-8 is refused at the line of the first octet that is none.
 unfoldable pub reading : List Feature → List ℕ → Result Script (ℕ × ScriptRefusal)
 reading missing text =
     cond (nat_lt text_limit (length text)) (Err (0, TooLong)) (
