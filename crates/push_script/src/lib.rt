@@ -1,11 +1,13 @@
-//! The text of a scenario, as it is read and as it is written, and the text of the report on what
-//! came of it.
+//! The text of a scenario, as it is read and as it is written, the text of the report on what came of
+//! it, and scenarios that are made from a number.
 #![tactic(auto)]
 
 mod draft;
+mod feature;
 mod keys;
 pub mod laws;
 mod lines;
+mod made;
 mod names;
 mod outcome;
 mod parts;
@@ -20,9 +22,11 @@ mod stated;
 mod word;
 mod writing;
 
+pub use feature::Feature;
+pub use made::make_scenario;
 pub use names::Names;
 pub use outcome::{Outcome, put_outcome};
-pub use reading::scenario_of;
+pub use reading::{scenario_of, scenario_without};
 pub use refusal::{ScriptFault, ScriptRefusal};
 pub use report::{Peaks, put_report};
 pub use runs::Runs;
