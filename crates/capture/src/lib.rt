@@ -1,0 +1,7 @@
+//! What a capture of two hosts says: which packets moved, which links and channels there were, what
+//! each host heard, and which objects that spells.
+#![tactic(auto)]
+
+mod flow;
+
+pub use flow::Flow;
