@@ -1,1 +1,3 @@
 pub mod HistoryLaws
+pub mod MoreLaws
+pub mod ClosingLaws

@@ -16,3 +16,4 @@ pub mod Air
 pub mod Pushes
 pub mod Exchanges
 pub mod Peaks
+pub mod Laws

@@ -3,5 +3,6 @@
 #![tactic(auto)]
 
 mod flow;
+pub mod laws;
 
 pub use flow::Flow;
