@@ -9,7 +9,8 @@ use Rattle.capture.specs.declared.flow.Flow.{Flow}
 use Rattle.capture.specs.declared.flow.Flow.TheVariants.{Out, Into}
 use Rattle.capture.specs.Histories.{each_after, given_by}
 use Rattle.capture.specs.Talk.{Talk, Signal, Payload}
-use Rattle.capture.specs.Channels.{Channel, Wanted, opposite, wanted, last_of, channel_by, channel_of_request, answered_by, born, with_new, channels, closes, is_closed}
+use Rattle.capture.specs.declared.channel.Channel.{Channel}
+use Rattle.capture.specs.Channels.{Wanted, opposite, wanted, last_of, channel_by, channel_of_request, answered_by, born, with_new, channels, closes, is_closed}
 use Rattle.capture.specs.Laws.{ChannelsWithin, ClosedMore}
 
 -- ---- lists of channels

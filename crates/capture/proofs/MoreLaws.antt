@@ -15,7 +15,8 @@ use Rattle.capture.specs.Links.{Link, Linking, longer, after_move, no_links}
 use Rattle.capture.specs.Buffers.{buffer_events}
 use Rattle.capture.specs.Pdus.{completed, pdus}
 use Rattle.capture.specs.Talk.{Talk, said_by}
-use Rattle.capture.specs.Channels.{Channel, born, with_new}
+use Rattle.capture.specs.declared.channel.Channel.{Channel}
+use Rattle.capture.specs.Channels.{born, with_new}
 use Rattle.capture.specs.Hearing.{heard}
 use Rattle.capture.specs.Air.{after_entry, no_air, KeepsTo}
 use Rattle.capture.specs.Laws.{MovesMore, LinksMore, OutstandingMore, PdusMore, TalkMore, ChannelsMore, HeardMore, AirMore, KeepsMore, OctetsInParts, MovesInParts, LinksInParts}

@@ -3,17 +3,11 @@ use Rattle.std.specs.Prelude.{ℕ, ◌==◌, ◌&&◌, nat_le, Bool, true, false
 use Rattle.std.specs.List.{filter_map, list_any}
 use Rattle.capture.specs.Histories.{given_by}
 use Rattle.l2cap_signal.specs.Commands.{Command, Content, connection_request, connection_response, disconnection_request}
+use Rattle.capture.specs.declared.channel.Channel.{Channel}
 use Rattle.capture.specs.declared.flow.Flow.{Flow}
 use Rattle.capture.specs.declared.flow.Flow.TheVariants.{Out, Into}
 use Rattle.capture.specs.Pdus.{same_flow}
 use Rattle.capture.specs.Talk.{Talk, Signal, Payload}
-
--- a channel: its protocol, the host's own endpoint and the peer's, and how much was said on the link before it was there
-pub record Channel : Type 0 where
-  pub psm : ℕ
-  pub own : ℕ
-  pub peer : ℕ
-  pub before : ℕ
 
 abbrev pub opposite : Flow → Flow
 opposite Out = Into

@@ -8,7 +8,8 @@ use Rattle.capture.specs.declared.flow.Flow.TheVariants.{Out, Into}
 use Rattle.capture.specs.Entries.{Entry}
 use Rattle.capture.specs.Links.{Link, links}
 use Rattle.capture.specs.Talk.{Talk, Signal, Payload, talk}
-use Rattle.capture.specs.Channels.{Channel, channels}
+use Rattle.capture.specs.declared.channel.Channel.{Channel}
+use Rattle.capture.specs.Channels.{channels}
 use Rattle.capture.specs.Hearing.{Heard, channel_of_peer}
 use Rattle.capture.specs.Packets.{packet_of, heard_packets}
 use Rattle.capture.specs.Spelled.{packets_on}

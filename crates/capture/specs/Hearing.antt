@@ -10,7 +10,8 @@ use Rattle.l2cap_config.specs.Reading.{options_read}
 use Rattle.capture.specs.declared.flow.Flow.{Flow}
 use Rattle.capture.specs.declared.flow.Flow.TheVariants.{Out, Into}
 use Rattle.capture.specs.Talk.{Talk, Signal, Payload}
-use Rattle.capture.specs.Channels.{Channel, channels, is_closed, last_of}
+use Rattle.capture.specs.declared.channel.Channel.{Channel}
+use Rattle.capture.specs.Channels.{channels, is_closed, last_of}
 
 -- ---- from when to when a channel hears
 

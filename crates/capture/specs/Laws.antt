@@ -11,7 +11,8 @@ use Rattle.capture.specs.Links.{Link, Linking, longer, after_move, linking}
 use Rattle.capture.specs.Buffers.{buffer_events, outstanding_on_link}
 use Rattle.capture.specs.Pdus.{completed, pdus}
 use Rattle.capture.specs.Talk.{Talk, said_by, talk}
-use Rattle.capture.specs.Channels.{Channel, born, with_new, channels, closes, is_closed}
+use Rattle.capture.specs.declared.channel.Channel.{Channel}
+use Rattle.capture.specs.Channels.{born, with_new, channels, closes, is_closed}
 use Rattle.capture.specs.Hearing.{Heard, heard, heard_payloads}
 use Rattle.capture.specs.Air.{after_entry, air_after, KeepsTo}
 

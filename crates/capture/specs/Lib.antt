@@ -17,3 +17,4 @@ pub mod Pushes
 pub mod Exchanges
 pub mod Peaks
 pub mod Laws
+pub mod Lent

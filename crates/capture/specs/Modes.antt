@@ -11,7 +11,8 @@ use Rattle.l2cap_config.specs.Reading.{options_read}
 use Rattle.capture.specs.declared.flow.Flow.{Flow}
 use Rattle.capture.specs.declared.flow.Flow.TheVariants.{Out, Into}
 use Rattle.capture.specs.Talk.{Talk, Signal, Payload}
-use Rattle.capture.specs.Channels.{Channel, last_of}
+use Rattle.capture.specs.declared.channel.Channel.{Channel}
+use Rattle.capture.specs.Channels.{last_of}
 use Rattle.capture.specs.Hearing.{channel_of_peer, same_channel}
 
 -- the mode that a list of options asks for, if it has a mode option; malformed options ask for nothing

@@ -2,7 +2,7 @@
 use Rattle.std.specs.Prelude.{ℕ, ◌==◌, ◌&&◌, not, Bool, List, Option, Some, None, if◌then◌else◌}
 use Rattle.std.specs.List.{filter_map}
 use Rattle.capture.specs.Talk.{Talk}
-use Rattle.capture.specs.Channels.{Channel}
+use Rattle.capture.specs.declared.channel.Channel.{Channel}
 use Rattle.capture.specs.Hearing.{Heard, heard_payloads}
 use Rattle.capture.specs.Modes.{enhanced}
 

@@ -8,7 +8,7 @@ use Rattle.push_script.specs.declared.word.Side.{Side}
 use Rattle.capture.specs.Entries.{Entry}
 use Rattle.capture.specs.Links.{Link, links}
 use Rattle.capture.specs.Talk.{talk}
-use Rattle.capture.specs.Channels.{Channel}
+use Rattle.capture.specs.declared.channel.Channel.{Channel}
 use Rattle.capture.specs.Hearing.{Heard, same_channel}
 use Rattle.capture.specs.Packets.{heard_packets}
 

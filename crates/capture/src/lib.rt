@@ -2,7 +2,12 @@
 //! each host heard, and which objects that spells.
 #![tactic(auto)]
 
+mod channel;
+mod entry;
 mod flow;
 pub mod laws;
+pub mod readers;
 
+pub use channel::Channel;
+pub use entry::Entry;
 pub use flow::Flow;

@@ -1,0 +1,46 @@
+//! Plain and slow readers of captures, for tests and tools: each computes a definition as it
+//! stands.
+
+use crate::channel::Channel;
+use crate::flow::Flow;
+use h4_framing::Unit;
+use l2cap_signal::Signal;
+
+/// A packet that went out of a host or came into it.
+#[derive(Clone, Copy, Debug)]
+pub struct Move<'a> {
+    pub flow: Flow,
+    pub unit: Unit<'a>,
+}
+
+/// A link: its handle, and what moved while it was up.
+#[derive(Debug, Drop)]
+pub struct Link<'a> {
+    pub handle: u16,
+    pub moves: Vec<Move<'a>>,
+}
+
+/// A PDU of a link, and the direction in which it moved.
+#[derive(Debug, Drop)]
+pub struct Pdu {
+    pub flow: Flow,
+    pub octets: Vec<u8>,
+}
+
+/// A signalling command, or the payload of a PDU for an endpoint.
+#[derive(Clone, Copy, Debug)]
+pub enum Talk<'a> {
+    Signal(Flow, Signal<'a>),
+    Payload {
+        flow: Flow,
+        endpoint: u16,
+        octets: &'a [u8],
+    },
+}
+
+/// A payload that a channel heard.
+#[derive(Clone, Copy, Debug)]
+pub struct Heard<'a> {
+    pub channel: Channel,
+    pub octets: &'a [u8],
+}
