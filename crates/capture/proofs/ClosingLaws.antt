@@ -1,10 +1,10 @@
 -- When channels come to be and when they are closed.
-use Rattle.std.proofs.Common.{◌≡◌, ℕ, zero, suc, ◌+◌, ◌≤◌, ◌<◌, List, [], ◌∷◌, ◌++◌, length, drop, fold, Bool, true, false, cond, ◌||◌, ◌&&◌, eqb, Option, Some, None, refl, sym, ap, subst, ◌∙◌, length-append, arith}
+use Rattle.std.proofs.Common.{◌≡◌, ℕ, suc, ◌+◌, ◌<◌, List, [], ◌∷◌, ◌++◌, length, drop, fold, Bool, true, false, cond, ◌||◌, ◌&&◌, eqb, Option, Some, None, refl, ap, ◌∙◌, length-append, arith}
 use Rattle.std.specs.Prelude.{nat_le}
 use Rattle.std.specs.List.{filter_map, list_any, AllByRecursion}
 use Rattle.std.proofs.lemmas.List.{drop-append-le}
 use Rattle.std.proofs.lemmas.List.Folds.{list_any-append}
-use Rattle.l2cap_signal.specs.Commands.{Command, Content, reject, connection_request, connection_response, configuration_request, configuration_response, disconnection_request, disconnection_response, echo_request, echo_response, information_request, information_response}
+use Rattle.l2cap_signal.specs.Commands.{Content, reject, connection_request, connection_response, configuration_request, configuration_response, disconnection_request, disconnection_response, echo_request, echo_response, information_request, information_response}
 use Rattle.capture.specs.declared.flow.Flow.{Flow}
 use Rattle.capture.specs.declared.flow.Flow.TheVariants.{Out, Into}
 use Rattle.capture.specs.Histories.{each_after, given_by}
@@ -48,7 +48,7 @@ of_request flow destination source before (Some request) =
 answered_at : (past : List Talk) (flow : Flow) (identifier : ℕ) (content : Content) → AllByRecursion (StandsAt (length past)) (answered_by past flow identifier content)
 answered_at past flow identifier (connection_response destination source answer status) =
     all_chosen (StandsAt (length past)) (eqb answer 0) (channel_of_request flow destination source (length past) (last_of (filter_map (wanted (opposite flow) identifier) past)))
-      (of_request flow destination source (length past) (last_of (filter_map (wanted (opposite flow) identifier) past)))
+    (of_request flow destination source (length past) (last_of (filter_map (wanted (opposite flow) identifier) past)))
 answered_at past flow identifier (reject reason rest) = tt
 answered_at past flow identifier (connection_request psm source) = tt
 answered_at past flow identifier (configuration_request destination flags options) = tt
@@ -71,9 +71,9 @@ all_born : (past said : List Talk) → AllByRecursion (StandsBelow (length past 
 all_born past [] = tt
 all_born past (now ∷ said) =
     all_both (StandsBelow (length past + suc (length said))) (born past now) (each_after born (past ++ now ∷ []) said)
-      (all_weaker (StandsAt (length past)) (StandsBelow (length past + suc (length said))) (born past now) (λ channel at. omega (arith, at)) (born_at past now))
-      (all_weaker (StandsBelow (length (past ++ now ∷ []) + length said)) (StandsBelow (length past + suc (length said))) (each_after born (past ++ now ∷ []) said)
-        (λ channel below. omega (arith, below, length-append past (now ∷ []))) (all_born (past ++ now ∷ []) said))
+    (all_weaker (StandsAt (length past)) (StandsBelow (length past + suc (length said))) (born past now) (λ channel at. omega (arith, at)) (born_at past now))
+    (all_weaker (StandsBelow (length (past ++ now ∷ []) + length said)) (StandsBelow (length past + suc (length said))) (each_after born (past ++ now ∷ []) said)
+    (λ channel below. omega (arith, below, length-append past (now ∷ []))) (all_born (past ++ now ∷ []) said))
 
 kept_new : (P : Channel → Type 0) (known : Bool) (channels : List Channel) (channel : Channel) → AllByRecursion P channels → P channel
     → AllByRecursion P (cond known channels (channels ++ channel ∷ []))
@@ -88,7 +88,7 @@ all_new P channels (channel ∷ more) all (now, rest) =
 pub channels-within : ChannelsWithin
 channels-within said =
     all_new (StandsBelow (length said)) [] (given_by born said) tt
-      (all_weaker (StandsBelow (0 + length said)) (StandsBelow (length said)) (given_by born said) (λ channel below. omega (arith, below)) (all_born [] said))
+    (all_weaker (StandsBelow (0 + length said)) (StandsBelow (length said)) (given_by born said) (λ channel below. omega (arith, below)) (all_born [] said))
 
 -- ---- closing
 

@@ -1,21 +1,19 @@
 -- What one entry more does to each definition.
-use Rattle.std.proofs.Common.{◌≡◌, ℕ, ◌+◌, ◌≤◌, ◌<◌, List, [], ◌∷◌, ◌++◌, length, drop, fold, Bool, false, ◌||◌, Option, Some, None, refl, sym, ap, subst, ◌∙◌, length-append, arith}
+use Rattle.std.proofs.Common.{◌≡◌, [], ◌∷◌, ◌++◌, fold, Option, Some, None, refl, ap, ◌∙◌}
 use Rattle.std.specs.Prelude.{option_to_list}
-use Rattle.std.specs.List.{flat_map, filter_map, cons_option, list_any, AllByRecursion}
-use Rattle.std.proofs.lemmas.List.{append_assoc, append-nil, drop-append-le}
+use Rattle.std.specs.List.{flat_map, filter_map, cons_option}
+use Rattle.std.proofs.lemmas.List.{append-nil}
 use Rattle.std.proofs.lemmas.List.Elements.{filter_map-append}
 use Rattle.std.proofs.lemmas.List.Sums.{fold-append}
 use Rattle.std.proofs.lemmas.Grind.{flat_map-append}
 use Rattle.acl_credits.specs.Histories.{outstanding_after}
-use Rattle.push_script.specs.declared.word.Side.{Side}
 use Rattle.capture.specs.Histories.{given_by}
-use Rattle.capture.specs.Entries.{Entry, entry_octets}
-use Rattle.capture.specs.Moves.{Move, move_of}
-use Rattle.capture.specs.Links.{Link, Linking, longer, after_move, no_links}
+use Rattle.capture.specs.Entries.{entry_octets}
+use Rattle.capture.specs.Moves.{move_of}
+use Rattle.capture.specs.Links.{after_move, no_links}
 use Rattle.capture.specs.Buffers.{buffer_events}
 use Rattle.capture.specs.Pdus.{completed, pdus}
-use Rattle.capture.specs.Talk.{Talk, said_by}
-use Rattle.capture.specs.declared.channel.Channel.{Channel}
+use Rattle.capture.specs.Talk.{said_by}
 use Rattle.capture.specs.Channels.{born, with_new}
 use Rattle.capture.specs.Hearing.{heard}
 use Rattle.capture.specs.Air.{after_entry, no_air, KeepsTo}

@@ -1,10 +1,10 @@
 -- The air obeys a radio script: what comes into the hosts is what the words of the script hand over, and nothing else
 -- (this project's own).
-use Rattle.std.specs.Prelude.{ℕ, ◌+◌, ◌-◌, ◌*◌, ◌≡◌, ◌<◌, ◌==◌, ◌&&◌, ◌||◌, not, nat_lt, nat_le, Bool, true, false, List, [], ◌∷◌, ◌++◌, length, take, drop, replicate, map, filter, Option, Some, None, is_some, is_none, slice_get, if◌then◌else◌}
-use Rattle.std.specs.List.{flat_map, filter_map, AllByRecursion}
+use Rattle.std.specs.Prelude.{ℕ, ◌+◌, ◌-◌, ◌*◌, ◌≡◌, ◌<◌, ◌==◌, ◌&&◌, ◌||◌, not, nat_lt, Bool, true, false, List, [], ◌∷◌, ◌++◌, length, take, drop, replicate, map, Option, Some, None, is_some, slice_get, if◌then◌else◌}
+use Rattle.std.specs.List.{flat_map, list_all, AllByRecursion}
 use Rattle.std.specs.Option.{option_map}
 use Rattle.capture.specs.Histories.{led_by, EachAfter}
-use Rattle.h4_framing.specs.Packets.{Packet, Command, Acl, Sync, Event}
+use Rattle.h4_framing.specs.Packets.{Packet, Command, Acl, Event}
 use Rattle.hci_packets.specs.AclWords.{flag_of}
 use Rattle.acl_fragments.specs.Pieces.{Piece}
 use Rattle.push_script.specs.declared.word.Side.{Side}
@@ -13,12 +13,11 @@ use Rattle.push_script.specs.declared.word.Way.{Way}
 use Rattle.push_script.specs.declared.word.Way.TheVariants.{Ab, Ba}
 use Rattle.push_script.specs.declared.word.Word.{Word}
 use Rattle.push_script.specs.declared.word.Word.TheVariants as words
-use Rattle.capture.specs.declared.flow.Flow.{Flow}
 use Rattle.capture.specs.declared.flow.Flow.TheVariants.{Out, Into}
 use Rattle.capture.specs.Entries.{Entry, Moved, Acted, Begun, Ended}
 use Rattle.capture.specs.Moves.{Move}
-use Rattle.capture.specs.Links.{Link, links, link_up}
-use Rattle.capture.specs.Pdus.{Pdu, completed}
+use Rattle.capture.specs.Links.{Link, LinkNews, Answered, LinkEnded, told_by, links, link_up}
+use Rattle.capture.specs.Pdus.{completed}
 use Rattle.capture.specs.Frames.{Direction, empty, waiting, with_frames, emptied, Fate, Delivered, Lost, Repeated, CutOff, handed_over, met, way_served}
 
 -- ---- the air
@@ -210,18 +209,38 @@ pub record IsNext (size : ℕ) (script : List Word) (past : List Entry) (ordinal
   pub finds : is_some (acted size past (air_after size past) word) ≡ true
   pub settled : IsSettled (air_after size past)
 
+-- an event that tells of a connection or of its end comes behind all that was handed over
+abbrev pub ComesBehind : LinkNews → List Piece → Type 0
+ComesBehind (Answered status handle) pieces = pieces ≡ []
+ComesBehind (LinkEnded handle) pieces = pieces ≡ []
+ComesBehind _ pieces = Unit {0}
+
 -- what the air says of one entry after those before it
 abbrev pub KeepsTo : ℕ → List Word → List Entry → Entry → Type 0
 KeepsTo size script past (Moved side Into (Acl word octets)) = IsFirst word octets (link_up side past) (due side (air_after size past))
+KeepsTo size script past (Moved side Into (Event code params)) = ComesBehind (told_by code params) (due side (air_after size past))
 KeepsTo size script past (Acted ordinal word) = IsNext size script past ordinal word
 KeepsTo size script past _ = Unit {0}
+
+-- the entries without the ends of pushes that stand last: the words that are left find nothing before these
+abbrev pub is_end : Entry → Bool
+is_end (Ended push outcome) = true
+is_end _ = false
+
+abbrev pub before_last_ends : List Entry → List Entry
+before_last_ends [] = []
+before_last_ends (entry ∷ rest) = if list_all is_end (entry ∷ rest) then [] else entry ∷ before_last_ends rest
+
+-- the words behind those that did something find nothing
+abbrev pub LeftFindNothing : ℕ → List Word → List Entry → Type 0
+LeftFindNothing size script entries = AllByRecursion (FindsNothing size entries (air_after size entries)) (drop (words_done entries) script)
 
 -- The air obeyed the script: each entry keeps to it, and at the end all that was handed over has come, and the words
 -- that are left find nothing.
 pub record Obeys (size : ℕ) (script : List Word) (entries : List Entry) : Type 0 where
   pub each : EachAfter (KeepsTo size script) [] entries
   pub settled : IsSettled (air_after size entries)
-  pub left : AllByRecursion (FindsNothing size entries (air_after size entries)) (drop (words_done entries) script)
+  pub left : LeftFindNothing size script (before_last_ends entries)
 
 -- the words of the runs of a script, each as often as its run says
 abbrev pub words_of : List (ℕ × Word) → List Word

@@ -1,6 +1,7 @@
 -- The packets that a controller holds of its host (Core 5.1, Volume 2 Part E, 4.1.1 and 7.7.19).
-use Rattle.std.specs.Prelude.{ℕ, ◌%◌, ◌==◌, List, [], ◌∷◌, map, drop, Option, Some, None, is_none, if◌then◌else◌}
+use Rattle.std.specs.Prelude.{ℕ, ◌≤◌, ◌%◌, ◌==◌, min, List, [], ◌∷◌, map, drop, Option, Some, None, is_none, if◌then◌else◌}
 use Rattle.std.specs.List.{flat_map}
+use Rattle.capture.specs.Histories.{AtEach}
 use Rattle.h4_framing.specs.Packets.{Packet, Acl, Event}
 use Rattle.hci_packets.specs.Events.{event_refusal, entries_of}
 use Rattle.acl_credits.specs.Histories.{BufferEvent, Sent, Completed, outstanding_in}
@@ -44,3 +45,7 @@ outstanding_of (Some link) = outstanding_on_link link
 
 abbrev pub all_outstanding : Side → List Entry → ℕ
 all_outstanding side entries = outstanding_of (link_up side entries)
+
+-- at each moment a host has no more packets outstanding than its controller takes, and no more than 64
+abbrev pub KeepsWithin : Side → ℕ → List Entry → Type 0
+KeepsWithin side count entries = AtEach (λ past. all_outstanding side past ≤ min count 64) entries

@@ -1,8 +1,8 @@
 -- The channels of a link, read off its signalling commands alone (Core 5.1, Volume 3 Part A, 4.2, 4.3, 4.6).
-use Rattle.std.specs.Prelude.{ℕ, ◌==◌, ◌&&◌, nat_le, Bool, true, false, List, [], ◌∷◌, ◌++◌, length, drop, fold, Option, Some, None, if◌then◌else◌}
+use Rattle.std.specs.Prelude.{ℕ, ◌==◌, ◌&&◌, nat_le, Bool, false, List, [], ◌∷◌, ◌++◌, length, drop, fold, Option, Some, None, if◌then◌else◌}
 use Rattle.std.specs.List.{filter_map, list_any}
 use Rattle.capture.specs.Histories.{given_by}
-use Rattle.l2cap_signal.specs.Commands.{Command, Content, connection_request, connection_response, disconnection_request}
+use Rattle.l2cap_signal.specs.Commands.{Content, connection_request, connection_response, disconnection_request}
 use Rattle.capture.specs.declared.channel.Channel.{Channel}
 use Rattle.capture.specs.declared.flow.Flow.{Flow}
 use Rattle.capture.specs.declared.flow.Flow.TheVariants.{Out, Into}

@@ -1,6 +1,6 @@
 -- The air between two hosts: in each direction of a link the frames that were put into it, in order, and how far they
 -- have left it. A frame is a whole L2CAP PDU (this project's own; a link keeps each direction in its order).
-use Rattle.std.specs.Prelude.{ℕ, ◌+◌, ◌≡◌, ◌==◌, nat_lt, Bool, true, false, List, [], ◌∷◌, ◌++◌, length, take, drop, Option, Some, None, if◌then◌else◌}
+use Rattle.std.specs.Prelude.{ℕ, ◌+◌, List, [], ◌∷◌, ◌++◌, length, take, drop, Option, Some, None}
 use Rattle.hci_packets.specs.declared.acl.Boundary.TheVariants.{FirstFromController}
 use Rattle.acl_fragments.specs.Pieces.{Piece}
 use Rattle.acl_fragments.specs.Cuts.{cut}

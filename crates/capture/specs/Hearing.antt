@@ -1,13 +1,8 @@
 -- What a host hears on its channels (Core 5.1, Volume 3 Part A, 4.4, 4.5, 5.4 and 7.1).
-use Rattle.std.specs.Prelude.{ℕ, ◌==◌, ◌%◌, ◌&&◌, not, Bool, true, false, List, [], ◌∷◌, ◌++◌, map, filter, find, fold, Option, Some, None, Result, Ok, Err, option_to_list, if◌then◌else◌}
-use Rattle.std.specs.List.{filter_map, list_any}
-use Rattle.std.specs.Option.{option_map}
+use Rattle.std.specs.Prelude.{ℕ, ◌==◌, ◌%◌, ◌&&◌, not, Bool, List, [], ◌∷◌, filter, find, Option, Some, None, option_to_list, if◌then◌else◌}
+use Rattle.std.specs.List.{list_any}
 use Rattle.capture.specs.Histories.{given_by}
-use Rattle.l2cap_signal.specs.Commands.{Command, Content, configuration_request, configuration_response}
-use Rattle.l2cap_config.specs.declared.options.Options.{Options}
-use Rattle.l2cap_config.specs.declared.options.ConfigRefusal.{ConfigRefusal}
-use Rattle.l2cap_config.specs.Reading.{options_read}
-use Rattle.capture.specs.declared.flow.Flow.{Flow}
+use Rattle.l2cap_signal.specs.Commands.{Content, configuration_response}
 use Rattle.capture.specs.declared.flow.Flow.TheVariants.{Out, Into}
 use Rattle.capture.specs.Talk.{Talk, Signal, Payload}
 use Rattle.capture.specs.declared.channel.Channel.{Channel}

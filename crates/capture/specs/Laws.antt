@@ -5,15 +5,15 @@ use Rattle.acl_credits.specs.Histories.{outstanding_after}
 use Rattle.push_script.specs.declared.word.Side.{Side}
 use Rattle.push_script.specs.declared.word.Word.{Word}
 use Rattle.capture.specs.Histories.{EachAfter}
-use Rattle.capture.specs.Entries.{Entry, IsEntry, IsCapture, capture_octets}
+use Rattle.capture.specs.Entries.{Entry, capture_octets}
 use Rattle.capture.specs.Moves.{Move, move_of, moves}
-use Rattle.capture.specs.Links.{Link, Linking, longer, after_move, linking}
+use Rattle.capture.specs.Links.{Link, longer, after_move, linking}
 use Rattle.capture.specs.Buffers.{buffer_events, outstanding_on_link}
 use Rattle.capture.specs.Pdus.{completed, pdus}
 use Rattle.capture.specs.Talk.{Talk, said_by, talk}
 use Rattle.capture.specs.declared.channel.Channel.{Channel}
 use Rattle.capture.specs.Channels.{born, with_new, channels, closes, is_closed}
-use Rattle.capture.specs.Hearing.{Heard, heard, heard_payloads}
+use Rattle.capture.specs.Hearing.{heard, heard_payloads}
 use Rattle.capture.specs.Air.{after_entry, air_after, KeepsTo}
 
 -- ---- one entry more

@@ -1,5 +1,5 @@
 -- What code holds, apart from where its octets lie in memory.
-use Rattle.std.specs.Prelude.{ℕ, List, map}
+use Rattle.std.specs.Prelude.{List, map}
 use Rattle.h4_framing.specs.Packets.{packet}
 use Rattle.l2cap_signal.specs.Commands.{command}
 use Rattle.capture.specs.declared.entry.Entry.{Entry as LentEntry}

@@ -13,8 +13,10 @@ pub mod Packets
 pub mod Spelled
 pub mod Frames
 pub mod Air
-pub mod Pushes
 pub mod Exchanges
+pub mod Pushes
+pub mod Results
 pub mod Peaks
 pub mod Laws
 pub mod Lent
+pub mod Front

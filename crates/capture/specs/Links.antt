@@ -2,7 +2,7 @@
 use Rattle.std.specs.Prelude.{ℕ, ◌==◌, ◌||◌, ◌&&◌, Bool, true, false, List, [], ◌∷◌, ◌++◌, drop, fold, slice_index, Option, Some, None, is_none, option_to_list, if◌then◌else◌}
 use Rattle.std.specs.Option.{option_map, option_or}
 use Rattle.byteorder.specs.Endian.{little_number}
-use Rattle.h4_framing.specs.Packets.{Packet, Command, Acl, Sync, Event}
+use Rattle.h4_framing.specs.Packets.{Packet, Command, Event}
 use Rattle.hci_packets.specs.Commands.{command_refusal}
 use Rattle.hci_packets.specs.Events.{event_refusal}
 use Rattle.capture.specs.declared.flow.Flow.{Flow}
@@ -18,26 +18,26 @@ pub data LinkNews : Type 0 where
   -- Connection Complete
   Answered : (status handle : ℕ) → LinkNews
   -- Disconnection Complete of a link that did end
-  Ended : (handle : ℕ) → LinkNews
+  LinkEnded : (handle : ℕ) → LinkNews
   -- anything else
   NoNews : LinkNews
 
-abbrev pub asked_by : ℕ → LinkNews
-asked_by opcode = if opcode == 0x0405 || opcode == 0x0409 then Asked else NoNews
+-- commands and events whose parameters are refused mean nothing
+abbrev pub asked_by : ℕ → List ℕ → LinkNews
+asked_by opcode params = if (opcode == 0x0405 || opcode == 0x0409) && is_none (command_refusal opcode params) then Asked else NoNews
 
 abbrev pub ended_by : List ℕ → LinkNews
-ended_by params = if slice_index params 0 == 0 then Ended (little_number 2 (drop 1 params)) else NoNews
+ended_by params = if slice_index params 0 == 0 then LinkEnded (little_number 2 (drop 1 params)) else NoNews
 
--- events whose parameters are refused mean nothing
 abbrev pub told_by : ℕ → List ℕ → LinkNews
 told_by code params =
     if is_none (event_refusal code params) then
-      (if code == 0x03 then Answered (slice_index params 0) (little_number 2 (drop 1 params)) else
-      (if code == 0x05 then ended_by params else NoNews))
+    (if code == 0x03 then Answered (slice_index params 0) (little_number 2 (drop 1 params)) else
+    (if code == 0x05 then ended_by params else NoNews))
     else NoNews
 
 abbrev pub news : Flow → Packet → LinkNews
-news Out (Command opcode params) = asked_by opcode
+news Out (Command opcode params) = asked_by opcode params
 news Into (Event code params) = told_by code params
 news _ _ = NoNews
 
@@ -78,7 +78,7 @@ abbrev pub after_news : Move → Linking → LinkNews → Linking
 after_news move linking Asked = record (gone_on move linking) { asked = true }
 after_news move linking (Answered status handle) =
     record linking { asked = false; up = option_or (made status handle linking) (option_map (longer move) linking.up) }
-after_news move linking (Ended handle) = ends_with handle move linking linking.up
+after_news move linking (LinkEnded handle) = ends_with handle move linking linking.up
 after_news move linking NoNews = gone_on move linking
 
 abbrev pub after_move : Linking → Move → Linking

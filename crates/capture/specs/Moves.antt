@@ -1,11 +1,11 @@
 -- What moved between one host and its controller.
-use Rattle.std.specs.Prelude.{ℕ, List, Option, Some, None}
+use Rattle.std.specs.Prelude.{List, Option, Some, None}
 use Rattle.std.specs.List.{filter_map}
 use Rattle.h4_framing.specs.Packets.{Packet}
 use Rattle.push_script.specs.declared.word.Side.{Side}
 use Rattle.push_script.specs.declared.word.Side.TheVariants as sides
 use Rattle.capture.specs.declared.flow.Flow.{Flow}
-use Rattle.capture.specs.Entries.{Entry, Moved, Acted, Begun, Ended}
+use Rattle.capture.specs.Entries.{Entry, Moved}
 
 -- a packet that went out of the host, or came into it
 pub record Move : Type 0 where

@@ -1,5 +1,5 @@
 -- The packets of OBEX that a host hears (Object Push Profile 1.2, 4 and 6).
-use Rattle.std.specs.Prelude.{ℕ, ◌==◌, ◌&&◌, not, Bool, List, Option, Some, None, if◌then◌else◌}
+use Rattle.std.specs.Prelude.{◌==◌, ◌&&◌, not, List, Option, Some, None, if◌then◌else◌}
 use Rattle.std.specs.List.{filter_map}
 use Rattle.capture.specs.Talk.{Talk}
 use Rattle.capture.specs.declared.channel.Channel.{Channel}

@@ -1,15 +1,13 @@
--- Pushes in a capture, and what came of them (this project's own).
-use Rattle.std.specs.Prelude.{ℕ, zero, suc, ◌+◌, ◌≡◌, ◌≤◌, ◌==◌, ◌&&◌, ◌⊎◌, nat_lt, Bool, true, false, not, List, [], ◌∷◌, ◌++◌, length, map, take, drop, Option, Some, None, is_none, if◌then◌else◌}
-use Rattle.std.specs.List.{filter_map, take_while, list_any, zip, AllByRecursion, flat_map}
+-- The order of pushes in a capture (this project's own).
+use Rattle.std.specs.Prelude.{ℕ, zero, suc, ◌+◌, ◌≡◌, ◌≤◌, ◌==◌, Bool, false, not, List, [], ◌∷◌, ◌++◌, length, replicate, Option, Some, None, if◌then◌else◌}
+use Rattle.std.specs.List.{filter_map, take_while, AllByRecursion}
 use Rattle.capture.specs.Histories.{EachAfter}
-use Rattle.bt_base.specs.Objects.{Object}
-use Rattle.push_script.specs.declared.word.Side.{Side}
 use Rattle.push_script.specs.declared.word.Side.TheVariants as sides
 use Rattle.push_script.specs.declared.outcome.Outcome.{Outcome}
-use Rattle.push_script.specs.declared.outcome.Outcome.TheVariants.{Done, LinkLost, RetryLimit, Refused, NoService, ShelfFault, Cancelled, PeerClosed, PeerFault, ScriptEnded}
-use Rattle.capture.specs.Entries.{Entry, Moved, Acted, Begun, Ended}
-use Rattle.capture.specs.Links.{Link, link_up}
-use Rattle.capture.specs.Spelled.{objects_heard}
+use Rattle.push_script.specs.declared.outcome.Outcome.TheVariants.{ScriptEnded}
+use Rattle.capture.specs.Entries.{Entry, Begun, Ended}
+use Rattle.capture.specs.Links.{link_up, links}
+use Rattle.capture.specs.Channels.{last_of}
 
 -- ---- the order of pushes
 
@@ -40,18 +38,23 @@ last_mark current (mark ∷ marks) = last_mark (with_mark current mark) marks
 abbrev pub under_way : List Entry → Option ℕ
 under_way entries = last_mark None (filter_map mark_of entries)
 
--- while no push is under way there is no link; only the ends of pushes may stand behind a link that is up
+-- where no push is under way no link is up
+abbrev pub NoLinkOutside : List Entry → Type 0
+NoLinkOutside past = under_way past ≡ None → (link_up sides.A past ≡ None) × (link_up sides.B past ≡ None)
+
+-- so it is before each entry but the ends of pushes: where a link outlasts its push, only such ends follow
 abbrev pub LinksWithin : List Entry → Entry → Type 0
 LinksWithin past (Ended push outcome) = Unit {0}
-LinksWithin past _ = under_way past ≡ None → (is_none (link_up sides.A past) ≡ true) × (is_none (link_up sides.B past) ≡ true)
+LinksWithin past _ = NoLinkOutside past
 
--- The pushes that were begun are the first ones in order; each has one begin and one end, and its link, if it has one,
--- lies between the two, or goes on to the end of the capture.
-pub record InTurn (pushes : ℕ) (entries : List Entry) : Type 0 where
-  pub begun : ℕ
-  pub within : begun ≤ pushes
-  pub marks : filter_map mark_of entries ≡ marks_from 1 begun
-  pub links : EachAfter LinksWithin [] entries
+-- and it is so at the end of the capture too, unless a push ends there
+abbrev pub EndsWithin : List Entry → Option Entry → Type 0
+EndsWithin entries (Some (Ended push outcome)) = Unit {0}
+EndsWithin entries _ = NoLinkOutside entries
+
+abbrev pub outcome_of : Entry → Option Outcome
+outcome_of (Ended push outcome) = Some outcome
+outcome_of _ = None
 
 -- ---- the part of a push
 
@@ -63,6 +66,11 @@ abbrev pub is_end : ℕ → Entry → Bool
 is_end push (Ended other outcome) = other == push
 is_end push _ = false
 
+-- so many numbers from one on
+abbrev pub numbers_from : ℕ → ℕ → List ℕ
+numbers_from n zero = []
+numbers_from n (suc count) = n ∷ numbers_from (n + 1) count
+
 -- what stands behind the first member that passes a test
 abbrev pub behind_first : {X : Type 0} → (X → Bool) → List X → List X
 behind_first test [] = []
@@ -72,65 +80,15 @@ behind_first test (x ∷ rest) = if test x then rest else behind_first test rest
 abbrev pub part_of : ℕ → List Entry → List Entry
 part_of push entries = take_while (λ entry. not (is_end push entry)) (behind_first (is_begin push) entries)
 
--- the objects that host b heard in a push
-abbrev pub objects_of : ℕ → List Entry → List Object
-objects_of push entries = objects_heard sides.B (part_of push entries)
-
--- ---- what was gained
-
--- the members of a list that are marked
-abbrev pub marked : {X : Type 0} → List Bool → List X → List X
-marked (true ∷ marks) (x ∷ rest) = x ∷ marked marks rest
-marked (false ∷ marks) (x ∷ rest) = marked marks rest
-marked _ _ = []
-
--- how many are left out
-abbrev pub left_out : List Bool → ℕ
-left_out [] = 0
-left_out (true ∷ marks) = left_out marks
-left_out (false ∷ marks) = 1 + left_out marks
-
--- Some of the objects that were spelled are the gain, in their order, and at most so many are left out.
-pub record Gains (spelled gain : List Object) (faults : ℕ) (marks : List Bool) : Type 0 where
-  pub each : length marks ≡ length spelled
-  pub gain_is : gain ≡ marked marks spelled
-  pub few : left_out marks ≤ faults
-
--- ---- which outcome may stand beside it
-
--- whether an object that host b heard in the push was stored
-abbrev pub MayStand : Outcome → Bool → Type 0
-MayStand Done stored = stored ≡ true
-MayStand (Refused code) stored = stored ≡ false
-MayStand NoService stored = stored ≡ false
-MayStand ShelfFault stored = stored ≡ false
-MayStand Cancelled stored = stored ≡ false
-MayStand LinkLost stored = Unit {0}
-MayStand RetryLimit stored = Unit {0}
-MayStand PeerClosed stored = Unit {0}
-MayStand ScriptEnded stored = Unit {0}
-MayStand (PeerFault layer reason) stored = ⊥
-
--- for each push whether an object of it was stored: the marks stand in the order of the pushes
-abbrev pub stored_of : List (List Object) → List Bool → List Bool
-stored_of [] marks = []
-stored_of (objects ∷ more) marks = list_any (λ mark. mark) (take (length objects) marks) ∷ stored_of more (drop (length objects) marks)
-
-abbrev pub AllStand : List Outcome → List Bool → Type 0
-AllStand [] [] = Unit {0}
-AllStand (outcome ∷ outcomes) (stored ∷ more) = MayStand outcome stored × AllStand outcomes more
-AllStand _ _ = ⊥
-
--- so many numbers from one on
-abbrev pub numbers_from : ℕ → ℕ → List ℕ
-numbers_from n zero = []
-numbers_from n (suc count) = n ∷ numbers_from (n + 1) count
-
--- the objects that host b heard in each push
-abbrev pub objects_by_push : ℕ → List Entry → List (List Object)
-objects_by_push pushes entries = map (λ push. objects_of push entries) (numbers_from 1 pushes)
-
--- In each push host b heard one object at most, and each outcome may stand beside what was stored.
-pub record Stands (entries : List Entry) (outcomes : List Outcome) (marks : List Bool) : Type 0 where
-  pub one : AllByRecursion (λ objects. length objects ≤ 1) (objects_by_push (length outcomes) entries)
-  pub stand : AllStand outcomes (stored_of (objects_by_push (length outcomes) entries) marks)
+-- Of so many pushes the first ones were begun, in order. Each has one begin and one end with its outcome, and at most one
+-- link, which lies between the two or goes on to the end of the capture. Those that were not begun have no link, and
+-- the words of the script ended before them.
+pub record InTurn (outcomes : List Outcome) (entries : List Entry) : Type 0 where
+  pub begun : ℕ
+  pub not_begun : ℕ
+  pub marks : filter_map mark_of entries ≡ marks_from 1 begun
+  pub outcomes_are : outcomes ≡ filter_map outcome_of entries ++ replicate not_begun ScriptEnded
+  pub within : EachAfter LinksWithin [] entries
+  pub finish : EndsWithin entries (last_of entries)
+  pub one_link_a : AllByRecursion (λ push. length (links sides.A (part_of push entries)) ≤ 1) (numbers_from 1 begun)
+  pub one_link_b : AllByRecursion (λ push. length (links sides.B (part_of push entries)) ≤ 1) (numbers_from 1 begun)

@@ -1,5 +1,5 @@
 -- The objects that a host's packets spell (IrOBEX 1.5, 3.4.3; Object Push Profile 1.2, 4.3).
-use Rattle.std.specs.Prelude.{ℕ, ◌==◌, List, [], ◌∷◌, ◌++◌, length, map, drop, filter}
+use Rattle.std.specs.Prelude.{ℕ, List, [], ◌∷◌, ◌++◌, length, map, drop, filter}
 use Rattle.std.specs.List.{flat_map}
 use Rattle.capture.specs.Histories.{given_by}
 use Rattle.bt_base.specs.Objects.{Object}

@@ -12,7 +12,10 @@ pub enum Entry<'a> {
         unit: Unit<'a>,
     },
     /// A word of the radio script did something. Words count from 1.
-    Acted { ordinal: u64, word: Word },
+    Acted {
+        ordinal: u64,
+        word: Word,
+    },
     /// A push began. Pushes count from 1.
     Begun(u16),
     /// A push ended.
