@@ -1,6 +1,12 @@
 //! Plain and slow readers of captures, for tests and tools: each computes a definition as it
 //! stands.
 
+mod linking;
+mod moving;
+
+pub use linking::{link_up, links};
+pub use moving::moves;
+
 use crate::channel::Channel;
 use crate::flow::Flow;
 use h4_framing::Unit;
