@@ -1,9 +1,11 @@
 //! Plain and slow readers of captures, for tests and tools: each computes a definition as it
 //! stands.
 
+mod buffers;
 mod linking;
 mod moving;
 
+pub use buffers::{all_outstanding, outstanding};
 pub use linking::{link_up, links};
 pub use moving::moves;
 

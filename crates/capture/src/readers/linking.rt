@@ -54,7 +54,7 @@ fn is_command(opcode: u16, params: &[u8]) -> bool
     }
 }
 
-fn is_event(code: u8, params: &[u8]) -> bool
+pub(crate) fn is_event(code: u8, params: &[u8]) -> bool
     ensures { result ≡ is_none (event_refusal code params.now) }
 {
     match event_of(code, params) {
