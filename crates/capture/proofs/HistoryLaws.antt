@@ -1,6 +1,6 @@
 -- One member more, and a history in two parts.
-use Rattle.std.proofs.Common.{◌≡◌, List, [], ◌∷◌, ◌++◌, length, inl, inr, sym, ap, subst, ◌∙◌, length-append, arith}
-use Rattle.std.proofs.lemmas.List.{append_assoc, append-nil, take_all, take-append-le}
+use Rattle.std.proofs.Common.{◌≡◌, ℕ, ◌+◌, ◌≤◌, ◌<◌, List, [], ◌∷◌, ◌++◌, length, map, take, get_or, inl, inr, sym, ap, subst, ◌∙◌, length-append, arith}
+use Rattle.std.proofs.lemmas.List.{map-append, take_more, append_assoc, append-nil, take_all, take-append-le}
 use Rattle.std.proofs.lemmas.Bool.{cases_lt}
 use Rattle.capture.specs.Histories.{each_after, given_by, led_by, EachAfter, AtEach}
 
@@ -56,3 +56,13 @@ at_each-whole P history each = subst P (take_all (length history) history (omega
 -- nothing has happened at first
 pub at_each-none : {X : Type 0} (P : List X → Type 0) → P [] → AtEach P []
 at_each-none P now n = subst P (sym (take_all n [] (omega arith))) now
+
+-- ---- a loop over a history
+
+pub front-more : {L X : Type 0} (view : L → X) (raw : List L) (i : ℕ) (d : L) → i < length raw
+    → map view (take (i + 1) raw) ≡ map view (take i raw) ++ view (get_or raw i d) ∷ []
+front-more view raw i d below = ap (map view) (take_more raw i d below) ∙ map-append view (take i raw) (get_or raw i d ∷ [])
+
+pub given_by-front : {L X Y : Type 0} (given : List X → X → List Y) (view : L → X) (raw : List L) (i : ℕ) (d : L) → i < length raw
+    → given_by given (map view (take (i + 1) raw)) ≡ given_by given (map view (take i raw)) ++ given (map view (take i raw)) (view (get_or raw i d))
+given_by-front given view raw i d below = ap (given_by given) (front-more view raw i d below) ∙ given_by-more given (map view (take i raw)) (view (get_or raw i d))

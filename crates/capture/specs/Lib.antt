@@ -21,3 +21,4 @@ pub mod Laws
 pub mod Lent
 pub mod Front
 pub mod ReadLinks
+pub mod ReadPdus

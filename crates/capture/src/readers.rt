@@ -2,10 +2,12 @@
 //! stands.
 
 mod buffers;
+mod completing;
 mod linking;
 mod moving;
 
 pub use buffers::{all_outstanding, outstanding};
+pub use completing::pdus;
 pub use linking::{link_up, links};
 pub use moving::moves;
 
