@@ -22,3 +22,4 @@ pub mod Lent
 pub mod Front
 pub mod ReadLinks
 pub mod ReadPdus
+pub mod ReadTalk

@@ -5,11 +5,13 @@ mod buffers;
 mod completing;
 mod linking;
 mod moving;
+mod telling;
 
 pub use buffers::{all_outstanding, outstanding};
 pub use completing::pdus;
 pub use linking::{link_up, links};
 pub use moving::moves;
+pub use telling::talk_of;
 
 use crate::channel::Channel;
 use crate::flow::Flow;
