@@ -45,35 +45,41 @@ open_with held before after same holds = subst (λ past. HoldsOpen past held) (s
 -- a packet that is no piece of the link
 pub without_piece : (handle : ℕ) (past : List Move) (move : Move) (joiners : Joiners) → piece_of handle move.packet ≡ None → Holds handle past joiners
     → (completed handle past move ≡ []) × Holds handle (past ++ move ∷ []) joiners
-without_piece handle past move joiners none holds =
-    (ap (completed_by move.flow (pieces move.flow handle past)) none, record {
-      limit_out = holds.limit_out;
-      out = open_with _ _ _ (with_none Out handle past move (chosen_none (same_flow Out move.flow) (piece_of handle move.packet) none)) holds.out;
-      limit_into = holds.limit_into;
-      into = open_with _ _ _ (with_none Into handle past move (chosen_none (same_flow Into move.flow) (piece_of handle move.packet) none)) holds.into;
-    })
+without_piece handle past move joiners none holds = (
+  ap (completed_by move.flow (pieces move.flow handle past)) none,
+  record {
+    limit_out = holds.limit_out;
+    out = open_with _ _ _ (with_none Out handle past move (chosen_none (same_flow Out move.flow) (piece_of handle move.packet) none)) holds.out;
+    limit_into = holds.limit_into;
+    into = open_with _ _ _ (with_none Into handle past move (chosen_none (same_flow Into move.flow) (piece_of handle move.packet) none)) holds.into;
+  },
+)
 
 pub piece_out : (handle : ℕ) (past : List Move) (move : Move) (piece : Piece) (old : Joiners) (out : Held) → move.flow ≡ Out → piece_of handle move.packet ≡ Some piece
     → Holds handle past old → out.limit ≡ pdu_limit Out → HoldsOpen (pieces Out handle past ++ piece ∷ []) out
     → (completed handle past move ≡ completed_by Out (pieces Out handle past) (Some piece)) × Holds handle (past ++ move ∷ []) (record { out = out; into = old.into })
-piece_out handle past move piece old out is one holds limit open_now =
-    (ap (λ flow. completed_by flow (pieces flow handle past) (piece_of handle move.packet)) is ∙ ap (completed_by Out (pieces Out handle past)) one, record {
-      limit_out = limit;
-      out = open_with _ _ _ (with_one Out handle past move piece (in_same Out handle move piece is refl one)) open_now;
-      limit_into = holds.limit_into;
-      into = open_with _ _ _ (with_none Into handle past move (in_other Into Out handle move is refl)) holds.into;
-    })
+piece_out handle past move piece old out is one holds limit open_now = (
+  ap (λ flow. completed_by flow (pieces flow handle past) (piece_of handle move.packet)) is ∙ ap (completed_by Out (pieces Out handle past)) one,
+  record {
+    limit_out = limit;
+    out = open_with _ _ _ (with_one Out handle past move piece (in_same Out handle move piece is refl one)) open_now;
+    limit_into = holds.limit_into;
+    into = open_with _ _ _ (with_none Into handle past move (in_other Into Out handle move is refl)) holds.into;
+  },
+)
 
 pub piece_into : (handle : ℕ) (past : List Move) (move : Move) (piece : Piece) (old : Joiners) (into : Held) → move.flow ≡ Into → piece_of handle move.packet ≡ Some piece
     → Holds handle past old → into.limit ≡ pdu_limit Into → HoldsOpen (pieces Into handle past ++ piece ∷ []) into
     → (completed handle past move ≡ completed_by Into (pieces Into handle past) (Some piece)) × Holds handle (past ++ move ∷ []) (record { out = old.out; into = into })
-piece_into handle past move piece old into is one holds limit open_now =
-    (ap (λ flow. completed_by flow (pieces flow handle past) (piece_of handle move.packet)) is ∙ ap (completed_by Into (pieces Into handle past)) one, record {
-      limit_out = holds.limit_out;
-      out = open_with _ _ _ (with_none Out handle past move (in_other Out Into handle move is refl)) holds.out;
-      limit_into = limit;
-      into = open_with _ _ _ (with_one Into handle past move piece (in_same Into handle move piece is refl one)) open_now;
-    })
+piece_into handle past move piece old into is one holds limit open_now = (
+  ap (λ flow. completed_by flow (pieces flow handle past) (piece_of handle move.packet)) is ∙ ap (completed_by Into (pieces Into handle past)) one,
+  record {
+    limit_out = holds.limit_out;
+    out = open_with _ _ _ (with_none Out handle past move (in_other Out Into handle move is refl)) holds.out;
+    limit_into = limit;
+    into = open_with _ _ _ (with_one Into handle past move piece (in_same Into handle move piece is refl one)) open_now;
+  },
+)
 
 -- ---- a loop over the packets of a link
 
@@ -83,10 +89,11 @@ pub pdus_more : (handle : ℕ) (moves raw : List LentMove) (i : ℕ) (d : LentMo
     → (more ≡ found ++ completed handle (plain_moves (take i moves)) (plain_move (get_or raw i d))) × Holds handle (plain_moves (take i moves) ++ plain_move (get_or raw i d) ∷ []) joiners
     → (more ≡ given_by (completed handle) (plain_moves (take (i + 1) moves))) × Holds handle (plain_moves (take (i + 1) moves)) joiners
 pdus_more handle moves raw i d found more joiners same below so_far (adds, holds) =
-    let inside : i < length moves = subst (λ xs. i < length xs) same below in
-    (adds
-      ∙ (ap (λ xs. found ++ completed handle (plain_moves (take i moves)) (plain_move (get_or xs i d))) same
-      ∙ (ap (λ before. before ++ completed handle (plain_moves (take i moves)) (plain_move (get_or moves i d))) so_far
-      ∙ sym (given_by-front (completed handle) plain_move moves i d inside))),
-    subst (λ past. Holds handle past joiners) (sym (front-more plain_move moves i d inside))
-      (subst (λ xs. Holds handle (plain_moves (take i moves) ++ plain_move (get_or xs i d) ∷ []) joiners) same holds))
+    let inside : i < length moves = subst (λ xs. i < length xs) same below in (
+      adds
+          ∙ (ap (λ xs. found ++ completed handle (plain_moves (take i moves)) (plain_move (get_or xs i d))) same
+          ∙ (ap (λ before. before ++ completed handle (plain_moves (take i moves)) (plain_move (get_or moves i d))) so_far
+          ∙ sym (given_by-front (completed handle) plain_move moves i d inside))),
+      subst (λ past. Holds handle past joiners) (sym (front-more plain_move moves i d inside))
+          (subst (λ xs. Holds handle (plain_moves (take i moves) ++ plain_move (get_or xs i d) ∷ []) joiners) same holds),
+    )

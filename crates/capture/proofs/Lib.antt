@@ -2,3 +2,4 @@ pub mod HistoryLaws
 pub mod MoreLaws
 pub mod ClosingLaws
 pub mod Completing
+pub mod Opening

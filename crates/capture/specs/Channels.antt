@@ -1,6 +1,7 @@
 -- The channels of a link, read off its signalling commands alone (Core 5.1, Volume 3 Part A, 4.2, 4.3, 4.6).
 use Rattle.std.specs.Prelude.{ℕ, ◌==◌, ◌&&◌, nat_le, Bool, false, List, [], ◌∷◌, ◌++◌, length, drop, fold, Option, Some, None, if◌then◌else◌}
 use Rattle.std.specs.List.{filter_map, list_any}
+use Rattle.std.specs.Option.{option_or}
 use Rattle.capture.specs.Histories.{given_by}
 use Rattle.l2cap_signal.specs.Commands.{Content, connection_request, connection_response, disconnection_request}
 use Rattle.capture.specs.declared.channel.Channel.{Channel}
@@ -31,8 +32,7 @@ wanted flow identifier (Payload way endpoint octets) = None
 -- the last of a list
 abbrev pub last_of : {X : Type 0} → List X → Option X
 last_of [] = None
-last_of (x ∷ []) = Some x
-last_of (x ∷ y ∷ more) = last_of (y ∷ more)
+last_of (x ∷ xs) = option_or (last_of xs) (Some x)
 
 -- the channel of a request for a protocol, by a response with the responder's endpoint and the requester's
 abbrev pub channel_by : Flow → (psm destination source before : ℕ) → Channel

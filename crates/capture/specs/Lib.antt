@@ -23,3 +23,4 @@ pub mod Front
 pub mod ReadLinks
 pub mod ReadPdus
 pub mod ReadTalk
+pub mod ReadChannels

@@ -5,18 +5,19 @@ mod buffers;
 mod completing;
 mod linking;
 mod moving;
+mod opening;
 mod telling;
-
-pub use buffers::{all_outstanding, outstanding};
-pub use completing::pdus;
-pub use linking::{link_up, links};
-pub use moving::moves;
-pub use telling::talk_of;
 
 use crate::channel::Channel;
 use crate::flow::Flow;
+pub use buffers::{all_outstanding, outstanding};
+pub use completing::pdus;
 use h4_framing::Unit;
 use l2cap_signal::Signal;
+pub use linking::{link_up, links};
+pub use moving::moves;
+pub use opening::{channels, is_closed};
+pub use telling::talk_of;
 
 /// A packet that went out of a host or came into it.
 #[derive(Clone, Copy, Debug)]

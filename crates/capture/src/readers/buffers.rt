@@ -44,8 +44,7 @@ fn after(waiting: usize, handle: u16, moved: &Move<'_>) -> usize
     match (moved.flow, moved.unit) {
         (Flow::Out, Unit::Acl { word, .. }) if word % 0x1000 == handle => waiting + 1,
         (Flow::Into, Unit::Event { code, params })
-            if code == COMPLETED_PACKETS && is_event(code, params) =>
-        {
+            if code == COMPLETED_PACKETS && is_event(code, params) => {
             given_back(waiting, handle, &params[1..])
         }
         _ => waiting,
@@ -80,11 +79,7 @@ pub fn outstanding(
 }
 
 /// How many packets of a host are outstanding at the end.
-pub fn all_outstanding(
-    alloc: Global,
-    entries: &[Entry<'_>],
-    host: Side,
-) -> Result<usize, NoMemory>
+pub fn all_outstanding(alloc: Global, entries: &[Entry<'_>], host: Side) -> Result<usize, NoMemory>
     ensures { IfOk result (λ packets. packets ≡ all_outstanding host (plain_entries entries.now)) }
 {
     match link_up(alloc, entries, host)? {

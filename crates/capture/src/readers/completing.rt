@@ -64,12 +64,7 @@ fn piece_of<'a>(handle: u16, unit: &Unit<'a>) -> Option<Part<'a>>
 }
 
 /// Adds the PDU that a joiner gave.
-fn push_got(
-    alloc: Global,
-    found: &mut Vec<Pdu>,
-    flow: Flow,
-    got: Got<'_>,
-) -> Result<(), NoMemory>
+fn push_got(alloc: Global, found: &mut Vec<Pdu>, flow: Flow, got: Got<'_>) -> Result<(), NoMemory>
     ensures { OnOk result (plain_pdus found.new.items ≡ plain_pdus found.old.items ++ whole_of flow (plain_answer got.entry)) }
 {
     if let Got::Pdu(_, pdu) = got {

@@ -79,7 +79,10 @@ fn told_by(code: u8, params: &[u8]) -> LinkNews
         return LinkNews::None;
     }
     if code == CONNECTION_COMPLETE {
-        return LinkNews::Answered { status: params[0], handle: read_le16(&params[1..]) };
+        return LinkNews::Answered {
+            status: params[0],
+            handle: read_le16(&params[1..]),
+        };
     }
     if code == DISCONNECTION_COMPLETE && params[0] == 0 {
         return LinkNews::Ended(read_le16(&params[1..]));

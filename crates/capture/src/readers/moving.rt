@@ -15,8 +15,22 @@ fn move_of<'a>(entry: &Entry<'a>, host: Side) -> Option<Move<'a>>
     ensures { option_map plain_move result ≡ move_of host (plain_entry entry.now) }
 {
     match (*entry, host) {
-        (Entry::Moved { side: Side::A, flow, unit }, Side::A) => Some(Move { flow, unit }),
-        (Entry::Moved { side: Side::B, flow, unit }, Side::B) => Some(Move { flow, unit }),
+        (
+            Entry::Moved {
+                side: Side::A,
+                flow,
+                unit,
+            },
+            Side::A,
+        ) => Some(Move { flow, unit }),
+        (
+            Entry::Moved {
+                side: Side::B,
+                flow,
+                unit,
+            },
+            Side::B,
+        ) => Some(Move { flow, unit }),
         _ => None,
     }
 }
