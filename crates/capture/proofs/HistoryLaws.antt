@@ -66,3 +66,10 @@ front-more view raw i d below = ap (map view) (take_more raw i d below) ∙ map-
 pub given_by-front : {L X Y : Type 0} (given : List X → X → List Y) (view : L → X) (raw : List L) (i : ℕ) (d : L) → i < length raw
     → given_by given (map view (take (i + 1) raw)) ≡ given_by given (map view (take i raw)) ++ given (map view (take i raw)) (view (get_or raw i d))
 given_by-front given view raw i d below = ap (given_by given) (front-more view raw i d below) ∙ given_by-more given (map view (take i raw)) (view (get_or raw i d))
+
+-- one turn of such a loop
+pub given_by-turn : {L X Y : Type 0} (given : List X → X → List Y) (view : L → X) (raw : List L) (i : ℕ) (d : L) (before after now : List Y) → i < length raw
+    → before ≡ given_by given (map view (take i raw)) → after ≡ before ++ now → now ≡ given (map view (take i raw)) (view (get_or raw i d))
+    → after ≡ given_by given (map view (take (i + 1) raw))
+given_by-turn given view raw i d before after now below so_far grown gives =
+    grown ∙ (ap (λ xs. xs ++ now) so_far ∙ (ap (λ xs. given_by given (map view (take i raw)) ++ xs) gives ∙ sym (given_by-front given view raw i d below)))

@@ -3,3 +3,4 @@ pub mod MoreLaws
 pub mod ClosingLaws
 pub mod Completing
 pub mod Opening
+pub mod Hearing

@@ -3,6 +3,7 @@
 
 mod buffers;
 mod completing;
+mod hearing;
 mod linking;
 mod moving;
 mod opening;
@@ -13,6 +14,7 @@ use crate::flow::Flow;
 pub use buffers::{all_outstanding, outstanding};
 pub use completing::pdus;
 use h4_framing::Unit;
+pub use hearing::heard_payloads;
 use l2cap_signal::Signal;
 pub use linking::{link_up, links};
 pub use moving::moves;
