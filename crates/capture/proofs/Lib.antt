@@ -4,3 +4,4 @@ pub mod ClosingLaws
 pub mod Completing
 pub mod Opening
 pub mod Hearing
+pub mod Moding

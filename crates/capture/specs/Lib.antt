@@ -24,3 +24,4 @@ pub mod ReadLinks
 pub mod ReadPdus
 pub mod ReadTalk
 pub mod ReadChannels
+pub mod ReadModes
