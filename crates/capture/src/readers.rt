@@ -8,6 +8,7 @@ mod linking;
 mod moding;
 mod moving;
 mod opening;
+mod packets;
 mod telling;
 
 use crate::channel::Channel;
@@ -21,6 +22,7 @@ pub use linking::{link_up, links};
 pub use moding::enhanced;
 pub use moving::moves;
 pub use opening::{channels, is_closed};
+pub use packets::{heard_packets, objects_heard};
 pub use telling::talk_of;
 
 /// A packet that went out of a host or came into it.
