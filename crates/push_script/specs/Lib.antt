@@ -6,8 +6,10 @@ pub mod Scenarios
 pub mod Reports
 pub mod Parts
 pub mod Stated
+pub mod Features
 pub mod Keys
 pub mod Radio
 pub mod Reading
 pub mod Turns
 pub mod Laws
+pub mod Props

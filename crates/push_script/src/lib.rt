@@ -3,6 +3,7 @@
 #![tactic(auto)]
 
 mod draft;
+mod feature;
 mod keys;
 pub mod laws;
 mod lines;
@@ -20,9 +21,10 @@ mod stated;
 mod word;
 mod writing;
 
+pub use feature::Feature;
 pub use names::Names;
 pub use outcome::{Outcome, put_outcome};
-pub use reading::scenario_of;
+pub use reading::{scenario_of, scenario_without};
 pub use refusal::{ScriptFault, ScriptRefusal};
 pub use report::{Peaks, put_report};
 pub use runs::Runs;
