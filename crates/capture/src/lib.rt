@@ -7,7 +7,9 @@ mod entry;
 mod flow;
 pub mod laws;
 pub mod readers;
+mod writing;
 
 pub use channel::Channel;
 pub use entry::Entry;
 pub use flow::Flow;
+pub use writing::put_entry;
