@@ -1,3 +1,4 @@
 pub mod HistoryLaws
 pub mod MoreLaws
 pub mod ClosingLaws
+pub mod EntryLaws

@@ -96,8 +96,9 @@ pub fn put_entry(entry: &Entry<'_>, into: &mut [u8]) -> usize
     ensures count { result ≡ length (entry_octets (plain_entry entry.now)) }
     ensures written { into.new ≡ entry_octets (plain_entry entry.now) ++ drop result into.old }
 {
-    let length = put_payload(entry, &mut into[3..]);
+    let (head, body) = into.split_at_mut(3);
+    let length = put_payload(entry, body);
     let [high, low] = (length as u16).to_be_bytes();
-    into[..3].copy_from_slice(&[tag_of(entry), high, low]);
+    head.copy_from_slice(&[tag_of(entry), high, low]);
     3 + length
 }
