@@ -1,5 +1,6 @@
 pub mod Histories
 pub mod Entries
+pub mod EntryLaws
 pub mod Moves
 pub mod Links
 pub mod Buffers
