@@ -19,3 +19,4 @@ pub mod Exchanges
 pub mod Peaks
 pub mod Laws
 pub mod Lent
+pub mod EntryReading

@@ -1,6 +1,7 @@
 //! Laws of the definitions, for every capture.
 
 ghost use Rattle.capture.specs.EntryLaws.{NoEntryBeginsAnother, OneCapture};
+ghost use Rattle.capture.specs.EntryReading.{OneFront};
 ghost use Rattle.capture.specs.Laws.{MovesMore, LinksMore, OutstandingMore, PdusMore, TalkMore, ChannelsMore, ChannelsWithin, ClosedMore, HeardMore, AirMore, KeepsMore, OctetsInParts, MovesInParts, LinksInParts};
 
 /// One entry more is a packet of its host, or none.
@@ -81,4 +82,9 @@ pub fn no_entry_begins_another()
 /// A capture is read in one way.
 pub fn captures_are_read_in_one_way()
     ensures { OneCapture }
+{}
+
+/// What is read at the front of octets is one thing: an entry, or one refusal.
+pub fn fronts_are_read_in_one_way()
+    ensures { OneFront }
 {}

@@ -4,12 +4,16 @@
 
 mod channel;
 mod entry;
+mod entry_refusal;
 mod flow;
 pub mod laws;
 pub mod readers;
+mod reading;
 mod writing;
 
 pub use channel::Channel;
 pub use entry::Entry;
+pub use entry_refusal::EntryRefusal;
 pub use flow::Flow;
+pub use reading::entry_of;
 pub use writing::put_entry;
