@@ -133,7 +133,7 @@ no_entry_begins_another entry other more rest is are e =
     let parts = one_record (tag_of entry) (tag_of other) (payload_of entry) (payload_of other) more rest (payload_short entry is) (payload_short other are) e in
     (one_entry entry other is are parts.0 parts.1, parts.2)
 
-captures_same : (entries others : List Entry) → AllByRecursion IsEntry entries → AllByRecursion IsEntry others → capture_octets entries ≡ capture_octets others → entries ≡ others
+pub captures_same : (entries others : List Entry) → AllByRecursion IsEntry entries → AllByRecursion IsEntry others → capture_octets entries ≡ capture_octets others → entries ≡ others
 captures_same [] [] is are e = refl
 captures_same [] (other ∷ others) is are e = absurd cc
 captures_same (entry ∷ entries) [] is are e = absurd cc

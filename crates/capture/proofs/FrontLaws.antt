@@ -63,11 +63,13 @@ cut_in_body octets tag behind n body is e1 e2 small short =
 
 pub whole_record : (octets : List ℕ) (tag : ℕ) (behind : List ℕ) (n : ℕ) (body payload : List ℕ) → octets ≡ tag ∷ behind → behind ≡ be16 n ++ body → n ≤ length body → payload ≡ take n body → (length payload ≡ n) × (octets ≡ record_octets tag payload ++ drop n body)
 whole_record octets tag behind n body payload e1 e2 within e3 =
-    let long : length payload ≡ n = ap length e3 ∙ length-take-le n body within in
-    (long, e1 ∙ ap (λ (xs : List ℕ). tag ∷ xs) e2
-    ∙ ap (λ (xs : List ℕ). tag ∷ (be16 n ++ xs)) (sym (take-append-drop n body))
-    ∙ ap (λ (xs : List ℕ). tag ∷ (be16 n ++ (xs ++ drop n body))) (sym e3)
-    ∙ ap (λ (k : ℕ). tag ∷ (be16 k ++ (payload ++ drop n body))) (sym long))
+    let long : length payload ≡ n = ap length e3 ∙ length-take-le n body within in (
+      long,
+      e1 ∙ ap (λ (xs : List ℕ). tag ∷ xs) e2
+          ∙ ap (λ (xs : List ℕ). tag ∷ (be16 n ++ xs)) (sym (take-append-drop n body))
+          ∙ ap (λ (xs : List ℕ). tag ∷ (be16 n ++ (xs ++ drop n body))) (sym e3)
+          ∙ ap (λ (k : ℕ). tag ∷ (be16 k ++ (payload ++ drop n body))) (sym long),
+    )
 
 -- ---- payloads
 

@@ -4,3 +4,4 @@ pub mod ClosingLaws
 pub mod EntryLaws
 pub mod FrontLaws
 pub mod OneFront
+pub mod CaptureLaws

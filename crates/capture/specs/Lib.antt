@@ -20,3 +20,4 @@ pub mod Peaks
 pub mod Laws
 pub mod Lent
 pub mod EntryReading
+pub mod CaptureReading

@@ -8,3 +8,12 @@ pub enum EntryRefusal {
     /// The payload is not one of its tag.
     BadRecord,
 }
+
+/// Why a capture was not read.
+#[derive(Clone, Copy, Debug, PartialEq, Eq)]
+pub enum CaptureFault {
+    /// The first place, in octets, where no entry stands, and why.
+    Refused(EntryRefusal, usize),
+    /// No memory could be had.
+    NoMemory,
+}

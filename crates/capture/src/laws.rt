@@ -2,6 +2,7 @@
 
 ghost use Rattle.capture.specs.EntryLaws.{NoEntryBeginsAnother, OneCapture};
 ghost use Rattle.capture.specs.EntryReading.{OneFront};
+ghost use Rattle.capture.specs.CaptureReading.{OneReading};
 ghost use Rattle.capture.specs.Laws.{MovesMore, LinksMore, OutstandingMore, PdusMore, TalkMore, ChannelsMore, ChannelsWithin, ClosedMore, HeardMore, AirMore, KeepsMore, OctetsInParts, MovesInParts, LinksInParts};
 
 /// One entry more is a packet of its host, or none.
@@ -87,4 +88,9 @@ pub fn captures_are_read_in_one_way()
 /// What is read at the front of octets is one thing: an entry, or one refusal.
 pub fn fronts_are_read_in_one_way()
     ensures { OneFront }
+{}
+
+/// Octets are read in one way: as a capture, or up to their first refusal.
+pub fn octets_are_read_in_one_way()
+    ensures { OneReading }
 {}
