@@ -5,3 +5,7 @@ pub mod Completing
 pub mod Opening
 pub mod Hearing
 pub mod Moding
+pub mod EntryLaws
+pub mod FrontLaws
+pub mod OneFront
+pub mod CaptureLaws

@@ -9,9 +9,8 @@ use Rattle.push_script.specs.declared.word.Side.{Side}
 use Rattle.push_script.specs.declared.word.Side.TheVariants as sides
 use Rattle.push_script.specs.declared.word.Word.{Word}
 use Rattle.push_script.specs.declared.outcome.Outcome.{Outcome}
-use Rattle.push_script.specs.declared.outcome.Outcome.TheVariants.{Refused, PeerFault}
 use Rattle.push_script.specs.Words.{word_text}
-use Rattle.push_script.specs.Outcomes.{outcome_text}
+use Rattle.push_script.specs.Outcomes.{outcome_text, IsOutcome}
 use Rattle.push_script.specs.Runs.{IsWord}
 use Rattle.capture.specs.declared.flow.Flow.{Flow}
 use Rattle.capture.specs.declared.flow.Flow.TheVariants.{Out, Into}
@@ -55,12 +54,6 @@ abbrev pub capture_octets : List Entry → List ℕ
 capture_octets entries = flat_map entry_octets entries
 
 -- ---- the entries that have octets
-
--- codes, layers and reasons are octets
-abbrev pub IsOutcome : Outcome → Type 0
-IsOutcome (Refused code) = code < 256
-IsOutcome (PeerFault layer reason) = (layer < 256) × (reason < 256)
-IsOutcome _ = Unit {0}
 
 -- numbers fit their octets, and a packet with its header fits the length of an entry
 abbrev pub IsEntry : Entry → Type 0

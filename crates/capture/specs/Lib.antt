@@ -1,5 +1,6 @@
 pub mod Histories
 pub mod Entries
+pub mod EntryLaws
 pub mod Moves
 pub mod Links
 pub mod Buffers
@@ -25,3 +26,5 @@ pub mod ReadPdus
 pub mod ReadTalk
 pub mod ReadChannels
 pub mod ReadModes
+pub mod EntryReading
+pub mod CaptureReading

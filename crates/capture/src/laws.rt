@@ -1,5 +1,8 @@
 //! Laws of the definitions, for every capture.
 
+ghost use Rattle.capture.specs.EntryLaws.{NoEntryBeginsAnother, OneCapture};
+ghost use Rattle.capture.specs.EntryReading.{OneFront};
+ghost use Rattle.capture.specs.CaptureReading.{OneReading};
 ghost use Rattle.capture.specs.Laws.{MovesMore, LinksMore, OutstandingMore, PdusMore, TalkMore, ChannelsMore, ChannelsWithin, ClosedMore, HeardMore, AirMore, KeepsMore, OctetsInParts, MovesInParts, LinksInParts};
 
 /// One entry more is a packet of its host, or none.
@@ -70,4 +73,24 @@ pub fn packets_in_parts()
 /// The links of a host in two parts of a capture.
 pub fn links_in_parts()
     ensures { LinksInParts }
+{}
+
+/// No entry's octets begin another's.
+pub fn no_entry_begins_another()
+    ensures { NoEntryBeginsAnother }
+{}
+
+/// A capture is read in one way.
+pub fn captures_are_read_in_one_way()
+    ensures { OneCapture }
+{}
+
+/// What is read at the front of octets is one thing: an entry, or one refusal.
+pub fn fronts_are_read_in_one_way()
+    ensures { OneFront }
+{}
+
+/// Octets are read in one way: as a capture, or up to their first refusal.
+pub fn octets_are_read_in_one_way()
+    ensures { OneReading }
 {}

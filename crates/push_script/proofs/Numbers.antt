@@ -1,18 +1,19 @@
 -- What `parse` gives of a number of a scenario.
 use Rattle.std.proofs.Common.{◌≡◌, ℕ, zero, suc, ◌<◌, ◌≤◌, ◌^◌, Bool, true, false, cond, List, [], ◌∷◌, length, get_or, Option, Some, Result, Ok, refl, ap, ◌∙◌, rules, arith, eqb, ltb, inl, inr, ◌⊎◌}
-use Rattle.std.specs.Prelude.{decimal}
+use Rattle.std.specs.Prelude.{decimal, nat_lt, nat_le}
 use Rattle.std.specs.Result.{result_ok}
 use Rattle.std.specs.List.{list_all}
 use Rattle.std.specs.Str.Parse.{ParsesUnsigned}
-use Rattle.std.proofs.lemmas.Bool.{ltb-false, eqb-false, eqb-true, le-ltb}
+use Rattle.std.proofs.lemmas.Bool.{ltb-false, eqb-false, eqb-true, le-ltb, lt-ltb, leb-true, and_parts, and_from}
 use Rattle.std.proofs.lemmas.Fmt.{decimal_digit, decimal_nonempty, first_decimal, length-decimal-le, digits_decimal, digits_value-decimal}
 use Rattle.std.proofs.lemmas.Str.Parse.{IsNumeralModel, numerals_by_fold, parse_gives, digits_value_short}
+use Rattle.push_script.proofs.Splitting.{is_graphic, all_weaker}
 use Rattle.push_script.specs.Parts.{is_digit, is_number, has_leading_zero, value_behind, number_of}
 
-own : IsNumeralModel (λ ds. list_all is_digit ds ≡ true) (value_behind 0)
+pub own : IsNumeralModel (λ ds. list_all is_digit ds ≡ true) (value_behind 0)
 own = numerals_by_fold _ (search rules) value_behind (search rules)
 
-split_number : (a b c d : Bool) → cond a false (cond b false (cond c false d)) ≡ true → (a ≡ false) × (b ≡ false) × (d ≡ true)
+pub split_number : (a b c d : Bool) → cond a false (cond b false (cond c false d)) ≡ true → (a ≡ false) × (b ≡ false) × (d ≡ true)
 split_number true b c d h = absurd cc
 split_number false true c d h = absurd cc
 split_number false false true d h = absurd cc
@@ -53,3 +54,17 @@ numbers_again n lt =
     let v : value_behind 0 (decimal n) ≡ n = digits_value-decimal own n (omega arith) in
     let is : is_number (decimal n) ≡ true = join_number _ _ _ _ a b c d in
     rw is (ap (λ (k : ℕ). Some k) v)
+
+pub digits_number : (n : ℕ) → n < 10 ^ 10 → list_all is_digit (decimal n) ≡ true
+digits_number n lt = digits_decimal own n (omega arith)
+
+digit_graphic : (c : ℕ) → is_digit c ≡ true → is_graphic c ≡ true
+digit_graphic c h =
+    let parts : (nat_le 48 c ≡ true) × (nat_le c 57 ≡ true) = and_parts (nat_le 48 c) (nat_le c 57) h in
+    let low : 48 ≤ c = leb-true 48 c parts.0 in
+    let high : c ≤ 57 = leb-true c 57 parts.1 in
+    and_from (nat_lt 32 c) (nat_lt c 127) (lt-ltb 32 c (omega arith)) (lt-ltb c 127 (omega arith))
+
+-- the digits of a number are seen, and none is a blank
+pub graphic_number : (n : ℕ) → n < 10 ^ 10 → list_all is_graphic (decimal n) ≡ true
+graphic_number n lt = all_weaker is_digit is_graphic digit_graphic (decimal n) (digits_number n lt)

@@ -6,8 +6,11 @@ pub mod Scenarios
 pub mod Reports
 pub mod Parts
 pub mod Stated
+pub mod Features
 pub mod Keys
 pub mod Radio
+pub mod Said
 pub mod Reading
 pub mod Turns
 pub mod Laws
+pub mod Props

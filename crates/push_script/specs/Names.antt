@@ -1,6 +1,7 @@
 -- The names of objects (this project's own).
-use Rattle.std.specs.Prelude.{ℕ, ◌+◌, ◌≤◌, ◌≡◌, Bool, false, ◌||◌, ◌==◌, nat_le, nat_lt, count_by, List}
+use Rattle.std.specs.Prelude.{ℕ, ◌+◌, ◌≤◌, ◌≡◌, Bool, true, false, ◌||◌, ◌==◌, nat_le, nat_lt, count_by, List}
 use Rattle.std.specs.List.{list_any}
+use Rattle.std.specs.Str.{is_utf8}
 
 -- the octet begins a character of UTF-8 text (The Unicode Standard, 3.9): it is none of 80 to BF
 abbrev pub begins_character : ℕ → Bool
@@ -15,8 +16,9 @@ utf16_length text = count_by begins_character text + count_by (λ octet. nat_le 
 abbrev pub ends_name : ℕ → Bool
 ends_name octet = octet == 0 || octet == 10
 
--- What an object may be called: 1 to 100 UTF-16 units, with no NUL, on one line.
+-- What an object may be called: text of 1 to 100 UTF-16 units, with no NUL, on one line.
 pub record IsName (name : List ℕ) : Type 0 where
+  pub text : is_utf8 name ≡ true
   pub some : 1 ≤ utf16_length name
   pub few : utf16_length name ≤ 100
   pub line : list_any ends_name name ≡ false

@@ -8,20 +8,21 @@ use Rattle.bt_base.specs.declared.settings.Transport.{Transport}
 use Rattle.bt_base.specs.declared.settings.Serves.{Serves}
 use Rattle.bt_base.specs.declared.settings.Serves.TheVariants as services
 use Rattle.push_script.specs.declared.refusal.ScriptRefusal.{ScriptRefusal}
-use Rattle.push_script.specs.declared.refusal.ScriptRefusal.TheVariants.{BadLine, UnknownKey, OutOfRange, NoTransport, NoObject, TooManyObjects, NotUtf8, TooLong, NotBuilt}
+use Rattle.push_script.specs.declared.refusal.ScriptRefusal.TheVariants.{BadLine, UnknownKey, OutOfRange, NoTransport, NoObject, TooManyObjects, NotUtf8, TooLong}
 use Rattle.push_script.specs.declared.refusal.LineFault.{LineFault}
 use Rattle.push_script.specs.declared.refusal.LineFault.TheVariants as faults
 use Rattle.push_script.specs.declared.refusal.ScriptFault.{ScriptFault}
 use Rattle.push_script.specs.declared.refusal.ScriptFault.TheVariants as ends
 use Rattle.push_script.specs.declared.stated.Key.{Key}
-use Rattle.push_script.specs.declared.stated.Key.TheVariants.{Object}
-use Rattle.push_script.specs.declared.draft.Draft.{Draft}
+use Rattle.push_script.specs.declared.stated.Key.TheVariants as keyed
+use Rattle.push_script.specs.declared.feature.Feature.{Feature}
 use Rattle.push_script.specs.declared.scenario.Scenario.{Scenario}
 use Rattle.push_script.specs.declared.word.Word.{Word}
 use Rattle.push_script.specs.Names.{ends_name, utf16_length}
-use Rattle.push_script.specs.Stated.{Stated}
+use Rattle.push_script.specs.Stated.{Stated, Known}
 use Rattle.push_script.specs.Parts.{first_word, rest_of}
-use Rattle.push_script.specs.Keys.{◌>>=◌, or_refusal, key_of, with_key}
+use Rattle.push_script.specs.Features.{asked, built}
+use Rattle.push_script.specs.Keys.{◌>>=◌, or_refusal, default_number, key_of, with_key}
 use Rattle.push_script.specs.Radio.{run_of}
 
 -- a scenario without where it lies in memory
@@ -70,37 +71,37 @@ lines [] = []
 lines (octet ∷ more) = cond (is_feed octet) ([] ∷ lines more) (in_front octet (lines more))
 
 -- The line of an object: its name is judged, in this order, for a NUL, for one object too many, for its length, and
--- for whether a second object is built.
-unfoldable pub name_stated : ℕ → List ℕ → Result (Unit {0}) ScriptRefusal
-name_stated count name =
+-- for whether the stack has a second object.
+unfoldable pub name_stated : List Feature → ℕ → List ℕ → Result (Unit {0}) ScriptRefusal
+name_stated missing count name =
     cond (list_any ends_name name) (Err BadLine) (
     cond (nat_lt 63 count) (Err TooManyObjects) (
     cond (utf16_length name == 0) (Err OutOfRange) (
     cond (nat_lt 100 (utf16_length name)) (Err OutOfRange) (
-    cond (nat_lt 0 count) (Err NotBuilt) (Ok tt)))))
+    built missing (asked keyed.Object (count == 0))))))
 
-abbrev pub with_value : Draft → Key → List ℕ → Result Draft ScriptRefusal
-with_value draft Object value = name_stated (length draft.names) value >>= λ fits. Ok (record draft { names = draft.names ++ value ∷ [] })
-with_value draft key value = with_key draft.keys key value >>= λ keys. Ok (record draft { keys = keys })
+abbrev pub with_value : List Feature → Known → Key → List ℕ → Result Known ScriptRefusal
+with_value missing draft keyed.Object value = name_stated missing (length draft.names) value >>= λ fits. Ok (record draft { names = draft.names ++ value ∷ [] })
+with_value missing draft key value = with_key missing draft.keys key value >>= λ keys. Ok (record draft { keys = keys })
 
 -- a line that states a key
-unfoldable pub key_line_read : Draft → List ℕ → Result Draft ScriptRefusal
-key_line_read draft line = do
+unfoldable pub key_line_read : List Feature → Known → List ℕ → Result Known ScriptRefusal
+key_line_read missing draft line = do
   key ← or_refusal UnknownKey (key_of (first_word line))
   value ← or_refusal BadLine (rest_of line)
-  with_value draft key value
+  with_value missing draft key value
 
 -- the keys are whole: there is a transport, and an object
-abbrev pub whole : Draft → Result Transport ScriptRefusal
+abbrev pub whole : Known → Result Transport ScriptRefusal
 whole draft = or_refusal NoTransport draft.keys.transport >>= λ transport. cond (length draft.names == 0) (Err NoObject) (Ok transport)
 
 -- the line `radio`, behind which only words may stand
-unfoldable pub radio_begun : Draft → Result Draft ScriptRefusal
+unfoldable pub radio_begun : Known → Result Known ScriptRefusal
 radio_begun draft = whole draft >>= λ transport. Ok (record draft { radio = true })
 
 -- a line of the radio script
-unfoldable pub run_read : Draft → List ℕ → Result Draft ScriptRefusal
-run_read draft line = run_of draft.keys.transport line >>= λ run. Ok (record draft { runs = draft.runs ++ run ∷ [] })
+unfoldable pub run_read : List Feature → Known → List ℕ → Result Known ScriptRefusal
+run_read missing draft line = run_of missing draft.keys.transport line >>= λ run. Ok (record draft { runs = draft.runs ++ run ∷ [] })
 
 -- the line is empty, or a comment
 abbrev pub is_ignored : List ℕ → Bool
@@ -108,12 +109,12 @@ is_ignored [] = true
 is_ignored (first ∷ more) = first == 35
 
 -- a line of a scenario
-unfoldable pub line_read : Draft → List ℕ → Result Draft ScriptRefusal
-line_read draft line =
+unfoldable pub line_read : List Feature → Known → List ℕ → Result Known ScriptRefusal
+line_read missing draft line =
     cond (is_ignored line) (Ok draft) (
-    cond draft.radio (run_read draft line) (
+    cond draft.radio (run_read missing draft line) (
     cond (bytes_eq line (codes "radio")) (radio_begun draft) (
-    key_line_read draft line)))
+    key_line_read missing draft line)))
 
 -- a refusal with its line
 abbrev pub at_line : {A : Type 0} → ℕ → Result A ScriptRefusal → Result A (ℕ × ScriptRefusal)
@@ -128,41 +129,41 @@ stated_or None other = other
 pub record IsSettings (chosen : Transport) (stated : Stated) (settings : Settings) : Type 0 where
   pub transport : settings.transport ≡ chosen
   pub serves : settings.serves ≡ stated_or stated.serves services.Both
-  pub mtu : settings.mtu ≡ stated_or stated.mtu 1024
-  pub mps : settings.mps ≡ stated_or stated.mps 1010
-  pub window : settings.window ≡ stated_or stated.window 10
-  pub tries : settings.tries ≡ stated_or stated.tries 4
-  pub credits : settings.credits ≡ stated_or stated.credits 7
-  pub obex : settings.obex ≡ stated_or stated.obex 1024
+  pub mtu : settings.mtu ≡ stated_or stated.mtu (default_number keyed.Mtu)
+  pub mps : settings.mps ≡ stated_or stated.mps (default_number keyed.Mps)
+  pub window : settings.window ≡ stated_or stated.window (default_number keyed.Window)
+  pub tries : settings.tries ≡ stated_or stated.tries (default_number keyed.Tries)
+  pub credits : settings.credits ≡ stated_or stated.credits (default_number keyed.Credits)
+  pub obex : settings.obex ≡ stated_or stated.obex (default_number keyed.Obex)
   pub srm : settings.srm ≡ stated_or stated.srm false
 
 -- The scenario that the lines give: what was not stated has its default. Where the line `radio` was read the keys
 -- are whole already.
-unfoldable pub finished : Draft → Result Script ScriptRefusal
+unfoldable pub finished : Known → Result Script ScriptRefusal
 finished draft = whole draft >>= λ transport. Ok (record {
   transport = transport;
   serves = stated_or draft.keys.serves services.Both;
   acl = stated_or draft.keys.acl (1021, 8);
-  chunk = stated_or draft.keys.chunk 1024;
-  mtu = stated_or draft.keys.mtu 1024;
-  mps = stated_or draft.keys.mps 1010;
-  window = stated_or draft.keys.window 10;
-  tries = stated_or draft.keys.tries 4;
-  credits = stated_or draft.keys.credits 7;
-  obex = stated_or draft.keys.obex 1024;
+  chunk = stated_or draft.keys.chunk (default_number keyed.Chunk);
+  mtu = stated_or draft.keys.mtu (default_number keyed.Mtu);
+  mps = stated_or draft.keys.mps (default_number keyed.Mps);
+  window = stated_or draft.keys.window (default_number keyed.Window);
+  tries = stated_or draft.keys.tries (default_number keyed.Tries);
+  credits = stated_or draft.keys.credits (default_number keyed.Credits);
+  obex = stated_or draft.keys.obex (default_number keyed.Obex);
   srm = stated_or draft.keys.srm false;
   names = draft.names;
   runs = draft.runs;
 })
 
 -- The lines from that number on, read one after the other, and then the end, which stands behind the last line.
-abbrev pub lines_read : ℕ → Result Draft (ℕ × ScriptRefusal) → List (List ℕ) → Result Script (ℕ × ScriptRefusal)
-lines_read number (Err refused) lines = Err refused
-lines_read number (Ok draft) [] = at_line number (finished draft)
-lines_read number (Ok draft) (line ∷ more) = lines_read (number + 1) (at_line number (line_read draft line)) more
+abbrev pub lines_read : List Feature → ℕ → Result Known (ℕ × ScriptRefusal) → List (List ℕ) → Result Script (ℕ × ScriptRefusal)
+lines_read missing number (Err refused) lines = Err refused
+lines_read missing number (Ok draft) [] = at_line number (finished draft)
+lines_read missing number (Ok draft) (line ∷ more) = lines_read missing (number + 1) (at_line number (line_read missing draft line)) more
 
 -- nothing was read yet
-abbrev pub no_draft : Draft
+abbrev pub no_draft : Known
 no_draft = record {
   keys = record { transport = None; serves = None; acl = None; chunk = None; mtu = None; mps = None; window = None; tries = None; credits = None; obex = None; srm = None };
   names = [];
@@ -174,16 +175,16 @@ no_draft = record {
 abbrev pub text_limit : ℕ
 text_limit = 1048576
 
--- What a text is read as: it is judged for its length first, then as UTF-8, and then line by line. A text that is
+-- What a text is read as by a stack that lacks these features: it is judged for its length first, then as UTF-8, and then line by line. A text that is
 -- not UTF-8 is refused at the line of the first octet that is none.
-unfoldable pub reading : List ℕ → Result Script (ℕ × ScriptRefusal)
-reading text =
+unfoldable pub reading : List Feature → List ℕ → Result Script (ℕ × ScriptRefusal)
+reading missing text =
     cond (nat_lt text_limit (length text)) (Err (0, TooLong)) (
-    cond (is_utf8 text) (lines_read 1 (Ok no_draft) (lines text))
+    cond (is_utf8 text) (lines_read missing 1 (Ok no_draft) (lines text))
     (Err (count_by is_feed (take (utf8_valid_len text) text) + 1, NotUtf8)))
 
 -- what a function answered, unless memory ran out
-abbrev pub Gives : Result Draft LineFault → Result Draft ScriptRefusal → Type 0
+abbrev pub Gives : Result Known LineFault → Result Known ScriptRefusal → Type 0
 Gives (Ok draft) read = read ≡ Ok draft
 Gives (Err (faults.Refused refusal)) read = read ≡ Err refusal
 Gives (Err faults.NoMemory) read = Unit {0}

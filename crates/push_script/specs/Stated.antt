@@ -1,7 +1,11 @@
--- What the keys of a scenario were stated to be (this project's own).
-use Rattle.std.specs.Prelude.{ℕ, ◌≤◌, Bool, Option}
+-- What the lines of a scenario state (this project's own).
+use Rattle.std.specs.Prelude.{ℕ, ◌≡◌, ◌≤◌, Bool, false, List, [], length, Option}
+use Rattle.std.specs.List.{AllByRecursion}
 use Rattle.bt_base.specs.declared.settings.Transport.{Transport}
 use Rattle.bt_base.specs.declared.settings.Serves.{Serves}
+use Rattle.push_script.specs.declared.word.Word.{Word}
+use Rattle.push_script.specs.Names.{IsName}
+use Rattle.push_script.specs.Runs.{IsRun, IsBorne}
 
 -- from the lowest number to the highest, both included
 abbrev pub IsBetween : ℕ → ℕ → ℕ → Type 0
@@ -20,3 +24,19 @@ pub record Stated : Type 0 where
   pub credits : Option ℕ
   pub obex : Option ℕ
   pub srm : Option Bool
+
+-- what was read of a scenario so far
+pub record Known : Type 0 where
+  pub keys : Stated
+  pub names : List (List ℕ)
+  -- the line `radio` was read
+  pub radio : Bool
+  pub runs : List (ℕ × Word)
+
+-- The words come behind the line `radio`, each as the transport bears it; the rest is within its bounds.
+pub record IsKnown (known : Known) : Type 0 where
+  pub early : known.radio ≡ false → known.runs ≡ []
+  pub borne : AllByRecursion (IsBorne known.keys.transport) known.runs
+  pub runs : AllByRecursion IsRun known.runs
+  pub names : AllByRecursion IsName known.names
+  pub few : length known.names ≤ 64

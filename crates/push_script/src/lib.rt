@@ -3,6 +3,7 @@
 #![tactic(auto)]
 
 mod draft;
+mod feature;
 mod keys;
 pub mod laws;
 mod lines;
@@ -15,17 +16,20 @@ mod reading;
 mod refusal;
 mod report;
 mod runs;
+mod said;
 mod scenario;
 mod stated;
 mod word;
 mod writing;
 
+pub use feature::Feature;
 pub use names::Names;
 pub use outcome::{Outcome, put_outcome};
-pub use reading::scenario_of;
+pub use reading::{scenario_of, scenario_without};
 pub use refusal::{ScriptFault, ScriptRefusal};
 pub use report::{Peaks, put_report};
 pub use runs::Runs;
+pub use said::{outcome_of, word_of};
 pub use scenario::Scenario;
 pub use word::{Side, Way, Word, put_word};
 pub use writing::put_scenario;

@@ -1,6 +1,7 @@
 //! The names of the objects of a scenario.
 
 ghost use Rattle.std.specs.Prelude.{◌≡◌, ◌≤◌, ◌<◌, ◌++◌, ◌∷◌, [], List, ℕ, length, MatchOption, IfOk, OnOk, OnErr, string_bytes, slice_index_or, count_by, nat_le};
+ghost use Rattle.std.specs.List.{AllByRecursion};
 ghost use Rattle.push_script.specs.Names.{IsName, utf16_length, begins_character};
 
 use bt_base::NoMemory;
@@ -71,7 +72,7 @@ impl Model for Names {
 
     ghost view = { λ names. names.names.items };
 
-    ghost invariant = { λ names. length names.names.items ≤ 64 };
+    ghost invariant = { λ names. (length names.names.items ≤ 64) × AllByRecursion IsName names.names.items };
 }
 
 impl Names {
@@ -79,6 +80,7 @@ impl Names {
     pub fn len(&self) -> usize
         ensures count { result ≡ length self.now }
         ensures few { length self.now ≤ 64 }
+        ensures names { AllByRecursion IsName self.now }
     {
         self.names.len()
     }

@@ -2,9 +2,10 @@
 
 ghost use Rattle.std.specs.Prelude.{◌≡◌, ◌≤◌, ◌<◌, ◌^◌, Option, None, IfOk};
 ghost use Rattle.std.specs.Option.{option_map};
-ghost use Rattle.push_script.specs.Radio.{said_of, cut_said, long_said, short_said, count_within, damage_said, word_within, run_of, built_word, lossless};
-ghost use Rattle.push_script.specs.Runs.{IsRun, IsWord};
+ghost use Rattle.push_script.specs.Radio.{said_of, cut_said, long_said, short_said, count_within, damage_said, word_within, run_of, lossless};
+ghost use Rattle.push_script.specs.Runs.{IsRun, IsWord, IsBorne, is_lossy};
 
+use crate::feature::{Feature, built, word_feature};
 use crate::keys::within;
 use crate::parts::{mask_of, number_of, side_of, split_word, way_of};
 use crate::refusal::ScriptRefusal;
@@ -85,7 +86,7 @@ fn short_said(word: &str) -> Option<Said>
 
 /// The word that a text says.
 #[tactic(auto, unfolding(crate::specs::Radio::said_of))]
-fn said_of(text: &str) -> Option<Said>
+pub(crate) fn said_of(text: &str) -> Option<Said>
     ensures { result ≡ said_of text.now }
 {
     let (word, rest) = split_word(text);
@@ -97,7 +98,7 @@ fn said_of(text: &str) -> Option<Said>
 
 /// The word, if its numbers are within their ranges.
 #[tactic(auto, unfolding(crate::specs::Radio::word_within))]
-fn word_within(said: Said) -> Result<Word, ScriptRefusal>
+pub(crate) fn word_within(said: Said) -> Result<Word, ScriptRefusal>
     ensures word { result ≡ word_within said }
     ensures range { IfOk result IsWord }
 {
@@ -124,22 +125,25 @@ fn word_within(said: Said) -> Result<Word, ScriptRefusal>
 fn lossless(transport: Option<Transport>, word: Word) -> Result<(), ScriptRefusal>
     ensures { result ≡ lossless transport word }
 {
-    match (transport, word) {
-        (
-            Some(Transport::Rfcomm),
-            Word::Lose(_) | Word::Repeat(_) | Word::Damage { .. } | Word::Cut { .. },
-        ) => Err(ScriptRefusal::LossyRfcomm),
+    match transport {
+        Some(Transport::Rfcomm) => {
+            if is_lossy(word) {
+                Err(ScriptRefusal::LossyRfcomm)
+            } else {
+                Ok(())
+            }
+        }
         _ => Ok(()),
     }
 }
 
-/// `NotBuilt` where a word does nothing yet.
-fn built_word(word: Word) -> Result<(), ScriptRefusal>
-    ensures { result ≡ built_word word }
+/// Whether a word loses a frame, changes it, or delivers it twice.
+fn is_lossy(word: Word) -> bool
+    ensures { result ≡ is_lossy word }
 {
     match word {
-        Word::Pass | Word::Drop => Ok(()),
-        _ => Err(ScriptRefusal::NotBuilt),
+        Word::Lose(_) | Word::Repeat(_) | Word::Damage { .. } | Word::Cut { .. } => true,
+        Word::Pass | Word::Timer(_) | Word::Drop | Word::Cancel => false,
     }
 }
 
@@ -156,9 +160,14 @@ fn count_within(count: u64) -> Result<u32, ScriptRefusal>
 
 /// The run that a line says.
 #[tactic(auto, unfolding(crate::specs::Radio::run_of))]
-pub(crate) fn run_of(transport: Option<Transport>, line: &str) -> Result<(u32, Word), ScriptRefusal>
-    ensures run { result ≡ run_of transport line.now }
+pub(crate) fn run_of(
+    missing: &[Feature],
+    transport: Option<Transport>,
+    line: &str,
+) -> Result<(u32, Word), ScriptRefusal>
+    ensures run { result ≡ run_of missing.now transport line.now }
     ensures range { IfOk result IsRun }
+    ensures borne { IfOk result (IsBorne transport) }
 {
     let (count, text) = split_word(line);
     let Some(text) = text else {
@@ -173,6 +182,6 @@ pub(crate) fn run_of(transport: Option<Transport>, line: &str) -> Result<(u32, W
     let count = count_within(count)?;
     let word = word_within(said)?;
     lossless(transport, word)?;
-    built_word(word)?;
+    built(missing, word_feature(word))?;
     Ok((count, word))
 }

@@ -1,12 +1,17 @@
 //! A scenario: the settings, the objects that are pushed, and what happens in the air.
 
-ghost use Rattle.std.specs.Prelude.{◌≤◌, length};
+ghost use Rattle.std.specs.Prelude.{◌≤◌, length, Some};
+ghost use Rattle.std.specs.List.{AllByRecursion};
+ghost use Rattle.push_script.specs.Props.{names_once, runs_once, borne_once};
+ghost use Rattle.push_script.specs.Names.{IsName};
+ghost use Rattle.push_script.specs.Runs.{IsRun, IsBorne};
 
 use crate::names::Names;
 use crate::runs::Runs;
 use bt_base::Settings;
 
-/// A scenario. Each number is within its range, always.
+/// A scenario. It is one that a text can state, always: each number is within its range, and over
+/// RFCOMM no word loses, changes or repeats a frame.
 #[derive(Drop)]
 pub struct Scenario {
     /// What both hosts are set to.
@@ -29,4 +34,7 @@ pub struct Scenario {
     pub ghost chunk_high: { chunk ≤ 4096 },
     pub ghost some: { 1 ≤ length names },
     pub ghost few: { length names ≤ 64 },
+    pub ghost named: { AllByRecursion IsName names } by { names_once names },
+    pub ghost spelled: { AllByRecursion IsRun script } by { runs_once script },
+    pub ghost borne: { AllByRecursion (IsBorne (Some settings.transport)) script } by { borne_once (Some settings.transport) script },
 }

@@ -3,8 +3,8 @@ use bt_base::MemSink;
 use std::alloc::Global;
 use std::test::*;
 
-fn refusal_of(alloc: Global, text: &[u8]) -> Option<(u32, ScriptRefusal)> {
-    match scenario_of(alloc, text) {
+fn refusal_of(alloc: Global, missing: &[Feature], text: &[u8]) -> Option<(u32, ScriptRefusal)> {
+    match scenario_without(alloc, missing, text) {
         Err(ScriptFault::Refused(line, refusal)) => Some((line, refusal)),
         _ => None,
     }
@@ -43,7 +43,7 @@ fn refusals_with_their_lines(rt: HostRuntime) {
         (b"srm off\n\xFF\n", 2, ScriptRefusal::NotUtf8),
     ];
     for (text, line, refusal) in &table {
-        assert!(rt; refusal_of(rt.alloc(), *text) == Some((*line, *refusal)));
+        assert!(rt; refusal_of(rt.alloc(), &Feature::missing(), *text) == Some((*line, *refusal)));
     }
 }
 
@@ -99,4 +99,62 @@ fn words_and_outcomes(rt: HostRuntime) {
     assert_eq!(rt; into[..n], b"peer-fault 3 12"[..]);
     let n = put_word(&Word::Timer(Side::B), &mut into);
     assert_eq!(rt; into[..n], b"timer b"[..]);
+}
+
+#[test]
+fn refusals_where_nothing_is_missing(rt: HostRuntime) {
+    let table: [(&[u8], u32, ScriptRefusal); 4] = [
+        (
+            b"transport rfcomm\nobject a\nradio\n1 lose ab",
+            4,
+            ScriptRefusal::LossyRfcomm,
+        ),
+        (
+            b"srm on\ntransport rfcomm\nobject a\nobject b\nradio\n1 cancel\n1 cut ba 1",
+            7,
+            ScriptRefusal::LossyRfcomm,
+        ),
+        (
+            b"transport rfcomm\nobject a\nradio\n1 damage ab 3 0001",
+            4,
+            ScriptRefusal::OutOfRange,
+        ),
+        (b"window 32\nmps 47\n", 2, ScriptRefusal::OutOfRange),
+    ];
+    for (text, line, refusal) in &table {
+        assert!(rt; refusal_of(rt.alloc(), &[], *text) == Some((*line, *refusal)));
+    }
+}
+
+#[test]
+fn three_objects_with_losses(rt: HostRuntime) -> Result<(), Fail> {
+    let short =
+        b"transport l2cap\nsrm on\nwindow 32\nobject card.vcf\nobject photo.jpg\nobject gr\xC3\xB6\xC3\x9Fe.txt\nradio\n60 pass\n1 lose ab\n200 pass\n1 lose ba\n1 repeat ab\n6455000 pass";
+    let whole =
+        b"transport l2cap\nserves both\nacl 1021 8\nchunk 1024\nmtu 1024\nmps 1010\nwindow 32\ntries 4\ncredits 7\nobex 1024\nsrm on\nobject card.vcf\nobject photo.jpg\nobject gr\xC3\xB6\xC3\x9Fe.txt\nradio\n60 pass\n1 lose ab\n200 pass\n1 lose ba\n1 repeat ab\n6455000 pass\n";
+    let scenario = scenario_without(rt.alloc(), &[], short)
+        .ok()
+        .ok_or("a scenario")?;
+    let text = put_scenario(rt.alloc(), &scenario)
+        .ok()
+        .ok_or("room for the text")?;
+    assert_eq!(rt; text.as_slice(), whole.as_slice());
+    let again = scenario_without(rt.alloc(), &[], &text)
+        .ok()
+        .ok_or("a scenario again")?;
+    assert!(rt; again.settings == scenario.settings);
+    assert_eq!(rt; again.settings.window, 32);
+    assert!(rt; again.settings.srm);
+    assert!(rt; again.acl_length == scenario.acl_length && again.acl_count == scenario.acl_count);
+    assert_eq!(rt; again.chunk, scenario.chunk);
+    assert_eq!(rt; again.names.len(), 3);
+    for i in 0..3 {
+        assert_eq!(rt; again.names.at(i), scenario.names.at(i));
+    }
+    assert_eq!(rt; again.script.len(), 6);
+    for i in 0..6 {
+        assert_eq!(rt; again.script.at(i), scenario.script.at(i));
+    }
+    assert_eq!(rt; again.script.at(4), Some((1, Word::Repeat(Way::Ab))));
+    Ok(())
 }

@@ -3,11 +3,11 @@
 ghost use Rattle.std.specs.Prelude.{◌≡◌, ◌++◌, codes, decimal, OnOk, IfOk};
 ghost use Rattle.std.specs.List.{flat_map};
 ghost use Rattle.push_script.specs.Scenarios.{key_line, transport_text, serves_text, switch_text, keys_text, object_line, run_line, scenario_text};
+ghost use Rattle.push_script.specs.Laws.{IsReadAs};
 
 use crate::names::Names;
 use crate::runs::Runs;
 use crate::scenario::Scenario;
-use crate::word::word_of;
 use bt_base::{NoMemory, Serves, Transport};
 use std::alloc::Global;
 
@@ -99,7 +99,7 @@ fn push_runs(text: &mut Text, runs: &Runs) -> Result<(), NoMemory>
 {
     let mut buffer = itoa::Buffer::new();
     for (count, word) in runs.as_slice() {
-        push_key(text, buffer.format(*count), &word_of(*word))?;
+        push_key(text, buffer.format(*count), &word.text())?;
     }
     Ok(())
 }
@@ -107,9 +107,12 @@ fn push_runs(text: &mut Text, runs: &Runs) -> Result<(), NoMemory>
 /// The text of a scenario in which nothing is left out: all keys in order with their values, the
 /// objects, the line `radio` and the runs.
 ///
-/// It answers `NoMemory` where there was no room for the text.
+/// `scenario_of` and `scenario_without` read it as that scenario, where it has at most 1,048,576
+/// octets and no line of it asks for a feature that is missing. It answers `NoMemory` where there was
+/// no room for the text.
 pub fn put_scenario(alloc: Global, scenario: &Scenario) -> Result<Vec<u8>, NoMemory>
-    ensures { IfOk result (λ text. text.items ≡ scenario_text scenario.now) }
+    ensures text { IfOk result (λ text. text.items ≡ scenario_text scenario.now) }
+    ensures again { IfOk result (λ text. IsReadAs scenario.now text.items) }
 {
     let mut text = Vec::new(alloc);
     push_keys(&mut text, scenario)?;
