@@ -49,14 +49,16 @@ acl_from : (text : List ℕ) (a b : ℕ) → pair_of text ≡ Some (a, b) → 27
 unfolding acl_stated
 acl_from text a b e a1 a2 b1 b2 = rw (e, within_again 27 1021 a a1 a2, within_again 1 64 b b1 b2) refl
 
-pub acl_again : (a b : ℕ) → 27 ≤ a → a ≤ 1021 → 1 ≤ b → b ≤ 64 → acl_stated false (decimal a ++ 32 ∷ decimal b) ≡ Ok (a, b)
-acl_again a b a1 a2 b1 b2 =
-    let digits : list_all is_graphic (decimal a) ≡ true = graphic_number a (omega arith) in
-    let pair : pair_of (decimal a ++ 32 ∷ decimal b) ≡ Some (a, b) = pair_from (decimal a ++ 32 ∷ decimal b) (decimal b) a b
-    (ap number_of (word_again (decimal a) (decimal b) (without_blank (decimal a) digits)) ∙ numbers_again a (omega arith))
+pub pair_again : (a b : ℕ) → a < 10 ^ 10 → b < 10 ^ 10 → pair_of (decimal a ++ 32 ∷ decimal b) ≡ Some (a, b)
+pair_again a b low high =
+    let digits : list_all is_graphic (decimal a) ≡ true = graphic_number a low in
+    pair_from (decimal a ++ 32 ∷ decimal b) (decimal b) a b
+    (ap number_of (word_again (decimal a) (decimal b) (without_blank (decimal a) digits)) ∙ numbers_again a low)
     (rest_again (decimal a) (decimal b) (without_blank (decimal a) digits))
-    (numbers_again b (omega arith)) in
-    acl_from _ a b pair a1 a2 b1 b2
+    (numbers_again b high)
+
+pub acl_again : (a b : ℕ) → 27 ≤ a → a ≤ 1021 → 1 ≤ b → b ≤ 64 → acl_stated false (decimal a ++ 32 ∷ decimal b) ≡ Ok (a, b)
+acl_again a b a1 a2 b1 b2 = acl_from _ a b (pair_again a b (omega arith) (omega arith)) a1 a2 b1 b2
 
 -- the keys and these names were read
 abbrev pub named : Stated → List (List ℕ) → Known

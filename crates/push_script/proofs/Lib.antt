@@ -3,6 +3,10 @@ pub mod Numbers
 pub mod FirstLines
 pub mod Splitting
 pub mod WordsAgain
+pub mod Written
+pub mod WordsWritten
+pub mod OutcomesWritten
+pub mod Lengths
 pub mod KeysAgain
 pub mod TextLines
 pub mod Again

@@ -10,10 +10,10 @@ use Rattle.std.proofs.lemmas.Str.Parse.{IsNumeralModel, numerals_by_fold, parse_
 use Rattle.push_script.proofs.Splitting.{is_graphic, all_weaker}
 use Rattle.push_script.specs.Parts.{is_digit, is_number, has_leading_zero, value_behind, number_of}
 
-own : IsNumeralModel (λ ds. list_all is_digit ds ≡ true) (value_behind 0)
+pub own : IsNumeralModel (λ ds. list_all is_digit ds ≡ true) (value_behind 0)
 own = numerals_by_fold _ (search rules) value_behind (search rules)
 
-split_number : (a b c d : Bool) → cond a false (cond b false (cond c false d)) ≡ true → (a ≡ false) × (b ≡ false) × (d ≡ true)
+pub split_number : (a b c d : Bool) → cond a false (cond b false (cond c false d)) ≡ true → (a ≡ false) × (b ≡ false) × (d ≡ true)
 split_number true b c d h = absurd cc
 split_number false true c d h = absurd cc
 split_number false false true d h = absurd cc

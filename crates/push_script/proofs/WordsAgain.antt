@@ -23,7 +23,7 @@ use Rattle.push_script.proofs.Numbers.{numbers_again, graphic_number}
 use Rattle.push_script.proofs.Splitting.{differs, is_graphic, is_printable, all_append, without_blank, seen, word_again, rest_again}
 
 -- hexadecimal digits
-digit_again : (n : ℕ) → n < 16 → hex_value (hex_digit n) ≡ Some n
+pub digit_again : (n : ℕ) → n < 16 → hex_value (hex_digit n) ≡ Some n
 digit_again n lt = elim (cases_lt n 10) [
   | inl below ↦
       let a : nat_lt n 10 ≡ true = lt-ltb n 10 below in
@@ -75,7 +75,7 @@ cut_from : (text rest : List ℕ) (way : Way) (packets : ℕ) → way_of (first_
 unfolding cut_said
 cut_from text rest way packets e1 e2 e3 = rw (e1, e2, e3) refl
 
-first_is : (word rest : List ℕ) {A : Type 0} (f : List ℕ → Option A) (x : Option A) → list_all is_graphic word ≡ true → f word ≡ x → f (first_word (word ++ 32 ∷ rest)) ≡ x
+pub first_is : (word rest : List ℕ) {A : Type 0} (f : List ℕ → Option A) (x : Option A) → list_all is_graphic word ≡ true → f word ≡ x → f (first_word (word ++ 32 ∷ rest)) ≡ x
 first_is word rest f x h e = ap f (word_again word rest (without_blank word h)) ∙ e
 
 damage_again : (way : Way) (at mask : ℕ) → at ≤ 65534 → mask ≤ 65535 → damage_said (way_text way ++ 32 ∷ (decimal at ++ 32 ∷ hex_word mask)) ≡ Some (said.Damage way at mask)
@@ -94,16 +94,16 @@ cut_again way packets p = cut_from _ (decimal packets) way packets
     (rest_again (way_text way) _ (without_blank (way_text way) (way_graphic way)))
     (numbers_again packets (omega arith))
 
-damage_text : (way : Way) (at mask : ℕ) → word_text (Damage way at mask) ≡ codes "damage" ++ 32 ∷ (way_text way ++ 32 ∷ (decimal at ++ 32 ∷ hex_word mask))
+pub damage_text : (way : Way) (at mask : ℕ) → word_text (Damage way at mask) ≡ codes "damage" ++ 32 ∷ (way_text way ++ 32 ∷ (decimal at ++ 32 ∷ hex_word mask))
 damage_text Ab at mask = ap (λ (t : List ℕ). codes "damage ab " ++ t) (append_assoc (decimal at) (32 ∷ []) (hex_word mask))
 damage_text Ba at mask = ap (λ (t : List ℕ). codes "damage ba " ++ t) (append_assoc (decimal at) (32 ∷ []) (hex_word mask))
 
-cut_text : (way : Way) (packets : ℕ) → word_text (Cut way packets) ≡ codes "cut" ++ 32 ∷ (way_text way ++ 32 ∷ decimal packets)
+pub cut_text : (way : Way) (packets : ℕ) → word_text (Cut way packets) ≡ codes "cut" ++ 32 ∷ (way_text way ++ 32 ∷ decimal packets)
 cut_text Ab packets = refl
 cut_text Ba packets = refl
 
 -- what the text of a word says
-abbrev said_by : Word → Said
+abbrev pub said_by : Word → Said
 said_by Pass = said.Pass
 said_by (Lose way) = said.Lose way
 said_by (Repeat way) = said.Repeat way
@@ -113,7 +113,7 @@ said_by (Timer side) = said.Timer side
 said_by Drop = said.Drop
 said_by Cancel = said.Cancel
 
-said_again : (word : Word) → IsWord word → said_of (word_text word) ≡ Some (said_by word)
+pub said_again : (word : Word) → IsWord word → said_of (word_text word) ≡ Some (said_by word)
 unfolding said_of long_said
 said_again Pass is = refl
 said_again (Lose Ab) is = refl
@@ -133,7 +133,7 @@ within_again low high n a b =
     let two : nat_lt high n ≡ false = le-ltb high n b in
     rw (one, two) refl
 
-word_again_within : (word : Word) → IsWord word → word_within (said_by word) ≡ Ok word
+pub word_again_within : (word : Word) → IsWord word → word_within (said_by word) ≡ Ok word
 unfolding word_within
 word_again_within Pass is = refl
 word_again_within (Lose way) is = refl
@@ -177,7 +177,7 @@ run_again missing transport count word is borne there =
 way_printable : (way : Way) → list_all is_printable (way_text way) ≡ true
 way_printable way = seen (way_text way) (way_graphic way)
 
-digit_graphic : (n : ℕ) → n < 16 → is_graphic (hex_digit n) ≡ true
+pub digit_graphic : (n : ℕ) → n < 16 → is_graphic (hex_digit n) ≡ true
 digit_graphic n lt = elim (cases_lt n 10) [
   | inl below ↦ rw (lt-ltb n 10 below, lt-ltb 32 (48 + n) (omega arith), lt-ltb (48 + n) 127 (omega arith)) refl
   | inr above ↦ rw (le-ltb n 10 above, lt-ltb 32 (65 + (n - 10)) (omega arith), lt-ltb (65 + (n - 10)) 127 (omega arith)) refl

@@ -6,6 +6,8 @@ use Rattle.push_script.specs.declared.scenario.Scenario.{Scenario}
 use Rattle.push_script.specs.declared.stated.Key.{Key}
 use Rattle.push_script.specs.declared.stated.Key.TheVariants as keyed
 use Rattle.push_script.specs.declared.word.Word.{Word}
+use Rattle.push_script.specs.declared.outcome.Outcome.{Outcome}
+use Rattle.push_script.specs.Said.{SaysWord, SaysOutcome}
 use Rattle.push_script.specs.Parts.{number_of}
 use Rattle.push_script.specs.Features.{built, asked, word_feature}
 use Rattle.push_script.specs.Keys.{default_number, is_l2cap, is_both}
@@ -50,3 +52,10 @@ TextsAgain = (scenario : Scenario) → IsReadAs scenario (scenario_text scenario
 -- the same for each scenario where no feature is missing
 abbrev pub AllTextsAgain : Type 0
 AllTextsAgain = (scenario : Scenario) → length (scenario_text scenario) ≤ text_limit → reading [] (scenario_text scenario) ≡ Ok (script_of scenario)
+
+-- a text says one word, and one outcome
+abbrev pub OneWord : Type 0
+OneWord = (text : List ℕ) (word other : Word) → SaysWord text word → SaysWord text other → word ≡ other
+
+abbrev pub OneOutcome : Type 0
+OneOutcome = (text : List ℕ) (outcome other : Outcome) → SaysOutcome text outcome → SaysOutcome text other → outcome ≡ other

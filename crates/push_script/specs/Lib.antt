@@ -9,6 +9,7 @@ pub mod Stated
 pub mod Features
 pub mod Keys
 pub mod Radio
+pub mod Said
 pub mod Reading
 pub mod Turns
 pub mod Made

@@ -1,5 +1,5 @@
 -- The text of what came of a push (this project's own).
-use Rattle.std.specs.Prelude.{ℕ, List, ◌++◌, codes, decimal}
+use Rattle.std.specs.Prelude.{ℕ, ◌<◌, List, ◌++◌, codes, decimal}
 use Rattle.push_script.specs.Words.{hex_octet}
 use Rattle.push_script.specs.declared.outcome.Outcome.{Outcome}
 use Rattle.push_script.specs.declared.outcome.Outcome.TheVariants.{Done, LinkLost, RetryLimit, Refused, NoService, ShelfFault, Cancelled, PeerClosed, PeerFault, ScriptEnded}
@@ -16,3 +16,16 @@ outcome_text Cancelled = codes "cancelled"
 outcome_text PeerClosed = codes "peer-closed"
 outcome_text (PeerFault layer reason) = codes "peer-fault " ++ decimal layer ++ codes " " ++ decimal reason
 outcome_text ScriptEnded = codes "script-ended"
+
+-- codes, layers and reasons are octets
+abbrev pub IsOutcome : Outcome → Type 0
+IsOutcome (Refused code) = code < 256
+IsOutcome (PeerFault layer reason) = (layer < 256) × (reason < 256)
+IsOutcome Done = Unit {0}
+IsOutcome LinkLost = Unit {0}
+IsOutcome RetryLimit = Unit {0}
+IsOutcome NoService = Unit {0}
+IsOutcome ShelfFault = Unit {0}
+IsOutcome Cancelled = Unit {0}
+IsOutcome PeerClosed = Unit {0}
+IsOutcome ScriptEnded = Unit {0}

@@ -1,7 +1,7 @@
 //! Laws of the text of scenarios, for every value. They speak of no call: the contracts of the calls
 //! tie these to the same definitions.
 
-ghost use Rattle.push_script.specs.Laws.{NumbersAgain, TextsAgain, AllTextsAgain};
+ghost use Rattle.push_script.specs.Laws.{NumbersAgain, TextsAgain, AllTextsAgain, OneWord, OneOutcome};
 
 /// A number that was written is read again.
 pub fn numbers_are_read_again()
@@ -13,4 +13,14 @@ pub fn numbers_are_read_again()
 pub fn texts_are_read_again()
     ensures built { TextsAgain }
     ensures whole { AllTextsAgain }
+{}
+
+/// A text is that of one word at most.
+pub fn words_have_their_own_texts()
+    ensures { OneWord }
+{}
+
+/// A text is that of one outcome at most.
+pub fn outcomes_have_their_own_texts()
+    ensures { OneOutcome }
 {}

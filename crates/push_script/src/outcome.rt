@@ -30,32 +30,33 @@ pub enum Outcome {
     ScriptEnded,
 }
 
-/// The text of an outcome.
-pub(crate) fn outcome_of(outcome: Outcome) -> ShortText
-    ensures { result.bytes ≡ outcome_text outcome }
-{
-    let mut text = ShortText::new();
-    match outcome {
-        Outcome::Done => push_text(&mut text, "done"),
-        Outcome::LinkLost => push_text(&mut text, "link-lost"),
-        Outcome::RetryLimit => push_text(&mut text, "retry-limit"),
-        Outcome::Refused(code) => {
-            push_text(&mut text, "refused ");
-            push_octet(&mut text, code);
+impl Outcome {
+    pub(crate) fn text(self) -> ShortText
+        ensures { result.bytes ≡ outcome_text self }
+    {
+        let mut text = ShortText::new();
+        match self {
+            Outcome::Done => push_text(&mut text, "done"),
+            Outcome::LinkLost => push_text(&mut text, "link-lost"),
+            Outcome::RetryLimit => push_text(&mut text, "retry-limit"),
+            Outcome::Refused(code) => {
+                push_text(&mut text, "refused ");
+                push_octet(&mut text, code);
+            }
+            Outcome::NoService => push_text(&mut text, "no-service"),
+            Outcome::ShelfFault => push_text(&mut text, "shelf"),
+            Outcome::Cancelled => push_text(&mut text, "cancelled"),
+            Outcome::PeerClosed => push_text(&mut text, "peer-closed"),
+            Outcome::PeerFault(layer, reason) => {
+                push_text(&mut text, "peer-fault ");
+                push_decimal(&mut text, layer as u16);
+                push_text(&mut text, " ");
+                push_decimal(&mut text, reason as u16);
+            }
+            Outcome::ScriptEnded => push_text(&mut text, "script-ended"),
         }
-        Outcome::NoService => push_text(&mut text, "no-service"),
-        Outcome::ShelfFault => push_text(&mut text, "shelf"),
-        Outcome::Cancelled => push_text(&mut text, "cancelled"),
-        Outcome::PeerClosed => push_text(&mut text, "peer-closed"),
-        Outcome::PeerFault(layer, reason) => {
-            push_text(&mut text, "peer-fault ");
-            push_decimal(&mut text, layer as u16);
-            push_text(&mut text, " ");
-            push_decimal(&mut text, reason as u16);
-        }
-        Outcome::ScriptEnded => push_text(&mut text, "script-ended"),
+        text
     }
-    text
 }
 
 /// Writes the text of an outcome to the front of `into` and answers how many octets it has. It
@@ -65,5 +66,5 @@ pub fn put_outcome(outcome: &Outcome, into: &mut [u8]) -> usize
     ensures count { result ≡ length (outcome_text outcome.now) }
     ensures written { into.new ≡ outcome_text outcome.now ++ drop (length (outcome_text outcome.now)) into.old }
 {
-    put_short(&outcome_of(*outcome), into)
+    put_short(&outcome.text(), into)
 }

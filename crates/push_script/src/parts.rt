@@ -3,6 +3,7 @@
 ghost use Rattle.std.specs.Prelude.{◌≡◌, ◌==◌, ◌≤◌, ◌<◌, ◌^◌, Option, None, Some, length, MatchOption, IfSome, IfOk};
 ghost use Rattle.std.specs.Option.{option_map};
 ghost use Rattle.std.specs.List.{before_first, list_all};
+ghost use Rattle.push_script.specs.Said.{octet_of};
 ghost use Rattle.push_script.specs.Parts.{first_word, rest_of, is_digit, has_leading_zero, is_number, number_of, hex_value, mask_of, way_of, side_of, transport_of, serves_of, switch_of, pair_of};
 
 use crate::word::{Side, Way};
@@ -157,6 +158,20 @@ pub(crate) fn mask_of(text: &[u8]) -> Option<u16>
             let c = hex_value(*c)?;
             let d = hex_value(*d)?;
             Some(((a * 16 + b) * 16 + c) * 16 + d)
+        }
+        _ => None,
+    }
+}
+
+/// The number of two upper case hexadecimal digits.
+pub(crate) fn octet_of(text: &[u8]) -> Option<u8>
+    ensures { result ≡ octet_of text.now }
+{
+    match text {
+        [high, low] => {
+            let high = hex_value(*high)?;
+            let low = hex_value(*low)?;
+            Some((high * 16 + low) as u8)
         }
         _ => None,
     }

@@ -86,7 +86,7 @@ fn short_said(word: &str) -> Option<Said>
 
 /// The word that a text says.
 #[tactic(auto, unfolding(crate::specs::Radio::said_of))]
-fn said_of(text: &str) -> Option<Said>
+pub(crate) fn said_of(text: &str) -> Option<Said>
     ensures { result ≡ said_of text.now }
 {
     let (word, rest) = split_word(text);
@@ -98,7 +98,7 @@ fn said_of(text: &str) -> Option<Said>
 
 /// The word, if its numbers are within their ranges.
 #[tactic(auto, unfolding(crate::specs::Radio::word_within))]
-fn word_within(said: Said) -> Result<Word, ScriptRefusal>
+pub(crate) fn word_within(said: Said) -> Result<Word, ScriptRefusal>
     ensures word { result ≡ word_within said }
     ensures range { IfOk result IsWord }
 {

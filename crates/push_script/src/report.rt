@@ -5,7 +5,7 @@ ghost use Rattle.push_script.specs.Outcomes.{outcome_text};
 ghost use Rattle.push_script.specs.Reports.{push_head, push_line, peaks_text, pair_line, push_line, push_lines, report_text, Tells};
 
 use crate::names::Name;
-use crate::outcome::{Outcome, outcome_of};
+use crate::outcome::Outcome;
 use crate::scenario::Scenario;
 use arrayvec::ArrayString;
 use bt_base::{PortFault, Sink};
@@ -54,7 +54,7 @@ fn head_of(number: u32, outcome: Outcome) -> ReportText
     let mut text = ReportText::new();
     push_decimal(&mut text, number);
     push_text(&mut text, " ");
-    push_text(&mut text, &outcome_of(outcome));
+    push_text(&mut text, &outcome.text());
     push_text(&mut text, " ");
     text
 }

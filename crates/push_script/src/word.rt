@@ -67,43 +67,44 @@ impl Side {
     }
 }
 
-/// The text of a word.
-pub(crate) fn word_of(word: Word) -> ShortText
-    ensures { result.bytes ≡ word_text word }
-{
-    let mut text = ShortText::new();
-    match word {
-        Word::Pass => push_text(&mut text, "pass"),
-        Word::Lose(way) => {
-            push_text(&mut text, "lose ");
-            push_text(&mut text, way.text());
+impl Word {
+    pub(crate) fn text(self) -> ShortText
+        ensures { result.bytes ≡ word_text self }
+    {
+        let mut text = ShortText::new();
+        match self {
+            Word::Pass => push_text(&mut text, "pass"),
+            Word::Lose(way) => {
+                push_text(&mut text, "lose ");
+                push_text(&mut text, way.text());
+            }
+            Word::Repeat(way) => {
+                push_text(&mut text, "repeat ");
+                push_text(&mut text, way.text());
+            }
+            Word::Damage { way, at, mask } => {
+                push_text(&mut text, "damage ");
+                push_text(&mut text, way.text());
+                push_text(&mut text, " ");
+                push_decimal(&mut text, at);
+                push_text(&mut text, " ");
+                push_hex(&mut text, mask);
+            }
+            Word::Cut { way, packets } => {
+                push_text(&mut text, "cut ");
+                push_text(&mut text, way.text());
+                push_text(&mut text, " ");
+                push_decimal(&mut text, packets);
+            }
+            Word::Timer(side) => {
+                push_text(&mut text, "timer ");
+                push_text(&mut text, side.text());
+            }
+            Word::Drop => push_text(&mut text, "drop"),
+            Word::Cancel => push_text(&mut text, "cancel"),
         }
-        Word::Repeat(way) => {
-            push_text(&mut text, "repeat ");
-            push_text(&mut text, way.text());
-        }
-        Word::Damage { way, at, mask } => {
-            push_text(&mut text, "damage ");
-            push_text(&mut text, way.text());
-            push_text(&mut text, " ");
-            push_decimal(&mut text, at);
-            push_text(&mut text, " ");
-            push_hex(&mut text, mask);
-        }
-        Word::Cut { way, packets } => {
-            push_text(&mut text, "cut ");
-            push_text(&mut text, way.text());
-            push_text(&mut text, " ");
-            push_decimal(&mut text, packets);
-        }
-        Word::Timer(side) => {
-            push_text(&mut text, "timer ");
-            push_text(&mut text, side.text());
-        }
-        Word::Drop => push_text(&mut text, "drop"),
-        Word::Cancel => push_text(&mut text, "cancel"),
+        text
     }
-    text
 }
 
 /// Writes the text of a word to the front of `into` and answers how many octets it has. It needs
@@ -113,5 +114,5 @@ pub fn put_word(word: &Word, into: &mut [u8]) -> usize
     ensures count { result ≡ length (word_text word.now) }
     ensures written { into.new ≡ word_text word.now ++ drop (length (word_text word.now)) into.old }
 {
-    put_short(&word_of(*word), into)
+    put_short(&word.text(), into)
 }

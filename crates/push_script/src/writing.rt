@@ -8,7 +8,6 @@ ghost use Rattle.push_script.specs.Laws.{IsReadAs};
 use crate::names::Names;
 use crate::runs::Runs;
 use crate::scenario::Scenario;
-use crate::word::word_of;
 use bt_base::{NoMemory, Serves, Transport};
 use std::alloc::Global;
 
@@ -100,7 +99,7 @@ fn push_runs(text: &mut Text, runs: &Runs) -> Result<(), NoMemory>
 {
     let mut buffer = itoa::Buffer::new();
     for (count, word) in runs.as_slice() {
-        push_key(text, buffer.format(*count), &word_of(*word))?;
+        push_key(text, buffer.format(*count), &word.text())?;
     }
     Ok(())
 }

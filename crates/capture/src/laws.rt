@@ -1,0 +1,96 @@
+//! Laws of the definitions, for every capture.
+
+ghost use Rattle.capture.specs.EntryLaws.{NoEntryBeginsAnother, OneCapture};
+ghost use Rattle.capture.specs.EntryReading.{OneFront};
+ghost use Rattle.capture.specs.CaptureReading.{OneReading};
+ghost use Rattle.capture.specs.Laws.{MovesMore, LinksMore, OutstandingMore, PdusMore, TalkMore, ChannelsMore, ChannelsWithin, ClosedMore, HeardMore, AirMore, KeepsMore, OctetsInParts, MovesInParts, LinksInParts};
+
+/// One entry more is a packet of its host, or none.
+pub fn entry_is_packet_or_none()
+    ensures { MovesMore }
+{}
+
+/// One packet more leads the links of its host on.
+pub fn packet_leads_links_on()
+    ensures { LinksMore }
+{}
+
+/// The packets outstanding on a link with one packet more.
+pub fn packet_changes_outstanding()
+    ensures { OutstandingMore }
+{}
+
+/// The PDUs of a link with one packet more.
+pub fn packet_completes_pdus()
+    ensures { PdusMore }
+{}
+
+/// What is said on a link with one packet more.
+pub fn packet_says_more()
+    ensures { TalkMore }
+{}
+
+/// The channels of a link with one thing more that is said.
+pub fn channels_with_more()
+    ensures { ChannelsMore }
+{}
+
+/// A channel stands where something was said.
+pub fn channels_stand_within()
+    ensures { ChannelsWithin }
+{}
+
+/// A closed channel stays closed.
+pub fn closed_stays_closed()
+    ensures { ClosedMore }
+{}
+
+/// What is heard with one thing more that is said.
+pub fn heard_with_more()
+    ensures { HeardMore }
+{}
+
+/// The air after one entry more.
+pub fn air_with_more()
+    ensures { AirMore }
+{}
+
+/// An entry more keeps to the script where it does so after those before it.
+pub fn rules_with_more()
+    ensures { KeepsMore }
+{}
+
+/// The octets of a capture in two parts.
+pub fn octets_in_parts()
+    ensures { OctetsInParts }
+{}
+
+/// The packets of a host in two parts of a capture.
+pub fn packets_in_parts()
+    ensures { MovesInParts }
+{}
+
+/// The links of a host in two parts of a capture.
+pub fn links_in_parts()
+    ensures { LinksInParts }
+{}
+
+/// No entry's octets begin another's.
+pub fn no_entry_begins_another()
+    ensures { NoEntryBeginsAnother }
+{}
+
+/// A capture is read in one way.
+pub fn captures_are_read_in_one_way()
+    ensures { OneCapture }
+{}
+
+/// What is read at the front of octets is one thing: an entry, or one refusal.
+pub fn fronts_are_read_in_one_way()
+    ensures { OneFront }
+{}
+
+/// Octets are read in one way: as a capture, or up to their first refusal.
+pub fn octets_are_read_in_one_way()
+    ensures { OneReading }
+{}
