@@ -1,12 +1,13 @@
 -- The fewest octets of a packet that begins with some octets.
 use Rattle.std.proofs.Common.{◌≡◌, ℕ, zero, suc, ◌+◌, ◌<◌, ◌≤◌, List, [], ◌∷◌, ◌++◌, length, get_or, max, refl, sym, ap, subst, ◌∙◌, arith, inl, inr}
 use Rattle.std.proofs.lemmas.Bool.{cases_lt}
-use Rattle.std.proofs.lemmas.List.{append-nil, get_or_past, get_or_append_left}
-use Rattle.h4_framing.specs.declared.extent.Extent.TheVariants.{AtLeast, Known}
+use Rattle.std.proofs.lemmas.List.{append-nil, length-append, get_or_past, get_or_append_left}
+use Rattle.h4_framing.specs.declared.extent.Extent.{Extent}
+use Rattle.h4_framing.specs.declared.extent.Extent.TheVariants.{AtLeast, Known, Refused}
 use Rattle.h4_framing.specs.Packets.{Packet, spelling}
 use Rattle.h4_framing.specs.Stream.{IsFrontOf, IsUnfinished, IsLeastLength}
 use Rattle.h4_framing.specs.Extents.{extent}
-use Rattle.h4_framing.proofs.ExtentLemmas.{HasHead, command, acl, sync, event, packet_head, front_known, padded_front, unfinished_octets, at_least_short, need, need_more}
+use Rattle.h4_framing.proofs.ExtentLemmas.{HasHead, command, acl, sync, event, packet_head, front_known, padded_front, unfinished_octets, at_least_short, unfinished_right, refused_wrong, some_long, need, need_more}
 
 -- the length is told
 pub least_known : (limit : ℕ) (octets : List ℕ) (n : ℕ) → IsUnfinished limit octets → extent limit octets ≡ Known n → IsLeastLength limit octets n
@@ -68,6 +69,19 @@ least_short limit n m octets low u e is =
       some = (some.0, some.1, is ∙ sym s.tells ∙ some.2);
       none_shorter = λ p f. omega (arith, head_least limit n (length (spelling p)) octets f.0 s.needs s.short (front_head limit octets p f));
     }
+
+-- the beginning of a packet is shorter than the packet
+pub front_short : (limit : ℕ) (octets : List ℕ) (p : Packet) → IsFrontOf limit octets p → length octets < length (spelling p)
+front_short limit octets p f = omega (arith, some_long f.0 f.2, length-append octets f.0, ap length f.3)
+
+least_by : (limit : ℕ) (octets : List ℕ) (x : Extent) → 255 ≤ limit → IsUnfinished limit octets → extent limit octets ≡ x → (n : ℕ) × IsLeastLength limit octets n
+least_by limit octets (Known n) low u e = (n, least_known limit octets n u e)
+least_by limit octets (AtLeast n) low u e = (max 3 n + get_or octets 3 0, least_short limit n (max 3 n + get_or octets 3 0) octets low u e refl)
+least_by limit octets (Refused r n) low u e = absurd (unfinished_right limit octets r n u (refused_wrong limit octets r n (unfinished_octets limit octets u) e))
+
+-- there is a least length
+pub least_length : (limit : ℕ) (octets : List ℕ) → 255 ≤ limit → IsUnfinished limit octets → (n : ℕ) × IsLeastLength limit octets n
+least_length limit octets low u = least_by limit octets (extent limit octets) low u refl
 
 -- what the octets tell while the length field is not whole
 pub record IsHead (octets : List ℕ) (n : ℕ) : Type 0 where

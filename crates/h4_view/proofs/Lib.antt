@@ -3,3 +3,4 @@ pub mod Knowing
 pub mod Joining
 pub mod Showing
 pub mod Stands
+pub mod OneView

@@ -1,16 +1,17 @@
 -- What a view has come to, between two pieces of its input.
 use Rattle.std.proofs.Common.{◌≡◌, ◌≢◌, ℕ, ◌+◌, ◌-◌, ◌<◌, ◌≤◌, List, [], ◌∷◌, ◌++◌, length, take, Option, Some, None, IfSome, IfOk, IfErr, Result, Ok, Err, refl, sym, ap, subst, ◌∙◌, append_assoc, arith, inl, inr, length-append}
-use Rattle.std.proofs.lemmas.List.{append-nil, take_at}
+use Rattle.std.proofs.lemmas.List.{append-nil, take_at, take_all}
 use Rattle.std.specs.List.{AllByRecursion}
 use Rattle.bt_base.specs.Streams.{gained, GainedFront}
 use Rattle.bt_base.proofs.PortLaws.{gained-gained, gained-nil, front_whole, front_none, front_then}
 use Rattle.h4_framing.specs.declared.refusal.H4Refusal.{H4Refusal}
 use Rattle.h4_framing.specs.declared.refusal.H4Refusal.TheVariants as h4
 use Rattle.h4_framing.specs.Packets.{Packet, spellings, IsPacket}
-use Rattle.h4_framing.specs.Stream.{IsUnfinished, GoesWrong, Fault, Reads}
+use Rattle.h4_framing.specs.Stream.{IsUnfinished, IsLeastLength, GoesWrong, Fault, Reads}
 use Rattle.h4_framing.specs.Framing.{Framing, counted}
 use Rattle.h4_framing.specs.Accounts.{Accounts}
 use Rattle.h4_framing.proofs.AccountLemmas.{new_accounts}
+use Rattle.h4_framing.proofs.LengthLemmas.{front_short}
 use Rattle.h4_view.specs.declared.refusal.ViewRefusal.{ViewRefusal}
 use Rattle.h4_view.specs.declared.refusal.ViewRefusal.TheVariants.{BadIndicator, Truncated, TooLong}
 use Rattle.h4_view.specs.declared.refusal.ViewFault.{ViewFault}
@@ -20,7 +21,7 @@ use Rattle.h4_view.specs.Details.{Knows}
 use Rattle.h4_view.specs.Lines.{lines, refusal_line}
 use Rattle.h4_view.specs.Shows.{Shows}
 use Rattle.h4_view.specs.Standing.{Standing}
-use Rattle.h4_view.specs.View.{acl_limit, input_limit, HasBadIndicator, Stops, FrontWritten, OfLines, OfAll, ShowsAll, Views, Took, IsOfPorts, IsNewView, IsRefusal, EndsView, EndsAtLimit}
+use Rattle.h4_view.specs.View.{acl_limit, input_limit, HasBadIndicator, GoesPast, Stops, FrontWritten, OfLines, OfAll, ShowsAll, Views, Took, IsOfPorts, IsNewView, IsRefusal, EndsView, EndsAtLimit}
 use Rattle.h4_view.proofs.Showing.{lines-append, spellings-append}
 
 -- taken in two goes
@@ -126,11 +127,22 @@ ends_by : (verdict : Option (ViewRefusal × ℕ)) (octets : List ℕ) (packets :
     → length octets < input_limit → EndsView framing verdict → Stops (length (spellings packets)) framing.held verdict
 ends_by None octets packets framing accounts sound keeps below ends = ends
 ends_by (Some (BadIndicator, place)) octets packets framing accounts sound keeps below ends = absurd ends
-ends_by (Some (TooLong, place)) octets packets framing accounts sound keeps below ends = absurd ends
-ends_by (Some (Truncated, place)) octets packets framing accounts sound keeps below ends =
+ends_by (Some (Truncated, place)) octets packets framing accounts sound keeps below (at, some, (n, least, within)) =
     let behind = held_behind octets packets framing accounts sound in
     let size : length octets ≡ length (spellings packets) + length framing.held = ap length behind.0 ∙ length-append (spellings packets) framing.held in
-    (ends.1 ∙ behind.2 ∙ counted_plain (length (spellings packets)) (omega arith), ends.0, subst (λ (k : ℕ). IsUnfinished k framing.held) keeps behind.1, omega arith)
+    let before : framing.before ≡ length (spellings packets) = behind.2 ∙ counted_plain (length (spellings packets)) (omega arith) in
+    let least' : IsLeastLength acl_limit framing.held n = subst (λ (k : ℕ). IsLeastLength k framing.held n) keeps least in
+    (at ∙ before, some, (least'.some.0, least'.some.1, omega (arith, least'.some.2)))
+ends_by (Some (TooLong, place)) octets packets framing accounts sound keeps below (at, some, (n, least, past)) =
+    let behind = held_behind octets packets framing accounts sound in
+    let from : ℕ = length (spellings packets) in
+    let size : length octets ≡ from + length framing.held = ap length behind.0 ∙ length-append (spellings packets) framing.held in
+    let before : framing.before ≡ from = behind.2 ∙ counted_plain from (omega arith) in
+    let least' : IsLeastLength acl_limit framing.held n = subst (λ (k : ℕ). IsLeastLength k framing.held n) keeps least in
+    let unfinished : IsUnfinished acl_limit framing.held = subst (λ (k : ℕ). IsUnfinished k framing.held) keeps behind.1 in
+    let goes : GoesPast from framing.held = (unfinished, λ p f. omega (arith, least'.none_shorter p f)) in
+    let front : take (input_limit - from) framing.held ≡ framing.held = take_all (input_limit - from) framing.held (omega arith) in
+    (at, some, subst (λ (t : List ℕ). GoesPast from t) (sym front) goes)
 
 pub ended : (verdict : Option (ViewRefusal × ℕ)) (input left old new : Option (List ℕ)) (framing : Framing) (joiners : List (Option Held)) (offset fed : ℕ) → Standing input left old new framing joiners offset fed → fed < input_limit
     → IfSome left (λ octets. octets ≡ []) → EndsView framing verdict → IfSome input (λ all. ShowsAll all old new (Ok verdict))
@@ -214,7 +226,9 @@ limit_by (Some (TooLong, place)) octets rest left packets framing accounts sound
       | inr more ↦ let more' : rest ≢ [] = rw left-is at more in λ e. more' (append_none_right framing.held rest e)
     ] in
     let front : take (input_limit - from) (framing.held ++ rest) ≡ framing.held = take_at framing.held rest (input_limit - from) (omega arith) in
-    (ends.0, some, omega (arith, length-append framing.held rest), subst (λ (t : List ℕ). IsUnfinished acl_limit t) (sym front) (subst (λ (k : ℕ). IsUnfinished k framing.held) keeps behind.1))
+    let unfinished : IsUnfinished acl_limit framing.held = subst (λ (k : ℕ). IsUnfinished k framing.held) keeps behind.1 in
+    let goes : GoesPast from framing.held = (unfinished, λ p f. omega (arith, front_short acl_limit framing.held p f)) in
+    (ends.0, some, subst (λ (t : List ℕ). GoesPast from t) (sym front) goes)
 
 pub at_limit : (verdict : Option (ViewRefusal × ℕ)) (input left old new : Option (List ℕ)) (framing : Framing) (joiners : List (Option Held)) (offset fed : ℕ) → Standing input left old new framing joiners offset fed → input_limit ≤ fed
     → EndsAtLimit framing left verdict → IfSome input (λ all. ShowsAll all old new (Ok verdict))

@@ -4,9 +4,9 @@ use Rattle.std.specs.List.{AllByRecursion}
 use Rattle.bt_base.specs.Counts.{HasRisen}
 use Rattle.bt_base.specs.Streams.{gained, GainedFront}
 use Rattle.h4_framing.specs.declared.refusal.H4Refusal.TheVariants as h4
-use Rattle.h4_framing.specs.Packets.{Packet, spellings, IsPacket}
+use Rattle.h4_framing.specs.Packets.{Packet, spelling, spellings, IsPacket}
 use Rattle.h4_framing.specs.Framing.{Framing}
-use Rattle.h4_framing.specs.Stream.{IsUnfinished, GoesWrong}
+use Rattle.h4_framing.specs.Stream.{IsFrontOf, IsUnfinished, IsLeastLength, GoesWrong}
 use Rattle.h4_view.specs.declared.refusal.ViewRefusal.{ViewRefusal}
 use Rattle.h4_view.specs.declared.refusal.ViewRefusal.TheVariants.{BadIndicator, Truncated, TooLong}
 use Rattle.h4_view.specs.declared.refusal.ViewFault.{ViewFault}
@@ -27,15 +27,23 @@ acl_limit = 65535
 abbrev pub HasBadIndicator : List ℕ → Type 0
 HasBadIndicator rest = GoesWrong acl_limit rest h4.BadIndicator 0
 
+-- The octets from that offset on are the beginning of a packet that may end within the greatest length.
+abbrev pub MayEndWithin : ℕ → List ℕ → Type 0
+MayEndWithin from octets = (packet : Packet) × IsFrontOf acl_limit octets packet × (from + length (spelling packet) ≤ input_limit)
+
+-- The octets from that offset on are the beginning of a packet, and each that they begin goes past the greatest length.
+abbrev pub GoesPast : ℕ → List ℕ → Type 0
+GoesPast from octets = IsUnfinished acl_limit octets × ((packet : Packet) → IsFrontOf acl_limit octets packet → input_limit < from + length (spelling packet))
+
 -- Why a view stops at an offset, where this is left of the input. Whoever reads stops at the greatest length.
--- No refusal: nothing is left. A bad indicator stands at the offset. Truncated: what is left is less than a packet,
--- and ends before the greatest length. Too long: the input goes on to the greatest length, and the octets up to
--- there end within a packet, or more octets stand behind them.
+-- No refusal: nothing is left. A bad indicator stands at the offset. Truncated: the input ends within a packet that
+-- may end within the greatest length. Too long: the octets up to the greatest length, or up to the end of the input
+-- where that comes first, are the beginning of a packet that goes past the greatest length whatever follows.
 abbrev pub Stops : ℕ → List ℕ → Option (ViewRefusal × ℕ) → Type 0
 Stops from rest None = rest ≡ []
 Stops from rest (Some (BadIndicator, place)) = (place ≡ from) × (from < input_limit) × HasBadIndicator rest
-Stops from rest (Some (Truncated, place)) = (place ≡ from) × (rest ≢ []) × IsUnfinished acl_limit rest × (from + length rest < input_limit)
-Stops from rest (Some (TooLong, place)) = (place ≡ input_limit) × (rest ≢ []) × (input_limit ≤ from + length rest) × IsUnfinished acl_limit (take (input_limit - from) rest)
+Stops from rest (Some (Truncated, place)) = (place ≡ from) × (rest ≢ []) × MayEndWithin from rest
+Stops from rest (Some (TooLong, place)) = (place ≡ input_limit) × (rest ≢ []) × GoesPast from (take (input_limit - from) rest)
 
 -- The view of an input shows these packets, which end within the greatest length, and then stops so.
 pub record IsView (input : List ℕ) (packets : List Packet) (verdict : Option (ViewRefusal × ℕ)) : Type 0 where
@@ -93,9 +101,9 @@ ShowsAll input old new (Err NoMemory) = FrontWritten old new input
 -- Why the view of a framer's stream stops where the stream ends.
 abbrev pub EndsView : Framing → Option (ViewRefusal × ℕ) → Type 0
 EndsView framing None = framing.held ≡ []
-EndsView framing (Some (Truncated, place)) = (framing.held ≢ []) × (place ≡ framing.before)
+EndsView framing (Some (Truncated, place)) = (place ≡ framing.before) × (framing.held ≢ []) × ((n : ℕ) × IsLeastLength framing.limit framing.held n × (framing.before + n ≤ input_limit))
+EndsView framing (Some (TooLong, place)) = (place ≡ input_limit) × (framing.held ≢ []) × ((n : ℕ) × IsLeastLength framing.limit framing.held n × (input_limit < framing.before + n))
 EndsView framing (Some (BadIndicator, place)) = ⊥
-EndsView framing (Some (TooLong, place)) = ⊥
 
 -- Why it stops where the stream was read up to the greatest length: it ends there, or it is too long.
 abbrev pub EndsAtLimit : Framing → Option (List ℕ) → Option (ViewRefusal × ℕ) → Type 0
