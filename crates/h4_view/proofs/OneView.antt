@@ -5,6 +5,8 @@ use Rattle.std.proofs.lemmas.List.{append-nil, length-take, length-drop, take-ap
 use Rattle.std.proofs.Math.Seq.{take-append-add, take-nil}
 use Rattle.std.specs.List.{AllByRecursion}
 use Rattle.bt_base.specs.Octets.{IsOctets}
+use Rattle.bt_base.specs.Streams.{GainedFront}
+use Rattle.bt_base.proofs.PortLaws.{front_longer}
 use Rattle.h4_framing.specs.declared.refusal.H4Refusal.TheVariants as h4
 use Rattle.h4_framing.specs.Packets.{Packet, spellings, IsPacket}
 use Rattle.h4_framing.specs.Stream.{IsUnfinished, Ending, Whole, Cut, Fault, Ends, Reads}
@@ -12,10 +14,12 @@ use Rattle.h4_framing.proofs.OctetLists.{IsOctets-take}
 use Rattle.h4_framing.proofs.ExtentLemmas.{unfinished_right, some_long}
 use Rattle.h4_framing.proofs.LengthLemmas.{front_short, least_length}
 use Rattle.h4_framing.proofs.TakingLemmas.{nothing_unfinished}
-use Rattle.h4_framing.proofs.ReadingLemmas.{NoPacket, unfinished_none, wrong_none, nothing_none, no_wrong_nothing, same_split, each_read}
+use Rattle.h4_framing.proofs.ReadingLemmas.{NoPacket, unfinished_none, wrong_none, nothing_none, no_wrong_nothing, front_packets, same_split, each_read}
 use Rattle.h4_view.specs.declared.refusal.ViewRefusal.{ViewRefusal}
 use Rattle.h4_view.specs.declared.refusal.ViewRefusal.TheVariants.{BadIndicator, Truncated, TooLong}
-use Rattle.h4_view.specs.View.{acl_limit, input_limit, HasBadIndicator, MayEndWithin, GoesPast, Stops, IsView}
+use Rattle.h4_view.specs.View.{acl_limit, input_limit, HasBadIndicator, MayEndWithin, GoesPast, Stops, BeginsWith, IsView, FrontWritten, OfLines, OfAll, verdict_text, view_text}
+use Rattle.h4_view.specs.Lines.{lines}
+use Rattle.h4_view.proofs.Stands.{lines_then}
 
 -- what is read of what is left at that offset: whoever reads stops at the greatest length
 abbrev read_of : ℕ → List ℕ → List ℕ
@@ -74,8 +78,8 @@ stops_same from rest (Some (TooLong, p)) (Some (Truncated, q)) h k = absurd (cut
 stops_same from rest (Some (TooLong, p)) (Some (TooLong, q)) h k = ap (λ (n : ℕ). Some (TooLong, n)) (h.0 ∙ sym k.0)
 
 -- what is read of the input is the packets and what is read behind them
-view_read : (input : List ℕ) (ps : List Packet) (v : Option (ViewRefusal × ℕ)) (h : IsView input ps v) → take input_limit input ≡ spellings ps ++ read_of (length (spellings ps)) h.rest
-view_read input ps v h =
+begins_read : (input : List ℕ) (ps : List Packet) (h : BeginsWith input ps) → take input_limit input ≡ spellings ps ++ read_of (length (spellings ps)) h.rest
+begins_read input ps h =
     let from : ℕ = length (spellings ps) in
     let limit : input_limit ≡ from + (input_limit - from) = omega (arith, h.within) in
     ap (take input_limit) h.whole ∙ ap (λ (n : ℕ). take n (spellings ps ++ h.rest)) limit ∙ take-append-add (spellings ps) h.rest (input_limit - from)
@@ -83,13 +87,13 @@ view_read input ps v h =
 pub one_view : (input : List ℕ) (ps qs : List Packet) (v w : Option (ViewRefusal × ℕ)) → IsView input ps v → IsView input qs w → (ps ≡ qs) × (v ≡ w)
 one_view input ps qs v w h k =
     let from : ℕ = length (spellings ps) in
-    let same = same_split acl_limit ps qs (read_of from h.rest) (read_of (length (spellings qs)) k.rest) h.each k.each (stops_none from h.rest v h.stops) (stops_none (length (spellings qs)) k.rest w k.stops)
-    (sym (view_read input ps v h) ∙ view_read input qs w k) in
-    let split : spellings ps ++ h.rest ≡ spellings ps ++ k.rest = sym h.whole ∙ k.whole ∙ ap (λ (ks : List Packet). spellings ks ++ k.rest) (sym same.0) in
-    let rest : h.rest ≡ k.rest = sym (drop_at (spellings ps) h.rest from refl) ∙ ap (drop from) split ∙ drop_at (spellings ps) k.rest from refl in
-    let stops : Stops from h.rest w =
-    subst (λ (t : List ℕ). Stops from t w) (sym rest) (subst (λ (ks : List Packet). Stops (length (spellings ks)) k.rest w) (sym same.0) k.stops) in
-    (same.0, stops_same from h.rest v w h.stops stops)
+    let same = same_split acl_limit ps qs (read_of from h.begins.rest) (read_of (length (spellings qs)) k.begins.rest) h.begins.each k.begins.each (stops_none from h.begins.rest v h.stops) (stops_none (length (spellings qs)) k.begins.rest w k.stops)
+    (sym (begins_read input ps h.begins) ∙ begins_read input qs k.begins) in
+    let split : spellings ps ++ h.begins.rest ≡ spellings ps ++ k.begins.rest = sym h.begins.whole ∙ k.begins.whole ∙ ap (λ (ks : List Packet). spellings ks ++ k.begins.rest) (sym same.0) in
+    let rest : h.begins.rest ≡ k.begins.rest = sym (drop_at (spellings ps) h.begins.rest from refl) ∙ ap (drop from) split ∙ drop_at (spellings ps) k.begins.rest from refl in
+    let stops : Stops from h.begins.rest w =
+    subst (λ (t : List ℕ). Stops from t w) (sym rest) (subst (λ (ks : List Packet). Stops (length (spellings ks)) k.begins.rest w) (sym same.0) k.stops) in
+    (same.0, stops_same from h.begins.rest v w h.stops stops)
 
 -- ---- each input has a view
 
@@ -113,13 +117,13 @@ unfinished_viewed input ps front after each whole within full some u =
       | inl past ↦
           let read : read_of from (front ++ after) ≡ front = read_front from front after within full in
           let goes : GoesPast from front = (u, λ p f. omega (arith, least.1.none_shorter p f)) in
-          (Some (TooLong, input_limit), record { each = each; within = omega arith; rest = front ++ after; whole = whole; stops = (refl, left, subst (λ (t : List ℕ). GoesPast from t) (sym read) goes) })
+          (Some (TooLong, input_limit), record { begins = record { each = each; within = omega arith; rest = front ++ after; whole = whole }; stops = (refl, left, subst (λ (t : List ℕ). GoesPast from t) (sym read) goes) })
       | inr le ↦
           let short = front_short acl_limit front least.1.some.0 least.1.some.1 in
           let none : after ≡ [] = none_after after (λ lt. omega (arith, full lt, short, least.1.some.2)) in
           let rest : front ++ after ≡ front = ap (λ (t : List ℕ). front ++ t) none ∙ append-nil front in
           let cut : MayEndWithin from front = (least.1.some.0, least.1.some.1, omega (arith, least.1.some.2)) in
-          (Some (Truncated, from), record { each = each; within = omega arith; rest = front ++ after; whole = whole; stops = (refl, left, subst (λ (t : List ℕ). MayEndWithin from t) (sym rest) cut) })
+          (Some (Truncated, from), record { begins = record { each = each; within = omega arith; rest = front ++ after; whole = whole }; stops = (refl, left, subst (λ (t : List ℕ). MayEndWithin from t) (sym rest) cut) })
     ]
 
 -- the reading of the octets up to the greatest length
@@ -131,7 +135,7 @@ front_size input ps front is = sym (length-append (spellings ps) front) ∙ ap l
 
 read_viewed : (e : Ending) (input : List ℕ) (ps : List Packet) (front after : List ℕ) → AllByRecursion (IsPacket acl_limit) ps → input ≡ spellings ps ++ (front ++ after) → length (spellings ps) + length front ≤ input_limit
     → (0 < length after → length (spellings ps) + length front ≡ input_limit) → Ends acl_limit front (length (spellings ps)) e → (v : Option (ViewRefusal × ℕ)) × IsView input ps v
-read_viewed Whole input ps front [] each whole within full ends = (None, record { each = each; within = omega arith; rest = front ++ []; whole = whole; stops = ap (λ (t : List ℕ). t ++ []) ends })
+read_viewed Whole input ps front [] each whole within full ends = (None, record { begins = record { each = each; within = omega arith; rest = front ++ []; whole = whole }; stops = ap (λ (t : List ℕ). t ++ []) ends })
 read_viewed Whole input ps front (x ∷ after) each whole within full ends =
     unfinished_viewed input ps front (x ∷ after) each whole within full (omega (arith, length-append front (x ∷ after))) (subst (IsUnfinished acl_limit) (sym ends) (nothing_unfinished acl_limit))
 read_viewed Cut input ps front after each whole within full ends =
@@ -139,7 +143,7 @@ read_viewed Cut input ps front after each whole within full ends =
 read_viewed (Fault h4.BadIndicator place) input ps front after each whole within full (n, (first, more, is, wrong, at), there) =
     let some : 0 < length front = omega (arith, ap length is) in
     let bad : HasBadIndicator (front ++ after) = (first, more ++ after, ap (λ (t : List ℕ). t ++ after) is, wrong, refl) in
-    (Some (BadIndicator, length (spellings ps)), record { each = each; within = omega arith; rest = front ++ after; whole = whole; stops = (refl, omega arith, bad) })
+    (Some (BadIndicator, length (spellings ps)), record { begins = record { each = each; within = omega arith; rest = front ++ after; whole = whole }; stops = (refl, omega arith, bad) })
 read_viewed (Fault h4.AclTooLong place) input ps front after each whole within full (n, (word, size, more, is, fits, above, at), there) = absurd (omega arith)
 read_viewed (Fault h4.Truncated place) input ps front after each whole within full (n, wrong, there) = absurd wrong
 
@@ -153,3 +157,24 @@ each_viewed input fits =
     let read = each_read acl_limit (take input_limit input) (omega arith) (IsOctets-take input_limit input fits) in
     let view = reading_viewed input read.0 read.1 read.2 in
     (read.0, view.0, view.1)
+
+-- ---- a front of the view
+
+-- the packets that an input begins with are the first of its view
+first_of_view : (input : List ℕ) (ps qs : List Packet) (v : Option (ViewRefusal × ℕ)) → BeginsWith input ps → IsView input qs v → (others : List Packet) × (qs ≡ ps ++ others)
+first_of_view input ps qs v begins view =
+    let from : ℕ = length (spellings qs) in
+    let split = sym (begins_read input ps begins) ∙ begins_read input qs view.begins in
+    let first = front_packets acl_limit ps qs (read_of (length (spellings ps)) begins.rest) (read_of from view.begins.rest) begins.each view.begins.each (stops_none from view.begins.rest v view.stops) split in
+    (first.others, first.split)
+
+pub front_of_view : (input : List ℕ) (old new : Option (List ℕ)) (packets : List Packet) (verdict : Option (ViewRefusal × ℕ)) → FrontWritten old new input → IsView input packets verdict → GainedFront old new (view_text packets verdict)
+front_of_view input old new packets verdict (OfLines ps begins front) view =
+    let first = first_of_view input ps packets verdict begins view in
+    let rest : List ℕ = lines ps (length (spellings ps)) first.0 in
+    let split : lines [] 0 packets ≡ lines [] 0 ps ++ rest = ap (lines [] 0) first.1 ∙ lines_then (length (spellings ps)) ps first.0 refl in
+    let text : view_text packets verdict ≡ lines [] 0 ps ++ (rest ++ verdict_text verdict) = ap (λ (t : List ℕ). t ++ verdict_text verdict) split ∙ append_assoc (lines [] 0 ps) rest (verdict_text verdict) in
+    subst (λ (t : List ℕ). GainedFront old new t) (sym text) (front_longer old new (lines [] 0 ps) (rest ++ verdict_text verdict) front)
+front_of_view input old new packets verdict (OfAll ps v earlier front) view =
+    let same = one_view input ps packets v verdict earlier view in
+    subst (λ (w : Option (ViewRefusal × ℕ)). GainedFront old new (view_text packets w)) same.1 (subst (λ (qs : List Packet). GainedFront old new (view_text qs v)) same.0 front)

@@ -21,7 +21,7 @@ use Rattle.h4_view.specs.Details.{Knows}
 use Rattle.h4_view.specs.Lines.{lines, refusal_line}
 use Rattle.h4_view.specs.Shows.{Shows}
 use Rattle.h4_view.specs.Standing.{Standing}
-use Rattle.h4_view.specs.View.{acl_limit, input_limit, HasBadIndicator, GoesPast, Stops, FrontWritten, OfLines, OfAll, ShowsAll, Views, Took, IsOfPorts, IsNewView, IsRefusal, EndsView, EndsAtLimit}
+use Rattle.h4_view.specs.View.{acl_limit, input_limit, HasBadIndicator, GoesPast, Stops, BeginsWith, FrontWritten, OfLines, OfAll, ShowsAll, Views, Took, IsOfPorts, IsNewView, IsRefusal, EndsView, EndsAtLimit}
 use Rattle.h4_view.proofs.Showing.{lines-append, spellings-append}
 
 -- taken in two goes
@@ -61,13 +61,22 @@ taken_front : (input left : Option (List ℕ)) (octets all : List ℕ) → Took 
 taken_front None left octets all took e = absurd cc
 taken_front (Some known) left octets all (rest, whole, left-is) e = let same : known ≡ all = cc in (rest, sym same ∙ whole, left-is)
 
+-- the packets of the octets that were taken are the first of the input
+begins_with : (octets rest all : List ℕ) (packets : List Packet) (framing : Framing) → Accounts octets packets framing → framing.limit ≡ acl_limit → length octets ≤ input_limit → all ≡ octets ++ rest → BeginsWith all packets
+begins_with octets rest all packets framing accounts keeps within is =
+    let first = packets_first octets packets framing accounts in
+    record {
+      each = subst (λ (k : ℕ). AllByRecursion (IsPacket k) packets) keeps accounts.each;
+      within = omega (arith, ap length first.1, length-append (spellings packets) first.0);
+      rest = first.0 ++ rest;
+      whole = is ∙ ap (λ (t : List ℕ). t ++ rest) first.1 ∙ append_assoc (spellings packets) first.0 rest;
+    }
+
 -- nothing more happens to the sink
 pub front_stands : (input left old new : Option (List ℕ)) (framing : Framing) (joiners : List (Option Held)) (offset fed : ℕ) → Standing input left old new framing joiners offset fed → IfSome input (λ all. FrontWritten old new all)
 front_stands input left old new framing joiners offset fed s = told input (λ all e.
     let front = taken_front input left s.octets all s.took e in
-    let first = packets_first s.octets s.packets framing s.accounts in
-    OfLines s.packets (first.0 ++ front.0) (subst (λ (k : ℕ). AllByRecursion (IsPacket k) s.packets) s.keeps s.accounts.each)
-    (front.1 ∙ ap (λ (t : List ℕ). t ++ front.0) first.1 ∙ append_assoc (spellings s.packets) first.0 front.0)
+    OfLines s.packets (begins_with s.octets front.0 all s.packets framing s.accounts s.keeps (omega (arith, s.count, s.within)) front.1)
     (front_whole old new (lines [] 0 s.packets) s.written))
 
 -- a fault that is no refusal leaves a front
@@ -79,19 +88,17 @@ fault_shows (Some all) old new WriteFault port front = front
 fault_shows (Some all) old new NoMemory port front = front
 
 -- the lines of the packets that a piece added, behind those of before
-lines_then : (offset : ℕ) (packets added : List Packet) → offset ≡ length (spellings packets) → lines [] 0 (packets ++ added) ≡ lines [] 0 packets ++ lines packets offset added
+pub lines_then : (offset : ℕ) (packets added : List Packet) → offset ≡ length (spellings packets) → lines [] 0 (packets ++ added) ≡ lines [] 0 packets ++ lines packets offset added
 lines_then offset packets added moves = lines-append [] 0 packets added ∙ ap (λ (o : ℕ). lines [] 0 packets ++ lines packets o added) (omega (arith, moves))
 
 -- the piece was shown, and a front of its text was written
 pub front_more : (input left left' old new new' : Option (List ℕ)) (framing framing' : Framing) (joiners joiners' : List (Option Held)) (offset offset' fed : ℕ) (text xs : List ℕ) (fault : Option (H4Refusal × ℕ))
-    → Standing input left old new framing joiners offset fed → Took left left' xs → Shows framing framing' joiners joiners' offset offset' [] text xs fault → GainedFront new new' text → IfSome input (λ all. FrontWritten old new' all)
-front_more input left left' old new new' framing framing' joiners joiners' offset offset' fed text xs fault s took shows front = told input (λ all e.
-    let accounts = shows.accounts s.octets s.packets s.accounts in
-    let begin = taken_front input left' (s.octets ++ xs) all (took_then input left left' s.octets xs s.took took) e in
-    let first = packets_first (s.octets ++ xs) (s.packets ++ shows.added) framing' accounts in
-    let keeps : framing'.limit ≡ acl_limit = shows.keeps ∙ s.keeps in
-    OfLines (s.packets ++ shows.added) (first.0 ++ begin.0) (subst (λ (k : ℕ). AllByRecursion (IsPacket k) (s.packets ++ shows.added)) keeps accounts.each)
-    (begin.1 ∙ ap (λ (t : List ℕ). t ++ begin.0) first.1 ∙ append_assoc (spellings (s.packets ++ shows.added)) first.0 begin.0)
+    → Standing input left old new framing joiners offset fed → Took left left' xs → Shows framing framing' joiners joiners' offset offset' [] text xs fault → GainedFront new new' text → fed + length xs ≤ input_limit → IfSome input (λ all. FrontWritten old new' all)
+front_more input left left' old new new' framing framing' joiners joiners' offset offset' fed text xs fault s took shows front within = told input (λ all e.
+    let octets : List ℕ = s.octets ++ xs in
+    let begin = taken_front input left' octets all (took_then input left left' s.octets xs s.took took) e in
+    OfLines (s.packets ++ shows.added)
+    (begins_with octets begin.0 all (s.packets ++ shows.added) framing' (shows.accounts s.octets s.packets s.accounts) (shows.keeps ∙ s.keeps) (omega (arith, s.count, length-append s.octets xs)) begin.1)
     (subst (λ (t : List ℕ). GainedFront old new' t) (ap (λ (t : List ℕ). lines [] 0 s.packets ++ t) (shows.adds s.packets s.knows).0 ∙ sym (lines_then offset s.packets shows.added s.moves))
     (front_then old new new' (lines [] 0 s.packets) text s.written front)))
 
@@ -154,10 +161,12 @@ ended verdict input left old new framing joiners offset fed s below empty ends =
     let size : length s.octets ≡ length (spellings s.packets) + length framing.held = ap length behind.0 ∙ length-append (spellings s.packets) framing.held in (
       s.packets,
       record {
-        each = subst (λ (k : ℕ). AllByRecursion (IsPacket k) s.packets) s.keeps s.accounts.each;
-        within = omega (arith, s.count);
-        rest = framing.held;
-        whole = all-is ∙ behind.0;
+        begins = record {
+          each = subst (λ (k : ℕ). AllByRecursion (IsPacket k) s.packets) s.keeps s.accounts.each;
+          within = omega (arith, s.count);
+          rest = framing.held;
+          whole = all-is ∙ behind.0;
+        };
         stops = ends_by verdict s.octets s.packets framing s.accounts s.sound s.keeps (omega (arith, s.count)) ends;
       },
       s.written,
@@ -189,10 +198,12 @@ refused input left left' old new new' framing framing' joiners joiners' offset o
     let at : faulty.0 ≡ from = omega (arith, reads.ends.2, wrong.1) in (
       packets,
       record {
-        each = subst (λ (k : ℕ). AllByRecursion (IsPacket k) packets) keeps accounts.each;
-        within = omega arith;
-        rest = reads.rest ++ begin.0;
-        whole = begin.1 ∙ ap (λ (t : List ℕ). t ++ begin.0) reads.whole ∙ append_assoc (spellings packets) reads.rest begin.0;
+        begins = record {
+          each = subst (λ (k : ℕ). AllByRecursion (IsPacket k) packets) keeps accounts.each;
+          within = omega arith;
+          rest = reads.rest ++ begin.0;
+          whole = begin.1 ∙ ap (λ (t : List ℕ). t ++ begin.0) reads.whole ∙ append_assoc (spellings packets) reads.rest begin.0;
+        };
         stops = (faulty.2 ∙ ap (counted 0) at ∙ counted_plain from (omega arith), omega (arith, wrong.2), wrong.0);
       },
       wrote
@@ -238,10 +249,12 @@ at_limit verdict input left old new framing joiners offset fed s full ends = tol
     let size : length s.octets ≡ length (spellings s.packets) + length framing.held = ap length behind.0 ∙ length-append (spellings s.packets) framing.held in (
       s.packets,
       record {
-        each = subst (λ (k : ℕ). AllByRecursion (IsPacket k) s.packets) s.keeps s.accounts.each;
-        within = omega (arith, s.count, s.within);
-        rest = framing.held ++ begin.0;
-        whole = begin.1 ∙ ap (λ (t : List ℕ). t ++ begin.0) behind.0 ∙ append_assoc (spellings s.packets) framing.held begin.0;
+        begins = record {
+          each = subst (λ (k : ℕ). AllByRecursion (IsPacket k) s.packets) s.keeps s.accounts.each;
+          within = omega (arith, s.count, s.within);
+          rest = framing.held ++ begin.0;
+          whole = begin.1 ∙ ap (λ (t : List ℕ). t ++ begin.0) behind.0 ∙ append_assoc (spellings s.packets) framing.held begin.0;
+        };
         stops = limit_by verdict s.octets begin.0 left s.packets framing s.accounts s.sound s.keeps (omega (arith, s.count, s.within)) begin.2 ends;
       },
       s.written,
@@ -276,13 +289,17 @@ standing_none input old framing joiners offset fed text new = record {
   written = sym (gained-nil old);
 }
 
+-- an input begins with no packets
+begins_none : (all : List ℕ) → BeginsWith all []
+begins_none all = record { each = tt; within = omega arith; rest = all; whole = refl }
+
 -- nothing was shown
 pub nothing_shown : (input old : Option (List ℕ)) (fault : ViewFault) → IsOfPorts fault → IfSome input (λ all. Views all old old (Err fault))
 nothing_shown None old fault port = tt
 nothing_shown (Some all) old (Refused refusal place) port = absurd port
-nothing_shown (Some all) old ReadFault port = OfLines [] all tt refl (front_none old [])
-nothing_shown (Some all) old WriteFault port = OfLines [] all tt refl (front_none old [])
-nothing_shown (Some all) old NoMemory port = OfLines [] all tt refl (front_none old [])
+nothing_shown (Some all) old ReadFault port = OfLines [] (begins_none all) (front_none old [])
+nothing_shown (Some all) old WriteFault port = OfLines [] (begins_none all) (front_none old [])
+nothing_shown (Some all) old NoMemory port = OfLines [] (begins_none all) (front_none old [])
 
 -- a front of the refusal behind all lines
 all_front : (input : List ℕ) (old mid new : Option (List ℕ)) (refusal : ViewRefusal) (place : ℕ) → ShowsAll input old mid (Ok (Some (refusal, place))) → GainedFront mid new (refusal_line refusal place) → FrontWritten old new input

@@ -45,13 +45,17 @@ Stops from rest (Some (BadIndicator, place)) = (place ≡ from) × (from < input
 Stops from rest (Some (Truncated, place)) = (place ≡ from) × (rest ≢ []) × MayEndWithin from rest
 Stops from rest (Some (TooLong, place)) = (place ≡ input_limit) × (rest ≢ []) × GoesPast from (take (input_limit - from) rest)
 
--- The view of an input shows these packets, which end within the greatest length, and then stops so.
-pub record IsView (input : List ℕ) (packets : List Packet) (verdict : Option (ViewRefusal × ℕ)) : Type 0 where
+-- The input begins with these packets, and they end within the greatest length.
+pub record BeginsWith (input : List ℕ) (packets : List Packet) : Type 0 where
   pub each : AllByRecursion (IsPacket acl_limit) packets
   pub within : length (spellings packets) ≤ input_limit
   pub rest : List ℕ
   pub whole : input ≡ spellings packets ++ rest
-  pub stops : Stops (length (spellings packets)) rest verdict
+
+-- The view of an input shows these packets, and then stops so at what is left of the input.
+pub record IsView (input : List ℕ) (packets : List Packet) (verdict : Option (ViewRefusal × ℕ)) : Type 0 where
+  pub begins : BeginsWith input packets
+  pub stops : Stops (length (spellings packets)) begins.rest verdict
 
 -- the text of a view: a line for each packet, and one for the refusal
 abbrev pub verdict_text : Option (ViewRefusal × ℕ) → List ℕ
@@ -64,7 +68,7 @@ view_text packets verdict = lines [] 0 packets ++ verdict_text verdict
 -- A front of the view's text was written: some of the lines of packets that the input begins with, or all lines
 -- and some of the refusal.
 pub data FrontWritten (old new : Option (List ℕ)) (input : List ℕ) : Type 0 where
-  OfLines : (packets : List Packet) (rest : List ℕ) → AllByRecursion (IsPacket acl_limit) packets → input ≡ spellings packets ++ rest → GainedFront old new (lines [] 0 packets) → FrontWritten old new input
+  OfLines : (packets : List Packet) → BeginsWith input packets → GainedFront old new (lines [] 0 packets) → FrontWritten old new input
   OfAll : (packets : List Packet) (verdict : Option (ViewRefusal × ℕ)) → IsView input packets verdict → GainedFront old new (view_text packets verdict) → FrontWritten old new input
 
 -- What a sink gains from the view of an input.
