@@ -171,19 +171,23 @@ head_bound limit octets n low fits (event code size rest e len) = let all : IsOc
 pub known_bound : (limit : ℕ) (octets : List ℕ) (n : ℕ) → 255 ≤ limit → IsOctets octets → extent limit octets ≡ Known n → n ≤ 5 + limit
 known_bound limit octets n low fits e = head_bound limit octets n low fits (known_head limit octets n e)
 
+padded_by : (limit : ℕ) (octets pad zeros : List ℕ) (m : ℕ) (p : Packet) → IsPacket limit p → spelling p ≡ (octets ++ pad) ++ zeros → m ≡ length ((octets ++ pad) ++ zeros) → length octets < m
+    → (packet : Packet) × IsFrontOf limit octets packet × (m ≡ length (spelling packet))
+padded_by limit octets pad zeros m p fits spelled long lt =
+    let regroup : octets ++ (pad ++ zeros) ≡ (octets ++ pad) ++ zeros = sym (append_assoc octets pad zeros) in
+    (p, (pad ++ zeros, fits, (λ none. omega (arith, ap length none, ap length regroup, length-append octets (pad ++ zeros))), regroup ∙ sym spelled), long ∙ ap length (sym spelled))
+
 -- octets with a tail that tells their length, which is not reached yet, begin a packet of that length
 pub padded_front : (limit : ℕ) (octets pad : List ℕ) (m : ℕ) → HasHead limit (octets ++ pad) m → IsOctets octets → IsOctets pad → length octets < m → length (octets ++ pad) ≤ m
     → (packet : Packet) × IsFrontOf limit octets packet × (m ≡ length (spelling packet))
 padded_front limit octets pad m head fits fits-pad lt le =
     let zeros : List ℕ = replicate (m - length (octets ++ pad)) 0 in
-    let more : List ℕ = pad ++ zeros in
     let whole : List ℕ = (octets ++ pad) ++ zeros in
     let long : m ≡ length whole = omega (arith, length-append (octets ++ pad) zeros, length-replicate {A = ℕ} (m - length (octets ++ pad)) 0) in
     let head-whole : HasHead limit whole (length whole) = subst (λ (k : ℕ). HasHead limit whole k) long (head_more limit (octets ++ pad) zeros m head) in
     let fits-whole : IsOctets whole = IsOctets-append (octets ++ pad) zeros (IsOctets-append octets pad fits fits-pad) (IsOctets-zeros (m - length (octets ++ pad))) in
     let p = head_packet limit whole head-whole fits-whole in
-    let regroup : octets ++ more ≡ whole = sym (append_assoc octets pad zeros) in
-    (p.0, (more, p.1, (λ (none : more ≡ []). omega (arith, ap length none, ap length regroup, length-append octets more)), regroup ∙ sym p.2), long ∙ ap length (sym p.2))
+    padded_by limit octets pad zeros m p.0 p.1 p.2 long lt
 
 pub padded_unfinished : (limit : ℕ) (octets pad : List ℕ) (m : ℕ) → HasHead limit (octets ++ pad) m → IsOctets octets → IsOctets pad → length octets < m → length (octets ++ pad) ≤ m → IsUnfinished limit octets
 padded_unfinished limit octets pad m head fits fits-pad lt le = let p = padded_front limit octets pad m head fits fits-pad lt le in (p.0, p.1)

@@ -1,7 +1,8 @@
 use Rattle.std.proofs.Common.{Ok, ap, arith}
 use Rattle.std.proofs.lemmas.List.{length-take, take_at}
 use Rattle.h4_view.specs.declared.refusal.ViewFault.TheVariants.{NoMemory}
-use Rattle.h4_view.proofs.Stands.{front_stands, fault_shows, front_more, standing_more, ended, refused}
+use Rattle.h4_view.proofs.Stands.{front_stands, fault_shows, front_more, standing_more}
+use Rattle.h4_view.proofs.Endings.{ended, refused}
 use Rattle.h4_view.proofs.raw.show_next.Goals as goal
 
 pub returns-in-Err-clause-steps : goal.returns-in-Err-clause-steps
