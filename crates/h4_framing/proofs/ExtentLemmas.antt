@@ -1,5 +1,5 @@
 -- What the length that the first octets tell means for a packet.
-use Rattle.std.proofs.Common.{◌≡◌, ◌≢◌, ℕ, zero, suc, ◌+◌, ◌-◌, ◌*◌, ◌/◌, ◌%◌, ◌^◌, ◌<◌, ◌≤◌, List, [], ◌∷◌, ◌++◌, length, take, drop, refl, sym, ap, subst, ◌∙◌, append_assoc, arith, inl, inr}
+use Rattle.std.proofs.Common.{◌≡◌, ◌≢◌, ℕ, zero, suc, ◌+◌, ◌-◌, ◌*◌, ◌/◌, ◌%◌, ◌^◌, ◌<◌, ◌≤◌, List, [], ◌∷◌, ◌++◌, length, get_or, take, drop, max, refl, sym, ap, subst, ◌∙◌, append_assoc, arith, inl, inr}
 use Rattle.std.specs.Prelude.{replicate}
 use Rattle.std.proofs.lemmas.Bool.{cases_lt, le-ltb, lt-ltb}
 use Rattle.std.proofs.lemmas.List.{append-nil, length-append, length-take, length-take-le, length-replicate, take-append-drop, take-append-le}
@@ -8,7 +8,7 @@ use Rattle.h4_framing.specs.declared.refusal.H4Refusal.{H4Refusal}
 use Rattle.h4_framing.specs.declared.refusal.H4Refusal.TheVariants.{BadIndicator, AclTooLong, Truncated}
 use Rattle.h4_framing.specs.declared.extent.Extent.TheVariants.{AtLeast, Known, Refused}
 use Rattle.h4_framing.specs.Packets.{Packet, Command, Acl, Sync, Event, spelling, IsPacket}
-use Rattle.h4_framing.specs.Stream.{IsIndicator, IsUnfinished, GoesWrong}
+use Rattle.h4_framing.specs.Stream.{IsIndicator, IsFrontOf, IsUnfinished, GoesWrong}
 use Rattle.h4_framing.specs.Extents.{acl_extent, extent}
 use Rattle.h4_framing.proofs.OctetLists.{IsOctets-nil, IsOctets-cons, IsOctets-append, IsOctets-front, IsOctets-zeros}
 
@@ -171,18 +171,26 @@ head_bound limit octets n low fits (event code size rest e len) = let all : IsOc
 pub known_bound : (limit : ℕ) (octets : List ℕ) (n : ℕ) → 255 ≤ limit → IsOctets octets → extent limit octets ≡ Known n → n ≤ 5 + limit
 known_bound limit octets n low fits e = head_bound limit octets n low fits (known_head limit octets n e)
 
--- octets with a tail that tells their length, which is not reached yet, begin a packet
-pub padded_unfinished : (limit : ℕ) (octets pad : List ℕ) (m : ℕ) → HasHead limit (octets ++ pad) m → IsOctets octets → IsOctets pad → length octets < m → length (octets ++ pad) ≤ m → IsUnfinished limit octets
-padded_unfinished limit octets pad m head fits fits-pad lt le =
+padded_by : (limit : ℕ) (octets pad zeros : List ℕ) (m : ℕ) (p : Packet) → IsPacket limit p → spelling p ≡ (octets ++ pad) ++ zeros → m ≡ length ((octets ++ pad) ++ zeros) → length octets < m
+    → (packet : Packet) × IsFrontOf limit octets packet × (m ≡ length (spelling packet))
+padded_by limit octets pad zeros m p fits spelled long lt =
+    let regroup : octets ++ (pad ++ zeros) ≡ (octets ++ pad) ++ zeros = sym (append_assoc octets pad zeros) in
+    (p, (pad ++ zeros, fits, (λ none. omega (arith, ap length none, ap length regroup, length-append octets (pad ++ zeros))), regroup ∙ sym spelled), long ∙ ap length (sym spelled))
+
+-- octets with a tail that tells their length, which is not reached yet, begin a packet of that length
+pub padded_front : (limit : ℕ) (octets pad : List ℕ) (m : ℕ) → HasHead limit (octets ++ pad) m → IsOctets octets → IsOctets pad → length octets < m → length (octets ++ pad) ≤ m
+    → (packet : Packet) × IsFrontOf limit octets packet × (m ≡ length (spelling packet))
+padded_front limit octets pad m head fits fits-pad lt le =
     let zeros : List ℕ = replicate (m - length (octets ++ pad)) 0 in
-    let more : List ℕ = pad ++ zeros in
     let whole : List ℕ = (octets ++ pad) ++ zeros in
     let long : m ≡ length whole = omega (arith, length-append (octets ++ pad) zeros, length-replicate {A = ℕ} (m - length (octets ++ pad)) 0) in
     let head-whole : HasHead limit whole (length whole) = subst (λ (k : ℕ). HasHead limit whole k) long (head_more limit (octets ++ pad) zeros m head) in
     let fits-whole : IsOctets whole = IsOctets-append (octets ++ pad) zeros (IsOctets-append octets pad fits fits-pad) (IsOctets-zeros (m - length (octets ++ pad))) in
     let p = head_packet limit whole head-whole fits-whole in
-    let regroup : octets ++ more ≡ whole = sym (append_assoc octets pad zeros) in
-    (p.0, more, p.1, (λ (none : more ≡ []). omega (arith, ap length none, ap length regroup, length-append octets more)), regroup ∙ sym p.2)
+    padded_by limit octets pad zeros m p.0 p.1 p.2 long lt
+
+pub padded_unfinished : (limit : ℕ) (octets pad : List ℕ) (m : ℕ) → HasHead limit (octets ++ pad) m → IsOctets octets → IsOctets pad → length octets < m → length (octets ++ pad) ≤ m → IsUnfinished limit octets
+padded_unfinished limit octets pad m head fits fits-pad lt le = let p = padded_front limit octets pad m head fits fits-pad lt le in (p.0, p.1)
 
 pub known_unfinished : (limit : ℕ) (octets : List ℕ) (n : ℕ) → extent limit octets ≡ Known n → IsOctets octets → length octets < n → IsUnfinished limit octets
 known_unfinished limit octets n e fits lt =
@@ -224,6 +232,7 @@ pub record IsShort (limit : ℕ) (octets : List ℕ) (n : ℕ) : Type 0 where
   pub pad : List ℕ
   pub fits : IsOctets pad
   pub told : ℕ
+  pub tells : told ≡ max 3 n + get_or octets 3 0
   pub head : HasHead limit (octets ++ pad) told
   pub left : length octets < told
   pub within : length (octets ++ pad) ≤ told
@@ -239,48 +248,48 @@ pub at_least_short : (limit : ℕ) (octets : List ℕ) (n : ℕ) → 255 ≤ lim
 unfolding extent
 at_least_short limit [] n low fits e =
     let is : 1 ≡ n = cc in
-    record { bound = omega arith; needs = sym is; short = omega arith; pad = 4 ∷ 0 ∷ 0 ∷ []; fits = IsOctets-cons 4 (0 ∷ 0 ∷ []) (omega arith) (IsOctets-zeros 2); told = 3; head = event 0 0 [] refl refl; left = omega arith; within = omega arith }
+    record { bound = omega arith; needs = sym is; short = omega arith; pad = 4 ∷ 0 ∷ 0 ∷ []; fits = IsOctets-cons 4 (0 ∷ 0 ∷ []) (omega arith) (IsOctets-zeros 2); told = 3; tells = ap (λ (k : ℕ). max 3 k + 0) is; head = event 0 0 [] refl refl; left = omega arith; within = omega arith }
 at_least_short limit (zero ∷ xs) n low fits e = absurd cc
 at_least_short limit (suc zero ∷ []) n low fits e =
     let is : 4 ≡ n = cc in
-    record { bound = omega arith; needs = sym is; short = omega arith; pad = 0 ∷ 0 ∷ 0 ∷ []; fits = IsOctets-zeros 3; told = 4; head = command 0 0 0 [] refl refl; left = omega arith; within = omega arith }
+    record { bound = omega arith; needs = sym is; short = omega arith; pad = 0 ∷ 0 ∷ 0 ∷ []; fits = IsOctets-zeros 3; told = 4; tells = ap (λ (k : ℕ). max 3 k + 0) is; head = command 0 0 0 [] refl refl; left = omega arith; within = omega arith }
 at_least_short limit (suc zero ∷ a ∷ []) n low fits e =
     let is : 4 ≡ n = cc in
-    record { bound = omega arith; needs = sym is; short = omega arith; pad = 0 ∷ 0 ∷ []; fits = IsOctets-zeros 2; told = 4; head = command a 0 0 [] refl refl; left = omega arith; within = omega arith }
+    record { bound = omega arith; needs = sym is; short = omega arith; pad = 0 ∷ 0 ∷ []; fits = IsOctets-zeros 2; told = 4; tells = ap (λ (k : ℕ). max 3 k + 0) is; head = command a 0 0 [] refl refl; left = omega arith; within = omega arith }
 at_least_short limit (suc zero ∷ a ∷ b ∷ []) n low fits e =
     let is : 4 ≡ n = cc in
-    record { bound = omega arith; needs = sym is; short = omega arith; pad = 0 ∷ []; fits = IsOctets-zeros 1; told = 4; head = command a b 0 [] refl refl; left = omega arith; within = omega arith }
+    record { bound = omega arith; needs = sym is; short = omega arith; pad = 0 ∷ []; fits = IsOctets-zeros 1; told = 4; tells = ap (λ (k : ℕ). max 3 k + 0) is; head = command a b 0 [] refl refl; left = omega arith; within = omega arith }
 at_least_short limit (suc zero ∷ a ∷ b ∷ size ∷ rest) n low fits e = absurd cc
 at_least_short limit (suc (suc zero) ∷ []) n low fits e =
     let is : 5 ≡ n = cc in
-    record { bound = omega arith; needs = sym is; short = omega arith; pad = 0 ∷ 0 ∷ 0 ∷ 0 ∷ []; fits = IsOctets-zeros 4; told = 5; head = acl 0 0 0 0 [] refl (omega arith) refl; left = omega arith; within = omega arith }
+    record { bound = omega arith; needs = sym is; short = omega arith; pad = 0 ∷ 0 ∷ 0 ∷ 0 ∷ []; fits = IsOctets-zeros 4; told = 5; tells = ap (λ (k : ℕ). max 3 k + 0) is; head = acl 0 0 0 0 [] refl (omega arith) refl; left = omega arith; within = omega arith }
 at_least_short limit (suc (suc zero) ∷ a ∷ []) n low fits e =
     let is : 5 ≡ n = cc in
-    record { bound = omega arith; needs = sym is; short = omega arith; pad = 0 ∷ 0 ∷ 0 ∷ []; fits = IsOctets-zeros 3; told = 5; head = acl a 0 0 0 [] refl (omega arith) refl; left = omega arith; within = omega arith }
+    record { bound = omega arith; needs = sym is; short = omega arith; pad = 0 ∷ 0 ∷ 0 ∷ []; fits = IsOctets-zeros 3; told = 5; tells = ap (λ (k : ℕ). max 3 k + 0) is; head = acl a 0 0 0 [] refl (omega arith) refl; left = omega arith; within = omega arith }
 at_least_short limit (suc (suc zero) ∷ a ∷ b ∷ []) n low fits e =
     let is : 5 ≡ n = cc in
-    record { bound = omega arith; needs = sym is; short = omega arith; pad = 0 ∷ 0 ∷ []; fits = IsOctets-zeros 2; told = 5; head = acl a b 0 0 [] refl (omega arith) refl; left = omega arith; within = omega arith }
+    record { bound = omega arith; needs = sym is; short = omega arith; pad = 0 ∷ 0 ∷ []; fits = IsOctets-zeros 2; told = 5; tells = ap (λ (k : ℕ). max 3 k + 0) is; head = acl a b 0 0 [] refl (omega arith) refl; left = omega arith; within = omega arith }
 at_least_short limit (suc (suc zero) ∷ a ∷ b ∷ size ∷ []) n low fits e =
     let is : 5 ≡ n = cc in
     let small : size < 256 = fits 3 in
-    record { bound = omega arith; needs = sym is; short = omega arith; pad = 0 ∷ []; fits = IsOctets-zeros 1; told = 5 + (size + 256 * 0); head = acl a b size 0 [] refl (omega arith) refl; left = omega arith; within = omega arith }
+    record { bound = omega arith; needs = sym is; short = omega arith; pad = 0 ∷ []; fits = IsOctets-zeros 1; told = 5 + (size + 256 * 0); tells = omega (arith, is); head = acl a b size 0 [] refl (omega arith) refl; left = omega arith; within = omega arith }
 at_least_short limit (suc (suc zero) ∷ a ∷ b ∷ size ∷ high ∷ rest) n low fits e = absurd (acl_never_short limit (size + 256 * high) n e)
 at_least_short limit (suc (suc (suc zero)) ∷ []) n low fits e =
     let is : 4 ≡ n = cc in
-    record { bound = omega arith; needs = sym is; short = omega arith; pad = 0 ∷ 0 ∷ 0 ∷ []; fits = IsOctets-zeros 3; told = 4; head = sync 0 0 0 [] refl refl; left = omega arith; within = omega arith }
+    record { bound = omega arith; needs = sym is; short = omega arith; pad = 0 ∷ 0 ∷ 0 ∷ []; fits = IsOctets-zeros 3; told = 4; tells = ap (λ (k : ℕ). max 3 k + 0) is; head = sync 0 0 0 [] refl refl; left = omega arith; within = omega arith }
 at_least_short limit (suc (suc (suc zero)) ∷ a ∷ []) n low fits e =
     let is : 4 ≡ n = cc in
-    record { bound = omega arith; needs = sym is; short = omega arith; pad = 0 ∷ 0 ∷ []; fits = IsOctets-zeros 2; told = 4; head = sync a 0 0 [] refl refl; left = omega arith; within = omega arith }
+    record { bound = omega arith; needs = sym is; short = omega arith; pad = 0 ∷ 0 ∷ []; fits = IsOctets-zeros 2; told = 4; tells = ap (λ (k : ℕ). max 3 k + 0) is; head = sync a 0 0 [] refl refl; left = omega arith; within = omega arith }
 at_least_short limit (suc (suc (suc zero)) ∷ a ∷ b ∷ []) n low fits e =
     let is : 4 ≡ n = cc in
-    record { bound = omega arith; needs = sym is; short = omega arith; pad = 0 ∷ []; fits = IsOctets-zeros 1; told = 4; head = sync a b 0 [] refl refl; left = omega arith; within = omega arith }
+    record { bound = omega arith; needs = sym is; short = omega arith; pad = 0 ∷ []; fits = IsOctets-zeros 1; told = 4; tells = ap (λ (k : ℕ). max 3 k + 0) is; head = sync a b 0 [] refl refl; left = omega arith; within = omega arith }
 at_least_short limit (suc (suc (suc zero)) ∷ a ∷ b ∷ size ∷ rest) n low fits e = absurd cc
 at_least_short limit (suc (suc (suc (suc zero))) ∷ []) n low fits e =
     let is : 3 ≡ n = cc in
-    record { bound = omega arith; needs = sym is; short = omega arith; pad = 0 ∷ 0 ∷ []; fits = IsOctets-zeros 2; told = 3; head = event 0 0 [] refl refl; left = omega arith; within = omega arith }
+    record { bound = omega arith; needs = sym is; short = omega arith; pad = 0 ∷ 0 ∷ []; fits = IsOctets-zeros 2; told = 3; tells = ap (λ (k : ℕ). max 3 k + 0) is; head = event 0 0 [] refl refl; left = omega arith; within = omega arith }
 at_least_short limit (suc (suc (suc (suc zero))) ∷ a ∷ []) n low fits e =
     let is : 3 ≡ n = cc in
-    record { bound = omega arith; needs = sym is; short = omega arith; pad = 0 ∷ []; fits = IsOctets-zeros 1; told = 3; head = event a 0 [] refl refl; left = omega arith; within = omega arith }
+    record { bound = omega arith; needs = sym is; short = omega arith; pad = 0 ∷ []; fits = IsOctets-zeros 1; told = 3; tells = ap (λ (k : ℕ). max 3 k + 0) is; head = event a 0 [] refl refl; left = omega arith; within = omega arith }
 at_least_short limit (suc (suc (suc (suc zero))) ∷ code ∷ size ∷ rest) n low fits e = absurd cc
 at_least_short limit (suc (suc (suc (suc (suc k)))) ∷ xs) n low fits e = absurd cc
 
@@ -376,16 +385,21 @@ alone limit packet fits = ap (extent limit) (sym (append-nil (spelling packet)))
 pub told_same : (m n : ℕ) → Known m ≡ Known n → m ≡ n
 told_same m n e = cc
 
+-- a packet that the octets begin has the length that they tell
+pub front_known : (limit : ℕ) (octets : List ℕ) (n : ℕ) (packet : Packet) → IsFrontOf limit octets packet → extent limit octets ≡ Known n → n ≡ length (spelling packet)
+front_known limit octets n packet f e =
+    let more = known_more limit octets f.0 n e in
+    told_same n (length (spelling packet)) (sym more ∙ ap (extent limit) f.3 ∙ alone limit packet f.1)
+
 pub unfinished_known : (limit : ℕ) (octets : List ℕ) (n : ℕ) → IsUnfinished limit octets → extent limit octets ≡ Known n → length octets < n
 unfinished_known limit octets n u e =
-    let more = known_more limit octets u.1 n e in
-    let same : n ≡ length (spelling u.0) = told_same n (length (spelling u.0)) (sym more ∙ ap (extent limit) u.4 ∙ alone limit u.0 u.2) in
-    omega (arith, some_long u.1 u.3, length-append octets u.1, ap length u.4)
+    let same = front_known limit octets n u.0 u.1 e in
+    omega (arith, some_long u.1.0 u.1.2, length-append octets u.1.0, ap length u.1.3)
 
 pub unfinished_right : (limit : ℕ) (octets : List ℕ) (r : H4Refusal) (n : ℕ) → IsUnfinished limit octets → GoesWrong limit octets r n → ⊥
 unfinished_right limit octets r n u h =
-    let wrong = wrong_refused limit (octets ++ u.1) r n (wrong_more limit octets u.1 r n h) in
-    let right = ap (extent limit) u.4 ∙ alone limit u.0 u.2 in
+    let wrong = wrong_refused limit (octets ++ u.1.0) r n (wrong_more limit octets u.1.0 r n h) in
+    let right = ap (extent limit) u.1.3 ∙ alone limit u.0 u.1.1 in
     absurd cc
 
 pub packet_right : (limit : ℕ) (packet : Packet) (more : List ℕ) (r : H4Refusal) (n : ℕ) → IsPacket limit packet → GoesWrong limit (spelling packet ++ more) r n → ⊥
@@ -446,4 +460,4 @@ spelling_octets limit (Event code params) fits =
     IsOctets-cons 4 (code ∷ length params ∷ params) (omega arith) (IsOctets-cons code (length params ∷ params) fits.0 (IsOctets-cons (length params) params fits.1 fits.2))
 
 pub unfinished_octets : (limit : ℕ) (octets : List ℕ) → IsUnfinished limit octets → IsOctets octets
-unfinished_octets limit octets u = IsOctets-front octets u.1 (subst IsOctets (sym u.4) (spelling_octets limit u.0 u.2))
+unfinished_octets limit octets u = IsOctets-front octets u.1.0 (subst IsOctets (sym u.1.3) (spelling_octets limit u.0 u.1.1))

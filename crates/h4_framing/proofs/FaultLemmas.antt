@@ -23,9 +23,9 @@ spellings_push ps p = spellings_append ps (p ∷ []) ∙ ap (λ (xs : List ℕ).
 unfinished_begins : (limit : ℕ) (ps : List Packet) (rest : List ℕ) → AllByRecursion (IsPacket limit) ps → IsUnfinished limit rest → Begins limit (spellings ps ++ rest)
 unfinished_begins limit ps rest fits u = (
   ps ++ u.0 ∷ [],
-  u.1,
-  all_append (IsPacket limit) ps (u.0 ∷ []) fits (u.2, tt),
-  append_assoc (spellings ps) rest u.1 ∙ ap (λ (xs : List ℕ). spellings ps ++ xs) u.4 ∙ sym (spellings_push ps u.0),
+  u.1.0,
+  all_append (IsPacket limit) ps (u.0 ∷ []) fits (u.1.1, tt),
+  append_assoc (spellings ps) rest u.1.0 ∙ ap (λ (xs : List ℕ). spellings ps ++ xs) u.1.3 ∙ sym (spellings_push ps u.0),
 )
 
 pub whole_begins : (limit : ℕ) (stream : List ℕ) (ps : List Packet) → Reads limit stream ps Whole → Begins limit stream

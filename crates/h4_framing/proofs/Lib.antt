@@ -1,6 +1,7 @@
 pub mod OctetLists
 pub mod ExtentLemmas
 pub mod SpellingLemmas
+pub mod LengthLemmas
 pub mod GatheringLemmas
 pub mod TakingLemmas
 pub mod ReadingLemmas

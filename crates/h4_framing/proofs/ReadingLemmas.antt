@@ -23,7 +23,7 @@ use Rattle.h4_framing.proofs.SpellingLemmas.{one_spelling}
 pub NoPacket : ℕ → List ℕ → Type 0
 NoPacket limit octets = (p : Packet) (more : List ℕ) → IsPacket limit p → octets ≡ spelling p ++ more → ⊥
 
-unfinished_none : (limit : ℕ) (octets : List ℕ) → IsUnfinished limit octets → NoPacket limit octets
+pub unfinished_none : (limit : ℕ) (octets : List ℕ) → IsUnfinished limit octets → NoPacket limit octets
 unfolding NoPacket
 unfinished_none limit octets u p more fits e =
     let lt = unfinished_known limit octets (length (spelling p)) u (ap (extent limit) e ∙ packet_known limit p more fits) in

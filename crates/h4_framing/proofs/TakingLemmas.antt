@@ -12,7 +12,7 @@ use Rattle.h4_framing.specs.Taking.{Takes}
 
 -- no octet at all is the beginning of a packet
 pub nothing_unfinished : (limit : ℕ) → IsUnfinished limit []
-nothing_unfinished limit = (Event 0 [], 4 ∷ 0 ∷ 0 ∷ [], (omega arith, omega arith, (λ i. omega arith)), (λ none. absurd cc), refl)
+nothing_unfinished limit = (Event 0 [], (4 ∷ 0 ∷ 0 ∷ [], (omega arith, omega arith, (λ i. omega arith)), (λ none. absurd cc), refl))
 
 packet_bound : (limit : ℕ) (packet : Packet) → 255 ≤ limit → IsPacket limit packet → length (spelling packet) ≤ 5 + limit
 packet_bound limit (Command opcode params) low fits = omega arith
@@ -22,7 +22,7 @@ packet_bound limit (Event code params) low fits = omega arith
 
 -- a framer has room for each packet
 pub unfinished_bound : (limit : ℕ) (octets : List ℕ) → 255 ≤ limit → IsUnfinished limit octets → length octets ≤ 5 + limit
-unfinished_bound limit octets low u = omega (arith, packet_bound limit u.0 low u.2, ap length u.4, length-append octets u.1)
+unfinished_bound limit octets low u = omega (arith, packet_bound limit u.0 low u.1.1, ap length u.1.3, length-append octets u.1.0)
 
 pub takes_refused : (old : Framing) (piece : List ℕ) (r : H4Refusal) (n place : ℕ) → old.fault ≡ None → GoesWrong old.limit (old.held ++ piece) r n → place ≡ counted old.before n
     → MatchOption old.fault ((n : ℕ) × GoesWrong old.limit (old.held ++ piece) r n × (place ≡ counted old.before n)) (λ fault. fault ≡ (r, place))

@@ -15,9 +15,18 @@ IsIndicator octet = (1 ≤ octet) × (octet ≤ 4)
 abbrev pub Begins : ℕ → List ℕ → Type 0
 Begins limit octets = (packets : List Packet) × (more : List ℕ) × AllByRecursion (IsPacket limit) packets × (octets ++ more ≡ spellings packets)
 
+-- The octets are the beginning of that packet and not the whole of it.
+abbrev pub IsFrontOf : ℕ → List ℕ → Packet → Type 0
+IsFrontOf limit octets packet = (more : List ℕ) × IsPacket limit packet × (more ≢ []) × (octets ++ more ≡ spelling packet)
+
 -- The octets are the beginning of one packet and not the whole of it.
 abbrev pub IsUnfinished : ℕ → List ℕ → Type 0
-IsUnfinished limit octets = (packet : Packet) × (more : List ℕ) × IsPacket limit packet × (more ≢ []) × (octets ++ more ≡ spelling packet)
+IsUnfinished limit octets = (packet : Packet) × IsFrontOf limit octets packet
+
+-- A packet that the octets begin may have as few as n octets, and none has fewer.
+pub record IsLeastLength (limit : ℕ) (octets : List ℕ) (n : ℕ) : Type 0 where
+  pub some : (packet : Packet) × IsFrontOf limit octets packet × (n ≡ length (spelling packet))
+  pub none_shorter : (packet : Packet) → IsFrontOf limit octets packet → n ≤ length (spelling packet)
 
 -- Octets that stand where a packet should begin go wrong at a place: the first is no indicator, or the high
 -- octet of an ACL length puts it above the limit.

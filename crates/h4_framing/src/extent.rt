@@ -1,6 +1,7 @@
 //! How long the packet at the front of some octets is.
 
-ghost use Rattle.std.specs.Prelude.{◌≡◌};
+ghost use Rattle.std.specs.Prelude.{◌≡◌, ◌≤◌};
+ghost use Rattle.h4_framing.specs.Stream.{IsUnfinished, IsLeastLength};
 ghost use Rattle.h4_framing.specs.Extents.{extent, acl_extent};
 
 use crate::refusal::H4Refusal;
@@ -30,6 +31,26 @@ pub(crate) fn extent_of(octets: &[u8], limit: u16) -> Extent
         [2, ..] => Extent::AtLeast(5),
         [4, ..] => Extent::AtLeast(3),
         [_, ..] => Extent::Refused(H4Refusal::BadIndicator, 0),
+    }
+}
+
+/// The fewest octets of a packet that begins with these: octets of its length that are not there
+/// are read as 0.
+pub(crate) fn least_length(octets: &[u8], limit: u16) -> usize
+    requires limit { 255 ≤ limit }
+    requires unfinished { IsUnfinished limit octets.now }
+    ensures { IsLeastLength limit octets.now result }
+{
+    match extent_of(octets, limit) {
+        Extent::Known(length) => length,
+        Extent::AtLeast(length) => match octets {
+            // An event has the shortest head of all packets.
+            [] => 3,
+            // The high octet of an ACL length is not there.
+            [2, _, _, low] => 5 + *low as usize,
+            _ => length,
+        },
+        Extent::Refused(_, _) => unreachable!(),
     }
 }
 

@@ -1,5 +1,6 @@
 //! Packets out of a stream that comes in pieces.
 
+use crate::extent::least_length;
 use crate::gathering::{Gathered, gather, refill};
 use crate::leading::{Leading, first, unit_of};
 use crate::refusal::H4Refusal;
@@ -54,6 +55,7 @@ impl Framer {
     ghost use Rattle.h4_framing.specs.contracts.framer.Framer.{the_row};
     ghost use mathlib.Core.Option.{none};
     ghost use denote.Follow.{follows_so};
+    ghost use Rattle.h4_framing.specs.Stream.{IsLeastLength};
     ghost use Rattle.h4_framing.specs.Taking.{Takes, EndsWith};
 
     /// A framer at the beginning of a stream, that refuses an ACL packet of more than `limit`
@@ -146,5 +148,12 @@ impl Framer {
             None if self.held > 0 => Err((H4Refusal::Truncated, self.before)),
             None => Ok(()),
         }
+    }
+    /// The fewest octets of a packet that begins with those that are held, with its indicator:
+    /// octets of its length that have not come yet are read as 0.
+    pub fn least_length(&self) -> usize
+        ensures { IsLeastLength self.now.limit self.now.held result }
+    {
+        least_length(&self.buffer[..self.held], self.limit)
     }
 }

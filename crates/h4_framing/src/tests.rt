@@ -121,6 +121,32 @@ fn refusals(rt: HostRuntime) -> Result<(), Fail> {
     Ok(())
 }
 
+/// What is held of a packet, and how many octets it has at least.
+const LEAST_LENGTHS: [(&[u8], usize); 12] = [
+    (&[], 3),
+    (&[1], 4),
+    (&[1, 3, 0x0C], 4),
+    (&[1, 3, 0x0C, 9], 13),
+    (&[2], 5),
+    (&[2, 1, 0x20, 0xFE], 259),
+    (&[2, 1, 0x20, 0xFE, 2], 771),
+    (&[3, 1, 0], 4),
+    (&[3, 1, 0, 7, 0], 11),
+    (&[4], 3),
+    (&[4, 0x0E], 3),
+    (&[4, 0x0E, 200], 203),
+];
+
+#[test]
+fn least_lengths(rt: HostRuntime) -> Result<(), Fail> {
+    for (held, least) in LEAST_LENGTHS.iter() {
+        let mut framer = Framer::new(rt.alloc(), 1021)?;
+        assert!(rt; matches!(framer.take(held), Taken::More));
+        assert_eq!(rt; framer.least_length(), *least);
+    }
+    Ok(())
+}
+
 #[test]
 fn written_octets(rt: HostRuntime) {
     let params = [1u8, 3, 0x0C, 0];

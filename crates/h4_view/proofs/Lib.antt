@@ -3,3 +3,5 @@ pub mod Knowing
 pub mod Joining
 pub mod Showing
 pub mod Stands
+pub mod Endings
+pub mod OneView

@@ -6,3 +6,4 @@ pub mod Lines
 pub mod Shows
 pub mod Standing
 pub mod View
+pub mod Laws

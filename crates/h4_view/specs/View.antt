@@ -4,9 +4,9 @@ use Rattle.std.specs.List.{AllByRecursion}
 use Rattle.bt_base.specs.Counts.{HasRisen}
 use Rattle.bt_base.specs.Streams.{gained, GainedFront}
 use Rattle.h4_framing.specs.declared.refusal.H4Refusal.TheVariants as h4
-use Rattle.h4_framing.specs.Packets.{Packet, spellings, IsPacket}
+use Rattle.h4_framing.specs.Packets.{Packet, spelling, spellings, IsPacket}
 use Rattle.h4_framing.specs.Framing.{Framing}
-use Rattle.h4_framing.specs.Stream.{IsUnfinished, GoesWrong}
+use Rattle.h4_framing.specs.Stream.{IsFrontOf, IsUnfinished, IsLeastLength, GoesWrong}
 use Rattle.h4_view.specs.declared.refusal.ViewRefusal.{ViewRefusal}
 use Rattle.h4_view.specs.declared.refusal.ViewRefusal.TheVariants.{BadIndicator, Truncated, TooLong}
 use Rattle.h4_view.specs.declared.refusal.ViewFault.{ViewFault}
@@ -27,23 +27,35 @@ acl_limit = 65535
 abbrev pub HasBadIndicator : List ℕ → Type 0
 HasBadIndicator rest = GoesWrong acl_limit rest h4.BadIndicator 0
 
+-- The octets from that offset on are the beginning of a packet that may end within the greatest length.
+abbrev pub MayEndWithin : ℕ → List ℕ → Type 0
+MayEndWithin from octets = (packet : Packet) × IsFrontOf acl_limit octets packet × (from + length (spelling packet) ≤ input_limit)
+
+-- The octets from that offset on are the beginning of a packet, and each that they begin goes past the greatest length.
+abbrev pub GoesPast : ℕ → List ℕ → Type 0
+GoesPast from octets = IsUnfinished acl_limit octets × ((packet : Packet) → IsFrontOf acl_limit octets packet → input_limit < from + length (spelling packet))
+
 -- Why a view stops at an offset, where this is left of the input. Whoever reads stops at the greatest length.
--- No refusal: nothing is left. A bad indicator stands at the offset. Truncated: what is left is less than a packet,
--- and ends before the greatest length. Too long: the input goes on to the greatest length, and the octets up to
--- there end within a packet, or more octets stand behind them.
+-- No refusal: nothing is left. A bad indicator stands at the offset. Truncated: the input ends within a packet that
+-- may end within the greatest length. Too long: the octets up to the greatest length, or up to the end of the input
+-- where that comes first, are the beginning of a packet that goes past the greatest length whatever follows.
 abbrev pub Stops : ℕ → List ℕ → Option (ViewRefusal × ℕ) → Type 0
 Stops from rest None = rest ≡ []
 Stops from rest (Some (BadIndicator, place)) = (place ≡ from) × (from < input_limit) × HasBadIndicator rest
-Stops from rest (Some (Truncated, place)) = (place ≡ from) × (rest ≢ []) × IsUnfinished acl_limit rest × (from + length rest < input_limit)
-Stops from rest (Some (TooLong, place)) = (place ≡ input_limit) × (rest ≢ []) × (input_limit ≤ from + length rest) × IsUnfinished acl_limit (take (input_limit - from) rest)
+Stops from rest (Some (Truncated, place)) = (place ≡ from) × (rest ≢ []) × MayEndWithin from rest
+Stops from rest (Some (TooLong, place)) = (place ≡ input_limit) × (rest ≢ []) × GoesPast from (take (input_limit - from) rest)
 
--- The view of an input shows these packets, which end within the greatest length, and then stops so.
-pub record IsView (input : List ℕ) (packets : List Packet) (verdict : Option (ViewRefusal × ℕ)) : Type 0 where
+-- The input begins with these packets, and they end within the greatest length.
+pub record BeginsWith (input : List ℕ) (packets : List Packet) : Type 0 where
   pub each : AllByRecursion (IsPacket acl_limit) packets
   pub within : length (spellings packets) ≤ input_limit
   pub rest : List ℕ
   pub whole : input ≡ spellings packets ++ rest
-  pub stops : Stops (length (spellings packets)) rest verdict
+
+-- The view of an input shows these packets, and then stops so at what is left of the input.
+pub record IsView (input : List ℕ) (packets : List Packet) (verdict : Option (ViewRefusal × ℕ)) : Type 0 where
+  pub begins : BeginsWith input packets
+  pub stops : Stops (length (spellings packets)) begins.rest verdict
 
 -- the text of a view: a line for each packet, and one for the refusal
 abbrev pub verdict_text : Option (ViewRefusal × ℕ) → List ℕ
@@ -56,7 +68,7 @@ view_text packets verdict = lines [] 0 packets ++ verdict_text verdict
 -- A front of the view's text was written: some of the lines of packets that the input begins with, or all lines
 -- and some of the refusal.
 pub data FrontWritten (old new : Option (List ℕ)) (input : List ℕ) : Type 0 where
-  OfLines : (packets : List Packet) (rest : List ℕ) → AllByRecursion (IsPacket acl_limit) packets → input ≡ spellings packets ++ rest → GainedFront old new (lines [] 0 packets) → FrontWritten old new input
+  OfLines : (packets : List Packet) → BeginsWith input packets → GainedFront old new (lines [] 0 packets) → FrontWritten old new input
   OfAll : (packets : List Packet) (verdict : Option (ViewRefusal × ℕ)) → IsView input packets verdict → GainedFront old new (view_text packets verdict) → FrontWritten old new input
 
 -- What a sink gains from the view of an input.
@@ -93,9 +105,9 @@ ShowsAll input old new (Err NoMemory) = FrontWritten old new input
 -- Why the view of a framer's stream stops where the stream ends.
 abbrev pub EndsView : Framing → Option (ViewRefusal × ℕ) → Type 0
 EndsView framing None = framing.held ≡ []
-EndsView framing (Some (Truncated, place)) = (framing.held ≢ []) × (place ≡ framing.before)
+EndsView framing (Some (Truncated, place)) = (place ≡ framing.before) × (framing.held ≢ []) × ((n : ℕ) × IsLeastLength framing.limit framing.held n × (framing.before + n ≤ input_limit))
+EndsView framing (Some (TooLong, place)) = (place ≡ input_limit) × (framing.held ≢ []) × ((n : ℕ) × IsLeastLength framing.limit framing.held n × (input_limit < framing.before + n))
 EndsView framing (Some (BadIndicator, place)) = ⊥
-EndsView framing (Some (TooLong, place)) = ⊥
 
 -- Why it stops where the stream was read up to the greatest length: it ends there, or it is too long.
 abbrev pub EndsAtLimit : Framing → Option (List ℕ) → Option (ViewRefusal × ℕ) → Type 0

@@ -2,6 +2,7 @@
 #![tactic(auto)]
 
 mod details;
+pub mod laws;
 mod line;
 mod names;
 mod piece;

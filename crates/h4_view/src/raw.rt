@@ -49,15 +49,19 @@ fn write_text<K: Sink>(sink: &mut K, text: &[u8]) -> Result<(), ViewFault>
     }
 }
 
-/// Why the view stops where the input ends: it was cut within a packet, or nothing is left.
+/// Why the view stops where the input ends: nothing is left, or it was cut within a packet, which
+/// may end within the greatest length or goes past it.
 fn ending(framer: &Framer) -> Option<(ViewRefusal, u64)>
     requires { framer.now.fault ≡ None }
     ensures { EndsView framer.now result }
 {
-    match framer.end() {
-        Ok(()) => None,
-        Err((_, place)) => Some((ViewRefusal::Truncated, place)),
+    let Err((_, place)) = framer.end() else {
+        return None;
+    };
+    if place.saturating_add(framer.least_length() as u64) > INPUT_LIMIT as u64 {
+        return Some((ViewRefusal::TooLong, INPUT_LIMIT as u64));
     }
+    Some((ViewRefusal::Truncated, place))
 }
 
 /// Whether the input goes past its greatest length, up to which it was read.
@@ -225,7 +229,7 @@ fn refuse<K: Sink>(alloc: Global, sink: &mut K, refusal: ViewRefusal, place: u64
 /// Shows a stream of packets: a line for each packet up to the first fault, and one for the fault.
 ///
 /// `Refused` comes where the input is no stream of whole packets, with the place of the fault, or
-/// goes past 67,108,864 octets; `ReadFault` and `WriteFault` where the source or the sink failed.
+/// goes past 67,108,864 octets, also where it ends before within a packet that would pass them; `ReadFault` and `WriteFault` where the source or the sink failed.
 /// Packets of ACL data may have up to 65,535 octets.
 pub fn view_raw<S: Source, K: Sink>(
     alloc: Global,

@@ -13,7 +13,8 @@ pub enum ViewRefusal {
     BadIndicator,
     /// The input ends within a packet; the place is that of its indicator.
     Truncated,
-    /// The input goes past its greatest length.
+    /// The input goes past its greatest length, or ends within a packet that would. The place is
+    /// that length.
     TooLong,
 }
 

@@ -1,5 +1,6 @@
 use Rattle.std.proofs.Common.{refl}
-use Rattle.h4_view.proofs.Stands.{standing_none, limit_shows}
+use Rattle.h4_view.proofs.Stands.{standing_none}
+use Rattle.h4_view.proofs.Endings.{limit_shows}
 use Rattle.h4_view.proofs.raw.show_all.Goals as goal
 
 pub loop-view-init : goal.loop-view-init

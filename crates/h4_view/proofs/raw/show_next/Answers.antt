@@ -1,7 +1,8 @@
 use Rattle.std.proofs.Common.{Ok, ap, arith}
 use Rattle.std.proofs.lemmas.List.{length-take, take_at}
 use Rattle.h4_view.specs.declared.refusal.ViewFault.TheVariants.{NoMemory}
-use Rattle.h4_view.proofs.Stands.{front_stands, fault_shows, front_more, standing_more, ended, refused}
+use Rattle.h4_view.proofs.Stands.{front_stands, fault_shows, front_more, standing_more}
+use Rattle.h4_view.proofs.Endings.{ended, refused}
 use Rattle.h4_view.proofs.raw.show_next.Goals as goal
 
 pub returns-in-Err-clause-steps : goal.returns-in-Err-clause-steps
@@ -17,7 +18,7 @@ pub returns-in-Err-write_text-clause-steps : goal.returns-in-Err-write_text-clau
 returns-in-Err-write_text-clause-steps g c input old s =
     let shows = rw (c.requires.text, c.deref_mut.ensures.value) at c.in-Ok-shown.ensures in
     let front = rw c.deref.ensures.value at c.in-Err-write_text.ensures.front in
-    fault_shows input old _ c.in-Err-write_text.fault c.in-Err-write_text.ensures.of_port (front_more _ _ _ _ _ _ _ _ _ _ _ _ _ _ _ _ s c.in-Ok.ensures.took.1 shows front)
+    fault_shows input old _ c.in-Err-write_text.fault c.in-Err-write_text.ensures.of_port (front_more _ _ _ _ _ _ _ _ _ _ _ _ _ _ _ _ s c.in-Ok.ensures.took.1 shows front (omega (arith, length-take c.in-Ok.n c.read_piece.new.piece, length-take c.min-room.result c.args.piece.now, c.in-Ok.ensures.took.0, c.min-room.ensures, c.requires.below)))
 
 pub returns-in-None-clause-steps : goal.returns-in-None-clause-steps
 returns-in-None-clause-steps g c = (

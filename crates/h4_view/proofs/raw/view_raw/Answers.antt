@@ -1,4 +1,4 @@
-use Rattle.h4_view.proofs.Stands.{nothing_shown, refusal_shown}
+use Rattle.h4_view.proofs.Endings.{nothing_shown, refusal_shown}
 use Rattle.h4_view.proofs.raw.view_raw.Goals as goal
 
 pub returns-in-Err-clause-views : goal.returns-in-Err-clause-views
