@@ -3,3 +3,7 @@ pub mod Elements
 pub mod Reading
 pub mod Spelling
 pub mod Laws
+pub mod Optional
+pub mod Records
+pub mod Answers
+pub mod Exchange
