@@ -5,3 +5,4 @@ pub mod FormLaws
 pub mod TreeLaws
 pub mod ContractLaws
 pub mod SpellingLaws
+pub mod SequenceLaws

@@ -4,6 +4,8 @@ pub mod Reading
 pub mod Spelling
 pub mod Laws
 pub mod Optional
+pub mod Sequences
+pub mod Pdus
 pub mod Records
 pub mod Answers
 pub mod Exchange

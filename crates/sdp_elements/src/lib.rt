@@ -7,14 +7,18 @@ mod fault;
 mod header;
 mod identifier;
 pub mod laws;
+mod pdu;
 mod reading;
+mod sequence;
 mod walk;
 mod writing;
 
 pub use element::{Children, Element};
 pub use fault::SdpRefusal;
 pub use identifier::uuid_of;
+pub use pdu::{Pdu, pdu_of};
 pub use reading::element_of;
+pub use sequence::sequence_at;
 pub use writing::put_element;
 
 #[cfg(test)]
