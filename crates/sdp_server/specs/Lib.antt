@@ -1,0 +1,6 @@
+pub mod Requests
+pub mod Ranges
+pub mod Lists
+pub mod Listed
+pub mod Asking
+pub mod Replies
