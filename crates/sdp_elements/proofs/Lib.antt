@@ -6,3 +6,4 @@ pub mod TreeLaws
 pub mod ContractLaws
 pub mod SpellingLaws
 pub mod SequenceLaws
+pub mod WalkLaws

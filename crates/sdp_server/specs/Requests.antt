@@ -1,5 +1,5 @@
 -- Which octets are a request, and what it asks (Core 5.1, Volume 3 Part B, 4.5.1, 4.6.1 and 4.7.1).
-use Rattle.std.specs.Prelude.{ℕ, ◌/◌, ◌%◌, ◌&&◌, ◌==◌, Bool, nat_le, if◌then◌else◌, List, [], ◌∷◌, length, drop, Option, Some, None, is_some}
+use Rattle.std.specs.Prelude.{ℕ, ◌/◌, ◌%◌, ◌&&◌, ◌==◌, Bool, nat_le, nat_lt, if◌then◌else◌, List, [], ◌∷◌, length, drop, Option, Some, None, is_some}
 use Rattle.byteorder.specs.Endian.{big_number}
 use Rattle.sdp_elements.specs.Answers.{Range, Question, Handles, Attributes, Search}
 use Rattle.sdp_elements.specs.Elements.{PlainElement, PlainValue, Nil, Unsigned, Signed, Uuid, Text, Boolean, Url, Value, Sequence, Alternative, Tree, Leaf, SequenceOf, AlternativeOf, Trees}
@@ -45,7 +45,7 @@ pattern_at octets = do
 -- an identifier in two octets is a range of its own; in four octets the low end stands in the high half, and is at most the high end
 abbrev pub range_number : ℕ → ℕ → Option Range
 range_number width number =
-    if width == 2 then Some (record { low = number; high = number })
+    if (width == 2) && nat_lt number 65536 then Some (record { low = number; high = number })
     else if (width == 4) && nat_le (number / 65536) (number % 65536) then Some (record { low = number / 65536; high = number % 65536 })
     else None
 

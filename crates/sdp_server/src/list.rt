@@ -1,6 +1,7 @@
 //! The attribute identifiers that a request lists.
 
-ghost use Rattle.std.specs.Prelude.{◌≡◌, List, option_map, is_some};
+ghost use Rattle.std.specs.Prelude.{◌≡◌, List, option_map, is_some, false};
+ghost use Rattle.std.specs.Option.{option_map_or};
 ghost use Rattle.sdp_elements.specs.Answers.{Range, is_within, is_listed};
 ghost use Rattle.sdp_elements.specs.Elements.{Trees, left_of, plain};
 ghost use Rattle.sdp_elements.specs.Optional.{GivesAs};
@@ -31,18 +32,25 @@ fn range_of(part: &Element<'_>) -> Option<IdentifierRange>
     ensures { option_map plain_range result ≡ range_in (plain part.now) }
 {
     match *part {
-        Element::Unsigned(2, number) => {
-            let identifier = number as u16;
-            Some(IdentifierRange {
-                low: identifier,
-                high: identifier,
-            })
-        }
+        Element::Unsigned(2, number) if number < 65536 => Some(IdentifierRange {
+            low: number as u16,
+            high: number as u16,
+        }),
         Element::Unsigned(4, number) if number / 65536 <= number % 65536 => Some(IdentifierRange {
             low: (number / 65536) as u16,
             high: (number % 65536) as u16,
         }),
         _ => None,
+    }
+}
+
+/// Whether a part of a list names an identifier.
+fn names(part: &Element<'_>, identifier: u16) -> bool
+    ensures { result ≡ option_map_or (is_within identifier) (range_in (plain part.now)) false }
+{
+    match range_of(part) {
+        Some(range) => is_within(identifier, range),
+        None => false,
     }
 }
 
@@ -82,9 +90,7 @@ pub(crate) fn is_listed(list: &AttributeList<'_>, identifier: u16) -> bool
 {
     let mut left = list.ranges;
     while let Some(part) = left.next() {
-        if let Some(range) = range_of(&part)
-            && is_within(identifier, range)
-        {
+        if names(&part, identifier) {
             return true;
         }
     }

@@ -1,6 +1,7 @@
 //! The search pattern of a request.
 
-ghost use Rattle.std.specs.Prelude.{◌≡◌, ℕ, ◌≤◌, List, ◌∷◌, option_map, map, Some};
+ghost use Rattle.std.specs.Prelude.{◌≡◌, ℕ, List, false};
+ghost use Rattle.std.specs.Option.{option_map_or};
 ghost use Rattle.bt_base.specs.declared.settings.Serves.{Serves};
 ghost use Rattle.sdp_elements.specs.Elements.{Trees, left_of, plain};
 ghost use Rattle.sdp_elements.specs.Optional.{GivesAs};
@@ -33,13 +34,26 @@ fn uuid_of(part: &Element<'_>) -> Option<Uuid>
     }
 }
 
+/// Whether a part of a pattern is an identifier that the service record has.
+fn is_found(part: &Element<'_>, serves: Serves) -> bool
+    ensures { result ≡ option_map_or (has_identifier (service_record serves)) (uuid_in (plain part.now)) false }
+{
+    match uuid_of(part) {
+        Some(identifier) => has_identifier(serves, &identifier),
+        None => false,
+    }
+}
+
 fn is_pattern(parts: Children<'_>) -> bool
     ensures { (trees : Trees) → AreSpelledBy trees (left_of parts.entry) → result ≡ is_pattern trees }
 {
     let mut left = parts;
     let mut count = 0;
     while let Some(part) = left.next() {
-        if count == MOST_IDENTIFIERS || uuid_of(&part).is_none() {
+        if uuid_of(&part).is_none() {
+            return false;
+        }
+        if count == MOST_IDENTIFIERS {
             return false;
         }
         count += 1;
@@ -64,9 +78,7 @@ pub(crate) fn matches(pattern: &Pattern<'_>, serves: Serves) -> bool
 {
     let mut left = pattern.identifiers;
     while let Some(part) = left.next() {
-        if let Some(identifier) = uuid_of(&part)
-            && !has_identifier(serves, &identifier)
-        {
+        if !is_found(&part, serves) {
             return false;
         }
     }

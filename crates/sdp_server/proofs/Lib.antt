@@ -1,0 +1,4 @@
+pub mod Lists
+pub mod Patterns
+pub mod Reading
+pub mod Pieces
