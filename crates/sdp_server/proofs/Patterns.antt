@@ -101,8 +101,7 @@ read_pattern None h = absurd cc
 pub pattern_found : (octets rest : List ℕ) (parts : Trees) → sequence_at octets ≡ Some (parts, rest) → is_pattern parts ≡ true
     → (identifiers : List (List ℕ)) × (pattern_at octets ≡ Some (identifiers, rest)) × (collected uuid_of parts ≡ Some identifiers)
 pattern_found octets rest parts e h =
-    let p = read_pattern (collected uuid_of parts) h in
-    (
+    let p = read_pattern (collected uuid_of parts) h in (
       p.0,
       ap (λ (o : Option (Trees × List ℕ)). o >>= λ found. pattern_of found.0 >>= λ identifiers. Some (identifiers, found.1)) e ∙ ap (λ (o : Option (List (List ℕ))). o >>= λ identifiers. Some (identifiers, rest)) p.1,
       p.2,

@@ -82,9 +82,7 @@ fn part_reply(
     ensures items { result.items ≡ part_reply identifier transaction answer.now offset most room }
     ensures fits { length result.items ≤ room }
 {
-    let count = usize::from(most)
-        .min(answer.len() - offset)
-        .min(room - 10);
+    let count = usize::from(most).min(answer.len() - offset).min(room - 10);
     let end = offset + count;
     let mut parameters = ArrayVec::new();
     append(&mut parameters, &(count as u16).to_be_bytes());
@@ -109,14 +107,7 @@ fn part(
     let Some(offset) = offset_in(request.continuation, answer.len()) else {
         return Err(ErrorCode::InvalidContinuation);
     };
-    Ok(part_reply(
-        identifier,
-        transaction,
-        answer,
-        offset,
-        request.most,
-        room,
-    ))
+    Ok(part_reply(identifier, transaction, answer, offset, request.most, room))
 }
 
 /// The reply with the handles of the service records that a pattern finds.

@@ -14,7 +14,7 @@ returns-then-is_none c = λ trees s.
     let k = c.loop-part.invariant.counts trees s in
     let w = walked k.rest element old new c.in-Some.ensures.found c.in-Some.ensures.parts k.spelled in
     sym (counts_no trees c.loop-part.count old new element k w
-      (none_there (λ x. x) c.uuid_of.result (uuid_of w.first) (uuid_in element) c.is_none.result c.is_none.ensures c.if-is_none.true (mapped c.uuid_of.result (uuid_in element) c.uuid_of.ensures) (uuid-of_tree element w.first w.stands)))
+    (none_there (λ x. x) c.uuid_of.result (uuid_of w.first) (uuid_in element) c.is_none.result c.is_none.ensures c.if-is_none.true (mapped c.uuid_of.result (uuid_in element) c.uuid_of.ensures) (uuid-of_tree element w.first w.stands)))
 
 pub returns-then-count-eq-MOST_IDENTIFIERS : goal.returns-then-count-eq-MOST_IDENTIFIERS
 returns-then-count-eq-MOST_IDENTIFIERS c = λ trees s.
@@ -24,8 +24,8 @@ returns-then-count-eq-MOST_IDENTIFIERS c = λ trees s.
     let k = c.loop-part.invariant.counts trees s in
     let w = walked k.rest element old new c.in-Some.ensures.found c.in-Some.ensures.parts k.spelled in
     sym (counts_full trees c.loop-part.count old new element k w
-      (some_there (λ x. x) c.uuid_of.result (uuid_of w.first) (uuid_in element) c.is_none.result c.is_none.ensures c.if-is_none.false (mapped c.uuid_of.result (uuid_in element) c.uuid_of.ensures) (uuid-of_tree element w.first w.stands))
-      c.if-count-eq-MOST_IDENTIFIERS.true)
+    (some_there (λ x. x) c.uuid_of.result (uuid_of w.first) (uuid_in element) c.is_none.result c.is_none.ensures c.if-is_none.false (mapped c.uuid_of.result (uuid_in element) c.uuid_of.ensures) (uuid-of_tree element w.first w.stands))
+    c.if-count-eq-MOST_IDENTIFIERS.true)
 
 pub loop-part-preserved : goal.loop-part-preserved
 loop-part-preserved c = record {
