@@ -1,14 +1,14 @@
 -- Walks over the parts of patterns and lists.
-use Rattle.std.proofs.Common.{◌≡◌, ℕ, suc, ◌+◌, ◌≤◌, ◌<◌, Bool, true, false, List, [], ◌∷◌, length, Option, Some, None, refl, sym, ap, subst, ◌∙◌, arith}
-use Rattle.std.specs.Prelude.{◌&&◌, ◌||◌, not, nat_le, nat_lt, is_some, is_none, option_map, if◌then◌else◌}
+use Rattle.std.proofs.Common.{◌≡◌, ℕ, Bool, true, false, List, [], ◌∷◌, Option, Some, None, refl, sym, ap, ◌∙◌}
+use Rattle.std.specs.Prelude.{◌&&◌, ◌||◌, not, is_some, option_map}
 use Rattle.std.specs.Option.{option_map_or}
-use Rattle.sdp_elements.specs.Answers.{Range, is_within, is_listed}
-use Rattle.sdp_elements.specs.Elements.{PlainElement, Value, Sequence, Alternative, Tree, Leaf, SequenceOf, AlternativeOf, Trees, Finish, Then}
+use Rattle.sdp_elements.specs.Answers.{Range}
+use Rattle.sdp_elements.specs.Elements.{PlainElement, Value, Sequence, Alternative, Tree, Trees, Finish, Then}
 use Rattle.sdp_elements.specs.Optional.{◌>>=◌}
 use Rattle.sdp_elements.specs.Sequences.{sequence_at, collected}
 use Rattle.sdp_elements.specs.Spelling.{AreSpelledBy, Stands}
-use Rattle.sdp_elements.proofs.WalkLaws.{Walked, Collected, collected_step}
-use Rattle.sdp_server.specs.Requests.{uuid_of, uuid_in, is_pattern, pattern_of, range_of, range_in, is_some_identifiers, ranges_at, pattern_at}
+use Rattle.sdp_elements.proofs.WalkLaws.{Walked, collected_step}
+use Rattle.sdp_server.specs.Requests.{uuid_of, uuid_in, range_of, range_in, ranges_at}
 
 -- a part is what its tree is
 pub uuid-of_tree : (element : PlainElement) (tree : Tree) → Stands element tree → uuid_of tree ≡ uuid_in element

@@ -1,9 +1,9 @@
 -- Counting the identifiers of a pattern.
-use Rattle.std.proofs.Common.{◌≡◌, ℕ, zero, suc, ◌+◌, ◌≤◌, ◌<◌, Bool, true, false, List, [], ◌∷◌, length, Option, Some, None, refl, sym, ap, subst, ◌∙◌, arith}
+use Rattle.std.proofs.Common.{◌≡◌, ℕ, zero, suc, ◌+◌, ◌≤◌, ◌<◌, Bool, true, false, List, ◌∷◌, length, Option, Some, None, refl, sym, ap, ◌∙◌, arith}
 use Rattle.std.specs.Prelude.{◌&&◌, nat_le, nat_lt, is_some, cond}
 use Rattle.std.specs.Option.{option_map_or}
 use Rattle.std.proofs.lemmas.Bool.{le-leb, lt-ltb, lt-leb}
-use Rattle.sdp_elements.specs.Elements.{PlainElement, Tree, Trees, Finish, Then}
+use Rattle.sdp_elements.specs.Elements.{PlainElement, Trees, Finish, Then}
 use Rattle.sdp_elements.specs.Optional.{◌>>=◌}
 use Rattle.sdp_elements.specs.Sequences.{sequence_at, collected}
 use Rattle.sdp_elements.specs.Spelling.{AreSpelledBy}

@@ -8,7 +8,7 @@ use Rattle.bt_base.specs.Octets.{be16}
 use Rattle.bt_base.specs.declared.settings.Serves.{Serves}
 use Rattle.sdp_elements.specs.Answers.{Range, is_listed, pairs_of, listed}
 use Rattle.sdp_elements.specs.Laws.{tree_octets, parts_octets}
-use Rattle.sdp_elements.specs.Records.{Attribute, attribute, sequence_of, short, unsigned, record_handle, protocols, goep_psm, service_record}
+use Rattle.sdp_elements.specs.Records.{Attribute, attribute, sequence_of, unsigned, protocols, goep_psm, service_record}
 use Rattle.sdp_server.specs.Listed.{listed_octets, listed_pair}
 
 -- an attribute as a pair of elements

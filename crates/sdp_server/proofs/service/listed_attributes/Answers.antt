@@ -1,8 +1,5 @@
 use Rattle.std.proofs.Common.{List, ℕ, ◌++◌, ap, refl, ◌∙◌}
-use Rattle.std.specs.List.{flat_map}
-use Rattle.sdp_elements.specs.Laws.{tree_octets}
-use Rattle.sdp_elements.specs.Records.{protocols, goep_psm}
-use Rattle.sdp_server.specs.Listed.{listed_octets, listed_pair}
+use Rattle.sdp_server.specs.Listed.{listed_octets}
 use Rattle.sdp_server.proofs.Pieces.{appended, record_octets}
 use Rattle.sdp_server.proofs.service.listed_attributes.Goals as goal
 
