@@ -1,5 +1,6 @@
 -- Requests and replies as octets (Core 5.1, Volume 3 Part B, 4.2 to 4.7).
-use Rattle.std.specs.Prelude.{ℕ, ◌+◌, ◌-◌, ◌==◌, min, if◌then◌else◌, List, [], ◌∷◌, ◌++◌, length, take, drop}
+use Rattle.std.specs.Prelude.{ℕ, ◌+◌, ◌-◌, ◌&&◌, ◌==◌, min, nat_le, nat_lt, if◌then◌else◌, List, [], ◌∷◌, ◌++◌, length, take, drop, Option, Some, None}
+use Rattle.byteorder.specs.Endian.{big_number}
 use Rattle.bt_base.specs.Octets.{be16}
 
 -- a PDU: its identifier, the transaction, the length of the parameters, the parameters (4.2.1)
@@ -23,6 +24,20 @@ part_parameters answer offset count = be16 count ++ (take count (drop offset ans
 -- the reply that carries the part of the answer from an offset on
 abbrev pub part_reply : ℕ → ℕ → List ℕ → ℕ → ℕ → ℕ → List ℕ
 part_reply identifier transaction answer offset most room = pdu_octets identifier transaction (part_parameters answer offset (part_len most (length answer - offset) room))
+
+-- ---- continuation states
+
+-- the continuation state that octets are to their end: its length, at most sixteen, and so many octets (4.3)
+abbrev pub continuation_in : List ℕ → Option (List ℕ)
+continuation_in [] = None
+continuation_in (len ∷ octets) = if nat_le len 16 && (len == length octets) then Some octets else None
+
+-- the place of an answer of this length that a continuation state names: its front without a state, else a place within the answer
+abbrev pub offset_in : List ℕ → ℕ → Option ℕ
+offset_in continuation len =
+    if length continuation == 0 then Some 0
+    else if (length continuation == 2) && (nat_lt 0 (big_number 2 continuation) && nat_lt (big_number 2 continuation) len) then Some (big_number 2 continuation)
+    else None
 
 -- ---- errors
 

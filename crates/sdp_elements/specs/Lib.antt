@@ -9,3 +9,4 @@ pub mod Pdus
 pub mod Records
 pub mod Answers
 pub mod Exchange
+pub mod Targets

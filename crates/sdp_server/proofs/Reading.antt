@@ -1,8 +1,9 @@
 -- Requests out of what stands one behind the other.
 use Rattle.std.proofs.Common.{◌≡◌, ℕ, List, Option, Some, refl, sym, ap, ◌∙◌}
 use Rattle.sdp_elements.specs.Answers.{Range, Handles, Attributes, Search}
+use Rattle.sdp_elements.specs.Exchange.{continuation_in}
 use Rattle.sdp_elements.specs.Optional.{◌>>=◌}
-use Rattle.sdp_server.specs.Requests.{Request, pattern_at, ranges_at, number_at, continuation_in, handles_request, attributes_request, search_request, least_handles, least_octets}
+use Rattle.sdp_server.specs.Requests.{Request, pattern_at, ranges_at, number_at, handles_request, attributes_request, search_request, least_handles, least_octets}
 
 then_some : {A B : Type 0} (o : Option A) (x : A) (f : A → Option B) (y : Option B) → o ≡ Some x → f x ≡ y → (o >>= f) ≡ y
 then_some {A} {B} o x f y e h = ap (λ (p : Option A). p >>= f) e ∙ h

@@ -4,7 +4,7 @@ use Rattle.byteorder.specs.Endian.{big_number}
 use Rattle.bt_base.specs.Octets.{be16}
 use Rattle.bt_base.specs.declared.settings.Serves.{Serves}
 use Rattle.sdp_elements.specs.Answers.{Question, Handles, Attributes, Search, answer}
-use Rattle.sdp_elements.specs.Exchange.{pdu_octets, part_reply, error_reply}
+use Rattle.sdp_elements.specs.Exchange.{pdu_octets, offset_in, part_reply, error_reply}
 use Rattle.sdp_elements.specs.Pdus.{PlainPdu, pdu_in}
 use Rattle.sdp_elements.specs.Records.{record_handle}
 use Rattle.sdp_server.specs.Requests.{Request, request_in}
@@ -19,13 +19,6 @@ code_number InvalidSize = 4
 code_number InvalidContinuation = 5
 
 -- ---- one part of an answer
-
--- the place of an answer of this length that a continuation state names: its front without a state, else a place within the answer
-abbrev pub offset_in : List ℕ → ℕ → Option ℕ
-offset_in continuation len =
-    if length continuation == 0 then Some 0
-    else if (length continuation == 2) && (nat_lt 0 (big_number 2 continuation) && nat_lt (big_number 2 continuation) len) then Some (big_number 2 continuation)
-    else None
 
 -- the part of the answer from there on
 abbrev pub part_from : ℕ → ℕ → List ℕ → ℕ → ℕ → Option ℕ → Result (List ℕ) ErrorCode

@@ -3,6 +3,7 @@ use Rattle.std.specs.Prelude.{ℕ, ◌/◌, ◌%◌, ◌&&◌, ◌==◌, Bool, n
 use Rattle.byteorder.specs.Endian.{big_number}
 use Rattle.sdp_elements.specs.Answers.{Range, Question, Handles, Attributes, Search}
 use Rattle.sdp_elements.specs.Elements.{PlainElement, PlainValue, Nil, Unsigned, Signed, Uuid, Text, Boolean, Url, Value, Sequence, Alternative, Tree, Leaf, SequenceOf, AlternativeOf, Trees}
+use Rattle.sdp_elements.specs.Exchange.{continuation_in}
 use Rattle.sdp_elements.specs.Optional.{◌>>=◌}
 use Rattle.sdp_elements.specs.Sequences.{sequence_at, collected}
 
@@ -71,17 +72,12 @@ ranges_at octets = do
   ranges ← collected range_of found.0
   Some (ranges, found.1)
 
--- ---- numbers and the continuation state
+-- ---- numbers
 
 -- the number in the first octets, at least so great, and the octets behind it
 abbrev pub number_at : ℕ → ℕ → List ℕ → Option (ℕ × List ℕ)
 number_at width least octets =
     if nat_le width (length octets) && nat_le least (big_number width octets) then Some (big_number width octets, drop width octets) else None
-
--- the continuation state that octets are to their end: its length, at most sixteen, and so many octets (4.3)
-abbrev pub continuation_in : List ℕ → Option (List ℕ)
-continuation_in [] = None
-continuation_in (len ∷ octets) = if nat_le len 16 && (len == length octets) then Some octets else None
 
 -- ---- whole requests
 

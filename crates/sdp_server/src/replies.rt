@@ -3,14 +3,14 @@
 ghost use Rattle.std.specs.Prelude.{◌≡◌, ℕ, ◌≤◌, ◌<◌, ◌+◌, ◌^◌, ◌++◌, List, length, IfOk, IfSome, Some};
 ghost use Rattle.bt_base.specs.declared.settings.Serves.{Serves};
 ghost use Rattle.sdp_elements.specs.Answers.{handles, attribute_lists, attribute_list, Range};
-ghost use Rattle.sdp_elements.specs.Exchange.{continuation_at, part_reply, error_reply};
+ghost use Rattle.sdp_elements.specs.Exchange.{continuation_at, offset_in, part_reply, error_reply};
 ghost use Rattle.sdp_elements.specs.Laws.{tree_octets};
 ghost use Rattle.sdp_elements.specs.Pdus.{pdu_in};
 ghost use Rattle.sdp_elements.specs.Records.{service_record};
 ghost use Rattle.sdp_server.specs.Asking.{IsRequest};
 ghost use Rattle.sdp_server.specs.Lists.{Lists, Seeks};
 ghost use Rattle.sdp_server.specs.Requests as requests;
-ghost use Rattle.sdp_server.specs.Replies.{GivesOctets, code_number, offset_in, handles_reply, part_from, answered, responded, transaction_of, reply_to};
+ghost use Rattle.sdp_server.specs.Replies.{GivesOctets, code_number, handles_reply, part_from, answered, responded, transaction_of, reply_to};
 
 use crate::fault::ErrorCode;
 use crate::list::AttributeList;

@@ -2,21 +2,19 @@
 
 ghost use Rattle.std.specs.Prelude.{◌≡◌, ℕ, ◌≤◌, option_map, IfSome, Some, None};
 ghost use Rattle.sdp_elements.specs.Optional.{GivesAs};
-ghost use Rattle.sdp_server.specs.Requests.{number_at, continuation_in, request_in, handles_request, attributes_request, search_request};
+ghost use Rattle.sdp_server.specs.Requests.{number_at, request_in, handles_request, attributes_request, search_request};
 ghost use Rattle.sdp_server.specs.Asking.{Asks, GivesRequest};
 
 use crate::list::{AttributeList, list_at};
 use crate::pattern::{Pattern, pattern_at};
 use byteorder::{BigEndian, ByteOrder};
+use sdp_elements::continuation_in;
 
 /// How many handles a request asks for at least (Core 5.1, Volume 3 Part B, 4.5.1).
 const LEAST_HANDLES: u16 = 1;
 
 /// How many octets a request asks for at least (4.6.1 and 4.7.1).
 const LEAST_OCTETS: u16 = 7;
-
-/// How many octets a continuation state has at most (4.3).
-const LONGEST_CONTINUATION: usize = 16;
 
 /// What a request asks for.
 #[derive(Clone, Copy, Debug)]
@@ -59,17 +57,6 @@ fn handle_at(octets: &[u8]) -> Option<(u32, &[u8])>
         return None;
     }
     Some((BigEndian::read_u32(octets), &octets[4..]))
-}
-
-fn continuation_in(octets: &[u8]) -> Option<&[u8]>
-    ensures { option_map (λ x. x.now) result ≡ continuation_in octets.now }
-{
-    let (length, continuation) = octets.split_first()?;
-    let length = usize::from(*length);
-    if LONGEST_CONTINUATION < length || length != continuation.len() {
-        return None;
-    }
-    Some(continuation)
 }
 
 fn handles_request(parameters: &[u8]) -> Option<Request<'_>>

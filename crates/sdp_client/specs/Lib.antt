@@ -1,0 +1,4 @@
+pub mod Replies
+pub mod Reading
+pub mod Asking
+pub mod Hearing
