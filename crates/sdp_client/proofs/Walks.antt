@@ -11,7 +11,7 @@ use Rattle.sdp_elements.specs.Sequences.{collected, sequence_parts}
 use Rattle.sdp_elements.specs.Spelling.{AreSpelledBy, Stands}
 use Rattle.sdp_elements.specs.Targets.{number_of, number_in, is_rfcomm, is_server_channel, kept, channel_among, channel_of, channels_among, attributes_in, attributes_of, psm_in, channel_in, first_found, target_of}
 use Rattle.sdp_elements.proofs.WalkLaws.{Walked}
-use Rattle.sdp_client.specs.Reading.{is_rfcomm_in, target_or, target_by, record_target, records_target}
+use Rattle.sdp_client.specs.Reading.{server_channel, is_rfcomm_in, target_or, target_by, record_target, service_target, records_target}
 
 -- ---- a part is what its tree is
 
@@ -138,14 +138,54 @@ service_read : (attributes : List Attribute) (read : Option (List (List Attribut
 service_read attributes (Some more) = ap (λ (t : Target). Some t) (target_of-append attributes (flat_map (λ (a : List Attribute). a) more))
 service_read attributes None = refl
 
-service_in : (o : Option (List Attribute)) (read : Option (List (List Attribute)))
+attributes_read : (o : Option (List Attribute)) (read : Option (List (List Attribute)))
     → (o >>= λ attributes. read >>= λ more. Some (attributes ∷ more)) >>= (λ found. Some (target_of (flat_map (λ a. a) found)))
     ≡ (o >>= λ attributes. Some (target_of attributes)) >>= (λ t. behind t (read >>= λ found. Some (target_of (flat_map (λ a. a) found))))
-service_in (Some attributes) read = service_read attributes read
+attributes_read (Some attributes) read = service_read attributes read
+attributes_read None read = refl
+
+service_in : (parts : Option Trees) (read : Option (List (List Attribute)))
+    → ((parts >>= attributes_in) >>= λ attributes. read >>= λ more. Some (attributes ∷ more)) >>= (λ found. Some (target_of (flat_map (λ a. a) found)))
+    ≡ (parts >>= record_target) >>= (λ t. behind t (read >>= λ found. Some (target_of (flat_map (λ a. a) found))))
+service_in (Some parts) read = attributes_read (attributes_in parts) read
 service_in None read = refl
 
 -- one service record more
-pub service_found : (first : Tree) (parts others : Trees) (found : Option Target) → first ≡ SequenceOf parts → found ≡ record_target parts → records_target (Then first others) ≡ (found >>= λ t. behind t (records_target others))
-service_found first parts others found e f =
-    ap (λ (tree : Tree). records_target (Then tree others)) e ∙ service_in (attributes_in parts) (collected attributes_of others)
-    ∙ ap (λ (o : Option Target). o >>= λ t. behind t (records_target others)) (sym f)
+pub service_found : (first : Tree) (others : Trees) → records_target (Then first others) ≡ (service_target first >>= λ t. behind t (records_target others))
+service_found first others = service_in (sequence_parts first) (collected attributes_of others)
+
+-- ---- the steps of the walks
+
+pub finds_on : (what : Trees → Option Target) (trees : Trees) (so_far more made : Target) (old new : List ℕ) (k : Finds what trees so_far old) (rest : Trees) → AreSpelledBy rest new → what k.rest ≡ behind more (what rest)
+    → made ≡ target_or so_far more → Finds what trees made new
+finds_on what trees so_far more made old new k rest s e m = record {
+  rest = rest;
+  spelled = s;
+  same = k.same ∙ ap (behind so_far) e ∙ behind-behind so_far more (what rest) ∙ ap (λ (t : Target). behind t (what rest)) (sym m);
+}
+
+pub finds_none : (what : Trees → Option Target) (trees : Trees) (so_far : Target) (old : List ℕ) (k : Finds what trees so_far old) → what k.rest ≡ None → what trees ≡ None
+finds_none what trees so_far old k e = k.same ∙ ap (behind so_far) e
+
+pub finds_over : (what : Trees → Option Target) (trees : Trees) (so_far : Target) (old : List ℕ) (k : Finds what trees so_far old) → k.rest ≡ Finish → what Finish ≡ Some (target None None) → what trees ≡ Some so_far
+finds_over what trees so_far old k over e = k.same ∙ ap (λ (rest : Trees). behind so_far (what rest)) over ∙ ap (behind so_far) e ∙ ap (λ (t : Target). Some t) (target_or-nothing so_far)
+
+-- ---- the parts of a protocol
+
+cond_is : {A : Type 0} (test : Bool) (b : Bool) (x y : A) → test ≡ b → cond test x y ≡ cond b x y
+cond_is {A} test b x y e = ap (λ (t : Bool). cond t x y) e
+
+two : (trees : Trees) (first : Tree) (others : Trees) (second : Tree) (more : Trees) → trees ≡ Then first others → others ≡ Then second more → trees ≡ Then first (Then second more)
+two trees first others second more e f = e ∙ ap (Then first) f
+
+pub no_channel : (trees : Trees) (first : Tree) (others : Trees) (second : Tree) (more : Trees) → trees ≡ Then first others → others ≡ Then second more → is_rfcomm first ≡ false → channel_among trees ≡ None
+no_channel trees first others second more e f h =
+    let none : Option ℕ = None in
+    ap channel_among (two trees first others second more e f) ∙ cond_is (is_rfcomm first) false (number_of 1 second >>= kept is_server_channel) none h
+
+pub channel_here : (trees : Trees) (first : Tree) (others : Trees) (second : Tree) (more : Trees) (element : PlainElement) → trees ≡ Then first others → others ≡ Then second more → is_rfcomm first ≡ true → Stands element second
+    → channel_among trees ≡ server_channel element
+channel_here trees first others second more element e f h s =
+    let none : Option ℕ = None in
+    ap channel_among (two trees first others second more e f) ∙ cond_is (is_rfcomm first) true (number_of 1 second >>= kept is_server_channel) none h
+    ∙ ap (λ (o : Option ℕ). o >>= kept is_server_channel) (number-of_tree 1 element second s)

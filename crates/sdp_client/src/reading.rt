@@ -1,13 +1,10 @@
 //! The target that a whole answer names.
 
-ghost use Rattle.std.specs.Prelude.{◌≡◌, ◌==◌, ◌<◌, Bool, List, IfSome, Some, None, bit_and};
-ghost use Rattle.std.specs.List.{flat_map};
+ghost use Rattle.std.specs.Prelude.{◌≡◌};
 ghost use Rattle.sdp_elements.specs.Elements.{Tree, Trees, left_of, plain};
-ghost use Rattle.sdp_elements.specs.Optional.{◌>>=◌};
-ghost use Rattle.sdp_elements.specs.Sequences.{collected, sequence_parts};
 ghost use Rattle.sdp_elements.specs.Spelling.{AreSpelledBy, Stands};
-ghost use Rattle.sdp_elements.specs.Targets.{number_in, is_service_psm, is_server_channel, kept, channel_among, channel_of, channels_among, target_in};
-ghost use Rattle.sdp_client.specs.Reading.{is_rfcomm_in, target_or, target_by, record_target, records_target};
+ghost use Rattle.sdp_elements.specs.Targets.{number_in, is_service_psm, channel_among, channel_of, channels_among, target_in};
+ghost use Rattle.sdp_client.specs.Reading.{service_psm, server_channel, is_rfcomm_in, channel_under, target_or, target_by, record_target, service_target, records_target};
 
 use sdp_elements::{Children, Element, Target, sequence_at, uuid_of};
 
@@ -48,7 +45,7 @@ fn is_service_psm(number: u16) -> bool
 }
 
 fn psm_of(value: &Element<'_>) -> Option<u16>
-    ensures { result ≡ (number_in 2 (plain value.now) >>= kept is_service_psm) }
+    ensures { result ≡ service_psm (plain value.now) }
 {
     match number_of(2, value) {
         Some(number) if is_service_psm(number) => Some(number),
@@ -68,7 +65,7 @@ fn is_rfcomm(protocol: &Element<'_>) -> bool
 }
 
 fn server_channel(number: &Element<'_>) -> Option<u8>
-    ensures { result ≡ (number_in 1 (plain number.now) >>= kept is_server_channel) }
+    ensures { result ≡ server_channel (plain number.now) }
 {
     match number_of(1, number) {
         Some(channel) if 1 <= channel && channel <= 30 => Some(channel as u8),
@@ -116,18 +113,28 @@ fn channels_among(protocols: Children<'_>) -> Option<u8>
     None
 }
 
+/// The first server channel of the protocols that an attribute has.
+fn channel_in(value: &Element<'_>) -> Option<u8>
+    ensures { (tree : Tree) → Stands (plain value.now) tree → result ≡ channel_under tree }
+{
+    match *value {
+        Element::Sequence(protocols) => channels_among(protocols),
+        _ => None,
+    }
+}
+
 /// The target that an attribute names.
 fn attribute_target(identifier: u16, value: &Element<'_>) -> Target
     ensures { (tree : Tree) → Stands (plain value.now) tree → result ≡ target_by identifier tree }
 {
-    match (identifier, *value) {
-        (0x0200, _) => Target {
+    match identifier {
+        0x0200 => Target {
             l2cap: psm_of(value),
             rfcomm: None,
         },
-        (0x0004, Element::Sequence(protocols)) => Target {
+        0x0004 => Target {
             l2cap: None,
-            rfcomm: channels_among(protocols),
+            rfcomm: channel_in(value),
         },
         _ => NOTHING,
     }
@@ -149,6 +156,15 @@ fn record_target(attributes: Children<'_>) -> Option<Target>
     Some(target)
 }
 
+fn service_target(service: &Element<'_>) -> Option<Target>
+    ensures { (tree : Tree) → Stands (plain service.now) tree → result ≡ service_target tree }
+{
+    match *service {
+        Element::Sequence(attributes) => record_target(attributes),
+        _ => None,
+    }
+}
+
 /// The target that service records name, one behind the other.
 fn records_target(records: Children<'_>) -> Option<Target>
     ensures { (trees : Trees) → AreSpelledBy trees (left_of records.entry) → result ≡ records_target trees }
@@ -156,10 +172,10 @@ fn records_target(records: Children<'_>) -> Option<Target>
     let mut left = records;
     let mut target = NOTHING;
     while let Some(service) = left.next() {
-        let Element::Sequence(attributes) = service else {
+        let Some(named) = service_target(&service) else {
             return None;
         };
-        target = first_of(target, record_target(attributes)?);
+        target = first_of(target, named);
     }
     Some(target)
 }
