@@ -4,9 +4,9 @@ use Rattle.byteorder.specs.Endian.{big_number}
 use Rattle.sdp_elements.specs.Exchange.{continuation_in}
 use Rattle.sdp_elements.specs.Optional.{◌>>=◌}
 use Rattle.sdp_elements.specs.Pdus.{PlainPdu, pdu_in}
-use Rattle.sdp_client.specs.declared.reply.Part.{Part}
-use Rattle.sdp_client.specs.declared.reply.Said.{Said}
-use Rattle.sdp_client.specs.declared.reply.Said.TheVariants as lent
+use Rattle.sdp_client.specs.declared.said.Part.{Part}
+use Rattle.sdp_client.specs.declared.said.Said.{Said}
+use Rattle.sdp_client.specs.declared.said.Said.TheVariants as lent
 
 -- a part of an answer, with the continuation state behind it
 pub record PlainPart : Type 0 where

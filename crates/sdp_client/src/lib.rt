@@ -6,6 +6,7 @@ mod query;
 mod reading;
 mod reason;
 mod reply;
+mod said;
 
 pub use query::Query;
 pub use reason::{Found, QueryReason};

@@ -2,10 +2,11 @@
 
 use crate::reading::target_in;
 use crate::reason::{Found, QueryReason};
-use crate::reply::{Part, Said, is_of_another, said_in};
+use crate::reply::{is_of_another, said_in};
+use crate::said::{Part, Said};
 use arrayvec::ArrayVec;
 use bt_base::NoMemory;
-use sdp_elements::Target;
+use sdp_elements::{Target, put_behind};
 use std::alloc::Global;
 use std::marker::Model;
 
@@ -131,10 +132,8 @@ impl Query {
             0x00,
             length,
         ];
-        let end = front.len() + self.continuation.len();
-        into[..front.len()].copy_from_slice(&front);
-        into[front.len()..end].copy_from_slice(&self.continuation);
-        end
+        let start = put_behind(0, &front, into);
+        put_behind(start, &self.continuation, into)
     }
 
     /// Makes the request whose reply is awaited wait to be written once more, with its transaction.

@@ -1,28 +1,11 @@
 //! Replies to a search for attributes.
 
-ghost use Rattle.std.specs.Prelude.{◌≡◌, ◌≤◌, length, option_map};
+ghost use Rattle.std.specs.Prelude.{◌≡◌, option_map};
 ghost use Rattle.sdp_client.specs.Replies.{plain_part, plain_said, part_in, said_in, is_of_another};
 
+use crate::said::{Part, Said};
 use byteorder::{BigEndian, ByteOrder};
 use sdp_elements::{continuation_in, pdu_of};
-
-/// A part of an answer. It lies in the reply. A part without octets is the last.
-#[derive(Clone, Copy, Debug)]
-pub struct Part<'a> {
-    pub(crate) octets: &'a [u8],
-    pub(crate) continuation: &'a [u8],
-    pub ghost fits: { length continuation.now ≤ 16 },
-    pub ghost last: { length octets.now ≡ 0 → length continuation.now ≡ 0 },
-}
-
-/// What a reply says.
-#[derive(Clone, Copy, Debug)]
-pub enum Said<'a> {
-    Part(Part<'a>),
-    Failed(u16),
-    /// It is no reply to a search for attributes.
-    Nothing,
-}
 
 /// The part of an answer that parameters are: the count of its octets, the octets, the continuation
 /// state. A part without octets is the last.

@@ -23,7 +23,7 @@ pub use pdu::{Pdu, pdu_of};
 pub use reading::element_of;
 pub use sequence::sequence_at;
 pub use target::Target;
-pub use writing::put_element;
+pub use writing::{put_behind, put_element};
 
 #[cfg(test)]
 mod tests;
