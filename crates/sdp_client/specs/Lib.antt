@@ -2,3 +2,4 @@ pub mod Replies
 pub mod Reading
 pub mod Asking
 pub mod Hearing
+pub mod Laws

@@ -2,6 +2,7 @@
 //! Object Push is reached.
 #![tactic(auto)]
 
+pub mod laws;
 mod query;
 mod reading;
 mod reason;
