@@ -214,10 +214,12 @@ impl Query {
         ensures after { self.new ≡ after_whole self.old }
     {
         match target_in(&self.joined) {
-            Some(Target {
-                l2cap: None,
-                rfcomm: None,
-            }) => {
+            Some(
+                Target {
+                    l2cap: None,
+                    rfcomm: None,
+                },
+            ) => {
                 self.stage = Stage::Answered;
                 Found::NoService
             }

@@ -18,7 +18,7 @@ returns-in_default-service_target c = λ trees s.
     let w = walked k.rest (plain c.in-Some.service) old new c.in-Some.ensures.found c.in-Some.ensures.parts k.spelled in
     let none = sym (c.service_target.ensures w.first w.stands) ∙ c.in_default-service_target.is in
     sym (finds_none records_target trees c.loop-service.target old k
-      (ap records_target w.rest_is ∙ service_found w.first w.others ∙ ap (λ (o : Option Target). o >>= λ t. behind t (records_target w.others)) none))
+    (ap records_target w.rest_is ∙ service_found w.first w.others ∙ ap (λ (o : Option Target). o >>= λ t. behind t (records_target w.others)) none))
 
 pub loop-service-preserved : goal.loop-service-preserved
 loop-service-preserved c = λ trees s.
