@@ -1,12 +1,11 @@
 -- A query whose requests are answered by the parts of one answer.
-use Rattle.std.proofs.Common.{◌≡◌, ℕ, suc, ◌+◌, ◌-◌, ◌^◌, ◌<◌, ◌≤◌, Bool, false, cond, List, [], ◌∷◌, ◌++◌, length, take, drop, Option, Some, None, refl, sym, ap, ◌∙◌, arith}
+use Rattle.std.proofs.Common.{◌≡◌, ℕ, ◌+◌, ◌-◌, ◌<◌, ◌≤◌, false, cond, List, [], ◌∷◌, ◌++◌, length, take, drop, Option, Some, None, refl, sym, ap, ◌∙◌, arith}
 use Rattle.std.specs.Prelude.{◌==◌, nat_lt, unwrap_or}
 use Rattle.std.specs.List.{AllByRecursion}
 use Rattle.std.proofs.Math.Seq.{take-add}
 use Rattle.std.proofs.lemmas.Bool.{eq-eqb, ne_eqb, le-ltb, cond-true, cond-false, cases_lt}
 use Rattle.std.proofs.Common.{inl, inr}
 use Rattle.std.proofs.lemmas.List.{length-take, take_all}
-use Rattle.bt_base.specs.Octets.{be16}
 use Rattle.sdp_elements.specs.declared.target.Target.{Target}
 use Rattle.sdp_elements.specs.Exchange.{pdu_octets, offset_in, part_len, part_parameters, part_reply}
 use Rattle.sdp_elements.specs.Targets.{target_in}
@@ -14,10 +13,10 @@ use Rattle.sdp_client.specs.declared.query.Stage.TheVariants as stages
 use Rattle.sdp_client.specs.declared.reason.Found.{Found}
 use Rattle.sdp_client.specs.declared.reason.Found.TheVariants.{More, Refused}
 use Rattle.sdp_client.specs.declared.reason.QueryReason.TheVariants.{WrongTransaction, TooLong}
-use Rattle.sdp_client.specs.Asking.{Asking, after_request}
-use Rattle.sdp_client.specs.Hearing.{found_at, after_reply, found_in, found_target, found_whole, after_whole, with_part, asks_on, ended, found_part, after_part, found_said, when_said}
+use Rattle.sdp_client.specs.Asking.{Asking}
+use Rattle.sdp_client.specs.Hearing.{found_in, found_target, found_whole, after_whole, with_part, asks_on, ended, found_part, after_part, found_said, when_said}
 use Rattle.sdp_client.specs.Laws.{Size, IsSize, next_part, or_later, found_over, PartsJoin}
-use Rattle.sdp_client.specs.Replies.{PlainPart, PlainSaid, Gives, said_in, is_of_another}
+use Rattle.sdp_client.specs.Replies.{PlainPart, Gives, said_in, is_of_another}
 use Rattle.sdp_client.proofs.PartLaws.{own_reply, state_at, state_last, state_within, offset_again, part_said}
 
 -- ---- one reply

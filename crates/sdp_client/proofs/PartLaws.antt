@@ -1,6 +1,6 @@
 -- What a reply with a part of an answer says.
 use Rattle.std.proofs.Common.{◌≡◌, ℕ, ◌+◌, ◌-◌, ◌^◌, ◌<◌, ◌≤◌, Bool, true, false, cond, List, [], ◌∷◌, ◌++◌, length, take, drop, Option, Some, None, refl, sym, ap, ◌∙◌, arith}
-use Rattle.std.specs.Prelude.{◌&&◌, ◌==◌, not, nat_le, nat_lt, min, slice_index}
+use Rattle.std.specs.Prelude.{◌&&◌, ◌==◌, not, nat_le, nat_lt}
 use Rattle.std.proofs.lemmas.Bool.{eq-eqb, ne_eqb, le-leb, lt-ltb, cond-true, cond-false}
 use Rattle.std.proofs.lemmas.Bool.Decides.{eqb_tells}
 use Rattle.std.proofs.Common.{inl, inr}
@@ -8,10 +8,10 @@ use Rattle.std.proofs.lemmas.List.{length-append, length-take, length-drop, take
 use Rattle.bt_base.specs.Octets.{be16}
 use Rattle.bt_base.proofs.OctetLemmas.{be16-number}
 use Rattle.byteorder.specs.Endian.{big_number}
-use Rattle.sdp_elements.specs.Exchange.{pdu_octets, continuation_at, continuation_in, offset_in, part_len, part_parameters, part_reply}
+use Rattle.sdp_elements.specs.Exchange.{pdu_octets, continuation_at, continuation_in, offset_in, part_parameters}
 use Rattle.sdp_elements.specs.Optional.{◌>>=◌}
 use Rattle.sdp_elements.specs.Pdus.{PlainPdu, states_length, pdu_in}
-use Rattle.sdp_client.specs.Replies.{PlainPart, PlainSaid, Gives, goes_on, counted_part, part_in, given, said_by, said_in, is_of_another}
+use Rattle.sdp_client.specs.Replies.{PlainPart, Gives, goes_on, counted_part, part_in, given, said_by, said_in, is_of_another}
 
 both_true : (p q : Bool) → p ≡ true → q ≡ true → (p && q) ≡ true
 both_true p q e f = ap (λ (b : Bool). b && q) e ∙ f

@@ -1,12 +1,12 @@
 -- The sequence at the front of octets, and the parts that are left to walk.
-use Rattle.std.proofs.Common.{◌≡◌, ℕ, ◌-◌, ◌≤◌, List, ◌++◌, length, take, drop, Option, Some, Result, Ok, refl, sym, ap, subst, ◌∙◌, arith}
+use Rattle.std.proofs.Common.{◌≡◌, ℕ, ◌-◌, ◌≤◌, List, length, take, drop, Some, Result, Ok, sym, ap, subst, ◌∙◌, arith}
 use Rattle.std.specs.Result.{result_ok}
 use Rattle.std.proofs.lemmas.List.{take_all, length-drop}
 use Rattle.sdp_elements.specs.declared.fault.SdpRefusal.{SdpRefusal}
 use Rattle.sdp_elements.specs.declared.fault.SdpRefusal.TheVariants.{Short}
 use Rattle.sdp_elements.specs.Elements.{Tree, SequenceOf, Trees, PlainElement, Sequence}
 use Rattle.sdp_elements.specs.Optional.{◌>>=◌}
-use Rattle.sdp_elements.specs.Reading.{tree_at, parts_in, Shows}
+use Rattle.sdp_elements.specs.Reading.{tree_at, Shows}
 use Rattle.sdp_elements.specs.Sequences.{sequence_parts, sequence_at}
 use Rattle.sdp_elements.specs.Spelling.{IsSpelledBy, AreSpelledBy, depth, parts_depth, Stands}
 use Rattle.sdp_elements.proofs.ReadingLaws.{ok_is}

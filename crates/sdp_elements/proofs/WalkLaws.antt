@@ -1,11 +1,10 @@
 -- A walk over parts, one by one.
-use Rattle.std.proofs.Common.{◌≡◌, ℕ, ◌+◌, ◌<◌, ◌≤◌, List, [], ◌∷◌, ◌++◌, length, Option, Some, None, refl, sym, ap, subst, ◌∙◌, arith}
+use Rattle.std.proofs.Common.{◌≡◌, ℕ, ◌<◌, List, ◌∷◌, ◌++◌, length, Option, Some, None, refl, sym, ap, arith}
 use Rattle.std.proofs.lemmas.List.{length-append}
-use Rattle.sdp_elements.specs.Elements.{PlainElement, PlainValue, Value, Sequence, Alternative, Tree, Leaf, SequenceOf, AlternativeOf, Trees, Finish, Then}
+use Rattle.sdp_elements.specs.Elements.{PlainElement, Tree, Trees, Finish, Then}
 use Rattle.sdp_elements.specs.Optional.{◌>>=◌}
 use Rattle.sdp_elements.specs.Sequences.{collected}
-use Rattle.sdp_elements.specs.Spelling.{form, IsForm, IsSpelledBy, AreSpelledBy, Stands}
-use Rattle.sdp_elements.proofs.ContractLaws.{part_of}
+use Rattle.sdp_elements.specs.Spelling.{IsForm, AreSpelledBy, Stands}
 
 -- ---- one step
 

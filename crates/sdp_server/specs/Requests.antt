@@ -1,5 +1,5 @@
 -- Which octets are a request, and what it asks (Core 5.1, Volume 3 Part B, 4.5.1, 4.6.1 and 4.7.1).
-use Rattle.std.specs.Prelude.{ℕ, ◌/◌, ◌%◌, ◌&&◌, ◌==◌, Bool, nat_le, nat_lt, if◌then◌else◌, List, [], ◌∷◌, length, drop, Option, Some, None, is_some}
+use Rattle.std.specs.Prelude.{ℕ, ◌/◌, ◌%◌, ◌&&◌, ◌==◌, Bool, nat_le, nat_lt, if◌then◌else◌, List, length, drop, Option, Some, None, is_some}
 use Rattle.byteorder.specs.Endian.{big_number}
 use Rattle.sdp_elements.specs.Answers.{Range, Question, Handles, Attributes, Search}
 use Rattle.sdp_elements.specs.Elements.{PlainElement, PlainValue, Nil, Unsigned, Signed, Uuid, Text, Boolean, Url, Value, Sequence, Alternative, Tree, Leaf, SequenceOf, AlternativeOf, Trees}
