@@ -11,34 +11,12 @@ use Rattle.byteorder.specs.Endian.{big_number}
 use Rattle.sdp_elements.specs.Exchange.{pdu_octets, continuation_at, continuation_in, offset_in, part_parameters}
 use Rattle.sdp_elements.specs.Optional.{◌>>=◌}
 use Rattle.sdp_elements.specs.Pdus.{PlainPdu, states_length, pdu_in}
+use Rattle.sdp_elements.proofs.PduLaws.{both_true, pdu_again, continuation_again}
 use Rattle.sdp_client.specs.Replies.{PlainPart, Gives, goes_on, counted_part, part_in, given, said_by, said_in, is_of_another}
-
-both_true : (p q : Bool) → p ≡ true → q ≡ true → (p && q) ≡ true
-both_true p q e f = ap (λ (b : Bool). b && q) e ∙ f
 
 and_false : (p q : Bool) → q ≡ false → (p && q) ≡ false
 and_false true q f = f
 and_false false q f = refl
-
--- ---- a PDU again from its octets
-
-pdu_test : (identifier transaction : ℕ) (parameters : List ℕ) → length parameters < 2 ^ 16
-    → (nat_le 5 (length (pdu_octets identifier transaction parameters)) && (states_length (pdu_octets identifier transaction parameters) == length (pdu_octets identifier transaction parameters) - 5)) ≡ true
-pdu_test identifier transaction parameters fits =
-    let octets = pdu_octets identifier transaction parameters in
-    let stated : states_length octets ≡ length parameters = be16-number (length parameters) parameters fits in
-    let left : length octets - 5 ≡ length parameters = omega arith in
-    both_true (nat_le 5 (length octets)) (states_length octets == length octets - 5) (le-leb 5 (length octets) (omega arith)) (eq-eqb (states_length octets) (length octets - 5) (stated ∙ sym left))
-
-pub pdu_again : (identifier transaction : ℕ) (parameters : List ℕ) → transaction < 2 ^ 16 → length parameters < 2 ^ 16
-    → pdu_in (pdu_octets identifier transaction parameters) ≡ Some (record { identifier = identifier; transaction = transaction; parameters = parameters })
-pdu_again identifier transaction parameters t fits =
-    let octets = pdu_octets identifier transaction parameters in
-    let read : Option PlainPdu = Some (record { identifier = identifier; transaction = big_number 2 (drop 1 octets); parameters = parameters }) in
-    let none : Option PlainPdu = None in
-    let named : big_number 2 (drop 1 octets) ≡ transaction = be16-number transaction (be16 (length parameters) ++ parameters) t in
-    cond-true (nat_le 5 (length octets) && (states_length octets == length octets - 5)) read none (pdu_test identifier transaction parameters fits)
-    ∙ ap (λ (n : ℕ). let made : PlainPdu = record { identifier = identifier; transaction = n; parameters = parameters } in Some made) named
 
 pub own_reply : (identifier transaction : ℕ) (parameters : List ℕ) → transaction < 2 ^ 16 → is_of_another (pdu_octets identifier transaction parameters) transaction ≡ false
 own_reply identifier transaction parameters t =
@@ -78,10 +56,6 @@ offset_again len place some within fits =
     let named : big_number 2 (be16 place) ≡ place = be16-number place [] (omega arith) in
     let test = both_true (nat_lt 0 (big_number 2 (be16 place))) (nat_lt (big_number 2 (be16 place)) len) (ap (nat_lt 0) named ∙ lt-ltb 0 place some) (ap (λ (n : ℕ). nat_lt n len) named ∙ lt-ltb place len within) in
     cond-true (nat_lt 0 (big_number 2 (be16 place)) && nat_lt (big_number 2 (be16 place)) len) (Some (big_number 2 (be16 place))) None test ∙ ap (λ (n : ℕ). Some n) named
-
-continuation_again : (state : List ℕ) → length state ≤ 16 → continuation_in (length state ∷ state) ≡ Some state
-continuation_again state fits =
-    cond-true (nat_le (length state) 16 && (length state == length state)) (Some state) None (both_true (nat_le (length state) 16) (length state == length state) (le-leb (length state) 16 fits) (eq-eqb (length state) (length state) refl))
 
 -- ---- a part again from its octets
 

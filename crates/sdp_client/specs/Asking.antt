@@ -1,9 +1,9 @@
 -- A query, and the request that it makes (Core 5.1, Volume 3 Part B, 4.7.1).
-use Rattle.std.specs.Prelude.{ℕ, Bool, true, false, List, [], ◌∷◌, ◌++◌, length}
-use Rattle.bt_base.specs.Octets.{be16}
+use Rattle.std.specs.Prelude.{ℕ, Bool, true, false, List, [], ◌∷◌}
+use Rattle.sdp_elements.specs.Answers.{Range}
+use Rattle.sdp_elements.specs.Elements.{short_uuid}
 use Rattle.sdp_elements.specs.Exchange.{pdu_octets}
-use Rattle.sdp_elements.specs.Laws.{tree_octets}
-use Rattle.sdp_elements.specs.Records.{sequence_of, short, unsigned}
+use Rattle.sdp_elements.specs.Questions.{search_parameters}
 use Rattle.sdp_client.specs.declared.query.Stage.{Stage}
 use Rattle.sdp_client.specs.declared.query.Stage.TheVariants.{Due, Written, Again, Answered, Refused}
 
@@ -20,10 +20,17 @@ begun = record { stage = Due; transaction = 1; continuation = []; joined = [] }
 
 -- ---- the request
 
--- the pattern (Object Push), at most 256 octets, the attributes (protocols and PSM), the continuation state
+-- Object Push
+abbrev pub asked_pattern : List (List ℕ)
+asked_pattern = short_uuid 0x1105 ∷ []
+
+-- the protocols and the PSM
+abbrev pub asked_ranges : List Range
+asked_ranges = record { low = 0x0004; high = 0x0004 } ∷ record { low = 0x0200; high = 0x0200 } ∷ []
+
+-- the question, at most 256 octets of its answer, the continuation state
 abbrev pub request_parameters : List ℕ → List ℕ
-request_parameters continuation =
-    tree_octets (sequence_of (short 0x1105 ∷ [])) ++ (be16 256 ++ (tree_octets (sequence_of (unsigned 2 0x0004 ∷ unsigned 2 0x0200 ∷ [])) ++ length continuation ∷ continuation))
+request_parameters continuation = search_parameters asked_pattern 256 asked_ranges continuation
 
 abbrev pub request_octets : Asking → List ℕ
 request_octets asking = pdu_octets 6 asking.transaction (request_parameters asking.continuation)

@@ -5,11 +5,10 @@ use Rattle.bt_base.specs.declared.settings.Serves.{Serves}
 use Rattle.bt_base.specs.declared.settings.Serves.TheVariants as serving
 use Rattle.sdp_elements.specs.declared.target.Target.{Target}
 use Rattle.sdp_elements.specs.Answers.{Question, Search, answer}
-use Rattle.sdp_elements.specs.Elements.{short_uuid}
 use Rattle.sdp_elements.specs.Exchange.{offset_in, part_reply}
 use Rattle.sdp_client.specs.declared.reason.Found.{Found}
 use Rattle.sdp_client.specs.declared.reason.Found.TheVariants.{More, Service, NoService, Refused}
-use Rattle.sdp_client.specs.Asking.{Asking, begun, after_request}
+use Rattle.sdp_client.specs.Asking.{Asking, begun, asked_pattern, asked_ranges, after_request}
 use Rattle.sdp_client.specs.Hearing.{found_at, after_reply, found_whole}
 
 -- how many octets a request asks for at most, and in how much room it is answered
@@ -45,7 +44,7 @@ PartsJoin = (octets : List ℕ) (sizes : List Size) → 0 < length octets → le
 
 -- the protocols and the PSM of Object Push
 abbrev pub asked_question : Question
-asked_question = Search (short_uuid 0x1105 ∷ []) (record { low = 0x0004; high = 0x0004 } ∷ record { low = 0x0200; high = 0x0200 } ∷ [])
+asked_question = Search asked_pattern asked_ranges
 
 -- the ways to the service that its record names
 abbrev pub served_target : Serves → Target

@@ -7,3 +7,4 @@ pub mod ContractLaws
 pub mod SpellingLaws
 pub mod SequenceLaws
 pub mod WalkLaws
+pub mod PduLaws

@@ -10,3 +10,4 @@ pub mod Records
 pub mod Answers
 pub mod Exchange
 pub mod Targets
+pub mod Questions
