@@ -4,3 +4,4 @@ pub mod Lists
 pub mod Listed
 pub mod Asking
 pub mod Replies
+pub mod Laws
