@@ -1,5 +1,5 @@
 -- A query whose requests are answered by the parts of one answer.
-use Rattle.std.proofs.Common.{◌≡◌, ℕ, ◌+◌, ◌-◌, ◌<◌, ◌≤◌, false, cond, List, [], ◌∷◌, ◌++◌, length, take, drop, Option, Some, None, refl, sym, ap, ◌∙◌, arith}
+use Rattle.std.proofs.Common.{◌≡◌, ◌^◌, ℕ, ◌+◌, ◌-◌, ◌<◌, ◌≤◌, false, cond, List, [], ◌∷◌, ◌++◌, length, take, drop, Option, Some, None, refl, sym, ap, ◌∙◌, arith}
 use Rattle.std.specs.Prelude.{◌==◌, nat_lt, unwrap_or}
 use Rattle.std.specs.List.{AllByRecursion}
 use Rattle.std.proofs.Math.Seq.{take-add}
@@ -14,7 +14,7 @@ use Rattle.sdp_client.specs.declared.reason.Found.{Found}
 use Rattle.sdp_client.specs.declared.reason.Found.TheVariants.{More, Refused}
 use Rattle.sdp_client.specs.declared.reason.QueryReason.TheVariants.{WrongTransaction, TooLong}
 use Rattle.sdp_client.specs.Asking.{Asking}
-use Rattle.sdp_client.specs.Hearing.{found_in, found_target, found_whole, after_whole, with_part, asks_on, ended, found_part, after_part, found_said, when_said}
+use Rattle.sdp_client.specs.Hearing.{found_at, found_in, found_target, found_whole, after_whole, with_part, asks_on, ended, found_part, after_part, found_said, when_said}
 use Rattle.sdp_client.specs.Laws.{Size, IsSize, next_part, or_later, found_over, PartsJoin}
 use Rattle.sdp_client.specs.Replies.{PlainPart, Gives, said_in, is_of_another}
 use Rattle.sdp_client.proofs.PartLaws.{own_reply, state_at, state_last, state_within, offset_again, part_said}
@@ -145,6 +145,18 @@ over (size ∷ sizes) octets transaction offset continuation joined s is enough 
             fits = fits;
           }) is.1 (omega arith)
     ]
+
+-- an answer that one reply carries
+pub one_reply : (octets reply : List ℕ) (transaction most room : ℕ) → transaction < 2 ^ 16 → 0 < length octets → length octets ≤ 4096 → length octets ≤ most → length octets + 10 ≤ room
+    → reply ≡ part_reply 7 transaction octets 0 most room → found_at (written_of transaction [] []) reply ≡ found_whole octets
+one_reply octets reply transaction most room t some fits enough place e =
+    let n = part_len most (length octets - 0) room in
+    let whole : n ≡ length octets = omega arith in
+    let part = piece_of octets 0 n in
+    let own : is_of_another reply transaction ≡ false = ap (λ (x : List ℕ). is_of_another x transaction) e ∙ own_reply 7 transaction (part_parameters octets 0 n) t in
+    let said : said_in reply ≡ Gives part = ap said_in e ∙ part_said transaction octets 0 n t (omega arith) (omega arith) fits in
+    found_heard (written_of transaction [] []) reply part own said
+    ∙ part_last (written_of transaction [] []) part octets (take_all n octets (omega arith)) fits (state_last (length octets) (0 + n) (omega arith))
 
 pub parts_join : PartsJoin
 parts_join octets sizes some fits is enough = over sizes octets 1 0 [] [] (record { joined_is = refl; names = refl; counted = omega arith; within = some; fits = fits }) is (omega arith)

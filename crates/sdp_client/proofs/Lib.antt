@@ -1,5 +1,5 @@
 pub mod Walks
 pub mod Requests
-pub mod Served
 pub mod PartLaws
 pub mod Joining
+pub mod Served

@@ -6,9 +6,10 @@ use Rattle.bt_base.specs.declared.settings.Serves.TheVariants as serving
 use Rattle.sdp_elements.specs.declared.target.Target.{Target}
 use Rattle.sdp_elements.specs.Answers.{Question, Search, answer}
 use Rattle.sdp_elements.specs.Exchange.{offset_in, part_reply}
+use Rattle.sdp_server.specs.Replies.{reply_to}
 use Rattle.sdp_client.specs.declared.reason.Found.{Found}
 use Rattle.sdp_client.specs.declared.reason.Found.TheVariants.{More, Service, NoService, Refused}
-use Rattle.sdp_client.specs.Asking.{Asking, begun, asked_pattern, asked_ranges, after_request}
+use Rattle.sdp_client.specs.Asking.{Asking, begun, asked_pattern, asked_ranges, request_octets, after_request}
 use Rattle.sdp_client.specs.Hearing.{found_at, after_reply, found_whole}
 
 -- how many octets a request asks for at most, and in how much room it is answered
@@ -55,3 +56,13 @@ served_target serving.Rfcomm = record { l2cap = None; rfcomm = Some 9 }
 -- the whole answer of a server names the ways to its service
 abbrev pub FindsWhatIsServed : Type 0
 FindsWhatIsServed = (serves : Serves) → found_whole (answer serves asked_question) ≡ Service (served_target serves)
+
+-- ---- a query and a server
+
+-- the reply of a server of these transports to the first request of a query, in so much room
+abbrev pub first_reply : Serves → ℕ → List ℕ
+first_reply serves room = reply_to serves room (request_octets (after_request begun))
+
+-- the first reply of a server has its whole answer, and names the ways to its service
+abbrev pub FindsTheServer : Type 0
+FindsTheServer = (serves : Serves) (room : ℕ) → 48 ≤ room → found_at (after_request begun) (first_reply serves room) ≡ Service (served_target serves)

@@ -1,5 +1,5 @@
 -- A search and the part of its answer.
-use Rattle.std.proofs.Common.{◌≡◌, ℕ, List, length, Option, Some, Result, ap, ◌∙◌}
+use Rattle.std.proofs.Common.{ℕ, Option, ap, ◌∙◌}
 use Rattle.sdp_elements.specs.Answers.{Search, answer}
 use Rattle.sdp_elements.specs.Exchange.{pdu_octets}
 use Rattle.sdp_elements.specs.Pdus.{PlainPdu}

@@ -1,28 +1,26 @@
 -- Requests again from their shortest form.
-use Rattle.std.proofs.Common.{◌≡◌, ℕ, zero, suc, ◌+◌, ◌*◌, ◌/◌, ◌%◌, ◌^◌, ◌<◌, ◌≤◌, Bool, true, false, cond, List, [], ◌∷◌, ◌++◌, length, take, drop, Option, Some, None, refl, sym, ap, subst, ◌∙◌, arith, inl, inr}
+use Rattle.std.proofs.Common.{◌≡◌, ℕ, ◌+◌, ◌*◌, ◌/◌, ◌%◌, ◌^◌, ◌<◌, ◌≤◌, Bool, true, false, cond, List, [], ◌∷◌, ◌++◌, length, take, drop, Option, Some, None, refl, sym, ap, subst, ◌∙◌, arith, inl, inr}
 use Rattle.std.specs.Prelude.{◌&&◌, ◌==◌, nat_le, nat_lt, map, slice_index}
 use Rattle.std.specs.List.{AllByRecursion}
 use Rattle.std.specs.Str.{bytes_eq}
-use Rattle.std.proofs.lemmas.Bool.{le-leb, lt-ltb, cond-true, cond-false, eq-eqb}
+use Rattle.std.proofs.lemmas.Bool.{le-leb, lt-ltb, cond-true, cond-false}
 use Rattle.std.proofs.lemmas.Bool.Decides.{eqb_tells}
-use Rattle.std.proofs.lemmas.List.{length-append, length-take, length-drop}
-use Rattle.bt_base.specs.Octets.{IsOctets, be16, be32}
+use Rattle.std.proofs.lemmas.List.{length-append, length-take}
+use Rattle.bt_base.specs.Octets.{be16, be32}
 use Rattle.bt_base.proofs.OctetLemmas.{be16-number, be32-number}
-use Rattle.byteorder.specs.Endian.{big_number, big_bytes}
-use Rattle.byteorder.specs.Numbers.{length-bytes_high_first}
-use Rattle.sdp_elements.specs.Answers.{Range, Handles, Attributes, Search}
-use Rattle.sdp_elements.specs.Elements.{Uuid, Tree, Leaf, Trees, Finish, Then, base_end}
-use Rattle.sdp_elements.specs.Exchange.{continuation_in}
+use Rattle.byteorder.specs.Endian.{big_number}
+use Rattle.sdp_elements.specs.Answers.{Range}
+use Rattle.sdp_elements.specs.Elements.{Tree, Trees, base_end}
 use Rattle.sdp_elements.specs.Laws.{tree_octets, parts_octets, TreeHasSpelling, PartsHaveSpelling}
 use Rattle.sdp_elements.specs.Optional.{◌>>=◌}
 use Rattle.sdp_elements.specs.Questions.{uuid_tree, pattern_octets, range_tree, ranges_octets, handles_parameters, attributes_parameters, search_parameters}
 use Rattle.sdp_elements.specs.Records.{parts_of, sequence_of, unsigned}
 use Rattle.sdp_elements.specs.Sequences.{sequence_at, collected}
-use Rattle.sdp_elements.specs.Spelling.{depth, parts_depth, uuid_octets}
+use Rattle.sdp_elements.specs.Spelling.{depth, parts_depth}
 use Rattle.sdp_elements.proofs.PduLaws.{both_true, continuation_again}
 use Rattle.sdp_elements.proofs.SequenceLaws.{sequence_read}
 use Rattle.sdp_elements.proofs.SpellingLaws.{reads_again}
-use Rattle.sdp_server.specs.Laws.{IsUuid, IsPattern, IsRange, AreRanges, IsState, ReadsAgain}
+use Rattle.sdp_server.specs.Laws.{IsUuid, IsPattern, IsRange, AreRanges, ReadsAgain}
 use Rattle.sdp_server.specs.Requests.{uuid_of, is_some_identifiers, pattern_at, range_of, ranges_at, number_at}
 use Rattle.sdp_server.proofs.Reading.{handles_found, attributes_found, search_found}
 
