@@ -5,3 +5,6 @@ pub mod FormLaws
 pub mod TreeLaws
 pub mod ContractLaws
 pub mod SpellingLaws
+pub mod SequenceLaws
+pub mod WalkLaws
+pub mod PduLaws

@@ -3,3 +3,11 @@ pub mod Elements
 pub mod Reading
 pub mod Spelling
 pub mod Laws
+pub mod Optional
+pub mod Sequences
+pub mod Pdus
+pub mod Records
+pub mod Answers
+pub mod Exchange
+pub mod Targets
+pub mod Questions

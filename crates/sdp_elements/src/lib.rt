@@ -2,20 +2,28 @@
 //! against one spelling.
 #![tactic(auto)]
 
+mod continuation;
 mod element;
 mod fault;
 mod header;
 mod identifier;
 pub mod laws;
+mod pdu;
 mod reading;
+mod sequence;
+mod target;
 mod walk;
 mod writing;
 
+pub use continuation::continuation_in;
 pub use element::{Children, Element};
 pub use fault::SdpRefusal;
 pub use identifier::uuid_of;
+pub use pdu::{Pdu, pdu_of};
 pub use reading::element_of;
-pub use writing::put_element;
+pub use sequence::sequence_at;
+pub use target::Target;
+pub use writing::{put_behind, put_element};
 
 #[cfg(test)]
 mod tests;

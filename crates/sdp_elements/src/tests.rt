@@ -89,3 +89,21 @@ fn elements_are_written_in_the_shortest_form(rt: HostRuntime) {
         )
     );
 }
+
+#[test]
+fn pdus_and_their_parts_are_read(rt: HostRuntime) {
+    let octets = [0x07, 0x00, 0x05, 0x00, 0x03, 0x35, 0x01, 0x00];
+    match pdu_of(&octets) {
+        Some(pdu) => {
+            assert!(rt; pdu.identifier == 7 && pdu.transaction == 5);
+            assert!(rt; sequence_at(pdu.parameters).is_some());
+        }
+        None => assert!(rt; false),
+    }
+    assert!(rt; pdu_of(&octets[..7]).is_none());
+    assert!(rt; sequence_at(&[0x08, 0x01]).is_none());
+    assert!(rt; continuation_in(&[0x02, 0x00, 0x07]).is_some());
+    assert!(rt; continuation_in(&[0x02, 0x00]).is_none());
+    let mut into = [0; 4];
+    assert!(rt; put_behind(1, &[5, 6], &mut into) == 3 && into == [0, 5, 6, 0]);
+}

@@ -30,7 +30,7 @@ fn type_number(kind: Kind) -> u8
 }
 
 /// Puts content behind the first `at` octets, and answers where it ends.
-fn put_behind(at: usize, content: &[u8], into: &mut [u8]) -> usize
+pub fn put_behind(at: usize, content: &[u8], into: &mut [u8]) -> usize
     requires { at + length content.now ≤ length into.old }
     ensures end { result ≡ at + length content.now }
     ensures written { into.new ≡ take at into.old ++ (content.now ++ drop result into.old) }

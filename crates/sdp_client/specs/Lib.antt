@@ -1,0 +1,5 @@
+pub mod Replies
+pub mod Reading
+pub mod Asking
+pub mod Hearing
+pub mod Laws

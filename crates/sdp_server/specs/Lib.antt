@@ -1,0 +1,7 @@
+pub mod Requests
+pub mod Ranges
+pub mod Lists
+pub mod Listed
+pub mod Asking
+pub mod Replies
+pub mod Laws
