@@ -116,15 +116,15 @@ some_says kind v what control e says = let same : what ≡ control = cc in subst
 pub message-some : (kind : ℕ) (v : List ℕ) (control : PlainControl) → kind < 256 → kind % 2 ≡ 1 → IsOctets v → message kind v ≡ Some control → Says kind v control
 message-some kind v control small odd fits e =
     elim (cases_eq r 0x81) [
-      | inl is ↦ row 0x81 is (pn_says command v control fits (rw (eq-eqb r 0x81 is) at e))
+      | inl is ↦ of_type 0x81 is (pn_says command v control fits (rw (eq-eqb r 0x81 is) at e))
       | inr n1 ↦ let e1 = rw (ne_eqb r 0x81 n1) at e in elim (cases_eq r 0xE1) [
-        | inl is ↦ row 0xE1 is (msc_says command v control fits (rw (eq-eqb r 0xE1 is) at e1))
+        | inl is ↦ of_type 0xE1 is (msc_says command v control fits (rw (eq-eqb r 0xE1 is) at e1))
         | inr n2 ↦ let e2 = rw (ne_eqb r 0xE1 n2) at e1 in elim (cases_eq r 0x21) [
-          | inl is ↦ row 0x21 is (some_says (0x21 + 0x02 * bit command) v (test command v) control (rw (eq-eqb r 0x21 is) at e2) (record { fits = fits; type_is = refl; value_is = refl }))
+          | inl is ↦ of_type 0x21 is (some_says (0x21 + 0x02 * bit command) v (test command v) control (rw (eq-eqb r 0x21 is) at e2) (record { fits = fits; type_is = refl; value_is = refl }))
           | inr n3 ↦ let e3 = rw (ne_eqb r 0x21 n3) at e2 in elim (cases_eq r 0x91) [
-            | inl is ↦ row 0x91 is (some_says (0x91 + 0x02 * bit command) v (rpn command v) control (rw (eq-eqb r 0x91 is) at e3) (record { fits = fits; type_is = refl; value_is = refl }))
+            | inl is ↦ of_type 0x91 is (some_says (0x91 + 0x02 * bit command) v (rpn command v) control (rw (eq-eqb r 0x91 is) at e3) (record { fits = fits; type_is = refl; value_is = refl }))
             | inr n4 ↦ let e4 = rw (ne_eqb r 0x91 n4) at e3 in elim (cases_eq r 0x51) [
-              | inl is ↦ row 0x51 is (some_says (0x51 + 0x02 * bit command) v (rls command v) control (rw (eq-eqb r 0x51 is) at e4) (record { fits = fits; type_is = refl; value_is = refl }))
+              | inl is ↦ of_type 0x51 is (some_says (0x51 + 0x02 * bit command) v (rls command v) control (rw (eq-eqb r 0x51 is) at e4) (record { fits = fits; type_is = refl; value_is = refl }))
               | inr n5 ↦ let e5 = rw (ne_eqb r 0x51 n5) at e4 in elim (cases_eq kind 0x11) [
                 | inl is ↦ subst (λ (k : ℕ). Says k v control) (sym is) (nsc_says v control fits (rw (eq-eqb kind 0x11 is) at e5))
                 | inr n6 ↦ some_says kind v (other kind v) control (rw (ne_eqb kind 0x11 n6) at e5) (record { fits = (other_type n1 n2 n3 n4 n5 n6, fits); type_is = refl; value_is = refl })
@@ -141,8 +141,8 @@ message-some kind v control small odd fits e =
     command : Bool
     command = kind / 2 % 2 == 1
 
-    row : (known : ℕ) → kind - 2 * (kind / 2 % 2) ≡ known → Says (known + 0x02 * bit (kind / 2 % 2 == 1)) v control → Says kind v control
-    row known is says =
+    of_type : (known : ℕ) → kind - 2 * (kind / 2 % 2) ≡ known → Says (known + 0x02 * bit (kind / 2 % 2 == 1)) v control → Says kind v control
+    of_type known is says =
         let flag = bit_again (kind / 2 % 2) (omega arith) in
         let whole : known + 0x02 * bit (kind / 2 % 2 == 1) ≡ kind = omega arith in
         subst (λ (k : ℕ). Says k v control) whole says

@@ -1,14 +1,14 @@
-use super::samples::{CUT_OFF, NAMELESS, PUSH, REFUSED, START, TWO_CHANNELS};
+use super::samples::{CUT_OFF, NAMELESS, OPENING, PUSH, REFUSED, START, TWO_CHANNELS};
 use super::*;
 use crate::{Entry, entries_of};
 use push_script::Side;
 use std::alloc::Global;
 use std::test::*;
 
-/// The octets of a capture: the start of both hosts, and what follows.
+/// The octets of a capture: the start of both hosts, the opening of a channel, and what follows.
 fn octets_of(alloc: Global, follows: &[(u8, &[u8])]) -> Result<Vec<u8>, Fail> {
     let mut octets = Vec::new(alloc);
-    for (tag, payload) in START.iter().chain(follows) {
+    for (tag, payload) in START.iter().chain(OPENING).chain(follows) {
         octets.push(*tag)?;
         octets.extend_from_slice(&(payload.len() as u16).to_be_bytes())?;
         octets.extend_from_slice(payload)?;
