@@ -10,7 +10,6 @@ use Rattle.bt_base.proofs.OctetLemmas.{be16-number}
 use Rattle.byteorder.specs.Endian.{big_number}
 use Rattle.sdp_elements.specs.Exchange.{pdu_octets, continuation_at, continuation_in, offset_in, part_parameters}
 use Rattle.sdp_elements.specs.Optional.{◌>>=◌}
-use Rattle.sdp_elements.specs.Pdus.{PlainPdu, states_length, pdu_in}
 use Rattle.sdp_elements.proofs.PduLaws.{both_true, pdu_again, continuation_again}
 use Rattle.sdp_client.specs.Replies.{PlainPart, Gives, goes_on, counted_part, part_in, given, said_by, said_in, is_of_another}
 
