@@ -100,8 +100,8 @@ after_into past air side packet = after_event past air side packet
 
 -- ---- what a word does
 
--- What of a host waits for an answer after these entries, so that its timer would send it again. Nothing is sent twice
--- so far.
+-- What of a host waits for an answer after these entries, so that its timer would send it again. These hosts send
+-- nothing again.
 abbrev pub waits : Side → List Entry → Bool
 waits side past = false
 
@@ -130,8 +130,8 @@ abbrev pub opposite_way : Way → Way
 opposite_way Ab = Ba
 opposite_way Ba = Ab
 
--- A frame whose octets at that place and the next one are changed, if it has both, is lost: no channel has check words
--- so far, by which the change would be seen.
+-- A frame whose octets at that place and the next one are changed, if it has both, is lost: channels in basic mode have
+-- no check words, by which the change would be seen.
 abbrev pub has_both : ℕ → List (List ℕ) → Bool
 has_both at [] = false
 has_both at (frame ∷ frames) = nat_lt (at + 1) (length frame)
@@ -147,10 +147,10 @@ acted size past air (words.Repeat way) = if nat_lt (length (waiting (direction (
 acted size past air (words.Damage way at mask) = damaged size air way at
 acted size past air (words.Cut way packets) = first_meets size way (CutOff packets) air
 acted size past air (words.Timer side) = if waits side past then Some air else None
-acted size past air words.Drop = if is_some (link_up sides.A past) then Some (broken_off air) else None
+acted size past air words.Drop = if air.broken then None else Some (broken_off air)
 acted size past air words.Cancel = Some air
 
--- whether `cancel` finds a push to cancel is no matter of the air
+-- whether `cancel` finds a push to cancel is no matter of the air; while no push can be cancelled, no script has it
 abbrev pub FindsNothing : ℕ → List Entry → Air → Word → Type 0
 FindsNothing size past air words.Cancel = Unit {0}
 FindsNothing size past air word = acted size past air word ≡ None
@@ -195,10 +195,12 @@ last_or before (n ∷ ns) = last_or n ns
 abbrev pub words_done : List Entry → ℕ
 words_done past = last_or 0 (flat_map ordinal_of past)
 
--- nothing that was handed over has yet to come
-pub record IsSettled (air : Air) : Type 0 where
+-- nothing that was handed over has yet to come, and both hosts know whether the air has a link
+pub record IsSettled (past : List Entry) (air : Air) : Type 0 where
   pub a : air.due_a ≡ []
   pub b : air.due_b ≡ []
+  pub knows_a : is_some (link_up sides.A past) ≡ not air.broken
+  pub knows_b : is_some (link_up sides.B past) ≡ not air.broken
 
 -- Word number `ordinal` of the script acts: it stands behind the words that acted, those between find nothing, it finds
 -- something itself, and all that was handed over before has come.
@@ -207,7 +209,7 @@ pub record IsNext (size : ℕ) (script : List Word) (past : List Entry) (ordinal
   pub stands : slice_get script (ordinal - 1) ≡ Some word
   pub between : AllByRecursion (FindsNothing size past (air_after size past)) (take (ordinal - 1 - words_done past) (drop (words_done past) script))
   pub finds : is_some (acted size past (air_after size past) word) ≡ true
-  pub settled : IsSettled (air_after size past)
+  pub settled : IsSettled past (air_after size past)
 
 -- an event that tells of a connection or of its end comes behind all that was handed over
 abbrev pub ComesBehind : LinkNews → List Piece → Type 0
@@ -239,7 +241,7 @@ LeftFindNothing size script entries = AllByRecursion (FindsNothing size entries 
 -- that are left find nothing.
 pub record Obeys (size : ℕ) (script : List Word) (entries : List Entry) : Type 0 where
   pub each : EachAfter (KeepsTo size script) [] entries
-  pub settled : IsSettled (air_after size entries)
+  pub settled : IsSettled entries (air_after size entries)
   pub left : LeftFindNothing size script (before_last_ends entries)
 
 -- the words of the runs of a script, each as often as its run says

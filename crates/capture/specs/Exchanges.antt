@@ -46,6 +46,13 @@ spoken_by said past now =
 abbrev pub spoken : List Talk → List Spoken
 spoken said = given_by (spoken_by said) said
 
+-- the packets that a host sends on all its links, in their order
+abbrev pub sent_octets : Spoken → Option (List ℕ)
+sent_octets packet = if same_flow Out packet.flow then Some packet.octets else None
+
+abbrev pub packets_sent : Side → List Entry → List (List ℕ)
+packets_sent side entries = flat_map (λ link. filter_map sent_octets (spoken (talk link))) (links side entries)
+
 -- ---- requests and responses
 
 -- host a sends requests
@@ -53,7 +60,8 @@ abbrev pub request_flow : Side → Flow
 request_flow sides.A = Out
 request_flow sides.B = Into
 
--- the requests of a channel that wait for their response after one packet more: a response answers the first of them
+-- the requests of a channel that wait for their response after one packet more: a response answers the first of them.
+-- A client asks nothing while it waits, so an ABORT finds none that waits
 abbrev pub with_packet : Flow → List (List ℕ) → Spoken → List (List ℕ)
 with_packet requests waiting packet = if same_flow requests packet.flow then waiting ++ packet.octets ∷ [] else drop 1 waiting
 

@@ -22,6 +22,10 @@ pub data LinkNews : Type 0 where
   -- anything else
   NoNews : LinkNews
 
+abbrev pub is_asked : LinkNews → Bool
+is_asked Asked = true
+is_asked _ = false
+
 -- commands and events whose parameters are refused mean nothing
 abbrev pub asked_by : ℕ → List ℕ → LinkNews
 asked_by opcode params = if (opcode == 0x0405 || opcode == 0x0409) && is_none (command_refusal opcode params) then Asked else NoNews

@@ -15,10 +15,10 @@ use Rattle.sdp_elements.specs.declared.fault.SdpRefusal.TheVariants.{Short}
 use Rattle.sdp_elements.specs.declared.header.Kind.{Kind}
 use Rattle.sdp_elements.specs.declared.header.Kind.TheVariants as kinds
 use Rattle.sdp_elements.specs.Headers.{has_index, length_octets, fixed_len}
-use Rattle.sdp_elements.specs.Elements.{PlainValue, Nil, Unsigned, Signed, Uuid, Text, Boolean, Url, PlainElement, Value, Tree, Leaf, SequenceOf, AlternativeOf, Trees, Finish, Then, element_in, base_end, short_uuid, uuid_in}
+use Rattle.sdp_elements.specs.Elements.{PlainValue, Nil, Unsigned, Signed, Uuid, Text, Boolean, Url, PlainElement, Value, Sequence, Alternative, Tree, Leaf, SequenceOf, AlternativeOf, Trees, Finish, Then, element_in, base_end, short_uuid, uuid_in}
 use Rattle.sdp_elements.specs.Reading.{tree_at}
-use Rattle.sdp_elements.specs.Spelling.{type_number, HasSize, form, IsForm, IsSpelledBy, AreSpelledBy, depth, width_index, numbered, sized, uuid_octets, truth_octet, value_octets, IsWidth, HasSpelling}
-use Rattle.sdp_elements.specs.Laws.{ReadsWhatIsSpelled, OneReading, WritesAForm, ReadsAgain, HasOctets, tree_octets, parts_octets, TreeHasSpelling, PartsHaveSpelling}
+use Rattle.sdp_elements.specs.Spelling.{type_number, HasSize, form, IsForm, IsSpelledBy, AreSpelledBy, depth, width_index, numbered, sized, uuid_octets, truth_octet, value_octets, element_octets, Stands, IsWidth, HasSpelling}
+use Rattle.sdp_elements.specs.Laws.{ReadsWhatIsSpelled, OneReading, WritesAForm, ReadsAgain, ReadsElementsAgain, IdentifierIsOctets, HasOctets, tree_octets, parts_octets, TreeHasSpelling, PartsHaveSpelling}
 use Rattle.sdp_elements.proofs.ReadingLaws.{ok_is}
 use Rattle.sdp_elements.proofs.TreeLaws.{tree_takes, tree_again}
 
@@ -255,3 +255,15 @@ mutual
 
 pub reads_again : ReadsAgain
 reads_again tree rest h d = tree_again tree Short 8 (tree_octets tree) rest (tree_is_spelled tree h) d
+
+-- the form that is written spells what the element stands for
+written_spells : (element : PlainElement) (tree : Tree) → HasSpelling element → IdentifierIsOctets element → Stands element tree → IsSpelledBy tree (element_octets element)
+written_spells (Value value) tree spelling fits stands = subst (λ t. IsSpelledBy t (element_octets (Value value))) (sym stands) (writes_a_form.value value spelling fits)
+written_spells (Sequence content) tree spelling fits (parts, stands, spelled) =
+    subst (λ t. IsSpelledBy t (element_octets (Sequence content))) (sym stands) (content, writes_a_form.sequence content spelling, spelled)
+written_spells (Alternative content) tree spelling fits (parts, stands, spelled) =
+    subst (λ t. IsSpelledBy t (element_octets (Alternative content))) (sym stands) (content, writes_a_form.alternative content spelling, spelled)
+
+pub reads_elements_again : ReadsElementsAgain
+reads_elements_again element tree rest spelling fits stands levels octets =
+    (reads_what_is_spelled (element_octets element ++ rest) rest tree octets).1 (element_octets element, written_spells element tree spelling fits stands, levels, refl)

@@ -3,9 +3,9 @@ use Rattle.std.specs.Prelude.{◌≡◌, ℕ, ◌<◌, ◌≤◌, ◌^◌, ◌�
 use Rattle.bt_base.specs.Octets.{IsOctets}
 use Rattle.sdp_elements.specs.declared.header.Kind.TheVariants as kinds
 use Rattle.sdp_elements.specs.declared.fault.SdpRefusal.TheVariants.{Short}
-use Rattle.sdp_elements.specs.Elements.{PlainValue, Nil, Unsigned, Signed, Uuid, Text, Boolean, Url, Value, Sequence, Alternative, Tree, Leaf, SequenceOf, AlternativeOf, Trees, Finish, Then}
+use Rattle.sdp_elements.specs.Elements.{PlainElement, PlainValue, Nil, Unsigned, Signed, Uuid, Text, Boolean, Url, Value, Sequence, Alternative, Tree, Leaf, SequenceOf, AlternativeOf, Trees, Finish, Then}
 use Rattle.sdp_elements.specs.Reading.{tree_at}
-use Rattle.sdp_elements.specs.Spelling.{HasSpelling, IsForm, IsSpelledBy, depth, value_octets, element_octets, sized}
+use Rattle.sdp_elements.specs.Spelling.{HasSpelling, IsForm, IsSpelledBy, Stands, depth, value_octets, element_octets, sized}
 
 -- what is read within eight levels is spelled so, and only what is spelled so is read
 abbrev pub ReadsWhatIsSpelled : Type 0
@@ -31,6 +31,17 @@ pub record WritesAForm : Type 0 where
   pub value : (value : PlainValue) → HasSpelling (Value value) → HasOctets value → IsForm (Value value) (element_octets (Value value))
   pub sequence : (content : List ℕ) → HasSpelling (Sequence content) → IsForm (Sequence content) (element_octets (Sequence content))
   pub alternative : (content : List ℕ) → HasSpelling (Alternative content) → IsForm (Alternative content) (element_octets (Alternative content))
+
+-- what the octets of an element's own identifier are; parts are octets as they stand
+abbrev pub IdentifierIsOctets : PlainElement → Type 0
+IdentifierIsOctets (Value value) = HasOctets value
+IdentifierIsOctets (Sequence content) = ⊤
+IdentifierIsOctets (Alternative content) = ⊤
+
+-- an element that was written, with its parts in whatever form they are lent, is read again
+abbrev pub ReadsElementsAgain : Type 0
+ReadsElementsAgain = (element : PlainElement) (tree : Tree) (rest : List ℕ) → HasSpelling element → IdentifierIsOctets element → Stands element tree → depth tree ≤ 8
+    → IsOctets (element_octets element ++ rest) → tree_at Short 8 (element_octets element ++ rest) ≡ Ok (tree, rest)
 
 -- the shortest form of an element with all its parts
 abbrev mutual

@@ -1,7 +1,7 @@
 //! Laws of the spelling of data elements, for every value. They speak of no call: the contracts of
 //! the calls tie these to the same definitions.
 
-ghost use Rattle.sdp_elements.specs.Laws.{ReadsWhatIsSpelled, OneReading, WritesAForm, ReadsAgain};
+ghost use Rattle.sdp_elements.specs.Laws.{ReadsWhatIsSpelled, OneReading, WritesAForm, ReadsAgain, ReadsElementsAgain};
 
 /// Reading gives an element within eight levels exactly where the octets begin with its spelling.
 pub fn read_is_spelled()
@@ -18,7 +18,9 @@ pub fn shortest_is_form()
     ensures { WritesAForm }
 {}
 
-/// What was written in the shortest form is read again.
+/// What was written is read again: a tree in its shortest form, and an element with its parts in
+/// whatever form they are lent.
 pub fn written_is_read()
-    ensures { ReadsAgain }
+    ensures trees { ReadsAgain }
+    ensures elements { ReadsElementsAgain }
 {}
