@@ -5,8 +5,8 @@ use Rattle.bt_base.specs.declared.settings.Transport.TheVariants as transports
 use Rattle.push_script.specs.declared.word.Word.{Word}
 use Rattle.push_script.specs.declared.word.Word.TheVariants.{Pass, Lose, Repeat, Damage, Cut, Timer, Drop, Cancel}
 
--- The numbers of a word are in range: octets change from the fourth to the last but one that a frame can have and
--- one of them really changes, and at least one packet is cut off.
+-- The numbers of a word are in range: places of a frame count from 0, the basic header stays and there is a place behind
+-- the one that is named, at least one bit changes, and at least one packet is delivered.
 abbrev pub IsWord : Word → Type 0
 IsWord (Damage way at mask) = (4 ≤ at) × (at ≤ 65534) × (1 ≤ mask) × (mask ≤ 65535)
 IsWord (Cut way packets) = (1 ≤ packets) × (packets ≤ 65535)

@@ -15,7 +15,7 @@ abbrev pub object_turns : List Object → List (List ℕ) → ℕ
 object_turns shelf [] = 0
 object_turns shelf (name ∷ names) = (200 + 8 * length_of (octets_of name shelf)) + object_turns shelf names
 
--- so many words `pass` are enough for objects of these names on this shelf
+-- the number of words `pass` that a clean script is given for objects of these names on this shelf
 abbrev pub turns : List Object → List (List ℕ) → ℕ
 turns shelf names = 1000 + object_turns shelf names
 

@@ -121,7 +121,7 @@ pub(crate) fn word_within(said: Said) -> Result<Word, ScriptRefusal>
     }
 }
 
-/// `LossyRfcomm` where a word loses or changes frames over RFCOMM.
+/// `LossyRfcomm` where a word loses, changes or repeats frames over RFCOMM.
 fn lossless(transport: Option<Transport>, word: Word) -> Result<(), ScriptRefusal>
     ensures { result ≡ lossless transport word }
 {

@@ -20,7 +20,7 @@ pub enum ScriptRefusal {
     NoObject,
     /// There are 64 objects already.
     TooManyObjects,
-    /// The word loses or changes frames, which RFCOMM does not recover.
+    /// The word loses, changes or repeats frames, which RFCOMM does not recover.
     LossyRfcomm,
     /// The text is not UTF-8.
     NotUtf8,
@@ -33,7 +33,7 @@ pub enum ScriptRefusal {
 /// Why a text gives no scenario.
 #[derive(Clone, Copy, Debug, PartialEq, Eq, Drop, Error)]
 pub enum ScriptFault {
-    /// The text is refused, at that line, counted from 1.
+    /// The text is refused, at that line, counted from 1; at line 0 where it is too long.
     #[error("line {0}: {1:?}")]
     Refused(u32, ScriptRefusal),
     /// No memory could be had.

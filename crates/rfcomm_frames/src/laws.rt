@@ -34,7 +34,8 @@ pub fn written_is_no_longer()
 {}
 
 /// A change within eight neighbouring bits of what the check word is over, or of the check word, is
-/// seen, and so is any changed octet of a frame that carries no information.
+/// seen where the check word is over as many octets as before; and no frame without information
+/// becomes another one without information by one changed octet.
 pub fn changed_frames_are_seen()
     ensures bits { ChangedFramesAreSeen }
     ensures octets { ChangedOctetsAreSeen }
