@@ -41,10 +41,6 @@ one_more octets items rest entry n read front =
           ∙ ap (λ xs. capture_octets (plain_entries (items ++ entry ∷ [])) ++ xs) (sym left);
     }
 
--- an entry has octets, and they are at the front
-pub front_within : (octets : List ℕ) (entry : Entry) (n : ℕ) → IsFront octets (Ok (entry, n)) → (0 < n) × (n ≤ length octets)
-front_within octets entry n front = (omega (arith, front.3), omega (arith, front.3, ap length front.2, length-append (entry_octets entry) front.0))
-
 pub whole_capture : (octets : List ℕ) (items : List LentEntry) (rest : List ℕ) → IsRead octets items rest → rest ≡ [] → IsCapture octets (plain_entries items)
 whole_capture octets items rest read none = record { each = read.each; whole = read.whole ∙ ap (λ xs. capture_octets (plain_entries items) ++ xs) none ∙ append-nil (capture_octets (plain_entries items)) }
 
