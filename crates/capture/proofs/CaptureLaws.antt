@@ -1,14 +1,13 @@
 -- A capture is read entry by entry, and in one way.
-use Rattle.std.proofs.Common.{◌≡◌, ◌≢◌, ℕ, zero, suc, ◌+◌, ◌-◌, ◌≤◌, ◌^◌, ◌<◌, List, [], ◌∷◌, ◌++◌, map, length, drop, Result, Ok, Err, refl, sym, ap, subst, ◌∙◌, arith, append_assoc, length-append}
-use Rattle.std.specs.List.{flat_map, AllByRecursion}
-use Rattle.std.proofs.lemmas.List.{append-nil, map-append, drop_at}
-use Rattle.std.proofs.lemmas.Grind.{flat_map-append}
+use Rattle.std.proofs.Common.{◌≡◌, ℕ, List, [], ◌∷◌, ◌++◌, length, Result, Ok, Err, refl, sym, ap, subst, ◌∙◌, append_assoc}
+use Rattle.std.specs.List.{AllByRecursion}
+use Rattle.std.proofs.lemmas.List.{append-nil}
 use Rattle.capture.specs.declared.entry.Entry.{Entry as LentEntry}
 use Rattle.capture.specs.declared.entry_refusal.EntryRefusal.{EntryRefusal}
 use Rattle.capture.specs.Entries.{Entry, IsEntry, IsCapture, entry_octets, capture_octets}
-use Rattle.capture.specs.Lent.{plain_entry, plain_entries}
+use Rattle.capture.specs.Lent.{plain_entries}
 use Rattle.capture.specs.EntryReading.{IsFront}
-use Rattle.capture.specs.CaptureReading.{IsRefused, IsReading, OneReading}
+use Rattle.capture.specs.CaptureReading.{IsRefused, OneReading}
 use Rattle.capture.proofs.EntryLaws.{no_entry_begins_another, captures_same}
 use Rattle.capture.proofs.OneFront.{one_front}
 
@@ -18,46 +17,6 @@ use Rattle.capture.proofs.OneFront.{one_front}
 pub record IsRead (octets : List ℕ) (items : List LentEntry) (rest : List ℕ) : Type 0 where
   pub each : AllByRecursion IsEntry (plain_entries items)
   pub whole : octets ≡ capture_octets (plain_entries items) ++ rest
-
-all_both : {X : Type 0} (P : X → Type 0) (xs ys : List X) → AllByRecursion P xs → AllByRecursion P ys → AllByRecursion P (xs ++ ys)
-all_both P [] ys first second = second
-all_both P (x ∷ xs) ys (now, first) second = (now, all_both P xs ys first second)
-
-pub none_read : (octets : List ℕ) → IsRead octets [] octets
-none_read octets = record { each = tt; whole = refl }
-
--- one entry more is read
-pub one_more : (octets : List ℕ) (items : List LentEntry) (rest : List ℕ) (entry : LentEntry) (n : ℕ) → IsRead octets items rest → IsFront rest (Ok (plain_entry entry, n)) → IsRead octets (items ++ entry ∷ []) (drop n rest)
-one_more octets items rest entry n read front =
-    let plain : plain_entries (items ++ entry ∷ []) ≡ plain_entries items ++ plain_entry entry ∷ [] = map-append plain_entry items (entry ∷ []) in
-    let longer : capture_octets (plain_entries items ++ plain_entry entry ∷ []) ≡ capture_octets (plain_entries items) ++ entry_octets (plain_entry entry) =
-    flat_map-append entry_octets (plain_entries items) (plain_entry entry ∷ []) ∙ ap (λ xs. capture_octets (plain_entries items) ++ xs) (append-nil (entry_octets (plain_entry entry))) in
-    let left : drop n rest ≡ front.0 = ap (drop n) front.2 ∙ drop_at (entry_octets (plain_entry entry)) front.0 n (sym front.3) in
-    record {
-      each = subst (AllByRecursion IsEntry) (sym plain) (all_both IsEntry (plain_entries items) (plain_entry entry ∷ []) read.each (front.1, tt));
-      whole = read.whole ∙ ap (λ xs. capture_octets (plain_entries items) ++ xs) front.2
-          ∙ sym (append_assoc (capture_octets (plain_entries items)) (entry_octets (plain_entry entry)) front.0)
-          ∙ ap (λ xs. xs ++ front.0) (sym longer) ∙ ap (λ es. capture_octets es ++ front.0) (sym plain)
-          ∙ ap (λ xs. capture_octets (plain_entries (items ++ entry ∷ [])) ++ xs) (sym left);
-    }
-
--- an entry has octets, and they are at the front
-pub front_within : (octets : List ℕ) (entry : Entry) (n : ℕ) → IsFront octets (Ok (entry, n)) → (0 < n) × (n ≤ length octets)
-front_within octets entry n front = (omega (arith, front.3), omega (arith, front.3, ap length front.2, length-append (entry_octets entry) front.0))
-
-pub whole_capture : (octets : List ℕ) (items : List LentEntry) (rest : List ℕ) → IsRead octets items rest → rest ≡ [] → IsCapture octets (plain_entries items)
-whole_capture octets items rest read none = record { each = read.each; whole = read.whole ∙ ap (λ xs. capture_octets (plain_entries items) ++ xs) none ∙ append-nil (capture_octets (plain_entries items)) }
-
-pub refused_at : (octets : List ℕ) (items : List LentEntry) (rest : List ℕ) (refusal : EntryRefusal) → IsRead octets items rest → rest ≢ [] → IsFront rest (Err refusal) → IsRefused octets refusal (length octets - length rest)
-refused_at octets items rest refusal read more front = record {
-  entries = plain_entries items;
-  rest = rest;
-  each = read.each;
-  whole = read.whole;
-  more = more;
-  refused = front;
-  stands = omega (arith, ap length read.whole, length-append (capture_octets (plain_entries items)) rest);
-}
 
 -- ---- in one way
 

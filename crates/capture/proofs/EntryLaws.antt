@@ -1,5 +1,5 @@
 -- Entries are known by their octets.
-use Rattle.std.proofs.Common.{◌≡◌, ℕ, ◌+◌, ◌/◌, ◌%◌, ◌≤◌, ◌^◌, ◌<◌, List, [], ◌∷◌, ◌++◌, length, get_or, take, drop, refl, sym, ap, subst, ◌∙◌, arith, append_assoc}
+use Rattle.std.proofs.Common.{◌≡◌, ℕ, ◌/◌, ◌%◌, ◌^◌, ◌<◌, List, [], ◌∷◌, ◌++◌, length, get_or, take, drop, refl, sym, ap, ◌∙◌, arith}
 use Rattle.std.specs.Prelude.{cond, nat_lt, ◌==◌}
 use Rattle.std.specs.List.{AllByRecursion}
 use Rattle.std.proofs.lemmas.List.{take_at, drop_at}
@@ -14,14 +14,13 @@ use Rattle.push_script.specs.declared.word.Side.TheVariants as sides
 use Rattle.push_script.specs.declared.word.Word.{Word}
 use Rattle.push_script.specs.declared.outcome.Outcome.{Outcome}
 use Rattle.push_script.specs.Words.{word_text}
-use Rattle.push_script.specs.Outcomes.{outcome_text, IsOutcome}
-use Rattle.push_script.specs.Runs.{IsWord}
+use Rattle.push_script.specs.Outcomes.{outcome_text}
 use Rattle.push_script.proofs.Lengths.{word_short, outcome_short}
 use Rattle.push_script.proofs.WordsWritten.{one_word}
 use Rattle.push_script.proofs.OutcomesWritten.{one_outcome}
 use Rattle.capture.specs.declared.flow.Flow.{Flow}
 use Rattle.capture.specs.declared.flow.Flow.TheVariants.{Out, Into}
-use Rattle.capture.specs.Entries.{Entry, Moved, Acted, Begun, Ended, IsEntry, IsCapture, moved_tag, tag_of, payload_of, entry_octets, capture_octets}
+use Rattle.capture.specs.Entries.{Entry, Moved, Acted, Begun, Ended, IsEntry, moved_tag, tag_of, payload_of, entry_octets, capture_octets}
 use Rattle.capture.specs.EntryLaws.{NoEntryBeginsAnother, OneCapture}
 
 -- the length of a payload fits its two octets

@@ -1,17 +1,14 @@
 -- What stands at the front of octets.
-use Rattle.std.proofs.Common.{◌≡◌, ◌≢◌, ℕ, zero, suc, ◌+◌, ◌-◌, ◌*◌, ◌/◌, ◌%◌, ◌≤◌, ◌^◌, ◌<◌, List, [], ◌∷◌, ◌++◌, length, get_or, take, drop, replicate, Option, Some, None, Result, Ok, Err, refl, sym, ap, subst, ◌∙◌, arith, append_assoc, length-append}
+use Rattle.std.proofs.Common.{◌≡◌, ◌≢◌, ℕ, zero, suc, ◌-◌, ◌*◌, ◌/◌, ◌%◌, ◌≤◌, ◌^◌, ◌<◌, List, [], ◌∷◌, ◌++◌, length, take, drop, replicate, Err, refl, sym, ap, subst, ◌∙◌, arith, append_assoc, length-append}
 use Rattle.std.proofs.lemmas.List.{length-replicate, append-nil, length-take-le, take-append-drop}
 use Rattle.bt_base.specs.Octets.{IsOctets, be16}
 use Rattle.h4_framing.specs.declared.leading.Leading.TheVariants as leading
 use Rattle.h4_framing.specs.declared.unit.Unit.{Unit}
-use Rattle.h4_framing.specs.Packets.{Packet, packet, spelling, IsPacket}
+use Rattle.h4_framing.specs.Packets.{Packet, spelling, IsPacket}
 use Rattle.h4_framing.specs.Leading.{IsLeading}
 use Rattle.h4_framing.proofs.ReadingLemmas.{written_is_read}
-use Rattle.capture.specs.declared.entry_refusal.EntryRefusal.{EntryRefusal}
-use Rattle.capture.specs.declared.entry_refusal.EntryRefusal.TheVariants.{BadTag, Truncated, BadRecord}
-use Rattle.capture.specs.Entries.{Entry, IsEntry, tag_of, payload_of, entry_octets}
-use Rattle.capture.specs.EntryReading.{IsTag, IsRecord, record_octets, IsOf, OfNone, IsFront, OneFront}
-use Rattle.capture.proofs.EntryLaws.{payload_short, one_record, one_entry}
+use Rattle.capture.specs.declared.entry_refusal.EntryRefusal.TheVariants.{Truncated}
+use Rattle.capture.specs.EntryReading.{IsTag, record_octets, IsFront}
 
 -- ---- octets that end within a record
 

@@ -1,5 +1,5 @@
 -- What stands at the front of octets is one thing.
-use Rattle.std.proofs.Common.{◌≡◌, ◌≢◌, ℕ, ◌+◌, ◌≤◌, ◌^◌, ◌<◌, List, [], ◌∷◌, ◌++◌, length, Result, Ok, Err, refl, sym, ap, subst, ◌∙◌, arith, append_assoc}
+use Rattle.std.proofs.Common.{◌≡◌, ◌≢◌, ℕ, List, [], ◌∷◌, ◌++◌, length, Result, Ok, Err, refl, sym, ap, subst, ◌∙◌, arith, append_assoc}
 use Rattle.std.proofs.lemmas.List.{append-nil}
 use Rattle.push_script.specs.declared.word.Side.{Side}
 use Rattle.push_script.specs.declared.word.Side.TheVariants as sides
@@ -8,7 +8,7 @@ use Rattle.capture.specs.declared.flow.Flow.TheVariants.{Out, Into}
 use Rattle.capture.specs.declared.entry_refusal.EntryRefusal.{EntryRefusal}
 use Rattle.capture.specs.declared.entry_refusal.EntryRefusal.TheVariants.{BadTag, Truncated, BadRecord}
 use Rattle.capture.specs.Entries.{Entry, Moved, Acted, Begun, Ended, IsEntry, moved_tag, tag_of, payload_of, entry_octets}
-use Rattle.capture.specs.EntryReading.{IsTag, IsRecord, record_octets, IsOf, OfNone, IsFront, OneFront}
+use Rattle.capture.specs.EntryReading.{IsTag, IsRecord, record_octets, OfNone, IsFront, OneFront}
 use Rattle.capture.proofs.EntryLaws.{payload_short, one_record, no_entry_begins_another}
 
 moved_is_tag : (side : Side) (flow : Flow) → IsTag (moved_tag side flow)

@@ -40,7 +40,7 @@ fn moved<'a>(side: Side, flow: Flow, payload: &'a [u8]) -> Option<Entry<'a>>
     Some(Entry::Moved { side, flow, unit })
 }
 
-/// The number in the first eight octets, the highest octet first.
+/// The number that eight octets are, the highest octet first.
 fn read_be64(octets: &[u8]) -> u64
     requires { length octets.now ≡ 8 }
     ensures { big_bytes 8 result ≡ octets.now }
@@ -64,7 +64,7 @@ fn acted<'a>(payload: &[u8]) -> Option<Entry<'a>>
     Some(Entry::Acted { ordinal, word })
 }
 
-/// The begin of a push.
+/// The beginning of a push.
 fn begun<'a>(payload: &[u8]) -> Option<Entry<'a>>
     ensures { IsFound 0x06 payload.now result }
 {

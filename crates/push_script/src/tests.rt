@@ -202,3 +202,63 @@ fn made_of_two_numbers(rt: HostRuntime) -> Result<(), Fail> {
     }
     Ok(())
 }
+
+#[test]
+fn words_from_their_texts(rt: HostRuntime) {
+    let table: [(&[u8], Option<Word>); 14] = [
+        (b"pass", Some(Word::Pass)),
+        (b"lose ab", Some(Word::Lose(Way::Ab))),
+        (b"repeat ba", Some(Word::Repeat(Way::Ba))),
+        (
+            b"damage ab 65534 00FF",
+            Some(Word::Damage {
+                way: Way::Ab,
+                at: 65534,
+                mask: 0x00FF,
+            }),
+        ),
+        (
+            b"cut ba 1",
+            Some(Word::Cut {
+                way: Way::Ba,
+                packets: 1,
+            }),
+        ),
+        (b"timer b", Some(Word::Timer(Side::B))),
+        (b"drop", Some(Word::Drop)),
+        (b"cancel", Some(Word::Cancel)),
+        (b"", None),
+        (b"1 pass", None),
+        (b"pass ", None),
+        (b"damage ab 3 00FF", None),
+        (b"damage ab 04 00FF", None),
+        (b"damage ab 4 00ff", None),
+    ];
+    for (text, word) in &table {
+        assert_eq!(rt; word_of(*text), *word);
+    }
+}
+
+#[test]
+fn outcomes_from_their_texts(rt: HostRuntime) {
+    let table: [(&[u8], Option<Outcome>); 15] = [
+        (b"done", Some(Outcome::Done)),
+        (b"link-lost", Some(Outcome::LinkLost)),
+        (b"retry-limit", Some(Outcome::RetryLimit)),
+        (b"refused C3", Some(Outcome::Refused(0xC3))),
+        (b"no-service", Some(Outcome::NoService)),
+        (b"shelf", Some(Outcome::ShelfFault)),
+        (b"cancelled", Some(Outcome::Cancelled)),
+        (b"peer-closed", Some(Outcome::PeerClosed)),
+        (b"peer-fault 3 255", Some(Outcome::PeerFault(3, 255))),
+        (b"script-ended", Some(Outcome::ScriptEnded)),
+        (b"", None),
+        (b"refused c3", None),
+        (b"refused 0C3", None),
+        (b"peer-fault 3 256", None),
+        (b"done\xFF", None),
+    ];
+    for (text, outcome) in &table {
+        assert_eq!(rt; outcome_of(*text), *outcome);
+    }
+}

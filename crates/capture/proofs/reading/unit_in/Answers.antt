@@ -1,4 +1,4 @@
-use Rattle.std.proofs.Common.{◌<◌, arith}
+use Rattle.std.proofs.Common.{arith}
 use Rattle.capture.proofs.FrontLaws.{whole_only}
 use Rattle.capture.proofs.reading.unit_in.Goals as goal
 
