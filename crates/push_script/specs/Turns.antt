@@ -1,4 +1,4 @@
--- How many words are enough for a scenario (this project's own).
+-- How many words a clean script is given (this project's own).
 use Rattle.std.specs.Prelude.{ℕ, ◌≡◌, ◌+◌, ◌*◌, List, [], ◌∷◌, length, Option, Some, None}
 use Rattle.std.specs.List.{AllByRecursion}
 use Rattle.bt_base.specs.Objects.{Object, octets_of}

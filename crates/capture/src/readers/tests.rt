@@ -65,6 +65,7 @@ fn links_channels_and_packets_of_a_push(rt: HostRuntime) -> Result<(), Fail> {
         assert_eq!(rt; all_outstanding(rt.alloc(), front, Side::A)?, a);
         assert_eq!(rt; outstanding(rt.alloc(), front, Side::B, 1)?, b);
     }
+    assert_eq!(rt; moves(rt.alloc(), &entries, Side::A)?.len(), 33);
     assert!(rt; link_up(rt.alloc(), &entries, Side::A)?.is_none());
     let links = links(rt.alloc(), &entries, Side::B)?;
     assert_eq!(rt; links.len(), 1);
