@@ -1,6 +1,6 @@
 -- What joiners hold after one packet more.
 use Rattle.std.proofs.Common.{◌≡◌, ℕ, ◌+◌, ◌<◌, List, [], ◌∷◌, ◌++◌, length, take, get_or, Bool, true, false, cond, Option, Some, None, refl, sym, ap, subst, ◌∙◌}
-use Rattle.std.specs.List.{filter_map, cons_option}
+use Rattle.std.specs.List.{cons_option}
 use Rattle.std.proofs.lemmas.List.{append-nil}
 use Rattle.std.proofs.lemmas.List.Elements.{filter_map-append}
 use Rattle.acl_fragments.specs.Pieces.{Piece}
@@ -9,7 +9,7 @@ use Rattle.capture.specs.declared.flow.Flow.{Flow}
 use Rattle.capture.specs.declared.flow.Flow.TheVariants.{Out, Into}
 use Rattle.capture.specs.declared.readers.completing.Joiners.{Joiners}
 use Rattle.capture.specs.Moves.{Move}
-use Rattle.capture.specs.Pdus.{Pdu, pdu_limit, same_flow, piece_of, piece_in, pieces, whole_of, completed_by, completed}
+use Rattle.capture.specs.Pdus.{Pdu, pdu_limit, same_flow, piece_of, piece_in, pieces, completed_by, completed}
 use Rattle.capture.specs.Histories.{given_by}
 use Rattle.capture.specs.declared.readers.Move.{Move as LentMove}
 use Rattle.capture.specs.Lent.{plain_move, plain_moves}

@@ -9,3 +9,4 @@ pub mod EntryLaws
 pub mod FrontLaws
 pub mod OneFront
 pub mod CaptureLaws
+pub mod FurtherLaws

@@ -27,7 +27,7 @@ none_or None = refl
 none_or (Some x) = refl
 
 -- the last of two lists, one behind the other
-last_of-append : {X : Type 0} (xs ys : List X) → last_of (xs ++ ys) ≡ option_or (last_of ys) (last_of xs)
+pub last_of-append : {X : Type 0} (xs ys : List X) → last_of (xs ++ ys) ≡ option_or (last_of ys) (last_of xs)
 last_of-append [] ys = sym (none_or (last_of ys))
 last_of-append (x ∷ xs) ys = ap (λ found. option_or found (Some x)) (last_of-append xs ys) ∙ either_or (last_of ys) (last_of xs) (Some x)
 

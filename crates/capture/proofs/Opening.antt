@@ -1,8 +1,7 @@
 -- How a reader of channels goes on.
-use Rattle.std.proofs.Common.{◌≡◌, ℕ, ◌+◌, ◌<◌, List, [], ◌∷◌, ◌++◌, length, drop, take, fold, map, get_or, cond, eqb, Bool, true, Option, Some, sym, ap, ◌∙◌}
+use Rattle.std.proofs.Common.{◌≡◌, ℕ, ◌+◌, ◌<◌, List, [], ◌∷◌, ◌++◌, length, drop, take, fold, get_or, cond, eqb, Bool, true, Option, Some, sym, ap, ◌∙◌}
 use Rattle.std.specs.Prelude.{option_to_list}
 use Rattle.std.specs.List.{filter_map, list_any}
-use Rattle.std.specs.Option.{option_map}
 use Rattle.std.proofs.lemmas.List.{length-map, drop-map}
 use Rattle.l2cap_signal.specs.Commands.{Content, connection_response}
 use Rattle.capture.specs.declared.channel.Channel.{Channel}

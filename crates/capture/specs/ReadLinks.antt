@@ -1,5 +1,5 @@
 -- What a reader of links holds.
-use Rattle.std.specs.Prelude.{ℕ, map}
+use Rattle.std.specs.Prelude.{map}
 use Rattle.std.specs.Option.{option_map}
 use Rattle.capture.specs.declared.readers.linking.LinkNews.{LinkNews as Read}
 use Rattle.capture.specs.declared.readers.linking.LinkNews.TheVariants as read
