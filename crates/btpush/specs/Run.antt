@@ -1,5 +1,5 @@
 -- What a run does (this project's own).
-use Rattle.std.specs.Prelude.{ℕ, ◌≡◌, ◌<◌, List, Option, Ok, Err}
+use Rattle.std.specs.Prelude.{ℕ, ◌≡◌, ◌<◌, ◌≤◌, List, Option, Ok, Err}
 use Rattle.bt_base.specs.Counts.{HasRisen}
 use Rattle.bt_base.specs.Streams.{gained, GainedFront}
 use Rattle.h4_view.specs.declared.refusal.ViewRefusal.{ViewRefusal}
@@ -31,8 +31,10 @@ RefusesWords old new status.InputRefused = ⊥
 RefusesWords old new status.ReadFault = ⊥
 
 -- Each fault has its cause: a fault of reading comes only where the source's count of faults rose, one of writing
--- only where the sink's did; and where a count rose, that fault is answered.
+-- only where the sink's did; and where a count rose, that fault is answered. No count falls.
 pub record HasCauses (source source' sink sink' : ℕ) (result : Status) : Type 0 where
+  pub source_stays : source ≤ source'
+  pub sink_stays : sink ≤ sink'
   pub read : result ≡ status.ReadFault → HasRisen source source'
   pub write : result ≡ status.WriteFault → HasRisen sink sink'
   pub only_read : source < source' → result ≡ status.ReadFault

@@ -94,6 +94,11 @@ pub record Blames {A : Type 0} (source source' sink sink' : ℕ) (result : Resul
   pub only_read : source < source' → IsErrOf result ReadFault
   pub only_write : sink < sink' → IsErrOf result WriteFault
 
+-- A count that rises in a call is answered so. It never falls.
+pub record IsAnswered (count count' : ℕ) (answer : Type 0) : Type 0 where
+  pub stays : count ≤ count'
+  pub only : count < count' → answer
+
 -- What a sink gains from the packets of an input, before the line of the refusal.
 abbrev pub ShowsAll : List ℕ → Option (List ℕ) → Option (List ℕ) → Result (Option (ViewRefusal × ℕ)) ViewFault → Type 0
 ShowsAll input old new (Ok verdict) = (packets : List Packet) × IsView input packets verdict × (new ≡ gained old (lines [] 0 packets))

@@ -1,8 +1,8 @@
 //! The view of a stream of packets.
 
-ghost use Rattle.std.specs.Prelude.{◌≡◌, ◌≤◌, ◌<◌, List, ℕ, Option, [], None, Some, Ok, Err, vec_len, length, take, IfOk, OnOk, IfSome, IfErr, OnErr};
+ghost use Rattle.std.specs.Prelude.{◌≡◌, ◌≤◌, ◌<◌, List, ℕ, Option, [], None, Some, Ok, Err, vec_len, length, take, IfOk, OnOk, IfSome, IfErr, IsErrOf, OnErr};
 ghost use Rattle.bt_base.specs.Streams.{gained, GainedFront};
-ghost use Rattle.h4_view.specs.View.{input_limit, ShowsAll, Views, Blames, Took, IsOfPorts, IsNewView, IsRefusal, EndsView, EndsAtLimit};
+ghost use Rattle.h4_view.specs.View.{input_limit, ShowsAll, Views, Blames, IsAnswered, Took, IsOfPorts, IsNewView, IsRefusal, EndsView, EndsAtLimit};
 ghost use Rattle.h4_view.specs.Standing.{Standing, Steps};
 
 use crate::details::no_joiners;
@@ -27,6 +27,7 @@ fn read_piece<S: Source>(source: &mut S, piece: &mut [u8]) -> Result<usize, View
     ensures kept { OnErr result (S.content source.new ≡ S.content source.old) }
     ensures of_port { IfErr result IsOfPorts }
     ensures blame { Blames (S.faults source.old) (S.faults source.new) 0 0 result }
+    ensures source_short { IsAnswered (S.shortages source.old) (S.shortages source.new) (IsErrOf result ViewFault.NoMemory) }
 {
     match source.read(piece) {
         Ok(n) => Ok(n),
@@ -41,6 +42,7 @@ fn write_text<K: Sink>(sink: &mut K, text: &[u8]) -> Result<(), ViewFault>
     ensures front { GainedFront (K.content sink.old) (K.content sink.new) text.now }
     ensures of_port { IfErr result IsOfPorts }
     ensures blame { Blames 0 0 (K.faults sink.old) (K.faults sink.new) result }
+    ensures sink_short { IsAnswered (K.shortages sink.old) (K.shortages sink.new) (IsErrOf result ViewFault.NoMemory) }
 {
     match sink.put(text) {
         Ok(()) => Ok(()),
@@ -76,6 +78,7 @@ fn passes_limit<S: Source>(
     ensures finish { IfOk result (λ verdict. verdict ≡ None → IfSome (S.content source.new) (λ left. left ≡ [])) }
     ensures of_port { IfErr result IsOfPorts }
     ensures blame { Blames (S.faults source.old) (S.faults source.new) 0 0 result }
+    ensures source_short { IsAnswered (S.shortages source.old) (S.shortages source.new) (IsErrOf result ViewFault.NoMemory) }
 {
     if framer.end().is_err() {
         return Ok(Some((ViewRefusal::TooLong, INPUT_LIMIT as u64)));
@@ -123,6 +126,8 @@ fn show_next<S: Source, K: Sink>(
     ensures text { IfOk result (λ progress. progress ≡ Progress.More → view.new.text.items ≡ []) }
     ensures finish { IfOk result (λ progress. progress ≡ Progress.Ended None → IfSome (S.content source.new) (λ left. left ≡ [])) }
     ensures blame { Blames (S.faults source.old) (S.faults source.new) (K.faults sink.old) (K.faults sink.new) result }
+    ensures source_short { IsAnswered (S.shortages source.old) (S.shortages source.new) (IsErrOf result ViewFault.NoMemory) }
+    ensures sink_short { IsAnswered (K.shortages sink.old) (K.shortages sink.new) (IsErrOf result ViewFault.NoMemory) }
 {
     let room = piece.len().min(INPUT_LIMIT - view.fed);
     let piece = &mut piece[..room];
@@ -201,6 +206,8 @@ fn show_all<S: Source, K: Sink>(
     ensures shows { IfSome (S.content source.old) (λ input. ShowsAll input (K.content sink.old) (K.content sink.new) result) }
     ensures finish { IfOk result (λ verdict. verdict ≡ None → IfSome (S.content source.new) (λ left. left ≡ [])) }
     ensures blame { Blames (S.faults source.old) (S.faults source.new) (K.faults sink.old) (K.faults sink.new) result }
+    ensures source_short { IsAnswered (S.shortages source.old) (S.shortages source.new) (IsErrOf result ViewFault.NoMemory) }
+    ensures sink_short { IsAnswered (K.shortages sink.old) (K.shortages sink.new) (IsErrOf result ViewFault.NoMemory) }
 {
     while view.fed < INPUT_LIMIT {
         match show_next(view, source, sink, piece) {
@@ -216,6 +223,7 @@ fn show_all<S: Source, K: Sink>(
 fn refuse<K: Sink>(alloc: Global, sink: &mut K, refusal: ViewRefusal, place: u64) -> ViewFault
     ensures wrote { IsRefusal refusal place (K.content sink.old) (K.content sink.new) result }
     ensures blame { Blames {A = ℕ} 0 0 (K.faults sink.old) (K.faults sink.new) (Err result) }
+    ensures sink_short { IsAnswered (K.shortages sink.old) (K.shortages sink.new) (result ≡ ViewFault.NoMemory) }
 {
     let Ok(line) = refusal_text(alloc, refusal, place) else {
         return ViewFault::NoMemory;
@@ -242,6 +250,8 @@ pub fn view_raw<S: Source, K: Sink>(
     ensures finish { OnOk result (IfSome (S.content source.new) (λ left. left ≡ [])) }
     // Each fault has its cause.
     ensures blame { Blames (S.faults source.old) (S.faults source.new) (K.faults sink.old) (K.faults sink.new) result }
+    ensures source_short { IsAnswered (S.shortages source.old) (S.shortages source.new) (IsErrOf result ViewFault.NoMemory) }
+    ensures sink_short { IsAnswered (K.shortages sink.old) (K.shortages sink.new) (IsErrOf result ViewFault.NoMemory) }
 {
     let mut view = match new_view(alloc) {
         Ok(view) => view,
