@@ -40,7 +40,7 @@ pub fn run<S: Source, K: Sink, T: Sink, F: Shelf, B: Inbox>(
 ) -> Status
     requires { B.is_pending inbox.old ≡ false }
     // What the sink gains from `decode` is the view of the input, up to and with the first refusal.
-    ensures decode { is_decode (map string_bytes words.now.items) ≡ true → IfSome (S.content source.old) (λ input. Decodes input (K.content sink.old) (K.content sink.new) result) }
+    ensures decode { is_decode (map string_bytes words.now.items) ≡ true → IfSome (S.content source.old) (λ input. Decodes input (S.content source.new) (K.content sink.old) (K.content sink.new) result) }
     // Other words are refused, and no others.
     ensures words { is_decode (map string_bytes words.now.items) ≡ false → RefusesWords (K.content sink.old) (K.content sink.new) result }
     ensures bad_words { result ≡ Status.BadWords → is_decode (map string_bytes words.now.items) ≡ false }
