@@ -3,6 +3,7 @@
 ghost use Rattle.std.specs.Prelude.{◌≡◌, true, false, [], map, string_bytes, IfSome};
 ghost use Rattle.btpush.specs.Run.{Decodes, RefusesWords, HasCauses};
 ghost use Rattle.btpush.specs.Words.{is_decode};
+ghost use Rattle.h4_view.specs.View.{IsAnswered};
 
 use crate::status::Status;
 use crate::words::{USAGE, is_decode};
@@ -14,6 +15,7 @@ use std::alloc::Global;
 fn refuse_words<K: Sink>(sink: &mut K) -> Status
     ensures words { RefusesWords (K.content sink.old) (K.content sink.new) result }
     ensures causes { HasCauses 0 0 (K.faults sink.old) (K.faults sink.new) result }
+    ensures sink_short { IsAnswered (K.shortages sink.old) (K.shortages sink.new) (result ≡ Status.NoMemory) }
 {
     match sink.put(USAGE.as_bytes()) {
         Ok(()) => Status::BadWords,
@@ -38,7 +40,7 @@ pub fn run<S: Source, K: Sink, T: Sink, F: Shelf, B: Inbox>(
 ) -> Status
     requires { B.is_pending inbox.old ≡ false }
     // What the sink gains from `decode` is the view of the input, up to and with the first refusal.
-    ensures decode { is_decode (map string_bytes words.now.items) ≡ true → IfSome (S.content source.old) (λ input. Decodes input (K.content sink.old) (K.content sink.new) result) }
+    ensures decode { is_decode (map string_bytes words.now.items) ≡ true → IfSome (S.content source.old) (λ input. Decodes input (S.content source.new) (K.content sink.old) (K.content sink.new) result) }
     // Other words are refused, and no others.
     ensures words { is_decode (map string_bytes words.now.items) ≡ false → RefusesWords (K.content sink.old) (K.content sink.new) result }
     ensures bad_words { result ≡ Status.BadWords → is_decode (map string_bytes words.now.items) ≡ false }
@@ -46,6 +48,9 @@ pub fn run<S: Source, K: Sink, T: Sink, F: Shelf, B: Inbox>(
     ensures finish { result ≡ Status.Ok → IfSome (S.content source.new) (λ left. left ≡ []) }
     // Each fault has its cause.
     ensures causes { HasCauses (S.faults source.old) (S.faults source.new) (K.faults sink.old) (K.faults sink.new) result }
+    // A shortage of memory of a port is answered.
+    ensures source_short { IsAnswered (S.shortages source.old) (S.shortages source.new) (result ≡ Status.NoMemory) }
+    ensures sink_short { IsAnswered (K.shortages sink.old) (K.shortages sink.new) (result ≡ Status.NoMemory) }
     // Nothing else is touched.
     ensures trace { trace.new ≡ trace.old }
     ensures shelf { shelf.new ≡ shelf.old }

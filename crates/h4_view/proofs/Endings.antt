@@ -1,5 +1,5 @@
 -- How a view ends: at the end of its input, at a refusal, or at the greatest length.
-use Rattle.std.proofs.Common.{◌≡◌, ◌≢◌, ℕ, ◌+◌, ◌-◌, ◌<◌, ◌≤◌, List, [], ◌∷◌, ◌++◌, length, take, Option, Some, None, IfSome, IfOk, IfErr, Result, Ok, Err, refl, sym, ap, subst, ◌∙◌, append_assoc, arith, inl, inr, length-append}
+use Rattle.std.proofs.Common.{◌≡◌, ◌≢◌, ℕ, ◌+◌, ◌-◌, ◌<◌, ◌≤◌, List, [], ◌∷◌, ◌++◌, length, take, Option, Some, None, IfSome, IfOk, IfErr, OnErr, Result, Ok, Err, refl, sym, ap, subst, ◌∙◌, append_assoc, arith, inl, inr, length-append}
 use Rattle.std.proofs.lemmas.List.{append-nil, take_at, take_all}
 use Rattle.std.specs.List.{AllByRecursion}
 use Rattle.bt_base.specs.Streams.{gained, GainedFront}
@@ -20,7 +20,7 @@ use Rattle.h4_view.specs.Lines.{lines, refusal_line}
 use Rattle.h4_view.specs.Shows.{Shows}
 use Rattle.h4_view.specs.Standing.{Standing}
 use Rattle.h4_view.specs.View.{acl_limit, input_limit, HasBadIndicator, GoesPast, Stops, BeginsWith, FrontWritten, OfLines, OfAll, ShowsAll, Views, Took, IsOfPorts, IsRefusal, EndsView, EndsAtLimit}
-use Rattle.h4_view.proofs.Stands.{took_then, held_behind, fault_behind, told, taken_front, front_stands, fault_shows, lines_then}
+use Rattle.h4_view.proofs.Stands.{took_then, held_behind, fault_behind, told, taken_front, fault_shows, lines_then}
 
 -- a count that does not reach its end
 counted_plain : (n : ℕ) → n ≤ input_limit → counted 0 n ≡ n
@@ -49,7 +49,7 @@ ends_by (Some (TooLong, place)) octets packets framing accounts sound keeps belo
     (at, some, subst (λ (t : List ℕ). GoesPast from t) (sym front) goes)
 
 pub ended : (verdict : Option (ViewRefusal × ℕ)) (input left old new : Option (List ℕ)) (framing : Framing) (joiners : List (Option Held)) (offset fed : ℕ) → Standing input left old new framing joiners offset fed → fed < input_limit
-    → IfSome left (λ octets. octets ≡ []) → EndsView framing verdict → IfSome input (λ all. ShowsAll all old new (Ok verdict))
+    → IfSome left (λ octets. octets ≡ []) → EndsView framing verdict → IfSome input (λ all. ShowsAll all left old new (Ok verdict))
 ended verdict input left old new framing joiners offset fed s below empty ends = told input (λ all e.
     let begin = taken_front input left s.octets all s.took e in
     let none : begin.0 ≡ [] = rw begin.2 at empty in
@@ -79,7 +79,7 @@ bad_indicator h4.Truncated rest more n wrong = absurd wrong
 -- the piece was shown and written up to a refusal
 pub refused : (input left left' old new new' : Option (List ℕ)) (framing framing' : Framing) (joiners joiners' : List (Option Held)) (offset offset' fed n place : ℕ) (refusal : H4Refusal) (text xs : List ℕ)
     → Standing input left old new framing joiners offset fed → Took left left' xs → Shows framing framing' joiners joiners' offset offset' [] text xs (Some (refusal, place)) → new' ≡ gained new text → length xs ≡ n → fed + n ≤ input_limit
-    → IfSome input (λ all. ShowsAll all old new' (Ok (Some (BadIndicator, place))))
+    → IfSome input (λ all. ShowsAll all left' old new' (Ok (Some (BadIndicator, place))))
 refused input left left' old new new' framing framing' joiners joiners' offset offset' fed n place refusal text xs s took shows wrote size within = told input (λ all e.
     let packets : List Packet = s.packets ++ shows.added in
     let octets : List ℕ = s.octets ++ xs in
@@ -139,7 +139,7 @@ limit_by (Some (TooLong, place)) octets rest left packets framing accounts sound
     (ends.0, some, subst (λ (t : List ℕ). GoesPast from t) (sym front) goes)
 
 pub at_limit : (verdict : Option (ViewRefusal × ℕ)) (input left old new : Option (List ℕ)) (framing : Framing) (joiners : List (Option Held)) (offset fed : ℕ) → Standing input left old new framing joiners offset fed → input_limit ≤ fed
-    → EndsAtLimit framing left verdict → IfSome input (λ all. ShowsAll all old new (Ok verdict))
+    → EndsAtLimit framing left verdict → IfSome input (λ all. ShowsAll all left old new (Ok verdict))
 at_limit verdict input left old new framing joiners offset fed s full ends = told input (λ all e.
     let begin = taken_front input left s.octets all s.took e in
     let behind = held_behind s.octets s.packets framing s.accounts s.sound in
@@ -158,34 +158,31 @@ at_limit verdict input left old new framing joiners offset fed s full ends = tol
     ))
 
 -- what the end of the loop shows
-pub limit_shows : (result : Result (Option (ViewRefusal × ℕ)) ViewFault) (input left old new : Option (List ℕ)) (framing : Framing) (joiners : List (Option Held)) (offset fed : ℕ) → Standing input left old new framing joiners offset fed → input_limit ≤ fed
-    → IfOk result (λ verdict. EndsAtLimit framing left verdict) → IfErr result IsOfPorts → IfSome input (λ all. ShowsAll all old new result)
-limit_shows (Ok verdict) input left old new framing joiners offset fed s full ends port = at_limit verdict input left old new framing joiners offset fed s full ends
-limit_shows (Err fault) input left old new framing joiners offset fed s full ends port = fault_shows input old new fault port (front_stands input left old new framing joiners offset fed s)
+pub limit_shows : (result : Result (Option (ViewRefusal × ℕ)) ViewFault) (input left left' old new : Option (List ℕ)) (framing : Framing) (joiners : List (Option Held)) (offset fed : ℕ) → Standing input left old new framing joiners offset fed → input_limit ≤ fed
+    → IfOk result (λ verdict. EndsAtLimit framing left verdict) → IfErr result IsOfPorts → OnErr result (left' ≡ left) → IfSome input (λ all. ShowsAll all left' old new result)
+limit_shows (Ok verdict) input left left' old new framing joiners offset fed s full ends port kept = at_limit verdict input left old new framing joiners offset fed s full ends
+limit_shows (Err fault) input left left' old new framing joiners offset fed s full ends port kept = fault_shows fault input left left' old new framing joiners offset fed s port kept
 
 -- an input begins with no packets
 begins_none : (all : List ℕ) → BeginsWith all []
 begins_none all = record { each = tt; within = omega arith; rest = all; whole = refl }
 
--- nothing was shown
-pub nothing_shown : (input old : Option (List ℕ)) (fault : ViewFault) → IsOfPorts fault → IfSome input (λ all. Views all old old (Err fault))
-nothing_shown None old fault port = tt
-nothing_shown (Some all) old (Refused refusal place) port = absurd port
-nothing_shown (Some all) old ReadFault port = OfLines [] (begins_none all) (front_none old [])
-nothing_shown (Some all) old WriteFault port = OfLines [] (begins_none all) (front_none old [])
-nothing_shown (Some all) old NoMemory port = OfLines [] (begins_none all) (front_none old [])
+-- nothing was shown, for want of memory
+pub nothing_shown : (input left old : Option (List ℕ)) (fault : ViewFault) → fault ≡ NoMemory → IfSome input (λ all. Views all left old old (Err fault))
+nothing_shown None left old fault short = tt
+nothing_shown (Some all) left old fault short = subst (λ (f : ViewFault). Views all left old old (Err f)) (sym short) (OfLines [] (begins_none all) (front_none old []))
 
 -- a front of the refusal behind all lines
-all_front : (input : List ℕ) (old mid new : Option (List ℕ)) (refusal : ViewRefusal) (place : ℕ) → ShowsAll input old mid (Ok (Some (refusal, place))) → GainedFront mid new (refusal_line refusal place) → FrontWritten old new input
-all_front input old mid new refusal place (packets, view, wrote) front = OfAll packets (Some (refusal, place)) view (front_then old mid new (lines [] 0 packets) (refusal_line refusal place) wrote front)
+all_front : (input : List ℕ) (left old mid new : Option (List ℕ)) (refusal : ViewRefusal) (place : ℕ) → ShowsAll input left old mid (Ok (Some (refusal, place))) → GainedFront mid new (refusal_line refusal place) → FrontWritten old new input
+all_front input left old mid new refusal place (packets, view, wrote) front = OfAll packets (Some (refusal, place)) view (front_then old mid new (lines [] 0 packets) (refusal_line refusal place) wrote front)
 
 -- the refusal's line behind all lines
-pub refusal_shown : (input old mid new : Option (List ℕ)) (refusal : ViewRefusal) (place : ℕ) (fault : ViewFault) → IfSome input (λ all. ShowsAll all old mid (Ok (Some (refusal, place)))) → IsRefusal refusal place mid new fault
-    → IfSome input (λ all. Views all old new (Err fault))
-refusal_shown None old mid new refusal place fault shows is = tt
-refusal_shown (Some all) old mid new refusal place (Refused refusal' place') (packets, view, wrote) (r, p, w) =
-    subst (λ (x : ViewRefusal). Views all old new (Err (Refused x place'))) (sym r) (subst (λ (n : ℕ). Views all old new (Err (Refused refusal n))) (sym p)
+pub refusal_shown : (input left old mid new : Option (List ℕ)) (refusal : ViewRefusal) (place : ℕ) (fault : ViewFault) → IfSome input (λ all. ShowsAll all left old mid (Ok (Some (refusal, place)))) → IsRefusal refusal place mid new fault
+    → IfSome input (λ all. Views all left old new (Err fault))
+refusal_shown None left old mid new refusal place fault shows is = tt
+refusal_shown (Some all) left old mid new refusal place (Refused refusal' place') (packets, view, wrote) (r, p, w) =
+    subst (λ (x : ViewRefusal). Views all left old new (Err (Refused x place'))) (sym r) (subst (λ (n : ℕ). Views all left old new (Err (Refused refusal n))) (sym p)
     (packets, view, w ∙ ap (λ (c : Option (List ℕ)). gained c (refusal_line refusal place)) wrote ∙ gained-gained old (lines [] 0 packets) (refusal_line refusal place)))
-refusal_shown (Some all) old mid new refusal place ReadFault shows is = all_front all old mid new refusal place shows is
-refusal_shown (Some all) old mid new refusal place WriteFault shows is = all_front all old mid new refusal place shows is
-refusal_shown (Some all) old mid new refusal place NoMemory shows is = all_front all old mid new refusal place shows is
+refusal_shown (Some all) left old mid new refusal place ReadFault shows is = absurd is
+refusal_shown (Some all) left old mid new refusal place WriteFault shows is = all_front all left old mid new refusal place shows is
+refusal_shown (Some all) left old mid new refusal place NoMemory shows is = all_front all left old mid new refusal place shows is

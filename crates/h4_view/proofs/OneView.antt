@@ -1,12 +1,12 @@
 -- An input has one view.
-use Rattle.std.proofs.Common.{◌≡◌, ◌≢◌, ℕ, zero, suc, ◌+◌, ◌-◌, ◌<◌, ◌≤◌, List, [], ◌∷◌, ◌++◌, length, take, drop, min, Option, Some, None, refl, sym, ap, subst, ◌∙◌, append_assoc, arith, inl, inr, length-append}
+use Rattle.std.proofs.Common.{◌≡◌, ◌≢◌, ℕ, zero, suc, ◌+◌, ◌-◌, ◌<◌, ◌≤◌, List, [], ◌∷◌, ◌++◌, length, take, drop, min, Option, Some, None, Result, Ok, Err, refl, sym, ap, subst, ◌∙◌, append_assoc, arith, inl, inr, length-append}
 use Rattle.std.proofs.lemmas.Bool.{cases_lt}
 use Rattle.std.proofs.lemmas.List.{append-nil, length-take, length-drop, take-append-drop, take_all, take_at, drop_at}
 use Rattle.std.proofs.Math.Seq.{take-append-add, take-nil}
 use Rattle.std.specs.List.{AllByRecursion}
 use Rattle.bt_base.specs.Octets.{IsOctets}
-use Rattle.bt_base.specs.Streams.{GainedFront}
-use Rattle.bt_base.proofs.PortLaws.{front_longer}
+use Rattle.bt_base.specs.Streams.{gained, GainedFront}
+use Rattle.bt_base.proofs.PortLaws.{front_longer, front_whole}
 use Rattle.h4_framing.specs.declared.refusal.H4Refusal.TheVariants as h4
 use Rattle.h4_framing.specs.Packets.{Packet, spellings, IsPacket}
 use Rattle.h4_framing.specs.Stream.{IsUnfinished, Ending, Whole, Cut, Fault, Ends, Reads}
@@ -17,9 +17,11 @@ use Rattle.h4_framing.proofs.TakingLemmas.{nothing_unfinished}
 use Rattle.h4_framing.proofs.ReadingLemmas.{NoPacket, unfinished_none, wrong_none, nothing_none, no_wrong_nothing, front_packets, same_split, each_read}
 use Rattle.h4_view.specs.declared.refusal.ViewRefusal.{ViewRefusal}
 use Rattle.h4_view.specs.declared.refusal.ViewRefusal.TheVariants.{BadIndicator, Truncated, TooLong}
-use Rattle.h4_view.specs.View.{acl_limit, input_limit, HasBadIndicator, MayEndWithin, GoesPast, Stops, BeginsWith, IsView, FrontWritten, OfLines, OfAll, verdict_text, view_text}
+use Rattle.h4_view.specs.declared.refusal.ViewFault.{ViewFault}
+use Rattle.h4_view.specs.declared.refusal.ViewFault.TheVariants.{Refused, ReadFault, WriteFault, NoMemory}
+use Rattle.h4_view.specs.View.{acl_limit, input_limit, HasBadIndicator, MayEndWithin, GoesPast, Stops, BeginsWith, IsView, FrontWritten, OfLines, OfAll, ShowsRead, Views, verdict_text, view_text}
 use Rattle.h4_view.specs.Lines.{lines}
-use Rattle.h4_view.proofs.Stands.{lines_then}
+use Rattle.h4_view.proofs.Stands.{packets_begin, lines_then}
 
 -- what is read of what is left at that offset: whoever reads stops at the greatest length
 abbrev read_of : ℕ → List ℕ → List ℕ
@@ -168,13 +170,31 @@ first_of_view input ps qs v begins view =
     let first = front_packets acl_limit ps qs (read_of (length (spellings ps)) begins.rest) (read_of from view.begins.rest) begins.each view.begins.each (stops_none from view.begins.rest v view.stops) split in
     (first.others, first.split)
 
-pub front_of_view : (input : List ℕ) (old new : Option (List ℕ)) (packets : List Packet) (verdict : Option (ViewRefusal × ℕ)) → FrontWritten old new input → IsView input packets verdict → GainedFront old new (view_text packets verdict)
-front_of_view input old new packets verdict (OfLines ps begins front) view =
+front_written : (input : List ℕ) (old new : Option (List ℕ)) (packets : List Packet) (verdict : Option (ViewRefusal × ℕ)) → FrontWritten old new input → IsView input packets verdict → GainedFront old new (view_text packets verdict)
+front_written input old new packets verdict (OfLines ps begins front) view =
     let first = first_of_view input ps packets verdict begins view in
     let rest : List ℕ = lines ps (length (spellings ps)) first.0 in
     let split : lines [] 0 packets ≡ lines [] 0 ps ++ rest = ap (lines [] 0) first.1 ∙ lines_then (length (spellings ps)) ps first.0 refl in
     let text : view_text packets verdict ≡ lines [] 0 ps ++ (rest ++ verdict_text verdict) = ap (λ (t : List ℕ). t ++ verdict_text verdict) split ∙ append_assoc (lines [] 0 ps) rest (verdict_text verdict) in
     subst (λ (t : List ℕ). GainedFront old new t) (sym text) (front_longer old new (lines [] 0 ps) (rest ++ verdict_text verdict) front)
-front_of_view input old new packets verdict (OfAll ps v earlier front) view =
+front_written input old new packets verdict (OfAll ps v earlier front) view =
     let same = one_view input ps packets v verdict earlier view in
     subst (λ (w : Option (ViewRefusal × ℕ)). GainedFront old new (view_text packets w)) same.1 (subst (λ (qs : List Packet). GainedFront old new (view_text qs v)) same.0 front)
+
+-- the whole text of a view is a front of itself
+whole_written : (input : List ℕ) (old new : Option (List ℕ)) (ps packets : List Packet) (v verdict : Option (ViewRefusal × ℕ)) → IsView input ps v → new ≡ gained old (view_text ps v) → IsView input packets verdict → GainedFront old new (view_text packets verdict)
+whole_written input old new ps packets v verdict earlier wrote view = front_written input old new packets verdict (OfAll ps v earlier (front_whole old new (view_text ps v) wrote)) view
+
+-- the lines of all that was read are a front
+read_written : (input : List ℕ) (left old new : Option (List ℕ)) → ShowsRead input left old new → FrontWritten old new input
+read_written input left old new shows =
+    OfLines shows.packets
+    (packets_begin shows.octets shows.took.0 input shows.rest shows.packets shows.each shows.whole shows.within shows.took.1)
+    (front_whole old new (lines [] 0 shows.packets) shows.wrote)
+
+pub front_of_view : (input : List ℕ) (left old new : Option (List ℕ)) (result : Result (Unit {0}) ViewFault) (packets : List Packet) (verdict : Option (ViewRefusal × ℕ)) → Views input left old new result → IsView input packets verdict → GainedFront old new (view_text packets verdict)
+front_of_view input left old new (Ok done) packets verdict (ps, earlier, wrote) view = whole_written input old new ps packets None verdict earlier wrote view
+front_of_view input left old new (Err (Refused refusal place)) packets verdict (ps, earlier, wrote) view = whole_written input old new ps packets (Some (refusal, place)) verdict earlier wrote view
+front_of_view input left old new (Err ReadFault) packets verdict shows view = front_written input old new packets verdict (read_written input left old new shows) view
+front_of_view input left old new (Err WriteFault) packets verdict front view = front_written input old new packets verdict front view
+front_of_view input left old new (Err NoMemory) packets verdict front view = front_written input old new packets verdict front view

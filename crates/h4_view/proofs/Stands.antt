@@ -16,7 +16,7 @@ use Rattle.h4_view.specs.Details.{Knows}
 use Rattle.h4_view.specs.Lines.{lines}
 use Rattle.h4_view.specs.Shows.{Shows}
 use Rattle.h4_view.specs.Standing.{Standing}
-use Rattle.h4_view.specs.View.{acl_limit, input_limit, BeginsWith, FrontWritten, OfLines, ShowsAll, Took, IsOfPorts, IsNewView}
+use Rattle.h4_view.specs.View.{acl_limit, input_limit, BeginsWith, FrontWritten, OfLines, ShowsRead, ShowsAll, Took, IsOfPorts, IsOfSink, IsNewView}
 use Rattle.h4_view.proofs.Showing.{lines-append, spellings-append}
 
 -- taken in two goes
@@ -56,16 +56,20 @@ pub taken_front : (input left : Option (List ℕ)) (octets all : List ℕ) → T
 taken_front None left octets all took e = absurd cc
 taken_front (Some known) left octets all (rest, whole, left-is) e = let same : known ≡ all = cc in (rest, sym same ∙ whole, left-is)
 
+-- packets that the octets that were taken begin with are the first of the input
+pub packets_begin : (octets rest all first : List ℕ) (packets : List Packet) → AllByRecursion (IsPacket acl_limit) packets → octets ≡ spellings packets ++ first → length octets ≤ input_limit → all ≡ octets ++ rest → BeginsWith all packets
+packets_begin octets rest all first packets each split within is = record {
+  each = each;
+  within = omega (arith, ap length split, length-append (spellings packets) first);
+  rest = first ++ rest;
+  whole = is ∙ ap (λ (t : List ℕ). t ++ rest) split ∙ append_assoc (spellings packets) first rest;
+}
+
 -- the packets of the octets that were taken are the first of the input
 begins_with : (octets rest all : List ℕ) (packets : List Packet) (framing : Framing) → Accounts octets packets framing → framing.limit ≡ acl_limit → length octets ≤ input_limit → all ≡ octets ++ rest → BeginsWith all packets
 begins_with octets rest all packets framing accounts keeps within is =
     let first = packets_first octets packets framing accounts in
-    record {
-      each = subst (λ (k : ℕ). AllByRecursion (IsPacket k) packets) keeps accounts.each;
-      within = omega (arith, ap length first.1, length-append (spellings packets) first.0);
-      rest = first.0 ++ rest;
-      whole = is ∙ ap (λ (t : List ℕ). t ++ rest) first.1 ∙ append_assoc (spellings packets) first.0 rest;
-    }
+    packets_begin octets rest all first.0 packets (subst (λ (k : ℕ). AllByRecursion (IsPacket k) packets) keeps accounts.each) first.1 within is
 
 -- nothing more happens to the sink
 pub front_stands : (input left old new : Option (List ℕ)) (framing : Framing) (joiners : List (Option Held)) (offset fed : ℕ) → Standing input left old new framing joiners offset fed → IfSome input (λ all. FrontWritten old new all)
@@ -74,13 +78,37 @@ front_stands input left old new framing joiners offset fed s = told input (λ al
     OfLines s.packets (begins_with s.octets front.0 all s.packets framing s.accounts s.keeps (omega (arith, s.count, s.within)) front.1)
     (front_whole old new (lines [] 0 s.packets) s.written))
 
--- a fault that is no refusal leaves a front
-pub fault_shows : (input old new : Option (List ℕ)) (fault : ViewFault) → IsOfPorts fault → IfSome input (λ all. FrontWritten old new all) → IfSome input (λ all. ShowsAll all old new (Err fault))
-fault_shows None old new fault port front = tt
-fault_shows (Some all) old new (Refused refusal place) port front = absurd port
-fault_shows (Some all) old new ReadFault port front = front
-fault_shows (Some all) old new WriteFault port front = front
-fault_shows (Some all) old new NoMemory port front = front
+-- all that was read is shown
+read_shown : (input left old new : Option (List ℕ)) (framing : Framing) (joiners : List (Option Held)) (offset fed : ℕ) → Standing input left old new framing joiners offset fed → IfSome input (λ all. ShowsRead all left old new)
+read_shown input left old new framing joiners offset fed s = told input (λ all e.
+    let behind = held_behind s.octets s.packets framing s.accounts s.sound in
+    record {
+      octets = s.octets;
+      took = subst (λ (known : Option (List ℕ)). Took known left s.octets) e s.took;
+      within = omega (arith, s.count, s.within);
+      packets = s.packets;
+      each = subst (λ (k : ℕ). AllByRecursion (IsPacket k) s.packets) s.keeps s.accounts.each;
+      rest = framing.held;
+      whole = behind.0;
+      unfinished = subst (λ (k : ℕ). IsUnfinished k framing.held) s.keeps behind.1;
+      wrote = s.written;
+    })
+
+-- a fault of a port between two pieces, of which nothing was taken
+pub fault_shows : (fault : ViewFault) (input left left' old new : Option (List ℕ)) (framing : Framing) (joiners : List (Option Held)) (offset fed : ℕ) → Standing input left old new framing joiners offset fed → IsOfPorts fault → left' ≡ left
+    → IfSome input (λ all. ShowsAll all left' old new (Err fault))
+fault_shows (Refused refusal place) input left left' old new framing joiners offset fed s port kept = absurd port
+fault_shows ReadFault input left left' old new framing joiners offset fed s port kept =
+    subst (λ (l : Option (List ℕ)). IfSome input (λ all. ShowsRead all l old new)) (sym kept) (read_shown input left old new framing joiners offset fed s)
+fault_shows WriteFault input left left' old new framing joiners offset fed s port kept = front_stands input left old new framing joiners offset fed s
+fault_shows NoMemory input left left' old new framing joiners offset fed s port kept = front_stands input left old new framing joiners offset fed s
+
+-- a fault of the sink leaves a front
+pub sink_fault_shows : (fault : ViewFault) (input left old new : Option (List ℕ)) → IsOfSink fault → IfSome input (λ all. FrontWritten old new all) → IfSome input (λ all. ShowsAll all left old new (Err fault))
+sink_fault_shows (Refused refusal place) input left old new sink front = absurd sink
+sink_fault_shows ReadFault input left old new sink front = absurd sink
+sink_fault_shows WriteFault input left old new sink front = front
+sink_fault_shows NoMemory input left old new sink front = front
 
 -- the lines of the packets that a piece added, behind those of before
 pub lines_then : (offset : ℕ) (packets added : List Packet) → offset ≡ length (spellings packets) → lines [] 0 (packets ++ added) ≡ lines [] 0 packets ++ lines packets offset added

@@ -32,6 +32,6 @@ abbrev pub Steps : Option (List ℕ) → Option (List ℕ) → Option (List ℕ)
 Steps left left' new new' framing framing' joiners joiners' offset offset' fed fed' (Ok More) =
     (fed < fed') × ((input old : Option (List ℕ)) → Standing input left old new framing joiners offset fed → Standing input left' old new' framing' joiners' offset' fed')
 Steps left left' new new' framing framing' joiners joiners' offset offset' fed fed' (Ok (Ended verdict)) =
-    (input old : Option (List ℕ)) → Standing input left old new framing joiners offset fed → IfSome input (λ all. ShowsAll all old new' (Ok verdict))
+    (input old : Option (List ℕ)) → Standing input left old new framing joiners offset fed → IfSome input (λ all. ShowsAll all left' old new' (Ok verdict))
 Steps left left' new new' framing framing' joiners joiners' offset offset' fed fed' (Err fault) =
-    (input old : Option (List ℕ)) → Standing input left old new framing joiners offset fed → IfSome input (λ all. ShowsAll all old new' (Err fault))
+    (input old : Option (List ℕ)) → Standing input left old new framing joiners offset fed → IfSome input (λ all. ShowsAll all left' old new' (Err fault))

@@ -71,18 +71,31 @@ pub data FrontWritten (old new : Option (List ℕ)) (input : List ℕ) : Type 0 
   OfLines : (packets : List Packet) → BeginsWith input packets → GainedFront old new (lines [] 0 packets) → FrontWritten old new input
   OfAll : (packets : List Packet) (verdict : Option (ViewRefusal × ℕ)) → IsView input packets verdict → GainedFront old new (view_text packets verdict) → FrontWritten old new input
 
--- What a sink gains from the view of an input.
-abbrev pub Views : List ℕ → Option (List ℕ) → Option (List ℕ) → Result (Unit {0}) ViewFault → Type 0
-Views input old new (Ok done) = (packets : List Packet) × IsView input packets None × (new ≡ gained old (view_text packets None))
-Views input old new (Err (Refused refusal place)) = (packets : List Packet) × IsView input packets (Some (refusal, place)) × (new ≡ gained old (view_text packets (Some (refusal, place))))
-Views input old new (Err ReadFault) = FrontWritten old new input
-Views input old new (Err WriteFault) = FrontWritten old new input
-Views input old new (Err NoMemory) = FrontWritten old new input
-
 -- The octets were taken from the front of what a source had left, where it tells that.
 abbrev pub Took : Option (List ℕ) → Option (List ℕ) → List ℕ → Type 0
 Took None new octets = new ≡ None
 Took (Some left) new octets = (rest : List ℕ) × (left ≡ octets ++ rest) × (new ≡ Some rest)
+
+-- All that was read is shown: the input is these octets and what is left of the source, these packets are all whole
+-- ones of the octets, and the sink gained their lines.
+pub record ShowsRead (input : List ℕ) (left old new : Option (List ℕ)) : Type 0 where
+  pub octets : List ℕ
+  pub took : Took (Some input) left octets
+  pub within : length octets ≤ input_limit
+  pub packets : List Packet
+  pub each : AllByRecursion (IsPacket acl_limit) packets
+  pub rest : List ℕ
+  pub whole : octets ≡ spellings packets ++ rest
+  pub unfinished : IsUnfinished acl_limit rest
+  pub wrote : new ≡ gained old (lines [] 0 packets)
+
+-- What a sink gains from the view of an input, of which the source then has `left`. A fault of the source loses nothing.
+abbrev pub Views : List ℕ → Option (List ℕ) → Option (List ℕ) → Option (List ℕ) → Result (Unit {0}) ViewFault → Type 0
+Views input left old new (Ok done) = (packets : List Packet) × IsView input packets None × (new ≡ gained old (view_text packets None))
+Views input left old new (Err (Refused refusal place)) = (packets : List Packet) × IsView input packets (Some (refusal, place)) × (new ≡ gained old (view_text packets (Some (refusal, place))))
+Views input left old new (Err ReadFault) = ShowsRead input left old new
+Views input left old new (Err WriteFault) = FrontWritten old new input
+Views input left old new (Err NoMemory) = FrontWritten old new input
 
 -- Who is to blame for a fault: one of reading comes only where the source's count of faults rose, one of writing
 -- only where the sink's did, and a count that rises is answered.
@@ -94,13 +107,18 @@ pub record Blames {A : Type 0} (source source' sink sink' : ℕ) (result : Resul
   pub only_read : source < source' → IsErrOf result ReadFault
   pub only_write : sink < sink' → IsErrOf result WriteFault
 
+-- A count that rises in a call is answered so. It never falls.
+pub record IsAnswered (count count' : ℕ) (answer : Type 0) : Type 0 where
+  pub stays : count ≤ count'
+  pub only : count < count' → answer
+
 -- What a sink gains from the packets of an input, before the line of the refusal.
-abbrev pub ShowsAll : List ℕ → Option (List ℕ) → Option (List ℕ) → Result (Option (ViewRefusal × ℕ)) ViewFault → Type 0
-ShowsAll input old new (Ok verdict) = (packets : List Packet) × IsView input packets verdict × (new ≡ gained old (lines [] 0 packets))
-ShowsAll input old new (Err (Refused refusal place)) = ⊥
-ShowsAll input old new (Err ReadFault) = FrontWritten old new input
-ShowsAll input old new (Err WriteFault) = FrontWritten old new input
-ShowsAll input old new (Err NoMemory) = FrontWritten old new input
+abbrev pub ShowsAll : List ℕ → Option (List ℕ) → Option (List ℕ) → Option (List ℕ) → Result (Option (ViewRefusal × ℕ)) ViewFault → Type 0
+ShowsAll input left old new (Ok verdict) = (packets : List Packet) × IsView input packets verdict × (new ≡ gained old (lines [] 0 packets))
+ShowsAll input left old new (Err (Refused refusal place)) = ⊥
+ShowsAll input left old new (Err ReadFault) = ShowsRead input left old new
+ShowsAll input left old new (Err WriteFault) = FrontWritten old new input
+ShowsAll input left old new (Err NoMemory) = FrontWritten old new input
 
 -- Why the view of a framer's stream stops where the stream ends.
 abbrev pub EndsView : Framing → Option (ViewRefusal × ℕ) → Type 0
@@ -123,6 +141,13 @@ IsOfPorts ReadFault = Unit {0}
 IsOfPorts WriteFault = Unit {0}
 IsOfPorts NoMemory = Unit {0}
 
+-- It is a fault of the sink, or want of memory.
+abbrev pub IsOfSink : ViewFault → Type 0
+IsOfSink (Refused refusal place) = ⊥
+IsOfSink ReadFault = ⊥
+IsOfSink WriteFault = Unit {0}
+IsOfSink NoMemory = Unit {0}
+
 -- nothing was read and nothing was shown yet
 pub record IsNewView (framing : Framing) (joiners : List (Option Held)) (offset fed : ℕ) (text : List ℕ) : Type 0 where
   pub framer : framing ≡ record { limit = acl_limit; before = 0; held = []; fault = None }
@@ -131,9 +156,9 @@ pub record IsNewView (framing : Framing) (joiners : List (Option Held)) (offset 
   pub unread : fed ≡ 0
   pub untold : text ≡ []
 
--- The line of the refusal was written, or a front of it and another fault came.
+-- The line of the refusal was written, or a front of it and a fault of the sink or want of memory came.
 abbrev pub IsRefusal : ViewRefusal → ℕ → Option (List ℕ) → Option (List ℕ) → ViewFault → Type 0
 IsRefusal refusal place old new (Refused refusal' place') = (refusal' ≡ refusal) × (place' ≡ place) × (new ≡ gained old (refusal_line refusal place))
-IsRefusal refusal place old new ReadFault = GainedFront old new (refusal_line refusal place)
+IsRefusal refusal place old new ReadFault = ⊥
 IsRefusal refusal place old new WriteFault = GainedFront old new (refusal_line refusal place)
 IsRefusal refusal place old new NoMemory = GainedFront old new (refusal_line refusal place)

@@ -12,7 +12,7 @@ pub fn each_input_is_viewed()
     ensures { EachInputIsViewed }
 {}
 
-/// What was written before a fault of a port is a front of the text of the view.
+/// Whatever a view answers, what was written is a front of the text of the view.
 pub fn front_is_of_the_view()
     ensures { FrontIsOfTheView }
 {}

@@ -1,8 +1,8 @@
 //! The view of a stream of packets.
 
-ghost use Rattle.std.specs.Prelude.{◌≡◌, ◌≤◌, ◌<◌, List, ℕ, Option, [], None, Some, Ok, Err, vec_len, length, take, IfOk, OnOk, IfSome, IfErr, OnErr};
+ghost use Rattle.std.specs.Prelude.{◌≡◌, ◌≤◌, ◌<◌, List, ℕ, Option, [], None, Some, Ok, Err, vec_len, length, take, IfOk, OnOk, IfSome, IfErr, IsErrOf, OnErr};
 ghost use Rattle.bt_base.specs.Streams.{gained, GainedFront};
-ghost use Rattle.h4_view.specs.View.{input_limit, ShowsAll, Views, Blames, Took, IsOfPorts, IsNewView, IsRefusal, EndsView, EndsAtLimit};
+ghost use Rattle.h4_view.specs.View.{input_limit, ShowsAll, Views, Blames, IsAnswered, Took, IsOfPorts, IsOfSink, IsNewView, IsRefusal, EndsView, EndsAtLimit};
 ghost use Rattle.h4_view.specs.Standing.{Standing, Steps};
 
 use crate::details::no_joiners;
@@ -27,6 +27,7 @@ fn read_piece<S: Source>(source: &mut S, piece: &mut [u8]) -> Result<usize, View
     ensures kept { OnErr result (S.content source.new ≡ S.content source.old) }
     ensures of_port { IfErr result IsOfPorts }
     ensures blame { Blames (S.faults source.old) (S.faults source.new) 0 0 result }
+    ensures source_short { IsAnswered (S.shortages source.old) (S.shortages source.new) (IsErrOf result ViewFault.NoMemory) }
 {
     match source.read(piece) {
         Ok(n) => Ok(n),
@@ -39,8 +40,9 @@ fn read_piece<S: Source>(source: &mut S, piece: &mut [u8]) -> Result<usize, View
 fn write_text<K: Sink>(sink: &mut K, text: &[u8]) -> Result<(), ViewFault>
     ensures ok { OnOk result (K.content sink.new ≡ gained (K.content sink.old) text.now) }
     ensures front { GainedFront (K.content sink.old) (K.content sink.new) text.now }
-    ensures of_port { IfErr result IsOfPorts }
+    ensures of_sink { IfErr result IsOfSink }
     ensures blame { Blames 0 0 (K.faults sink.old) (K.faults sink.new) result }
+    ensures sink_short { IsAnswered (K.shortages sink.old) (K.shortages sink.new) (IsErrOf result ViewFault.NoMemory) }
 {
     match sink.put(text) {
         Ok(()) => Ok(()),
@@ -74,8 +76,10 @@ fn passes_limit<S: Source>(
     requires room { 0 < length piece.old }
     ensures verdict { IfOk result (λ verdict. EndsAtLimit framer.now (S.content source.old) verdict) }
     ensures finish { IfOk result (λ verdict. verdict ≡ None → IfSome (S.content source.new) (λ left. left ≡ [])) }
+    ensures kept { OnErr result (S.content source.new ≡ S.content source.old) }
     ensures of_port { IfErr result IsOfPorts }
     ensures blame { Blames (S.faults source.old) (S.faults source.new) 0 0 result }
+    ensures source_short { IsAnswered (S.shortages source.old) (S.shortages source.new) (IsErrOf result ViewFault.NoMemory) }
 {
     if framer.end().is_err() {
         return Ok(Some((ViewRefusal::TooLong, INPUT_LIMIT as u64)));
@@ -123,6 +127,8 @@ fn show_next<S: Source, K: Sink>(
     ensures text { IfOk result (λ progress. progress ≡ Progress.More → view.new.text.items ≡ []) }
     ensures finish { IfOk result (λ progress. progress ≡ Progress.Ended None → IfSome (S.content source.new) (λ left. left ≡ [])) }
     ensures blame { Blames (S.faults source.old) (S.faults source.new) (K.faults sink.old) (K.faults sink.new) result }
+    ensures source_short { IsAnswered (S.shortages source.old) (S.shortages source.new) (IsErrOf result ViewFault.NoMemory) }
+    ensures sink_short { IsAnswered (K.shortages sink.old) (K.shortages sink.new) (IsErrOf result ViewFault.NoMemory) }
 {
     let room = piece.len().min(INPUT_LIMIT - view.fed);
     let piece = &mut piece[..room];
@@ -158,7 +164,7 @@ fn show_next<S: Source, K: Sink>(
 /// A view at the beginning of a stream.
 fn new_view(alloc: Global) -> Result<RawView, ViewFault>
     ensures new { IfOk result (λ view. IsNewView view.framer view.joiners.items view.offset view.fed view.text.items) }
-    ensures of_port { IfErr result IsOfPorts }
+    ensures short { IfErr result (λ fault. fault ≡ ViewFault.NoMemory) }
     ensures blame { Blames 0 0 0 0 result }
 {
     let Ok(framer) = Framer::new(alloc, u16::MAX) else {
@@ -180,7 +186,7 @@ fn new_view(alloc: Global) -> Result<RawView, ViewFault>
 /// Room for the pieces of a stream.
 fn new_piece(alloc: Global) -> Result<Vec<u8>, ViewFault>
     ensures room { IfOk result (λ piece. vec_len piece ≡ 65536) }
-    ensures of_port { IfErr result IsOfPorts }
+    ensures short { IfErr result (λ fault. fault ≡ ViewFault.NoMemory) }
     ensures blame { Blames 0 0 0 0 result }
 {
     match vec![in alloc; 0u8; PIECE_LENGTH] {
@@ -198,9 +204,11 @@ fn show_all<S: Source, K: Sink>(
 ) -> Result<Option<(ViewRefusal, u64)>, ViewFault>
     requires new { IsNewView view.old.framer view.old.joiners.items view.old.offset view.old.fed view.old.text.items }
     requires room { 0 < length piece.old }
-    ensures shows { IfSome (S.content source.old) (λ input. ShowsAll input (K.content sink.old) (K.content sink.new) result) }
+    ensures shows { IfSome (S.content source.old) (λ input. ShowsAll input (S.content source.new) (K.content sink.old) (K.content sink.new) result) }
     ensures finish { IfOk result (λ verdict. verdict ≡ None → IfSome (S.content source.new) (λ left. left ≡ [])) }
     ensures blame { Blames (S.faults source.old) (S.faults source.new) (K.faults sink.old) (K.faults sink.new) result }
+    ensures source_short { IsAnswered (S.shortages source.old) (S.shortages source.new) (IsErrOf result ViewFault.NoMemory) }
+    ensures sink_short { IsAnswered (K.shortages sink.old) (K.shortages sink.new) (IsErrOf result ViewFault.NoMemory) }
 {
     while view.fed < INPUT_LIMIT {
         match show_next(view, source, sink, piece) {
@@ -216,6 +224,7 @@ fn show_all<S: Source, K: Sink>(
 fn refuse<K: Sink>(alloc: Global, sink: &mut K, refusal: ViewRefusal, place: u64) -> ViewFault
     ensures wrote { IsRefusal refusal place (K.content sink.old) (K.content sink.new) result }
     ensures blame { Blames {A = ℕ} 0 0 (K.faults sink.old) (K.faults sink.new) (Err result) }
+    ensures sink_short { IsAnswered (K.shortages sink.old) (K.shortages sink.new) (result ≡ ViewFault.NoMemory) }
 {
     let Ok(line) = refusal_text(alloc, refusal, place) else {
         return ViewFault::NoMemory;
@@ -229,19 +238,23 @@ fn refuse<K: Sink>(alloc: Global, sink: &mut K, refusal: ViewRefusal, place: u64
 /// Shows a stream of packets: a line for each packet up to the first fault, and one for the fault.
 ///
 /// `Refused` comes where the input is no stream of whole packets, with the place of the fault, or
-/// goes past 67,108,864 octets, also where it ends before within a packet that would pass them; `ReadFault` and `WriteFault` where the source or the sink failed.
+/// goes past 67,108,864 octets, also where it ends before within a packet that would pass them.
+/// `ReadFault` comes where the source failed, once the lines of all that was read are written, and
+/// `WriteFault` where the sink failed. `NoMemory` comes where memory was wanting, also that of a port.
 /// Packets of ACL data may have up to 65,535 octets.
 pub fn view_raw<S: Source, K: Sink>(
     alloc: Global,
     source: &mut S,
     sink: &mut K,
 ) -> Result<(), ViewFault>
-    // What the sink gains is the view of what the source had left.
-    ensures views { IfSome (S.content source.old) (λ input. Views input (K.content sink.old) (K.content sink.new) result) }
+    // What the sink gains is the view of what the source had left. A fault of the source loses nothing.
+    ensures views { IfSome (S.content source.old) (λ input. Views input (S.content source.new) (K.content sink.old) (K.content sink.new) result) }
     // The input was read to its end.
     ensures finish { OnOk result (IfSome (S.content source.new) (λ left. left ≡ [])) }
-    // Each fault has its cause.
+    // Each fault has its cause, and a shortage of memory of a port is answered.
     ensures blame { Blames (S.faults source.old) (S.faults source.new) (K.faults sink.old) (K.faults sink.new) result }
+    ensures source_short { IsAnswered (S.shortages source.old) (S.shortages source.new) (IsErrOf result ViewFault.NoMemory) }
+    ensures sink_short { IsAnswered (K.shortages sink.old) (K.shortages sink.new) (IsErrOf result ViewFault.NoMemory) }
 {
     let mut view = match new_view(alloc) {
         Ok(view) => view,

@@ -8,6 +8,8 @@ invariant-loop-view g l =
     × (l.view.text.items ≡ [])
     × (g.S.Source.faults l.source ≡ g.S.Source.faults l.initial.source)
     × (g.K.Sink.faults l.sink ≡ g.K.Sink.faults l.initial.sink)
+    × (g.S.Source.shortages l.source ≡ g.S.Source.shortages l.initial.source)
+    × (g.K.Sink.shortages l.sink ≡ g.K.Sink.shortages l.initial.sink)
 
 abbrev pub decreases-loop-view : goal.decreases-loop-view
 decreases-loop-view g l = 67108864 - l.view.fed

@@ -1,24 +1,24 @@
 use Rattle.std.proofs.Common.{Ok, ap, arith}
 use Rattle.std.proofs.lemmas.List.{length-take, take_at}
 use Rattle.h4_view.specs.declared.refusal.ViewFault.TheVariants.{NoMemory}
-use Rattle.h4_view.proofs.Stands.{front_stands, fault_shows, front_more, standing_more}
+use Rattle.h4_view.proofs.Stands.{front_stands, fault_shows, sink_fault_shows, front_more, standing_more}
 use Rattle.h4_view.proofs.Endings.{ended, refused}
 use Rattle.h4_view.proofs.raw.show_next.Goals as goal
 
 pub returns-in-Err-clause-steps : goal.returns-in-Err-clause-steps
-returns-in-Err-clause-steps g c input old s = fault_shows input old _ c.in-Err.fault c.in-Err.ensures.of_port (front_stands _ _ _ _ _ _ _ _ s)
+returns-in-Err-clause-steps g c input old s = fault_shows c.in-Err.fault input _ _ old _ _ _ _ _ s c.in-Err.ensures.of_port c.in-Err.ensures.kept
 
 pub returns-then-n-eq0-clause-steps : goal.returns-then-n-eq0-clause-steps
 returns-then-n-eq0-clause-steps g c input old s = ended c.ending.result _ _ _ _ _ _ _ _ s c.requires.below (c.in-Ok.ensures.finish (ap Ok c.if-n-eq0.true) (omega (arith, length-take c.min-room.result c.args.piece.now, c.min-room.ensures, c.requires.room, c.requires.below))) c.ending.ensures
 
 pub returns-in_default-clause-steps : goal.returns-in_default-clause-steps
-returns-in_default-clause-steps g c input old s = fault_shows input old _ NoMemory tt (front_stands _ _ _ _ _ _ _ _ s)
+returns-in_default-clause-steps g c input old s = sink_fault_shows NoMemory input input old _ tt (front_stands _ _ _ _ _ _ _ _ s)
 
 pub returns-in-Err-write_text-clause-steps : goal.returns-in-Err-write_text-clause-steps
 returns-in-Err-write_text-clause-steps g c input old s =
     let shows = rw (c.requires.text, c.deref_mut.ensures.value) at c.in-Ok-shown.ensures in
     let front = rw c.deref.ensures.value at c.in-Err-write_text.ensures.front in
-    fault_shows input old _ c.in-Err-write_text.fault c.in-Err-write_text.ensures.of_port (front_more _ _ _ _ _ _ _ _ _ _ _ _ _ _ _ _ s c.in-Ok.ensures.took.1 shows front (omega (arith, length-take c.in-Ok.n c.read_piece.new.piece, length-take c.min-room.result c.args.piece.now, c.in-Ok.ensures.took.0, c.min-room.ensures, c.requires.below)))
+    sink_fault_shows c.in-Err-write_text.fault input _ old _ c.in-Err-write_text.ensures.of_sink (front_more _ _ _ _ _ _ _ _ _ _ _ _ _ _ _ _ s c.in-Ok.ensures.took.1 shows front (omega (arith, length-take c.in-Ok.n c.read_piece.new.piece, length-take c.min-room.result c.args.piece.now, c.in-Ok.ensures.took.0, c.min-room.ensures, c.requires.below)))
 
 pub returns-in-None-clause-steps : goal.returns-in-None-clause-steps
 returns-in-None-clause-steps g c = (
