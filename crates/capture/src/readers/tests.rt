@@ -5,14 +5,23 @@ use push_script::Side;
 use std::alloc::Global;
 use std::test::*;
 
+/// Adds the octets of entries, each given by its tag and its payload.
+fn push_entries(octets: &mut Vec<u8>, entries: &[(u8, &[u8])]) -> Result<(), Fail> {
+    for (tag, payload) in entries {
+        let length = u16::try_from(payload.len()).ok().ok_or("a short payload")?;
+        octets.push(*tag)?;
+        octets.extend_from_slice(&length.to_be_bytes())?;
+        octets.extend_from_slice(payload)?;
+    }
+    Ok(())
+}
+
 /// The octets of a capture: the start of both hosts, the opening of a channel, and what follows.
 fn octets_of(alloc: Global, follows: &[(u8, &[u8])]) -> Result<Vec<u8>, Fail> {
     let mut octets = Vec::new(alloc);
-    for (tag, payload) in START.iter().chain(OPENING).chain(follows) {
-        octets.push(*tag)?;
-        octets.extend_from_slice(&(payload.len() as u16).to_be_bytes())?;
-        octets.extend_from_slice(payload)?;
-    }
+    push_entries(&mut octets, START)?;
+    push_entries(&mut octets, OPENING)?;
+    push_entries(&mut octets, follows)?;
     Ok(octets)
 }
 
@@ -61,7 +70,9 @@ fn links_channels_and_packets_of_a_push(rt: HostRuntime) -> Result<(), Fail> {
     let octets = octets_of(rt.alloc(), PUSH)?;
     let entries = entries_of(rt.alloc(), &octets).ok().ok_or("a capture")?;
     for (count, a, b) in OUTSTANDING {
-        let front = entries.get(..START.len() + count).ok_or("so many entries")?;
+        let front = entries
+            .get(..START.len().saturating_add(count))
+            .ok_or("so many entries")?;
         assert_eq!(rt; all_outstanding(rt.alloc(), front, Side::A)?, a);
         assert_eq!(rt; outstanding(rt.alloc(), front, Side::B, 1)?, b);
     }
@@ -69,20 +80,18 @@ fn links_channels_and_packets_of_a_push(rt: HostRuntime) -> Result<(), Fail> {
     assert!(rt; link_up(rt.alloc(), &entries, Side::A)?.is_none());
     let links = links(rt.alloc(), &entries, Side::B)?;
     assert_eq!(rt; links.len(), 1);
-    let pdus = pdus(rt.alloc(), &links[0])?;
+    let pdus = pdus(rt.alloc(), links.first().ok_or("a link")?)?;
     let said = talk_of(rt.alloc(), &pdus)?;
     let found = channels(rt.alloc(), &said)?;
     assert_eq!(rt; found.len(), 1);
-    let channel = found[0];
+    let channel = *found.first().ok_or("a channel")?;
     assert!(rt; channel.psm == 0x1001 && channel.own == 0x40 && channel.peer == 0x40);
     assert!(rt; is_closed(&said, &channel));
     assert!(rt; !enhanced(rt.alloc(), &said, &channel)?);
     let payloads = heard_payloads(rt.alloc(), &said)?;
     let packets = heard_packets(rt.alloc(), &said)?;
     assert!(rt; payloads.len() == 3 && packets.len() == 3);
-    assert_eq!(rt;
-        packets[0].octets,
-        [0x80, 0x00, 0x07, 0x10, 0x00, 0x04, 0x00].as_slice()
-    );
+    let connect = packets.first().ok_or("a packet")?;
+    assert_eq!(rt; connect.octets, b"\x80\x00\x07\x10\x00\x04\x00".as_slice());
     Ok(())
 }
