@@ -1,0 +1,14 @@
+//! The sessions of Object Push over OBEX (IrOBEX 1.5; Object Push Profile 1.2): which object packets
+//! store, and how each packet is answered.
+#![tactic(auto)]
+
+mod hearing;
+mod putting;
+mod responding;
+mod ruling;
+mod server;
+
+pub use server::{Reply, ServerSession};
+
+#[cfg(test)]
+mod tests;
