@@ -1,2 +1,3 @@
 pub mod Responses
 pub mod Rules
+pub mod Past
