@@ -20,7 +20,7 @@ use Rattle.obex_session.specs.declared.ruling.Verdict.{Verdict}
 use Rattle.obex_session.specs.declared.ruling.Verdict.TheVariants.{Open, Whole, Ended}
 use Rattle.obex_session.specs.declared.responding.ResponseCode.{ResponseCode}
 use Rattle.obex_session.specs.declared.responding.ResponseCode.TheVariants.{BadRequest}
-use Rattle.obex_session.specs.Rules.{after_headers, then_at, finished, at_put, at_packet, other_response, headers_read, verdict_on, progress_after, noted, contents_after}
+use Rattle.obex_session.specs.Rules.{after_headers, then_at, finished, at_put, at_packet, other_response, headers_read, verdict_on, progress_after, noted, contents_after, Heeds}
 use Rattle.obex_session.specs.Past.{Heard, put_heard, puts_heard, stored_by, open_from, open_headers, progress_from, progress_of, pending_from, pending_of, Serving, StandsFor}
 use Rattle.obex_session.proofs.RuleLaws.{held, Stands, Follows, follows}
 
@@ -155,3 +155,64 @@ packet_leaves : (run : List PlainPacket) (read : Result PlainPacket ObexRefusal)
     → Leaves stored (run_headers run) (noted (headers_read read)) (objects_from run (put_of read ∷ [])) (open_from run (put_of read ∷ [])) (at_packet (progress_of (run_headers run)) read)
 packet_leaves run (Ok packet) stored k = packet_at (eqb packet.code 0x02 || eqb packet.code 0x82) run packet stored k
 packet_leaves run (Err refusal) stored k = ended stored (run_headers run) (noted []) _ _ BadRequest refl refl
+
+-- ---- one packet more
+
+-- the object of a session is one of the run that goes on
+headers_keep : (maximum : ℕ) (past : List Heard) → KeepsRules (open_headers maximum past)
+headers_keep maximum past = open_keeps [] (puts_heard maximum past) nothing_kept
+
+told_then : (content content' : Option Contents) (change : Contents → Contents) (old new : Contents) → IfSome content (λ contents. contents ≡ old) → content' ≡ option_map change content → change old ≡ new → IfSome content' (λ contents. contents ≡ new)
+told_then None content' change old new h e f = subst (λ (c : Option Contents). IfSome c (λ contents. contents ≡ new)) (sym e) tt
+told_then (Some contents) content' change old new h e f = subst (λ (c : Option Contents). IfSome c (λ contents'. contents' ≡ new)) (sym e) (ap change h ∙ f)
+
+-- what one packet more leaves, over the whole list
+one_more : (before : List Object) (maximum : ℕ) (past : List Heard) (heard : Heard) (progress : Progress) (contents : Contents)
+    → progress ≡ progress_of (run_headers (open_from (open_from [] (puts_heard maximum past)) (put_heard maximum heard ∷ [])))
+    → contents ≡ held ((before ++ stored_by maximum past) ++ objects_from (open_from [] (puts_heard maximum past)) (put_heard maximum heard ∷ [])) (run_headers (open_from (open_from [] (puts_heard maximum past)) (put_heard maximum heard ∷ [])))
+    → (progress ≡ progress_of (open_headers maximum (past ++ heard ∷ []))) × (contents ≡ held (before ++ stored_by maximum (past ++ heard ∷ [])) (open_headers maximum (past ++ heard ∷ [])))
+one_more before maximum past heard progress contents p c =
+    let all : puts_heard maximum (past ++ heard ∷ []) ≡ puts_heard maximum past ++ put_heard maximum heard ∷ [] = map-append (put_heard maximum) past (heard ∷ []) in
+    let run : open_from (open_from [] (puts_heard maximum past)) (put_heard maximum heard ∷ []) ≡ open_from [] (puts_heard maximum (past ++ heard ∷ [])) =
+    sym (open-more [] (puts_heard maximum past) (put_heard maximum heard)) ∙ ap (open_from []) (sym all) in
+    let objects : stored_by maximum past ++ objects_from (open_from [] (puts_heard maximum past)) (put_heard maximum heard ∷ []) ≡ stored_by maximum (past ++ heard ∷ []) =
+    sym (objects-more [] (puts_heard maximum past) (put_heard maximum heard)) ∙ ap (objects_from []) (sym all) in (
+      p ∙ ap (λ (r : List PlainPacket). progress_of (run_headers r)) run,
+      c ∙ ap (λ (os : List Object). held os (run_headers (open_from (open_from [] (puts_heard maximum past)) (put_heard maximum heard ∷ [])))) (append_assoc before (stored_by maximum past) _ ∙ ap (λ (os : List Object). before ++ os) objects)
+          ∙ ap (λ (r : List PlainPacket). held (before ++ stored_by maximum (past ++ heard ∷ [])) (run_headers r)) run,
+    )
+
+-- where a call failed
+after_fault : (before : List Object) (past : List Heard) (session : Serving) (content content' : Option Contents) (octets : List ℕ) → StandsFor before past session content → content' ≡ option_map aborted content
+    → StandsFor before (past ++ (octets, true) ∷ []) (record session { progress = Unnamed }) content'
+after_fault before past session content content' octets stands e =
+    let stored = before ++ stored_by session.maximum past in
+    let more = one_more before session.maximum past (octets, true) Unnamed (held (stored ++ []) []) refl refl in
+    record { progress = more.0; holds = told_then content content' aborted _ _ stands.holds e (ap (λ (os : List Object). held os []) (sym (append-nil stored)) ∙ more.1) }
+
+-- where none failed
+after_packet : (before : List Object) (past : List Heard) (session : Serving) (content content' : Option Contents) (octets : List ℕ) (verdict : Verdict) → StandsFor before past session content
+    → verdict ≡ verdict_on session.maximum session.progress octets
+    → content' ≡ option_map (contents_after (verdict_on session.maximum session.progress octets) (noted (headers_read (packet_in Request session.maximum octets)))) content
+    → StandsFor before (past ++ (octets, false) ∷ []) (record session { progress = progress_after (Ok verdict) }) content'
+after_packet before past session content content' octets verdict stands given e =
+    let stored = before ++ stored_by session.maximum past in
+    let read = packet_in Request session.maximum octets in
+    let hs = open_headers session.maximum past in
+    let leaves = packet_leaves (open_from [] (puts_heard session.maximum past)) read stored (headers_keep session.maximum past) in
+    let here : verdict_on session.maximum session.progress octets ≡ at_packet (progress_of hs) read = ap (λ (p : Progress). at_packet p read) stands.progress in
+    let more = one_more before session.maximum past (octets, false) _ _ (ap (λ (v : Verdict). progress_after (Ok v)) (given ∙ here) ∙ leaves.progress_is) leaves.contents_are in
+    record { progress = more.0; holds = told_then content content' _ _ _ stands.holds e (ap (λ (v : Verdict). contents_after v (noted (headers_read read)) (held stored hs)) here ∙ more.1) }
+
+pub stands_on : (before : List Object) (past : List Heard) (session : Serving) (content content' : Option Contents) (octets : List ℕ) (outcome : Result Verdict PortFault) → StandsFor before past session content
+    → Heeds (verdict_on session.maximum session.progress octets) (noted (headers_read (packet_in Request session.maximum octets))) content content' outcome
+    → StandsFor before (past ++ (octets, is_err outcome) ∷ []) (record session { progress = progress_after outcome }) content'
+stands_on before past session content content' octets (Ok verdict) stands heeds = after_packet before past session content content' octets verdict stands heeds.given heeds.content
+stands_on before past session content content' octets (Err fault) stands heeds = after_fault before past session content content' octets stands heeds.content
+
+-- ---- the end of a link
+
+pub starts_anew : (before : List Object) (past : List Heard) (session : Serving) (content content' : Option Contents) → StandsFor before past session content → content' ≡ option_map aborted content
+    → StandsFor (before ++ stored_by session.maximum past) [] (record session { progress = Unnamed }) content'
+starts_anew before past session content content' stands e =
+    record { progress = refl; holds = told_then content content' aborted _ _ stands.holds e (ap (λ (os : List Object). held os []) (sym (append-nil (before ++ stored_by session.maximum past)))) }

@@ -1,3 +1,4 @@
 pub mod Responses
 pub mod Rules
 pub mod Past
+pub mod Serving
