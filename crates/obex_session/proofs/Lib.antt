@@ -2,3 +2,4 @@ pub mod PutLaws
 pub mod PacketLaws
 pub mod RuleLaws
 pub mod PastLaws
+pub mod ServingLaws
