@@ -3,3 +3,4 @@ pub mod PacketLaws
 pub mod RuleLaws
 pub mod PastLaws
 pub mod ServingLaws
+pub mod ListLaws

@@ -38,9 +38,9 @@ pub put_ends : (progress next : Progress) (packet : PlainPacket) (before mid aft
 put_ends progress next packet before mid after outcome opens final mid_is given after_is =
     let here : at_put progress packet ≡ finished next = ap (λ (v : Verdict). then_at v (λ n. cond (is_final packet) (finished n) (Open n))) opens ∙ cond-true _ _ _ final in
     subst (λ (v : Verdict). Heeds v (noted packet.headers) before after outcome) (sym here) (record {
-        given = given;
-        content = after_is ∙ ap (stepped outcome (contents_after (finished next) (noted []))) mid_is ∙ content_at_end next packet.headers before outcome;
-      })
+      given = given;
+      content = after_is ∙ ap (stepped outcome (contents_after (finished next) (noted []))) mid_is ∙ content_at_end next packet.headers before outcome;
+    })
 
 -- ---- the verdict on octets
 

@@ -147,7 +147,7 @@ put_leaves run put stored k =
 
 packet_at : (is_put : Bool) (run : List PlainPacket) (packet : PlainPacket) (stored : List Object) → KeepsRules (run_headers run)
     → Leaves stored (run_headers run) (noted packet.headers) (objects_from run (cond is_put (Some packet) None ∷ [])) (open_from run (cond is_put (Some packet) None ∷ []))
-        (cond is_put (at_put (progress_of (run_headers run)) packet) (Ended (other_response packet.code)))
+    (cond is_put (at_put (progress_of (run_headers run)) packet) (Ended (other_response packet.code)))
 packet_at true run packet stored k = put_leaves run packet stored k
 packet_at false run packet stored k = ended stored (run_headers run) (noted packet.headers) _ _ (other_response packet.code) refl refl
 

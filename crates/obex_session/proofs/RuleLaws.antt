@@ -175,7 +175,7 @@ first_name_at true headers header bs text stored k n b e = λ keeps.
 first_name_at false headers header bs text stored k n b e =
     let none : bs ++ cons_option None [] ≡ [] = append-nil bs ∙ no_body headers bs k in
     let kept : Kept (headers ++ header ∷ []) (units_of text ∷ []) (bs ++ cons_option None []) = more_kept headers header [] bs (Some text) None k n b (ahead_more headers header [] bs (Some text) k n (λ z w. b)) (omega arith) (ltb-false 255 (length (units_of text)) e, tt)
-        (subst (λ (xs : List (List ℕ)). length (joined xs) ≤ 16777215) (sym none) (omega arith)) in
+    (subst (λ (xs : List (List ℕ)). length (joined xs) ≤ 16777215) (sym none) (omega arith)) in
     let kept' : Kept (headers ++ header ∷ []) (units_of text ∷ []) [] = subst (Kept (headers ++ header ∷ []) (units_of text ∷ [])) none kept in
     stands_by (headers ++ header ∷ []) (units_of text ∷ []) [] Named stored _ kept' refl (ap (λ (name : List ℕ). record { stored = stored; pending = Some (record { name = name; octets = [] }) }) (sym (append-nil (units_of text))))
 
@@ -218,7 +218,7 @@ filled_from first ns (b ∷ bs) octets = refl
 body_at : (over : Bool) (headers : List PlainHeader) (header : PlainHeader) (first : List ℕ) (ns bs : List (List ℕ)) (octets : List ℕ) (stored : List Object) → Kept headers (first ∷ ns) bs → name_text header ≡ None → body_of header ≡ Some octets
     → ltb 16777215 (length (joined (bs ++ octets ∷ []))) ≡ over
     → Follows (headers ++ header ∷ []) (cond over (Ended TooLarge) (Open (Filled (length (joined (bs ++ octets ∷ [])))))) stored
-        (record { stored = stored; pending = Some (record { name = joined (first ∷ ns); octets = joined bs ++ octets }) })
+    (record { stored = stored; pending = Some (record { name = joined (first ∷ ns); octets = joined bs ++ octets }) })
 body_at true headers header first ns bs octets stored k n b e = λ keeps.
     let bound = subst (λ (xs : List (List ℕ)). length (joined xs) ≤ 16777215) (bodies-more headers header bs (Some octets) k.bodies_are b) keeps.bounded in
     let no : true ≡ false = sym e ∙ le-ltb 16777215 _ bound in
@@ -227,7 +227,7 @@ body_at false headers header first ns bs octets stored k n b e =
     let same : (first ∷ ns) ++ map units_of (cons_option None []) ≡ first ∷ ns = append-nil (first ∷ ns) in
     let unnamed : names headers ≡ [] → body_of header ≡ None = λ z. let no : first ∷ ns ≡ [] = sym k.names_are ∙ z in absurd cc in
     let kept : Kept (headers ++ header ∷ []) ((first ∷ ns) ++ map units_of (cons_option None [])) (bs ++ octets ∷ []) = more_kept headers header (first ∷ ns) bs None (Some octets) k n b (ahead_more headers header (first ∷ ns) bs None k n (λ z w. unnamed z))
-        (subst (λ (xs : List (List ℕ)). length xs ≤ 1) (sym same) (one_of headers (first ∷ ns) bs k)) (subst (AllByRecursion (λ name. length name ≤ 255)) (sym same) (short_of headers (first ∷ ns) bs k)) (ltb-false 16777215 _ e) in
+    (subst (λ (xs : List (List ℕ)). length xs ≤ 1) (sym same) (one_of headers (first ∷ ns) bs k)) (subst (AllByRecursion (λ name. length name ≤ 255)) (sym same) (short_of headers (first ∷ ns) bs k)) (ltb-false 16777215 _ e) in
     stands_by (headers ++ header ∷ []) (first ∷ ns) (bs ++ octets ∷ []) _ stored _ (subst (λ (xs : List (List ℕ)). Kept (headers ++ header ∷ []) xs (bs ++ octets ∷ [])) same kept) (filled_from first ns bs octets)
     (ap (λ (xs : List ℕ). record { stored = stored; pending = Some (record { name = joined (first ∷ ns); octets = xs }) }) (sym (joined-more bs octets)))
 
@@ -276,7 +276,7 @@ then_follows : (headers : List PlainHeader) (header : PlainHeader) (back : List 
 then_follows headers header back stored (Open progress) contents f ih =
     subst (λ (hs : List PlainHeader). Follows hs (after_headers progress back) stored (noted back contents)) (append_assoc headers (header ∷ []) back)
     (subst (λ (p : Progress). Follows ((headers ++ header ∷ []) ++ back) (after_headers p back) stored (noted back contents)) (sym f.progress_is)
-        (subst (λ (c : Contents). Follows ((headers ++ header ∷ []) ++ back) (after_headers (progress_of (headers ++ header ∷ [])) back) stored (noted back c)) (sym f.contents_are) (ih f.keeps)))
+    (subst (λ (c : Contents). Follows ((headers ++ header ∷ []) ++ back) (after_headers (progress_of (headers ++ header ∷ [])) back) stored (noted back c)) (sym f.contents_are) (ih f.keeps)))
 then_follows headers header back stored Whole contents f ih = absurd f
 then_follows headers header back stored (Ended code) contents f ih = λ keeps. f (rules_front (headers ++ header ∷ []) back (subst KeepsRules (sym (append_assoc headers (header ∷ []) back)) keeps))
 

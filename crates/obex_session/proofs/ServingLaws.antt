@@ -34,13 +34,13 @@ hears maximum progress next session packet content content' faults faults' short
     let here : Serving = record { maximum = maximum; progress = progress } in
     subst (λ (p : Progress). Hears session (record { maximum = maximum; progress = p }) packet content content' faults faults' shortages shortages' room room' answer) (sym heard.next_is)
     (subst (λ (s : Serving). Hears s (record { maximum = maximum; progress = progress_after outcome }) packet content content' faults faults' shortages shortages' room room' answer) heard.session_is (record {
-        outcome = outcome;
-        cause = heard.cause;
-        heeded = heard.heeded;
-        session_is = refl;
-        answered = answered;
-        history = λ before past stands. stands_on before past here content content' packet outcome stands heard.heeded;
-      }))
+      outcome = outcome;
+      cause = heard.cause;
+      heeded = heard.heeded;
+      session_is = refl;
+      answered = answered;
+      history = λ before past stands. stands_on before past here content content' packet outcome stands heard.heeded;
+    }))
 
 -- with a response
 pub responds : (maximum : ℕ) (progress next : Progress) (session : Serving) (packet : List ℕ) (content content' : Option Contents) (faults faults' shortages shortages' : ℕ) (room room' : List ℕ) (n : ℕ) (code : ResponseCode) (outcome : Result Verdict PortFault)

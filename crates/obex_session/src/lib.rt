@@ -3,6 +3,7 @@
 #![tactic(auto)]
 
 mod hearing;
+pub mod laws;
 mod putting;
 mod responding;
 mod ruling;

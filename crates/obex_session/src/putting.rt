@@ -28,11 +28,7 @@ const MOST_UNITS: usize = 255;
 const MOST_OCTETS: usize = 16_777_215;
 
 /// A Name: it begins the object.
-fn on_name<B: Inbox>(
-    progress: Progress,
-    text: &[u8],
-    inbox: &mut B,
-) -> Result<Verdict, PortFault>
+fn on_name<B: Inbox>(progress: Progress, text: &[u8], inbox: &mut B) -> Result<Verdict, PortFault>
     requires text { IsText text.now }
     requires pending { B.is_pending inbox.old ≡ is_under_way progress }
     ensures verdict { IfOk result (λ verdict. verdict ≡ at_name progress (units_of text.now)) }
@@ -52,11 +48,7 @@ fn on_name<B: Inbox>(
 }
 
 /// A body: it is appended to the object.
-fn on_body<B: Inbox>(
-    progress: Progress,
-    octets: &[u8],
-    inbox: &mut B,
-) -> Result<Verdict, PortFault>
+fn on_body<B: Inbox>(progress: Progress, octets: &[u8], inbox: &mut B) -> Result<Verdict, PortFault>
     requires pending { B.is_pending inbox.old ≡ is_under_way progress }
     ensures verdict { IfOk result (λ verdict. verdict ≡ at_body progress octets.now) }
     ensures content { B.content inbox.new ≡ stepped result (contents_after (at_body progress octets.now) (appended octets.now)) (B.content inbox.old) }

@@ -72,12 +72,7 @@ impl ServerSession {
     /// maximum.
     ///
     /// It needs at least 7 octets of room, and an inbox whose pending object is the session's own.
-    pub fn on_packet<B: Inbox>(
-        &mut self,
-        packet: &[u8],
-        inbox: &mut B,
-        into: &mut [u8],
-    ) -> Reply
+    pub fn on_packet<B: Inbox>(&mut self, packet: &[u8], inbox: &mut B, into: &mut [u8]) -> Reply
         requires room { 7 ≤ length into.old }
         requires pending { B.is_pending inbox.old ≡ is_under_way self.old.progress }
         ensures hears { Hears self.old self.new packet.now (B.content inbox.old) (B.content inbox.new) (B.faults inbox.old) (B.faults inbox.new) (B.shortages inbox.old) (B.shortages inbox.new) into.old into.new result }

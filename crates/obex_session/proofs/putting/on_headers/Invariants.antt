@@ -14,7 +14,7 @@ invariant-loop-header g l =
     × (g.B.Inbox.shortages l.inbox ≡ g.B.Inbox.shortages l.initial.inbox)
     × (option_map aborted (g.B.Inbox.content l.inbox) ≡ option_map aborted (g.B.Inbox.content l.initial.inbox))
     × ((headers : List PlainHeader) → AllByRecursion IsHeader headers → l.request.headers.now ≡ headers_octets headers
-        → StandsAt l.initial.progress headers (g.B.Inbox.content l.initial.inbox) l.left l.progress (g.B.Inbox.content l.inbox))
+    → StandsAt l.initial.progress headers (g.B.Inbox.content l.initial.inbox) l.left l.progress (g.B.Inbox.content l.inbox))
 
 abbrev pub decreases-loop-header : goal.decreases-loop-header
 decreases-loop-header g l = length l.left

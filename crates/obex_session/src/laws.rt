@@ -1,0 +1,14 @@
+//! Laws of what packets store, for every list of them. They speak of no call: the contracts of the
+//! calls tie these to the same definitions.
+
+ghost use Rattle.obex_session.specs.Laws.{NoRuleFails, StoresWhatIsSpelled};
+
+/// Where the inbox never failed, the objects that the packets spell were stored.
+pub fn spelled_is_stored()
+    ensures { StoresWhatIsSpelled }
+{}
+
+/// No rule answers D0: it is left for an inbox that failed.
+pub fn no_rule_fails()
+    ensures { NoRuleFails }
+{}
