@@ -143,6 +143,13 @@ impl Joiner {
         }
     }
 
+    /// Forgets the group that is open.
+    pub fn forget(&mut self)
+        ensures { self.new ≡ record { limit = self.old.limit; octets = [] } }
+    {
+        self.held = 0;
+    }
+
     fn start<'a>(&mut self, piece: &'a [u8]) -> Joined<'a>
         ensures { Takes self.old true piece.now result self.new }
     {
