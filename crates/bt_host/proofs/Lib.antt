@@ -1,0 +1,10 @@
+pub mod Titles
+pub mod Fronts
+pub mod Waiting
+pub mod Giving
+pub mod Names
+pub mod CourseLaws
+pub mod SpelledLaws
+pub mod Counting
+pub mod ChannelLaws
+pub mod Agreeing
