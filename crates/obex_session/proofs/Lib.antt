@@ -4,3 +4,6 @@ pub mod RuleLaws
 pub mod PastLaws
 pub mod ServingLaws
 pub mod ListLaws
+pub mod PutPacketLaws
+pub mod NameLaws
+pub mod WritingLaws

@@ -1,20 +1,19 @@
 -- What is stored where no call failed, and which answers the rules give.
-use Rattle.std.proofs.Common.{Bool, true, false, cond, eqb, ltb, ◌||◌, ◌≡◌, ℕ, ◌+◌, ◌≤◌, List, [], ◌∷◌, length, map, Option, Some, None, Result, Ok, Err, refl, sym, ap, subst, ◌∙◌, arith}
+use Rattle.std.proofs.Common.{Bool, true, false, cond, eqb, ltb, ◌||◌, ◌≡◌, ℕ, ◌+◌, ◌≤◌, List, [], ◌∷◌, length, Option, Some, None, Result, Ok, Err, refl, ap, subst, ◌∙◌, arith}
 use Rattle.std.specs.List.{AllByRecursion}
 use Rattle.std.proofs.lemmas.Bool.{le-ltb}
 use Rattle.obex_headers.specs.declared.fault.ObexRefusal.{ObexRefusal}
 use Rattle.obex_headers.specs.declared.packet.Phase.TheVariants.{Request}
 use Rattle.obex_headers.specs.Packets.{PlainHeader, PlainPacket, units_of}
 use Rattle.obex_headers.specs.Reading.{front_at, packet_in}
-use Rattle.obex_headers.specs.Runs.{put_of, put_in, name_text, body_of, is_final, objects_from, heard, spelled}
-use Rattle.obex_session.specs.declared.responding.ResponseCode.{ResponseCode}
+use Rattle.obex_headers.specs.Runs.{put_of, put_in, name_text, body_of, is_final, objects_from, heard}
 use Rattle.obex_session.specs.declared.responding.ResponseCode.TheVariants.{Continue, Success, BadRequest, TooLarge, InternalError, NotImplemented}
 use Rattle.obex_session.specs.declared.ruling.Progress.{Progress}
 use Rattle.obex_session.specs.declared.ruling.Progress.TheVariants.{Unnamed, Named, Filled}
 use Rattle.obex_session.specs.declared.ruling.Verdict.{Verdict}
 use Rattle.obex_session.specs.declared.ruling.Verdict.TheVariants.{Open, Whole, Ended}
-use Rattle.obex_session.specs.Rules.{at_parts, at_header, after_headers, then_at, finished, at_put, at_packet, other_response, verdict_on}
-use Rattle.obex_session.specs.Past.{Heard, put_heard, puts_heard, stored_by}
+use Rattle.obex_session.specs.Rules.{at_parts, at_header, after_headers, then_at, finished, at_put, at_packet, other_response}
+use Rattle.obex_session.specs.Past.{puts_heard}
 use Rattle.obex_session.specs.Laws.{without_fault, StoresWhatIsSpelled, NoRuleFails}
 
 -- ---- what is stored

@@ -1,9 +1,9 @@
 -- Whole packets: the end of a PUT, and the verdict on octets.
-use Rattle.std.proofs.Common.{Bool, true, false, cond, ◌≡◌, ℕ, ◌||◌, eqb, List, [], Option, Some, None, Result, Ok, Err, refl, sym, ap, subst, ◌∙◌}
+use Rattle.std.proofs.Common.{true, cond, ◌≡◌, ℕ, ◌||◌, eqb, List, [], Option, Some, None, Result, Ok, Err, refl, sym, ap, subst, ◌∙◌}
 use Rattle.std.specs.Prelude.{IfOk}
 use Rattle.std.specs.Option.{option_map}
 use Rattle.std.proofs.lemmas.Bool.{cond-true}
-use Rattle.bt_base.specs.Objects.{Contents, aborted, stepped}
+use Rattle.bt_base.specs.Objects.{Contents, stepped}
 use Rattle.bt_base.specs.declared.ports.PortFault.{PortFault}
 use Rattle.obex_headers.specs.declared.fault.ObexRefusal.{ObexRefusal}
 use Rattle.obex_headers.specs.declared.packet.Phase.TheVariants.{Request}
@@ -14,7 +14,7 @@ use Rattle.obex_session.specs.declared.ruling.Progress.{Progress}
 use Rattle.obex_session.specs.declared.ruling.Progress.TheVariants.{Unnamed, Named, Filled}
 use Rattle.obex_session.specs.declared.ruling.Verdict.{Verdict}
 use Rattle.obex_session.specs.declared.ruling.Verdict.TheVariants.{Open}
-use Rattle.obex_session.specs.Rules.{after_headers, then_at, finished, at_put, at_packet, other_response, headers_read, verdict_on, noted, contents_after, Heeds}
+use Rattle.obex_session.specs.Rules.{after_headers, then_at, finished, at_put, at_packet, headers_read, verdict_on, noted, contents_after, Heeds}
 use Rattle.obex_session.proofs.PutLaws.{all-aborted}
 
 -- ---- the end of a PUT

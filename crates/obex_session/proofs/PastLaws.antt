@@ -1,12 +1,11 @@
 -- A session that stands for packets stands for one packet more.
-use Rattle.std.proofs.Common.{inl, inr, Bool, true, false, cond, eqb, ◌&&◌, ◌||◌, ◌≡◌, ℕ, ◌≤◌, List, [], ◌∷◌, ◌++◌, length, map, Option, Some, None, Result, Ok, Err, refl, sym, ap, subst, ◌∙◌, arith, append_assoc}
-use Rattle.std.specs.Prelude.{IfOk, IfSome, is_err}
+use Rattle.std.proofs.Common.{inl, inr, Bool, true, false, cond, eqb, ◌&&◌, ◌||◌, ◌≡◌, ℕ, List, [], ◌∷◌, ◌++◌, length, Option, Some, None, Result, Ok, Err, refl, sym, ap, subst, ◌∙◌, arith, append_assoc}
+use Rattle.std.specs.Prelude.{IfSome, is_err}
 use Rattle.std.specs.Option.{option_map}
-use Rattle.std.specs.List.{flat_map}
 use Rattle.std.proofs.lemmas.Bool.{cases_Bool, or_parts, or_from, or_left, or_right, ne_eqb, and_from, and_left, and_right, cond-true, cond-false}
 use Rattle.std.proofs.lemmas.List.{append-nil, map-append}
 use Rattle.std.proofs.lemmas.Grind.{flat_map-append}
-use Rattle.bt_base.specs.Objects.{Object, Contents, aborted, committed, stepped}
+use Rattle.bt_base.specs.Objects.{Object, Contents, aborted, committed}
 use Rattle.bt_base.specs.declared.ports.PortFault.{PortFault}
 use Rattle.obex_headers.specs.declared.fault.ObexRefusal.{ObexRefusal}
 use Rattle.obex_headers.specs.declared.packet.Phase.TheVariants.{Request}
@@ -15,14 +14,14 @@ use Rattle.obex_headers.specs.Reading.{packet_in}
 use Rattle.obex_headers.specs.Runs.{put_of, is_final, names, bodies, run_headers, KeepsRules, breaks, lacks, object_of, objects_from}
 use Rattle.obex_headers.proofs.RunLaws.{keeps, kept, ends_without, step_refused, step_final, step_open}
 use Rattle.obex_session.specs.declared.ruling.Progress.{Progress}
-use Rattle.obex_session.specs.declared.ruling.Progress.TheVariants.{Unnamed, Named, Filled}
+use Rattle.obex_session.specs.declared.ruling.Progress.TheVariants.{Unnamed}
 use Rattle.obex_session.specs.declared.ruling.Verdict.{Verdict}
 use Rattle.obex_session.specs.declared.ruling.Verdict.TheVariants.{Open, Whole, Ended}
 use Rattle.obex_session.specs.declared.responding.ResponseCode.{ResponseCode}
 use Rattle.obex_session.specs.declared.responding.ResponseCode.TheVariants.{BadRequest}
 use Rattle.obex_session.specs.Rules.{after_headers, then_at, finished, at_put, at_packet, other_response, headers_read, verdict_on, progress_after, noted, contents_after, Heeds}
-use Rattle.obex_session.specs.Past.{Heard, put_heard, puts_heard, stored_by, open_from, open_headers, progress_from, progress_of, pending_from, pending_of, Serving, StandsFor}
-use Rattle.obex_session.proofs.RuleLaws.{held, Stands, Follows, follows}
+use Rattle.obex_session.specs.Past.{Heard, put_heard, puts_heard, stored_by, open_from, open_headers, progress_from, progress_of, pending_from, Serving, StandsFor}
+use Rattle.obex_session.proofs.RuleLaws.{held, Follows, follows}
 
 -- ---- one packet more in a list
 
@@ -209,10 +208,3 @@ pub stands_on : (before : List Object) (past : List Heard) (session : Serving) (
     → StandsFor before (past ++ (octets, is_err outcome) ∷ []) (record session { progress = progress_after outcome }) content'
 stands_on before past session content content' octets (Ok verdict) stands heeds = after_packet before past session content content' octets verdict stands heeds.given heeds.content
 stands_on before past session content content' octets (Err fault) stands heeds = after_fault before past session content content' octets stands heeds.content
-
--- ---- the end of a link
-
-pub starts_anew : (before : List Object) (past : List Heard) (session : Serving) (content content' : Option Contents) → StandsFor before past session content → content' ≡ option_map aborted content
-    → StandsFor (before ++ stored_by session.maximum past) [] (record session { progress = Unnamed }) content'
-starts_anew before past session content content' stands e =
-    record { progress = refl; holds = told_then content content' aborted _ _ stands.holds e (ap (λ (os : List Object). held os []) (sym (append-nil (before ++ stored_by session.maximum past)))) }

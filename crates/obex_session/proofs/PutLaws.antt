@@ -4,7 +4,7 @@ use Rattle.std.proofs.lemmas.Bool.{cases_lt}
 use Rattle.std.specs.Option.{option_map}
 use Rattle.std.specs.List.{AllByRecursion}
 use Rattle.bt_base.specs.Counts.{HasCause}
-use Rattle.bt_base.specs.Objects.{Contents, begun, appended, committed, aborted, stepped}
+use Rattle.bt_base.specs.Objects.{Contents, aborted}
 use Rattle.bt_base.specs.declared.ports.PortFault.{PortFault}
 use Rattle.bt_base.specs.declared.ports.PortFault.TheVariants.{Failed, NoMemory}
 use Rattle.obex_headers.specs.Packets.{PlainHeader, IsHeader, header_octets, headers_octets, units_of}

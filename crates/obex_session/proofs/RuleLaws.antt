@@ -1,17 +1,16 @@
 -- What stands after each header is what the rules over a whole run say of the headers so far.
-use Rattle.std.proofs.Common.{eqb, ◌||◌, Bool, true, false, cond, ltb, ◌≡◌, ℕ, ◌+◌, ◌≤◌, ◌<◌, List, [], ◌∷◌, ◌++◌, length, map, Option, Some, None, refl, sym, ap, subst, ◌∙◌, arith, append_assoc, zero-add, inl, inr}
+use Rattle.std.proofs.Common.{eqb, ◌||◌, Bool, true, false, cond, ltb, ◌≡◌, ℕ, ◌+◌, ◌≤◌, List, [], ◌∷◌, ◌++◌, length, map, Option, Some, None, refl, sym, ap, subst, ◌∙◌, arith, append_assoc}
 use Rattle.std.specs.Prelude.{is_none}
-use Rattle.std.specs.List.{flat_map, filter_map, cons_option, AllByRecursion}
-use Rattle.std.proofs.lemmas.Bool.{cases_Bool, ltb-false, le-ltb, cond-true, cond-false}
+use Rattle.std.specs.List.{filter_map, cons_option, AllByRecursion}
+use Rattle.std.proofs.lemmas.Bool.{ltb-false, le-ltb}
 use Rattle.std.proofs.lemmas.List.{append-nil, length-append, map-append}
 use Rattle.std.proofs.lemmas.List.Elements.{filter_map-append}
 use Rattle.std.proofs.lemmas.List.Sums.{take_while-cons}
 use Rattle.std.proofs.lemmas.Grind.{flat_map-append}
 use Rattle.bt_base.specs.Objects.{Object, Contents}
 use Rattle.obex_headers.specs.Packets.{PlainValue, Text, Octets, One, Four, PlainHeader, units_of}
-use Rattle.obex_headers.specs.Runs.{text_in, octets_in, name_text, body_of, names, bodies, ahead_of_name, joined, KeepsRules, object_of}
+use Rattle.obex_headers.specs.Runs.{text_in, octets_in, name_text, body_of, names, bodies, ahead_of_name, joined, KeepsRules}
 use Rattle.obex_headers.proofs.RunLaws.{rules_front}
-use Rattle.obex_session.specs.declared.responding.ResponseCode.{ResponseCode}
 use Rattle.obex_session.specs.declared.responding.ResponseCode.TheVariants.{TooLarge, BadRequest}
 use Rattle.obex_session.specs.declared.ruling.Progress.{Progress}
 use Rattle.obex_session.specs.declared.ruling.Progress.TheVariants.{Unnamed, Named, Filled}

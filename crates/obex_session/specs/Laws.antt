@@ -1,5 +1,5 @@
 -- Laws of what packets store, for every list of them.
-use Rattle.std.specs.Prelude.{◌≡◌, ℕ, ◌≤◌, Bool, false, List, length, map}
+use Rattle.std.specs.Prelude.{◌≡◌, ℕ, ◌≤◌, false, List, length, map}
 use Rattle.std.specs.List.{AllByRecursion}
 use Rattle.obex_headers.specs.Runs.{spelled}
 use Rattle.obex_session.specs.declared.responding.ResponseCode.TheVariants.{InternalError}

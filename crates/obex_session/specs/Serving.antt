@@ -1,5 +1,5 @@
 -- What the calls of a server's session do (this project's own).
-use Rattle.std.specs.Prelude.{◌≡◌, ℕ, ◌<◌, ◌++◌, ◌≤◌, [], ◌∷◌, List, length, drop, Option, Some, None, Result, Ok, Err, IsTrue, is_err}
+use Rattle.std.specs.Prelude.{◌≡◌, ℕ, ◌<◌, ◌++◌, ◌≤◌, [], ◌∷◌, List, length, drop, Option, Some, None, Result, IsTrue, is_err}
 use Rattle.std.specs.Option.{option_map}
 use Rattle.bt_base.specs.Counts.{HasCause, HasRisen}
 use Rattle.bt_base.specs.Objects.{Object, Contents, aborted}

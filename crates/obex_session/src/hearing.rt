@@ -8,19 +8,12 @@ ghost use Rattle.obex_headers.specs.declared.packet.Phase.TheVariants.{Request};
 ghost use Rattle.obex_session.specs.Rules.{is_under_way, is_pending_after, other_response, verdict_on, headers_read, noted, Heeds};
 ghost use Rattle.obex_session.specs.declared.ruling.Verdict.TheVariants.{Ended};
 
+use crate::codes::{ABORT, CONNECT, DISCONNECT, FINAL_PUT, PUT};
 use crate::putting::on_put;
-use crate::responding::{CONNECT, ResponseCode};
+use crate::responding::ResponseCode;
 use crate::ruling::{Progress, Verdict};
 use bt_base::{Inbox, PortFault};
 use obex_headers::{Phase, packet_of};
-
-const DISCONNECT: u8 = 0x81;
-
-const ABORT: u8 = 0xFF;
-
-const PUT: u8 = 0x02;
-
-const FINAL_PUT: u8 = 0x82;
 
 /// Ends the object, if one is under way, without storing it.
 pub(crate) fn end<B: Inbox>(

@@ -2,6 +2,7 @@
 //! calls tie these to the same definitions.
 
 ghost use Rattle.obex_session.specs.Laws.{NoRuleFails, StoresWhatIsSpelled};
+ghost use Rattle.obex_session.specs.PutPackets.{SpellsWhatIsPut};
 
 /// Where the inbox never failed, the objects that the packets spell were stored.
 pub fn spelled_is_stored()
@@ -11,4 +12,9 @@ pub fn spelled_is_stored()
 /// No rule answers D0: it is left for an inbox that failed.
 pub fn no_rule_fails()
     ensures { NoRuleFails }
+{}
+
+/// The PUT packets of an object spell it, however its body is cut.
+pub fn put_is_spelled()
+    ensures { SpellsWhatIsPut }
 {}

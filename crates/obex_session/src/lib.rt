@@ -2,13 +2,19 @@
 //! store, and how each packet is answered.
 #![tactic(auto)]
 
+mod asking;
+mod client;
+mod codes;
 mod hearing;
 pub mod laws;
+mod naming;
+mod put_writing;
 mod putting;
 mod responding;
 mod ruling;
 mod server;
 
+pub use client::{Answered, ClientSession, PutNext};
 pub use server::{Reply, ServerSession};
 
 #[cfg(test)]

@@ -7,19 +7,12 @@ ghost use Rattle.bt_base.specs.Objects.{stepped, begun, appended};
 ghost use Rattle.obex_headers.specs.Packets.{PlainHeader, IsHeader, IsText, units_of, headers_octets, plain_header, PlainPacket, Shows};
 ghost use Rattle.obex_session.specs.Rules.{is_under_way, is_pending_after, at_name, at_body, at_header, after_headers, at_put, finished, contents_after, noted, Heeds};
 
+use crate::codes::{BODY, END_OF_BODY, FINAL_PUT, NAME};
 use crate::hearing::end;
 use crate::responding::ResponseCode;
 use crate::ruling::{Progress, Verdict};
 use bt_base::{Inbox, PortFault};
 use obex_headers::{Header, HeaderValue, Packet, headers_of, name_units};
-
-const NAME: u8 = 0x01;
-
-const BODY: u8 = 0x48;
-
-const END_OF_BODY: u8 = 0x49;
-
-const FINAL_PUT: u8 = 0x82;
 
 /// The greatest length of a Name, in UTF-16 units.
 const MOST_UNITS: usize = 255;

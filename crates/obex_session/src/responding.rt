@@ -3,6 +3,7 @@
 ghost use Rattle.std.specs.Prelude.{◌≡◌, ◌≤◌, ◌++◌, ◌==◌, length, drop, slice_index};
 ghost use Rattle.obex_session.specs.Responses.{octet_of, connect_fields, is_connect, response_octets};
 
+use crate::codes::CONNECT;
 use obex_headers::start_packet;
 
 /// The codes of responses that a server gives (IrOBEX 1.5, 3.2.1).
@@ -22,9 +23,6 @@ pub(crate) enum ResponseCode {
     NotImplemented,
 }
 
-/// The code of CONNECT.
-pub(crate) const CONNECT: u8 = 0x80;
-
 impl ResponseCode {
     fn octet(self) -> u8
         ensures { result ≡ octet_of self }
@@ -40,8 +38,8 @@ impl ResponseCode {
     }
 }
 
-/// The fields of a response to CONNECT: version 1.0, no flags, and the own maximum.
-fn connect_fields(maximum: u16) -> [u8; 4]
+/// The fields of CONNECT, and of a response to it: version 1.0, no flags, and the own maximum.
+pub(crate) fn connect_fields(maximum: u16) -> [u8; 4]
     ensures { result ≡ connect_fields maximum }
 {
     let [high, low] = maximum.to_be_bytes();

@@ -1,7 +1,9 @@
-ghost use Rattle.std.specs.Prelude.{◌≡◌, false, is_some};
+ghost use Rattle.std.specs.Prelude.{◌≡◌, ◌≤◌, false, is_some, length};
+ghost use Rattle.obex_session.specs.PutPackets.{place_of};
 
 use super::*;
-use bt_base::MemInbox;
+use bt_base::{MemInbox, MemShelf};
+use obex_headers::ObexRefusal;
 use std::test::Fail;
 
 const CONNECT: [u8; 7] = [0x80, 0x00, 0x07, 0x10, 0x00, 0x04, 0x00];
@@ -176,4 +178,49 @@ fn an_object_goes_with_its_link(rt: HostRuntime) -> Result<(), Fail> {
     assert_eq!(rt; into[0], 0xC0);
     assert_eq!(rt; inbox.len(), 0);
     Ok(())
+}
+
+fn put_a(session: &mut ClientSession, size: u32, shelf: &mut MemShelf, into: &mut [u8]) -> PutNext
+    requires place { place_of session.old.put ≤ size }
+    requires room { 32767 ≤ length into.old }
+{
+    session.put_next("a", size, shelf, 1024, into)
+}
+
+#[test]
+fn an_object_is_put(rt: HostRuntime) -> Result<(), Fail> {
+    let cases: [(&[u8], &[u8]); 2] = [(b"hi", &PUT), (b"", &PUT_NOTHING)];
+    for (octets, packet) in cases {
+        let mut shelf = MemShelf::new(rt.alloc(), &[])?;
+        assert!(rt; octets.len() <= 2);
+        shelf.add("a", octets)?;
+        let mut session = ClientSession::new(1024);
+        let mut into = vec![in rt.alloc(); 0u8; 32767]?;
+        let put = put_a(&mut session, octets.len() as u32, &mut shelf, &mut into);
+        assert_eq!(rt; put, PutNext::Packet(packet.len(), true));
+        assert!(rt; into.starts_with(packet));
+    }
+    Ok(())
+}
+
+#[test]
+fn responses_are_judged(rt: HostRuntime) {
+    let cases: [(&[u8], Answered); 4] = [
+        (&SUCCESS, Answered::Bad(ObexRefusal::Short)),
+        (&CONNECTED, Answered::Go),
+        (
+            &[0xC0, 0x00, 0x07, 0x10, 0x00, 0x04, 0x00],
+            Answered::Refused(0xC0),
+        ),
+        (
+            &[0xA0, 0x00, 0x07, 0x10, 0x00, 0x00, 0xFE],
+            Answered::Bad(ObexRefusal::BadLength),
+        ),
+    ];
+    for (i, (response, answered)) in cases.iter().enumerate() {
+        let mut session = ClientSession::new(1024);
+        let mut into = [0u8; 7];
+        assert_eq!(rt; session.connect(&mut into), 7);
+        assert_eq!(rt; session.on_response(response), *answered, "row {i}");
+    }
 }

@@ -1,4 +1,4 @@
-use Rattle.std.proofs.Common.{◌≡◌, sym, ◌∙◌, ap, eqb, ℕ}
+use Rattle.std.proofs.Common.{sym, ◌∙◌, ap}
 use Rattle.obex_session.specs.declared.ruling.Verdict.{Verdict}
 use Rattle.obex_session.specs.Rules.{noted, contents_after}
 use Rattle.std.specs.Option.{option_map}

@@ -1,5 +1,5 @@
 use Rattle.std.proofs.Common.{sym, ◌∙◌}
-use Rattle.obex_session.proofs.ServingLaws.{IsHeard, responds, gives_none}
+use Rattle.obex_session.proofs.ServingLaws.{responds, gives_none}
 use Rattle.obex_session.proofs.server.ServerSession.on_packet.Goals as goal
 
 pub returns-clause-hears : goal.returns-clause-hears
