@@ -126,6 +126,13 @@ impl Joiner {
         })
     }
 
+    /// Makes the joiner one that holds no group, with the same limit. It takes no memory.
+    pub fn forget(&mut self)
+        ensures { self.new ≡ record { limit = self.old.limit; octets = [] } }
+    {
+        self.held = 0;
+    }
+
     /// Takes the next piece of the link and the direction.
     ///
     /// A start is judged by itself: `ShortStart` without the whole header, then `Overrun` where it
@@ -141,13 +148,6 @@ impl Joiner {
             Boundary::First | Boundary::FirstFromController => self.start(piece),
             Boundary::Continuing => self.go_on(piece),
         }
-    }
-
-    /// Forgets the group that is open.
-    pub fn forget(&mut self)
-        ensures { self.new ≡ record { limit = self.old.limit; octets = [] } }
-    {
-        self.held = 0;
     }
 
     fn start<'a>(&mut self, piece: &'a [u8]) -> Joined<'a>

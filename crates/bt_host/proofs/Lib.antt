@@ -6,5 +6,12 @@ pub mod Names
 pub mod CourseLaws
 pub mod SpelledLaws
 pub mod Counting
-pub mod ChannelLaws
-pub mod Agreeing
+pub mod ObjectLaws
+pub mod GoingOn
+pub mod PieceReading
+pub mod Feeding
+pub mod Counts
+pub mod ServerFeeding
+pub mod OutLaws
+pub mod WantLaws
+pub mod Settling

@@ -6,3 +6,11 @@ pub mod Steps
 pub mod Shelves
 pub mod Channels
 pub mod Laws
+pub mod Refusals
+pub mod Pieces
+pub mod Clients
+pub mod ClientHosts
+pub mod Servers
+pub mod ServerHosts
+pub mod Wants
+pub mod Settling

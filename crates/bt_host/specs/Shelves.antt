@@ -55,11 +55,12 @@ pub record Begins (content : Option (List Object)) (faults faults' : ℕ) (name 
   pub small : IfSome size (λ size. size ≤ 200)
   pub leaves : new ≡ begun name size old
 
--- the object has more than 200 octets
-pub record IsTooLarge (content : Option (List Object)) (name : List ℕ) : Type 0 where
+-- the object has more octets, and nothing changed
+pub record IsTooLarge (content : Option (List Object)) (name : List ℕ) (old new : Course) : Type 0 where
   pub size : ℕ
   pub said : HasSize content name size
   pub large : 200 < size
+  pub unchanged : new ≡ old
 
 -- one step was given, by what the shelf gave where it was asked
 pub record Steps (content : Option (List Object)) (faults faults' : ℕ) (old new : Course) (step : Step) : Type 0 where

@@ -3,7 +3,6 @@
 ghost use Rattle.std.specs.Prelude.{◌≡◌};
 ghost use Rattle.bt_host.specs.Events.{loss, answered_outcome};
 
-use crate::basic_pdu::Pdu;
 use crate::commands::{
     FIRST_ENDPOINT, OWN_ENDPOINT, ask_configuration, ask_connection, ask_disconnection,
     grant_configuration,
@@ -12,7 +11,7 @@ use crate::configuring::{agreement, is_request};
 use crate::object_name::ObjectName;
 use crate::requests::{connect_pdu, disconnect_pdu, put_pdu, put_size};
 use crate::stages::{PeerRequest, Stage};
-use crate::steps::{BeginFault, Step};
+use crate::steps::{PushRefusal, Step};
 use bt_base::{NoMemory, PortFault, Settings, Shelf};
 use byteorder::{BigEndian, ByteOrder};
 use l2cap_signal::{Signal, SignalKind};
@@ -30,13 +29,11 @@ const SUCCESS: u8 = 0xA0;
 /// The reason of a link that the peer's user ended (Core 5.1, Volume 2 Part D, 2.19).
 const PEER_ENDED: u8 = 0x13;
 
-/// The identifier of the own connection request: each link counts its own requests from 1.
+/// The identifiers of the own requests on a link.
 const CONNECTION: u8 = 1;
 
-/// The identifier of the own configuration request.
 const CONFIGURATION: u8 = 2;
 
-/// The identifier of the own disconnection request.
 const DISCONNECTION: u8 = 3;
 
 /// The course of one push of one object of at most 200 octets, over a link and a basic channel of its
@@ -67,7 +64,7 @@ impl Model for ClientCourse {
 }
 
 impl ClientCourse {
-    ghost use Rattle.std.specs.Prelude.{◌≢◌, ◌≤◌, ◌<◌, ℕ, List, Option, Ok, Some, IfOk, OnOk, OnErr, IsErr, IsErrOf, false, if◌then◌else◌};
+    ghost use Rattle.std.specs.Prelude.{◌≢◌, ◌≤◌, ◌<◌, ℕ, List, Option, Ok, Some, IfOk, OnOk, IsErr, IsErrOf, false, if◌then◌else◌};
     ghost use Rattle.obex_headers.specs.declared.packet.Phase.TheVariants.{Response, ConnectResponse};
     ghost use Rattle.obex_headers.specs.Reading.{packet_in};
     ghost use Rattle.push_script.specs.declared.outcome.Outcome.TheVariants.{ShelfFault};
@@ -113,32 +110,31 @@ impl ClientCourse {
 
     /// Begins a push of the object of that name, whose size the shelf is asked for. Where the shelf
     /// fails, the push has ended at once with the outcome `ShelfFault`. `TooLarge` where the object
-    /// has more than 200 octets, `NoMemory` where none could be had; the course is then as before.
+    /// has more than 200 octets; the course is then as before. `NoMemory` where none could be had.
     ///
     /// It needs an idle course and a name of at most 100 UTF-16 units.
-    pub fn begin<F: Shelf>(&mut self, name: &str, shelf: &mut F) -> Result<(), BeginFault>
+    pub fn begin<F: Shelf>(&mut self, name: &str, shelf: &mut F) -> Result<(), PushRefusal>
         requires idle { self.old.stage ≡ Idle }
         requires name { utf16_length name.now ≤ 100 }
         ensures begun { OnOk result (Begins (F.content shelf.old) (F.faults shelf.old) (F.faults shelf.new) name.now self.old self.new) }
-        ensures too_large { IsErrOf result BeginFault.TooLarge → IsTooLarge (F.content shelf.old) name.now }
-        ensures refused { OnErr result (self.new ≡ self.old) }
+        ensures too_large { IsErrOf result PushRefusal.TooLarge → IsTooLarge (F.content shelf.old) name.now self.old self.new }
         ensures stays { Stays (F.content shelf.old) (F.content shelf.new) (F.faults shelf.old) (F.faults shelf.new) (F.shortages shelf.old) (F.shortages shelf.new) }
         ensures failed { F.faults shelf.old < F.faults shelf.new → (result ≡ Ok tt) × (self.new.outcome ≡ Some ShelfFault) }
-        ensures short { F.shortages shelf.old < F.shortages shelf.new → IsErrOf result BeginFault.NoMemory }
+        ensures short { F.shortages shelf.old < F.shortages shelf.new → IsErrOf result PushRefusal.NoMemory }
     {
         let size = match shelf.size(name) {
             Ok(size) => size,
-            Err(PortFault::NoMemory) => return Err(BeginFault::NoMemory),
+            Err(PortFault::NoMemory) => return Err(PushRefusal::NoMemory),
             Err(PortFault::Failed) => {
                 self.outcome = Some(Outcome::ShelfFault);
                 return Ok(());
             }
         };
         if size > LONGEST_OBJECT {
-            return Err(BeginFault::TooLarge);
+            return Err(PushRefusal::TooLarge);
         }
         let Ok(name) = ObjectName::new(self.alloc, name) else {
-            return Err(BeginFault::NoMemory);
+            return Err(PushRefusal::NoMemory);
         };
         self.name = name;
         self.size = size;
@@ -151,8 +147,9 @@ impl ClientCourse {
     pub fn link_up(&mut self)
         ensures { self.new ≡ after_link_up self.old.stage self.old }
     {
-        if let Stage::Paging = self.stage {
-            self.stage = Stage::Linked;
+        match self.stage {
+            Stage::Paging => self.stage = Stage::Linked,
+            _ => {}
         }
     }
 
@@ -176,7 +173,6 @@ impl ClientCourse {
         }
     }
 
-    /// The push has ended, with this outcome where none was fixed.
     fn end(&mut self, outcome: Outcome)
         ensures { self.new ≡ ended outcome self.old }
     {
@@ -232,9 +228,12 @@ impl ClientCourse {
         if !given {
             return;
         }
-        if let Stage::Connecting = self.stage {
-            self.stage = Stage::Connected;
-            self.peer = destination;
+        match self.stage {
+            Stage::Connecting => {
+                self.stage = Stage::Connected;
+                self.peer = destination;
+            }
+            _ => {}
         }
     }
 
@@ -244,11 +243,14 @@ impl ClientCourse {
         if identifier != CONFIGURATION || answer != 0 || source != OWN_ENDPOINT {
             return;
         }
-        if let Stage::Configuring { request, .. } = self.stage {
-            self.stage = Stage::Configuring {
-                answered: true,
-                request,
-            };
+        match self.stage {
+            Stage::Configuring { request, .. } => {
+                self.stage = Stage::Configuring {
+                    answered: true,
+                    request,
+                };
+            }
+            _ => {}
         }
     }
 
@@ -261,16 +263,18 @@ impl ClientCourse {
         let Some(agreed) = agreement(self.mtu, options) else {
             return;
         };
-        if let Stage::Configuring {
-            answered,
-            request: PeerRequest::Awaited,
-        } = self.stage
-        {
-            self.stage = Stage::Configuring {
+        match self.stage {
+            Stage::Configuring {
                 answered,
-                request: PeerRequest::Heard(identifier),
-            };
-            self.peer_mtu = agreed.send_mtu;
+                request: PeerRequest::Awaited,
+            } => {
+                self.stage = Stage::Configuring {
+                    answered,
+                    request: PeerRequest::Heard(identifier),
+                };
+                self.peer_mtu = agreed.send_mtu;
+            }
+            _ => {}
         }
     }
 
@@ -280,8 +284,9 @@ impl ClientCourse {
         if identifier != DISCONNECTION || destination != self.peer || source != OWN_ENDPOINT {
             return;
         }
-        if let Stage::Closing = self.stage {
-            self.stage = Stage::ToLeave;
+        match self.stage {
+            Stage::Closing => self.stage = Stage::ToLeave,
+            _ => {}
         }
     }
 
@@ -375,7 +380,6 @@ impl ClientCourse {
         }
     }
 
-    /// The PUT, or DISCONNECT where the shelf fails.
     fn put<F: Shelf>(&mut self, shelf: &mut F) -> Result<Step, NoMemory>
         requires { HasSize (F.content shelf.old) self.old.name self.old.size }
         ensures step { IfOk result (λ step. (given : Option (List ℕ)) × GivesOctets (F.content shelf.old) self.old.name self.old.size (F.faults shelf.old) (F.faults shelf.new) given × ((step, self.new) ≡ put_step given self.old)) }

@@ -1,11 +1,12 @@
-//! The signalling commands of one basic channel as PDUs (Core 5.1, Volume 3 Part A, section 4).
+//! The signalling commands of one basic channel as PDUs.
 
 ghost use Rattle.std.specs.Prelude.{◌≡◌, ◌<◌, ◌≤◌, length, IfOk};
 ghost use Rattle.l2cap_signal.specs.Commands.{content, payload_of};
 ghost use Rattle.bt_host.specs.Pdus.{command_pdu, asks_connection, grants_connection, asks_configuration, grants_configuration, asks_disconnection, grants_disconnection};
 
-use crate::basic_pdu::Pdu;
+use crate::basic_pdu::payload_pdu;
 use bt_base::NoMemory;
+use host_link::Pdu;
 use l2cap_config::{Options, put_options};
 use l2cap_signal::{Signal, SignalKind, put_signal};
 use std::alloc::Global;
@@ -32,10 +33,9 @@ fn command_pdu(alloc: Global, identifier: u8, kind: SignalKind<'_>) -> Result<Pd
 {
     let mut octets = [0; 12];
     let end = put_signal(&Signal { identifier, kind }, &mut octets);
-    Pdu::new(alloc, SIGNALLING, &octets[..end])
+    payload_pdu(alloc, SIGNALLING, &octets[..end])
 }
 
-/// Asks for a channel on the PSM of Object Push (4.2).
 pub(crate) fn ask_connection(alloc: Global, identifier: u8) -> Result<Pdu, NoMemory>
     requires { 0 < identifier }
     ensures { IfOk result (λ pdu. pdu ≡ command_pdu identifier asks_connection) }
@@ -47,7 +47,6 @@ pub(crate) fn ask_connection(alloc: Global, identifier: u8) -> Result<Pdu, NoMem
     command_pdu(alloc, identifier, kind)
 }
 
-/// Answers success to a connection request (4.3).
 pub(crate) fn grant_connection(alloc: Global, identifier: u8, peer: u16) -> Result<Pdu, NoMemory>
     requires { 0 < identifier }
     ensures { IfOk result (λ pdu. pdu ≡ command_pdu identifier (grants_connection peer)) }
@@ -61,7 +60,6 @@ pub(crate) fn grant_connection(alloc: Global, identifier: u8, peer: u16) -> Resu
     command_pdu(alloc, identifier, kind)
 }
 
-/// States the own MTU, in octets (4.4 and 5.1).
 pub(crate) fn ask_configuration(
     alloc: Global,
     identifier: u8,
@@ -83,7 +81,6 @@ pub(crate) fn ask_configuration(
     command_pdu(alloc, identifier, kind)
 }
 
-/// Answers success to a configuration request, without options (4.5).
 pub(crate) fn grant_configuration(alloc: Global, identifier: u8, peer: u16) -> Result<Pdu, NoMemory>
     requires { 0 < identifier }
     ensures { IfOk result (λ pdu. pdu ≡ command_pdu identifier (grants_configuration peer)) }
@@ -97,7 +94,6 @@ pub(crate) fn grant_configuration(alloc: Global, identifier: u8, peer: u16) -> R
     command_pdu(alloc, identifier, kind)
 }
 
-/// Asks to close the channel (4.6).
 pub(crate) fn ask_disconnection(alloc: Global, identifier: u8, peer: u16) -> Result<Pdu, NoMemory>
     requires { 0 < identifier }
     ensures { IfOk result (λ pdu. pdu ≡ command_pdu identifier (asks_disconnection peer)) }
@@ -109,7 +105,6 @@ pub(crate) fn ask_disconnection(alloc: Global, identifier: u8, peer: u16) -> Res
     command_pdu(alloc, identifier, kind)
 }
 
-/// Answers a disconnection request (4.7).
 pub(crate) fn grant_disconnection(alloc: Global, identifier: u8, peer: u16) -> Result<Pdu, NoMemory>
     requires { 0 < identifier }
     ensures { IfOk result (λ pdu. pdu ≡ command_pdu identifier (grants_disconnection peer)) }

@@ -1,7 +1,9 @@
-//! Laws of the two machines, for every course and channel. They speak of no call: the contracts of the calls
-//! tie these to the same definitions.
+//! Laws of the course of a push, and of hosts, for every one. They speak of no call: the contracts
+//! of the calls tie these to the same definitions.
 
-ghost use Rattle.bt_host.specs.Laws.{OutcomeStays, IdleStays, WaitsWhereAwaited, PutHasSize, PutSpellsObject, UnitsAreCounted, ClosedStays, RequestsAreAccepted};
+ghost use Rattle.bt_host.specs.Laws.{OutcomeStays, IdleStays, WaitsWhereAwaited, PutHasSize, PutSpellsObject, UnitsAreCounted};
+ghost use Rattle.bt_host.specs.Wants.{HostsWant, HostsMove};
+ghost use Rattle.bt_host.specs.Settling.{Settles, TwoStepsSuffice};
 
 /// The outcome of a push, once fixed, never changes.
 pub fn outcome_stays()
@@ -33,13 +35,26 @@ pub fn units_are_counted()
     ensures { UnitsAreCounted }
 {}
 
-/// A server's channel that is closed stays so on its link: it takes and sends nothing.
-pub fn closed_stays()
-    ensures { ClosedStays }
+/// A host that hears a packet, or that goes on, does no more to its link than to let some commands
+/// and PDUs wait, and to put out what may go out.
+pub fn hosts_want()
+    ensures { HostsWant }
 {}
 
-/// What each side asks for in its configuration request the other one accepts, and takes it for the
-/// MTU of its peer.
-pub fn requests_are_accepted()
-    ensures { RequestsAreAccepted }
+/// Behind each packet that a host hears it puts out packets, and stands where these and those before
+/// them lead.
+pub fn hosts_move()
+    ensures { HostsMove }
+{}
+
+/// A host that has put out what it may is settled, unless it ran out of room, and one that is settled
+/// puts nothing more out.
+pub fn hosts_settle()
+    ensures { Settles }
+{}
+
+/// Behind two steps a client awaits its link, its peer or a push, and the channel of a server has
+/// nothing to send.
+pub fn two_steps_suffice()
+    ensures { TwoStepsSuffice }
 {}

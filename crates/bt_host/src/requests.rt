@@ -5,9 +5,10 @@ ghost use Rattle.obex_headers.specs.Packets.{PlainPacket, packet_octets, with_he
 ghost use Rattle.bt_host.specs.Pushing.{utf16, connect_packet, disconnect_packet, name_header, length_header, put_front, put_packet, put_size, packet_pdu};
 ghost use Rattle.bt_host.specs.Shelves.{HasSize, Stays, IsFilled, Puts, IsPut};
 
-use crate::basic_pdu::{Pdu, basic_header};
+use crate::basic_pdu::{basic_header, payload_pdu};
 use crate::object_name::ObjectName;
 use bt_base::{NoMemory, PortFault, Shelf};
+use host_link::Pdu;
 use obex_headers::{Header, HeaderValue, add_header, add_placed, start_packet};
 use std::alloc::Global;
 
@@ -31,7 +32,7 @@ pub(crate) fn connect_pdu(alloc: Global, peer: u16, maximum: u16) -> Result<Pdu,
     let [high, low] = maximum.to_be_bytes();
     let mut packet = [0; 7];
     let end = start_packet(CONNECT, &[0x10, 0x00, high, low], &mut packet);
-    Pdu::new(alloc, peer, &packet[..end])
+    payload_pdu(alloc, peer, &packet[..end])
 }
 
 /// DISCONNECT (3.4.2).
@@ -40,7 +41,7 @@ pub(crate) fn disconnect_pdu(alloc: Global, peer: u16) -> Result<Pdu, NoMemory>
 {
     let mut packet = [0; 3];
     let end = start_packet(DISCONNECT, &[], &mut packet);
-    Pdu::new(alloc, peer, &packet[..end])
+    payload_pdu(alloc, peer, &packet[..end])
 }
 
 /// The final PUT of an object of at most 200 octets, with its name and its length (3.4.3). The octets

@@ -3,7 +3,6 @@
 ghost use Rattle.std.specs.Prelude.{◌≡◌};
 ghost use Rattle.bt_host.specs.Channels.{is_accepted, is_given};
 
-use crate::basic_pdu::Pdu;
 use crate::channel_stages::ChannelStage;
 use crate::commands::{
     FIRST_ENDPOINT, OWN_ENDPOINT, PUSH_PSM, ask_configuration, grant_configuration,
@@ -11,6 +10,7 @@ use crate::commands::{
 };
 use crate::configuring::{agreement, is_request};
 use bt_base::NoMemory;
+use host_link::Pdu;
 use l2cap_signal::{Signal, SignalKind};
 use std::alloc::Global;
 use std::marker::Model;
@@ -127,9 +127,12 @@ impl ServerChannel {
         if identifier == 0 || psm != PUSH_PSM || source < FIRST_ENDPOINT {
             return;
         }
-        if let ChannelStage::Free = self.stage {
-            self.stage = ChannelStage::Asked(identifier);
-            self.peer = source;
+        match self.stage {
+            ChannelStage::Free => {
+                self.stage = ChannelStage::Asked(identifier);
+                self.peer = source;
+            }
+            _ => {}
         }
     }
 
@@ -142,8 +145,9 @@ impl ServerChannel {
         if agreement(self.mtu, options).is_none() {
             return;
         }
-        if let ChannelStage::Taken = self.stage {
-            self.stage = ChannelStage::Heard(identifier);
+        match self.stage {
+            ChannelStage::Taken => self.stage = ChannelStage::Heard(identifier),
+            _ => {}
         }
     }
 
@@ -153,8 +157,9 @@ impl ServerChannel {
         if identifier != CONFIGURATION || answer != 0 || source != OWN_ENDPOINT {
             return;
         }
-        if let ChannelStage::Configuring = self.stage {
-            self.stage = ChannelStage::Open;
+        match self.stage {
+            ChannelStage::Configuring => self.stage = ChannelStage::Open,
+            _ => {}
         }
     }
 

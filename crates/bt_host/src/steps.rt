@@ -1,6 +1,6 @@
 //! What a push does next.
 
-use crate::basic_pdu::Pdu;
+use host_link::Pdu;
 
 /// The next thing to be done for a push.
 #[derive(Debug, Drop)]
@@ -15,9 +15,9 @@ pub enum Step {
     BreakLink,
 }
 
-/// Why a push did not begin.
+/// Why a push was not begun.
 #[derive(Clone, Copy, Debug, PartialEq, Eq)]
-pub enum BeginFault {
+pub enum PushRefusal {
     /// The object has more than 200 octets.
     TooLarge,
     /// No memory could be had.

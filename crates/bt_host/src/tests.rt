@@ -9,7 +9,7 @@ use std::test::Fail;
 
 /// A shelf of one object of any name, which tells no content.
 #[derive(Drop)]
-struct SilentShelf<'a> {
+pub(crate) struct SilentShelf<'a> {
     octets: &'a [u8],
     /// Whether it fails to fill.
     broken: bool,
@@ -114,7 +114,7 @@ const CLOSED: (By, &[u8]) = (
     b"\x08\x00\x01\x00\x07\x03\x04\x00\x40\x00\x40\x00",
 );
 
-fn shelf_of(octets: &[u8], broken: bool) -> SilentShelf<'_> {
+pub(crate) fn shelf_of(octets: &[u8], broken: bool) -> SilentShelf<'_> {
     SilentShelf {
         octets,
         broken,
@@ -181,14 +181,14 @@ fn goes_on(
             let Step::Send(sent) = course.next(shelf)? else {
                 return Ok(false);
             };
-            Ok(sent.as_slice() == pdu && hear_at_server(channel, pdu))
+            Ok(sent.octets() == pdu && hear_at_server(channel, pdu))
         }
         By::Channel => {
             let Some(sent) = channel.next()? else {
                 return Ok(false);
             };
             hear_at_client(course, pdu);
-            Ok(sent.as_slice() == pdu)
+            Ok(sent.octets() == pdu)
         }
         By::Inbox => {
             hear_at_client(course, pdu);
@@ -291,7 +291,7 @@ fn links_that_end_fix_what_came_of_the_push(rt: HostRuntime) -> Result<(), Fail>
 fn objects_that_are_too_large_are_not_begun(rt: HostRuntime) -> Result<(), Fail> {
     let mut course = ClientCourse::new(rt.alloc(), &Settings::plain())?;
     let mut shelf = shelf_of(&[0; 201], false);
-    assert_eq!(rt; course.begin("a", &mut shelf), Err(BeginFault::TooLarge));
+    assert_eq!(rt; course.begin("a", &mut shelf), Err(PushRefusal::TooLarge));
     assert_eq!(rt; course.outcome(), None);
     assert!(rt; course.idle());
     Ok(())

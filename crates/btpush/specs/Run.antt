@@ -1,5 +1,5 @@
 -- What a run does (this project's own).
-use Rattle.std.specs.Prelude.{ℕ, ◌≡◌, ◌<◌, ◌≤◌, List, Option, Ok, Err}
+use Rattle.std.specs.Prelude.{ℕ, ◌≡◌, ◌<◌, ◌≤◌, ◌⊎◌, List, Option, Ok, Err}
 use Rattle.bt_base.specs.Counts.{HasRisen}
 use Rattle.bt_base.specs.Streams.{gained, GainedFront}
 use Rattle.h4_view.specs.declared.refusal.ViewRefusal.{ViewRefusal}
@@ -32,11 +32,27 @@ RefusesWords old new status.InputRefused = ⊥
 RefusesWords old new status.ReadFault = ⊥
 
 -- Each fault has its cause: a fault of reading comes only where the source's count of faults rose, one of writing
--- only where the sink's did; and where a count rose, that fault is answered. No count falls.
-pub record HasCauses (source source' sink sink' : ℕ) (result : Status) : Type 0 where
+-- only where that of the sink or of the trace did; and where a count rose, that fault is answered. No count falls.
+pub record HasCauses (source source' sink sink' trace trace' : ℕ) (result : Status) : Type 0 where
+  pub source_stays : source ≤ source'
+  pub sink_stays : sink ≤ sink'
+  pub trace_stays : trace ≤ trace'
+  pub read : result ≡ status.ReadFault → HasRisen source source'
+  pub write : result ≡ status.WriteFault → HasRisen sink sink' ⊎ HasRisen trace trace'
+  pub only_read : source < source' → result ≡ status.ReadFault
+  pub only_write : sink < sink' → result ≡ status.WriteFault
+  pub only_trace : trace < trace' → result ≡ status.WriteFault
+
+-- The same of a push, whose statuses may also come from a fault of the trace.
+pub record HasPushCauses (source source' sink sink' : ℕ) (result : Status) : Type 0 where
   pub source_stays : source ≤ source'
   pub sink_stays : sink ≤ sink'
   pub read : result ≡ status.ReadFault → HasRisen source source'
-  pub write : result ≡ status.WriteFault → HasRisen sink sink'
   pub only_read : source < source' → result ≡ status.ReadFault
   pub only_write : sink < sink' → result ≡ status.WriteFault
+
+-- a mode that ran to its end
+abbrev pub HasEnded : Status → Type 0
+HasEnded status.Ok = Unit {0}
+HasEnded status.SomeFailed = Unit {0}
+HasEnded _ = ⊥

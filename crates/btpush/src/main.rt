@@ -1,16 +1,23 @@
 //! `btpush`: Object Push over a Bluetooth Classic host stack.
 //!
 //! `btpush decode` reads a stream of H4 packets from the standard input and writes a line for each
-//! to the standard output.
+//! to the standard output. `btpush push` reads a scenario from the standard input, pushes files of
+//! the current folder over a simulated radio, keeps what arrives in the folder `inbox`, and writes a
+//! report to the standard output and the capture to the standard error.
 #![tactic(auto)]
 
+mod gathering;
+mod playing;
+#[cfg(test)]
+mod push_tests;
+mod pushing;
 mod run;
 mod status;
 #[cfg(test)]
 mod tests;
 mod words;
 
-use bt_base::{MemInbox, MemShelf, StdSink, StdSource};
+use bt_base::{FileInbox, FileShelf, StdSink, StdSource};
 use run::run;
 use status::Status;
 use std::env;
@@ -33,12 +40,8 @@ fn run_on_standard_streams(rt: &HostRuntime) -> Status {
     let mut source = StdSource::new(rt.stdin());
     let mut sink = StdSink::new(rt.stdout());
     let mut trace = StdSink::new(rt.stderr());
-    let Ok(mut shelf) = MemShelf::new(rt.alloc(), &[]) else {
-        return Status::NoMemory;
-    };
-    let Ok(mut inbox) = MemInbox::new(rt.alloc(), &[]) else {
-        return Status::NoMemory;
-    };
+    let mut shelf = FileShelf::new(rt, rt.alloc(), ".");
+    let mut inbox = FileInbox::new(rt, rt.alloc(), "inbox");
     run(
         rt.alloc(),
         &words,

@@ -149,6 +149,15 @@ impl Framer {
             None => Ok(()),
         }
     }
+
+    /// Where the next packet begins: how many octets were fed before those that are held. It stands
+    /// still at the greatest number.
+    pub fn place(&self) -> u64
+        ensures { result ≡ self.now.before }
+    {
+        self.before
+    }
+
     /// The fewest octets of a packet that begins with those that are held, with its indicator:
     /// octets of its length that have not come yet are read as 0.
     pub fn least_length(&self) -> usize

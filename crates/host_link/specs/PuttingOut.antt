@@ -1,5 +1,5 @@
 -- What a host puts out (Core 5.1, Volume 2 Part E, 4.1.1 and 4.4).
-use Rattle.std.specs.Prelude.{ℕ, ◌+◌, Bool, ◌&&◌, ◌||◌, nat_lt, List, [], ◌∷◌, ◌++◌, length, Option, Some, None, if◌then◌else◌}
+use Rattle.std.specs.Prelude.{ℕ, ◌+◌, Bool, ◌&&◌, ◌||◌, ◌==◌, not, nat_lt, List, [], ◌∷◌, ◌++◌, length, Option, Some, None, if◌then◌else◌}
 use Rattle.h4_framing.specs.Packets.{Packet, Acl, spelling}
 use Rattle.hci_packets.specs.AclWords.{acl_word_of}
 use Rattle.acl_fragments.specs.Pieces.{Piece}
@@ -20,6 +20,10 @@ has_room line = nat_lt (length line.out) 65536
 -- the controller takes one packet more
 abbrev pub has_buffer : Line → Bool
 has_buffer line = nat_lt (packets_of line.ledger.held) line.ledger.total
+
+-- a PDU, or the rest of one, waits to be put out
+abbrev pub is_waiting : Line → Bool
+is_waiting line = not (length line.pieces == 0)
 
 -- ---- packets of the link
 

@@ -54,7 +54,7 @@ impl Model for HostLink {
 impl HostLink {
     ghost use Rattle.std.specs.Prelude.{◌≡◌, ◌≤◌, ◌<◌, [], length, drop, IfOk, OnOk, OnErr};
     ghost use Rattle.host_link.specs.Lines.{IsSound, fresh};
-    ghost use Rattle.host_link.specs.PuttingOut.{connecting, ending, with_pdu, started};
+    ghost use Rattle.host_link.specs.PuttingOut.{connecting, ending, with_pdu, is_waiting, started};
     ghost use Rattle.host_link.specs.Stands.{Stands, Says, StandsStill};
 
     /// A host whose first command stands in `out`, where the others wait behind it. It reserves
@@ -125,6 +125,13 @@ impl HostLink {
         ensures history { StandsStill self.old self.new }
     {
         let _taken = self.out.drain(..n);
+    }
+
+    /// Whether a PDU, or the rest of one, waits to be put out.
+    pub fn waits(&self) -> bool
+        ensures { result ≡ is_waiting self.now }
+    {
+        self.outbox.first().is_some()
     }
 
     /// What the controller holds of the packets that went out.

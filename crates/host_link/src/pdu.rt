@@ -1,6 +1,7 @@
 //! A PDU that is to be sent.
 
 ghost use Rattle.std.specs.Prelude.{◌≡◌, ◌↔◌, ◌≤◌, length, IsSome, IfSome, vec_len};
+ghost use Rattle.bt_base.specs.Octets.{IsOctets};
 
 use std::marker::Model;
 
@@ -13,12 +14,13 @@ pub struct Pdu {
 
 impl Model for Pdu {
     ghost use Rattle.std.specs.Prelude.{List, ℕ, ◌≤◌, length};
+    ghost use Rattle.bt_base.specs.Octets.{IsOctets};
 
     ghost Value = { List ℕ };
 
     ghost view = { λ pdu. pdu.octets.items };
 
-    ghost invariant = { λ pdu. 4 ≤ length pdu.octets.items };
+    ghost invariant = { λ pdu. (4 ≤ length pdu.octets.items) × IsOctets pdu.octets.items };
 }
 
 impl Pdu {
@@ -33,10 +35,19 @@ impl Pdu {
         Some(Pdu { octets })
     }
 
+    /// The PDU of those octets, of which it needs four at least.
+    pub fn from_octets(octets: Vec<u8>) -> Pdu
+        requires { 4 ≤ vec_len octets }
+        ensures { result ≡ octets.items }
+    {
+        Pdu { octets }
+    }
+
     /// Its octets, at least four.
     pub fn octets(&self) -> &[u8]
         ensures value { result.now ≡ self.now }
         ensures header { 4 ≤ length self.now }
+        ensures small { IsOctets self.now }
     {
         &self.octets
     }

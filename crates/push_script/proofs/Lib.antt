@@ -1,3 +1,4 @@
+pub mod Feeds
 pub mod Telling
 pub mod Numbers
 pub mod FirstLines

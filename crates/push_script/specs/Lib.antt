@@ -11,6 +11,7 @@ pub mod Keys
 pub mod Radio
 pub mod Said
 pub mod Reading
+pub mod Refusals
 pub mod Turns
 pub mod Made
 pub mod Laws

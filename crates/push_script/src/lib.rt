@@ -4,6 +4,7 @@
 
 mod draft;
 mod feature;
+mod finding;
 mod keys;
 pub mod laws;
 mod lines;
@@ -24,12 +25,13 @@ mod word;
 mod writing;
 
 pub use feature::Feature;
+pub use finding::object_line;
 pub use made::make_scenario;
 pub use names::Names;
 pub use outcome::{Outcome, put_outcome};
 pub use reading::{scenario_of, scenario_without};
 pub use refusal::{ScriptFault, ScriptRefusal};
-pub use report::{Peaks, put_report};
+pub use report::{Peaks, put_refusal, put_report};
 pub use runs::Runs;
 pub use said::{outcome_of, word_of};
 pub use scenario::Scenario;

@@ -1,5 +1,8 @@
 //! Why a scenario is refused.
 
+ghost use Rattle.std.specs.Prelude.{◌≡◌};
+ghost use Rattle.push_script.specs.Refusals.{refusal_name};
+
 use bt_base::NoMemory;
 use thiserror::Error;
 
@@ -30,6 +33,27 @@ pub enum ScriptRefusal {
     NotBuilt,
 }
 
+impl ScriptRefusal {
+    /// Its name in the line that tells of it.
+    pub fn name(self) -> &'static str
+        ensures { result.now ≡ refusal_name self }
+    {
+        match self {
+            ScriptRefusal::BadLine => "BadLine",
+            ScriptRefusal::UnknownKey => "UnknownKey",
+            ScriptRefusal::Repeated => "Repeated",
+            ScriptRefusal::OutOfRange => "OutOfRange",
+            ScriptRefusal::NoTransport => "NoTransport",
+            ScriptRefusal::NoObject => "NoObject",
+            ScriptRefusal::TooManyObjects => "TooManyObjects",
+            ScriptRefusal::LossyRfcomm => "LossyRfcomm",
+            ScriptRefusal::NotUtf8 => "NotUtf8",
+            ScriptRefusal::TooLong => "TooLong",
+            ScriptRefusal::NotBuilt => "NotBuilt",
+        }
+    }
+}
+
 /// Why a text gives no scenario.
 #[derive(Clone, Copy, Debug, PartialEq, Eq, Drop, Error)]
 pub enum ScriptFault {
@@ -49,7 +73,6 @@ pub(crate) enum LineFault {
 }
 
 impl From<NoMemory> for LineFault {
-    ghost use Rattle.std.specs.Prelude.{◌≡◌};
     ghost use Rattle.push_script.specs.declared.refusal.LineFault.TheVariants.{NoMemory};
 
     ghost from_gives = { λ _ fault. fault ≡ NoMemory };
@@ -60,7 +83,6 @@ impl From<NoMemory> for LineFault {
 }
 
 impl From<ScriptRefusal> for LineFault {
-    ghost use Rattle.std.specs.Prelude.{◌≡◌};
     ghost use Rattle.push_script.specs.declared.refusal.LineFault.TheVariants.{Refused};
 
     ghost from_gives = { λ refusal fault. fault ≡ Refused refusal };

@@ -1,11 +1,14 @@
-//! The report on what came of a scenario.
+//! What is written of a scenario: the report on what came of it, or the line that tells why it is
+//! refused.
 
 ghost use Rattle.std.specs.Prelude.{◌≡◌, ◌+◌, ◌<◌, ◌≤◌, ◌^◌, ◌++◌, [], List, ℕ, length, codes, decimal};
 ghost use Rattle.push_script.specs.Outcomes.{outcome_text};
 ghost use Rattle.push_script.specs.Reports.{push_head, push_line, peaks_text, pair_line, push_line, push_lines, report_text, Tells};
+ghost use Rattle.push_script.specs.Refusals.{refusal_line};
 
 use crate::names::Name;
 use crate::outcome::Outcome;
+use crate::refusal::ScriptRefusal;
 use crate::scenario::Scenario;
 use arrayvec::ArrayString;
 use bt_base::{PortFault, Sink};
@@ -157,5 +160,32 @@ pub fn put_report<K: Sink>(
         return Err(fault);
     }
     let text = peaks_of(kept, peaks);
+    put_piece(sink, text.as_str().as_bytes())
+}
+
+/// The line of a refusal.
+fn refusal_of(line: u32, refusal: ScriptRefusal) -> ReportText
+    ensures { result.bytes ≡ refusal_line line refusal }
+{
+    let mut text = ReportText::new();
+    push_text(&mut text, "refused line ");
+    push_decimal(&mut text, line);
+    push_text(&mut text, " ");
+    push_text(&mut text, refusal.name());
+    push_text(&mut text, "\n");
+    text
+}
+
+/// Writes the line that tells of a refused scenario: the number of the line, counted from 1, and the
+/// name of the refusal. A fault of the sink is answered, and a front of the line may then have been
+/// written.
+pub fn put_refusal<K: Sink>(
+    line: u32,
+    refusal: ScriptRefusal,
+    sink: &mut K,
+) -> Result<(), PortFault>
+    ensures { Tells (K.content sink.old) (K.content sink.new) (K.faults sink.old) (K.faults sink.new) (K.shortages sink.old) (K.shortages sink.new) (refusal_line line refusal) result }
+{
+    let text = refusal_of(line, refusal);
     put_piece(sink, text.as_str().as_bytes())
 }

@@ -1,0 +1,71 @@
+-- A server that is fed octets (this project's own).
+use Rattle.std.specs.Prelude.{ℕ, ◌≡◌, ◌≤◌, List, drop, Option, None, Result, Ok, Err, MatchOption}
+use Rattle.h4_framing.specs.Packets.{Packet}
+use Rattle.h4_framing.specs.Framing.{Framing}
+use Rattle.obex_session.specs.declared.ruling.Progress.TheVariants.{Unnamed}
+use Rattle.host_link.specs.declared.role.Role.TheVariants as role
+use Rattle.host_link.specs.PuttingOut.{started}
+use Rattle.bt_host.specs.declared.feed_refusal.FeedRefusal.{FeedRefusal}
+use Rattle.bt_host.specs.declared.feed_refusal.FeedRefusal.TheVariants.{NoMemory}
+use Rattle.bt_host.specs.Channels.{fresh}
+use Rattle.bt_host.specs.Refusals.{fresh_framing, Refuses, refusal_in}
+use Rattle.bt_host.specs.Pieces.{IsTaken, IsStopped}
+use Rattle.bt_host.specs.Servers.{Server, Kept, Hears, HearsAll, putting_out}
+
+pub record ServerState : Type 0 where
+  -- how far it has come in the octets that it was fed
+  pub framing : Framing
+  pub server : Server
+  -- why it cannot go on
+  pub refusal : Option FeedRefusal
+
+-- a server whose first command stands in `out`
+abbrev pub fresh_server : ℕ → ℕ → ServerState
+fresh_server mtu obex = record {
+  framing = fresh_framing;
+  server = record {
+    line = started role.Server;
+    served = record { channel = fresh mtu; session = record { maximum = obex; progress = Unnamed }; stored = 0 };
+  };
+  refusal = None;
+}
+
+-- the controller took so many octets
+abbrev pub taking_out : ℕ → ServerState → ServerState
+taking_out n state =
+    record state { server = record state.server { line = record state.server.line { out = drop n state.server.line.out } } }
+
+-- no count of an inbox falls
+pub record Counts (inbox inbox' : Kept) : Type 0 where
+  pub faults_stay : inbox.faults ≤ inbox'.faults
+  pub shortages_stay : inbox.shortages ≤ inbox'.shortages
+
+-- what hearing one packet comes to; nothing is said of a server for which no memory could be had
+abbrev pub HearsOne : (inbox inbox' : Kept) → Packet → ℕ → Server → Server → Result (Unit {0}) FeedRefusal → Type 0
+HearsOne inbox inbox' packet place old new (Ok _) = Hears inbox inbox' packet old new
+HearsOne inbox inbox' packet place old new (Err NoMemory) = Unit {0}
+HearsOne inbox inbox' packet place old new (Err refusal) = Refuses packet old.line place refusal × (new ≡ old) × (inbox' ≡ inbox)
+
+-- all was taken, and the server heard the packets one after the other
+pub record Takes (inbox inbox' : Kept) (piece : List ℕ) (framing framing' : Framing) (old new : Server) : Type 0 where
+  pub packets : List Packet
+  pub taken : IsTaken framing framing' piece packets
+  pub hears : HearsAll inbox inbox' packets old new
+
+-- the server heard the packets before the refusal one after the other
+pub record Stops (inbox inbox' : Kept) (piece : List ℕ) (framing framing' : Framing) (old new : Server) (refusal : FeedRefusal) : Type 0 where
+  pub packets : List Packet
+  pub stopped : IsStopped framing framing' piece packets new.line refusal
+  pub hears : HearsAll inbox inbox' packets old new
+
+abbrev pub Reads : (inbox inbox' : Kept) → List ℕ → (framing framing' : Framing) → (old new : Server) → Result (Unit {0}) FeedRefusal → Type 0
+Reads inbox inbox' piece framing framing' old new (Ok _) = Takes inbox inbox' piece framing framing' old new
+Reads inbox inbox' piece framing framing' old new (Err NoMemory) = Unit {0}
+Reads inbox inbox' piece framing framing' old new (Err refusal) = Stops inbox inbox' piece framing framing' old new refusal
+
+-- A piece is fed. What was held back before it goes out first. A refusal is answered for good, and then nothing changes.
+abbrev pub Feeds : (inbox inbox' : Kept) → List ℕ → (old new : ServerState) → Result (Unit {0}) FeedRefusal → Type 0
+Feeds inbox inbox' piece old new result =
+    MatchOption old.refusal
+    (Reads inbox inbox' piece old.framing new.framing (putting_out old.server) new.server result × (new.refusal ≡ refusal_in result))
+    (λ refusal. (result ≡ Err refusal) × (new ≡ old) × (inbox' ≡ inbox))

@@ -1,0 +1,48 @@
+//! A scenario is played in the simulated world.
+
+ghost use Rattle.std.specs.Prelude.{◌≡◌, false, IfOk};
+ghost use Rattle.btpush.specs.Plays.{Plays};
+
+use bt_base::{Inbox, NoMemory, Shelf, Sink};
+use push_script::{Outcome, Peaks, Scenario};
+use radio_world::{World, WorldFault};
+use std::alloc::Global;
+
+/// What a run of a scenario came to.
+#[derive(Drop)]
+pub(crate) struct Played {
+    /// What came of each push, in order.
+    pub(crate) outcomes: Vec<Outcome>,
+    /// How many objects were stored.
+    pub(crate) kept: u32,
+    /// The greatest values that the run reached.
+    pub(crate) peaks: Peaks,
+}
+
+/// What came of the pushes of a world, to be kept.
+fn outcomes_of(alloc: Global, world: &World) -> Result<Vec<Outcome>, NoMemory>
+    ensures { IfOk result (λ outcomes. outcomes.items ≡ world.now.scene.pushes.outcomes) }
+{
+    Ok(world.outcomes().to_vec(alloc)?)
+}
+
+/// Plays a scenario: both hosts start, and each word is turned in the order of the script. No object
+/// may be pending in the inbox. It refuses as a world does.
+pub(crate) fn play<F: Shelf, B: Inbox, T: Sink>(
+    alloc: Global,
+    scenario: &Scenario,
+    shelf: &mut F,
+    inbox: &mut B,
+    trace: &mut T,
+) -> Result<Played, WorldFault>
+    requires pending { B.is_pending inbox.old ≡ false }
+    ensures { IfOk result (λ played. Plays scenario.now played (T.content trace.old) (T.content trace.new)) }
+{
+    let mut world = World::new(alloc, scenario)?;
+    world.play(scenario, trace, shelf, inbox)?;
+    Ok(Played {
+        outcomes: outcomes_of(alloc, &world)?,
+        kept: world.kept(),
+        peaks: world.peaks(),
+    })
+}

@@ -1,0 +1,137 @@
+//! The form `push`: a scenario is read and run, and what came of it is written.
+
+ghost use Rattle.std.specs.Prelude.{◌≡◌, ◌≢◌, false, [], List, length, IfSome};
+ghost use Rattle.std.specs.List.{list_all};
+ghost use Rattle.h4_view.specs.View.{IsAnswered};
+ghost use Rattle.push_script.specs.Features.{missing_features};
+ghost use Rattle.push_script.specs.Reading.{text_limit};
+ghost use Rattle.push_script.specs.Refusals.{refusal_line, object_line};
+ghost use Rattle.btpush.specs.Pushing.{is_done, Refuses, Reports, Runs, Pushes};
+ghost use Rattle.btpush.specs.Run.{HasCauses, HasPushCauses, HasEnded};
+
+use crate::gathering::{GatherFault, gather};
+use crate::playing::{Played, play};
+use crate::status::Status;
+use bt_base::{Inbox, MemSink, PortFault, Shelf, Sink, Source};
+use push_script::{
+    Outcome, Scenario, ScriptFault, ScriptRefusal, object_line, put_refusal, put_report,
+    scenario_of,
+};
+use radio_world::WorldFault;
+use std::alloc::Global;
+
+/// Writes the line that tells of a refused scenario.
+fn refuse<K: Sink>(line: u32, refusal: ScriptRefusal, sink: &mut K) -> Status
+    ensures refuses { Refuses (refusal_line line refusal) (K.content sink.old) (K.content sink.new) result }
+    ensures causes { HasCauses 0 0 (K.faults sink.old) (K.faults sink.new) 0 0 result }
+    ensures sink_short { IsAnswered (K.shortages sink.old) (K.shortages sink.new) (result ≡ Status.NoMemory) }
+{
+    match put_refusal(line, refusal, sink) {
+        Ok(()) => Status::InputRefused,
+        Err(PortFault::Failed) => Status::WriteFault,
+        Err(PortFault::NoMemory) => Status::NoMemory,
+    }
+}
+
+fn is_done(outcome: Outcome) -> bool
+    ensures { result ≡ is_done outcome }
+{
+    matches!(outcome, Outcome::Done)
+}
+
+/// Whether everything that was to be pushed is done.
+fn all_done(outcomes: &[Outcome]) -> bool
+    ensures { result ≡ list_all is_done outcomes.now }
+{
+    outcomes.iter().all(|outcome| is_done(*outcome))
+}
+
+/// Writes the report on what came of a scenario.
+fn report<K: Sink>(alloc: Global, scenario: &Scenario, played: &Played, sink: &mut K) -> Status
+    requires each { length played.now.outcomes.items ≡ length scenario.now.names }
+    ensures reports { Reports scenario.now played.now (K.content sink.old) (K.content sink.new) result }
+    ensures causes { HasCauses 0 0 (K.faults sink.old) (K.faults sink.new) 0 0 result }
+    ensures sink_short { IsAnswered (K.shortages sink.old) (K.shortages sink.new) (result ≡ Status.NoMemory) }
+{
+    // No call of this sink is to fail, so it falls short for want of memory alone.
+    let Ok(mut text) = MemSink::new(alloc, &[]) else {
+        return Status::NoMemory;
+    };
+    let outcomes = played.outcomes.as_slice();
+    if put_report(scenario, outcomes, played.kept, &played.peaks, &mut text).is_err() {
+        return Status::NoMemory;
+    }
+    match sink.put(text.octets()) {
+        Ok(()) if all_done(outcomes) => Status::Ok,
+        Ok(()) => Status::SomeFailed,
+        Err(PortFault::Failed) => Status::WriteFault,
+        Err(PortFault::NoMemory) => Status::NoMemory,
+    }
+}
+
+/// Runs a scenario whose object stands on that line of its text.
+fn run_scenario<K: Sink, T: Sink, F: Shelf, B: Inbox>(
+    alloc: Global,
+    scenario: &Scenario,
+    line: u32,
+    sink: &mut K,
+    trace: &mut T,
+    shelf: &mut F,
+    inbox: &mut B,
+) -> Status
+    requires pending { B.is_pending inbox.old ≡ false }
+    ensures runs { Runs scenario.now line (K.content sink.old) (K.content sink.new) (T.content trace.old) (T.content trace.new) result }
+    ensures causes { HasPushCauses 0 0 (K.faults sink.old) (K.faults sink.new) result }
+    ensures sink_short { IsAnswered (K.shortages sink.old) (K.shortages sink.new) (result ≡ Status.NoMemory) }
+{
+    match play(alloc, scenario, shelf, inbox, trace) {
+        Ok(played) => report(alloc, scenario, &played, sink),
+        Err(WorldFault::NotBuilt) => refuse(line, ScriptRefusal::NotBuilt, sink),
+        Err(WorldFault::TraceFault) => Status::WriteFault,
+        Err(WorldFault::NoMemory) => Status::NoMemory,
+    }
+}
+
+/// Reads a scenario from the source and runs it: the objects of the shelf are pushed, what is
+/// received goes into the inbox, the capture of it into the trace and the report into the sink.
+///
+/// `Ok` comes where every push is done, and `SomeFailed` where one is not. `InputRefused` comes where
+/// the text is refused, or its object has more than 200 octets, and the sink gets the line that tells
+/// where and why; a refused text leaves trace, shelf and inbox untouched. No object may be pending in
+/// the inbox.
+pub(crate) fn push<S: Source, K: Sink, T: Sink, F: Shelf, B: Inbox>(
+    alloc: Global,
+    source: &mut S,
+    sink: &mut K,
+    trace: &mut T,
+    shelf: &mut F,
+    inbox: &mut B,
+) -> Status
+    requires pending { B.is_pending inbox.old ≡ false }
+    ensures pushes { IfSome (S.content source.old) (λ input. Pushes input (S.content source.new) (K.content sink.old) (K.content sink.new) (T.content trace.old) (T.content trace.new) ((trace.new ≡ trace.old) × (shelf.new ≡ shelf.old) × (inbox.new ≡ inbox.old)) result) }
+    ensures known { result ≢ Status.BadWords }
+    ensures finish { HasEnded result → IfSome (S.content source.new) (λ left. left ≡ []) }
+    ensures causes { HasPushCauses (S.faults source.old) (S.faults source.new) (K.faults sink.old) (K.faults sink.new) result }
+    ensures source_short { IsAnswered (S.shortages source.old) (S.shortages source.new) (result ≡ Status.NoMemory) }
+    ensures sink_short { IsAnswered (K.shortages sink.old) (K.shortages sink.new) (result ≡ Status.NoMemory) }
+{
+    let text = match gather(alloc, source) {
+        Ok(text) => text,
+        Err(GatherFault::ReadFault) => return Status::ReadFault,
+        Err(GatherFault::NoMemory) => return Status::NoMemory,
+    };
+    let scenario = match scenario_of(alloc, &text) {
+        Ok(scenario) => scenario,
+        Err(ScriptFault::Refused(line, refusal)) => return refuse(line, refusal, sink),
+        Err(ScriptFault::NoMemory) => return Status::NoMemory,
+    };
+    run_scenario(
+        alloc,
+        &scenario,
+        object_line(&text),
+        sink,
+        trace,
+        shelf,
+        inbox,
+    )
+}

@@ -1,0 +1,107 @@
+-- Steps between the hosts join.
+use Rattle.std.proofs.Common.{◌≡◌, ℕ, List, [], ◌∷◌, ◌++◌, Option, refl, sym, ap, subst, ◌∙◌, append_assoc}
+use Rattle.std.specs.List.{flat_map}
+use Rattle.std.proofs.lemmas.List.{append-nil}
+use Rattle.std.proofs.lemmas.Grind.{flat_map-append}
+use Rattle.bt_base.specs.Streams.{gained}
+use Rattle.bt_base.proofs.PortLaws.{gained-gained, gained-nil}
+use Rattle.push_script.specs.declared.outcome.Outcome.{Outcome}
+use Rattle.push_script.specs.declared.word.Side.TheVariants as sides
+use Rattle.push_script.specs.declared.word.Word.{Word}
+use Rattle.capture.specs.Entries.{Entry, Begun, Ended, entry_octets, capture_octets}
+use Rattle.capture.specs.Air.{ordinal_of}
+use Rattle.capture.proofs.MoreLaws.{octets-in_parts}
+use Rattle.radio_world.specs.Faces.{Face}
+use Rattle.radio_world.specs.Media.{Medium}
+use Rattle.radio_world.specs.Moving.{Extends}
+use Rattle.radio_world.specs.Standing.{Stands}
+use Rattle.radio_world.specs.Ordering.{Pushes, one_begun, one_ended}
+use Rattle.radio_world.specs.Scenes.{Scene, Begins, Ends, Goes}
+use Rattle.radio_world.proofs.Marking.{begins_step, ends_step}
+
+pub goes_none : (scene : Scene) (a b : Face) (trace : Option (List ℕ)) → Goes scene scene a a b b trace trace
+goes_none scene a b trace = record {
+  added = [];
+  trace_is = sym (gained-nil trace);
+  no_words = refl;
+  size = refl;
+  count = refl;
+  names = refl;
+  turned = refl;
+  history = λ script past stands. subst (λ entries. Stands script entries scene.medium a b) (sym (append-nil past)) stands;
+}
+
+pub goes_then : (first mid last : Scene) (a a' a'' b b' b'' : Face) (trace trace' trace'' : Option (List ℕ))
+    → Goes first mid a a' b b' trace trace' → Goes mid last a' a'' b' b'' trace' trace'' → Goes first last a a'' b b'' trace trace''
+goes_then first mid last a a' a'' b b' b'' trace trace' trace'' one two = record {
+  added = one.added ++ two.added;
+  trace_is = two.trace_is ∙ ap (λ t. gained t (capture_octets two.added)) one.trace_is ∙ gained-gained trace (capture_octets one.added) (capture_octets two.added) ∙ ap (gained trace) (sym (octets-in_parts one.added two.added));
+  no_words = flat_map-append ordinal_of one.added two.added ∙ ap (λ xs. xs ++ flat_map ordinal_of two.added) one.no_words ∙ two.no_words;
+  size = two.size ∙ one.size;
+  count = two.count ∙ one.count;
+  names = two.names ∙ one.names;
+  turned = two.turned ∙ one.turned;
+  history = λ script past stands.
+      subst (λ entries. Stands script entries last.medium a'' b'') (append_assoc past one.added two.added)
+      (two.history script (past ++ one.added) (one.history script past stands));
+}
+
+-- what moves between host a and its controller, and between host b and its controller
+pub goes_a : (old new : Scene) (a a' b : Face) (trace trace' : Option (List ℕ)) → Extends sides.A old.medium new.medium a a' trace trace' → new.pushes ≡ old.pushes → new.turned ≡ old.turned
+    → Goes old new a a' b b trace trace'
+goes_a old new a a' b trace trace' extends pushes turned = record {
+  added = extends.added;
+  trace_is = extends.trace_is;
+  no_words = extends.no_words;
+  size = extends.size;
+  count = extends.count;
+  names = ap (λ (p : Pushes). p.names) pushes;
+  turned = turned;
+  history = λ script past stands. extends.history script past b stands;
+}
+
+pub goes_b : (old new : Scene) (a b b' : Face) (trace trace' : Option (List ℕ)) → Extends sides.B old.medium new.medium b b' trace trace' → new.pushes ≡ old.pushes → new.turned ≡ old.turned
+    → Goes old new a a b b' trace trace'
+goes_b old new a b b' trace trace' extends pushes turned = record {
+  added = extends.added;
+  trace_is = extends.trace_is;
+  no_words = extends.no_words;
+  size = extends.size;
+  count = extends.count;
+  names = ap (λ (p : Pushes). p.names) pushes;
+  turned = turned;
+  history = λ script past stands. extends.history script past a stands;
+}
+
+-- a push begins, and ends
+pub goes_begun : (old new : Scene) (a a' b : Face) (trace trace' : Option (List ℕ)) → Begins old new a a' trace trace' → Goes old new a a' b b trace trace'
+goes_begun old new a a' b trace trace' begins =
+    let entry : Entry = Begun new.pushes.begun in
+    record {
+      added = entry ∷ [];
+      trace_is = begins.trace_is ∙ ap (gained trace) (sym (append-nil (entry_octets entry)));
+      no_words = refl;
+      size = ap (λ (s : Scene). s.medium.radio.size) begins.new_is;
+      count = ap (λ (s : Scene). s.medium.radio.count) begins.new_is;
+      names = ap (λ (s : Scene). s.pushes.names) begins.new_is;
+      turned = ap (λ (s : Scene). s.turned) begins.new_is;
+      history = λ script past stands.
+          subst (λ (m : Medium). Stands script (past ++ entry ∷ []) m a' b) (sym (ap (λ (s : Scene). s.medium) begins.new_is))
+          (begins_step script past new.pushes.begun old.medium a a' b begins.few begins.puts begins.held_stays stands);
+    }
+
+pub goes_ended : (old new : Scene) (a b : Face) (outcome : Outcome) (trace trace' : Option (List ℕ)) → Ends outcome old new trace trace' → Goes old new a a b b trace trace'
+goes_ended old new a b outcome trace trace' ends =
+    let entry : Entry = Ended old.pushes.begun outcome in
+    record {
+      added = entry ∷ [];
+      trace_is = ends.trace_is ∙ ap (gained trace) (sym (append-nil (entry_octets entry)));
+      no_words = refl;
+      size = ap (λ (s : Scene). s.medium.radio.size) ends.new_is;
+      count = ap (λ (s : Scene). s.medium.radio.count) ends.new_is;
+      names = ap (λ (s : Scene). s.pushes.names) ends.new_is;
+      turned = ap (λ (s : Scene). s.turned) ends.new_is;
+      history = λ script past stands.
+          subst (λ (m : Medium). Stands script (past ++ entry ∷ []) m a b) (sym (ap (λ (s : Scene). s.medium) ends.new_is))
+          (ends_step script past old.pushes.begun outcome old.medium a b ends.few ends.outcome_is stands);
+    }

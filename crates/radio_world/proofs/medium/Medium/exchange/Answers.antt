@@ -1,0 +1,25 @@
+use Rattle.std.proofs.Common.{◌≡◌, ℕ, ap, ◌∙◌}
+use Rattle.push_script.specs.declared.word.Side.{Side}
+use Rattle.radio_air.specs.Radio.{Radio, after_offer}
+use Rattle.radio_world.specs.Media.{Medium, in_radio}
+use Rattle.radio_world.proofs.Offering.{exchange_extends}
+use Rattle.radio_world.proofs.medium.Medium.exchange.Goals as goal
+
+abbrev mk : Radio → ℕ → ℕ → Medium
+mk radio a b = record { radio = radio; peak_a = a; peak_b = b }
+
+-- the radio gives back, and nothing else of what lies between changes
+with_radio : (side : Side) (radio radio' : Radio) (a b : ℕ) (old : Medium) → radio' ≡ after_offer side radio → mk radio a b ≡ old → mk radio' a b ≡ in_radio (after_offer side old.radio) old
+with_radio side radio radio' a b old offered same = ap (λ r. mk r a b) offered ∙ ap (λ m. in_radio (after_offer side m.radio) m) same
+
+pub returns-then-out-clause-extends : goal.returns-then-out-clause-extends
+returns-then-out-clause-extends g c =
+    exchange_extends _ _ _ _ _ _ _ _ _ _ _ c.in_ok-out.ensures.extends
+    (with_radio c.args.side c.self.inside.radio c.offered.new.self c.self.inside.peak_a c.self.inside.peak_b c.move_all_out.new.self c.in_ok-offered.ensures c.self.view_is)
+    c.in_ok-into.ensures.extends
+
+pub returns-else-out-clause-extends : goal.returns-else-out-clause-extends
+returns-else-out-clause-extends g c =
+    exchange_extends _ _ _ _ _ _ _ _ _ _ _ c.in_ok-out.ensures.extends
+    (with_radio c.args.side c.self.inside.radio c.offered.new.self c.self.inside.peak_a c.self.inside.peak_b c.move_all_out.new.self c.in_ok-offered.ensures c.self.view_is)
+    c.in_ok-into.ensures.extends

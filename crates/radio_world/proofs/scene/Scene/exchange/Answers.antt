@@ -1,0 +1,20 @@
+use Rattle.std.proofs.Common.{◌≡◌, ℕ, refl, sym, subst}
+use Rattle.radio_world.specs.Media.{Medium}
+use Rattle.radio_world.specs.Ordering.{Pushes}
+use Rattle.radio_world.specs.Faces.{Face}
+use Rattle.radio_world.specs.Scenes.{Scene, Goes}
+use Rattle.radio_world.proofs.Going.{goes_a, goes_b, goes_then}
+use Rattle.radio_world.proofs.scene.Scene.exchange.Goals as goal
+
+abbrev mk : Medium → Pushes → ℕ → Scene
+mk medium pushes turned = record { medium = medium; pushes = pushes; turned = turned }
+
+pub returns-clause-goes : goal.returns-clause-goes
+returns-clause-goes g c =
+    let first : Scene = mk c.self.inside.medium c.self.inside.pushes c.self.inside.turned in
+    let mid : Scene = mk c.exchange.new.self c.self.inside.pushes c.self.inside.turned in
+    let last : Scene = mk c.exchange-2.new.self c.self.inside.pushes c.self.inside.turned in
+    let by_a = goes_a first mid (g.A.Host.face c.args.a.now) (g.A.Host.face c.exchange.new.host) (g.B.Host.face c.args.b.now) (g.T.Sink.content c.args.trace.now) (g.T.Sink.content c.exchange.new.trace) c.in_ok-moved_a.ensures.extends refl refl in
+    let by_b = goes_b mid last (g.A.Host.face c.exchange.new.host) (g.B.Host.face c.args.b.now) (g.B.Host.face c.exchange-2.new.host) (g.T.Sink.content c.exchange.new.trace) (g.T.Sink.content c.exchange-2.new.trace) c.in_ok-moved_b.ensures.extends refl refl in
+    subst (λ (s : Scene). Goes s last (g.A.Host.face c.args.a.now) (g.A.Host.face c.exchange.new.host) (g.B.Host.face c.args.b.now) (g.B.Host.face c.exchange-2.new.host) (g.T.Sink.content c.args.trace.now) (g.T.Sink.content c.exchange-2.new.trace)) c.self.view_is
+    (goes_then first mid last _ _ _ _ _ _ _ _ _ by_a by_b)

@@ -1,0 +1,58 @@
+-- Packets that move between a host and its controller (this project's own).
+use Rattle.std.specs.Prelude.{ℕ, ◌≡◌, List, [], ◌∷◌, ◌++◌, Option}
+use Rattle.std.specs.List.{flat_map}
+use Rattle.bt_base.specs.Streams.{gained}
+use Rattle.h4_framing.specs.Packets.{Packet, spelling, IsPacket}
+use Rattle.push_script.specs.declared.word.Side.{Side}
+use Rattle.push_script.specs.declared.word.Word.{Word}
+use Rattle.capture.specs.declared.flow.Flow.TheVariants.{Out, Into}
+use Rattle.capture.specs.Entries.{Entry, Moved, entry_octets, capture_octets}
+use Rattle.capture.specs.Air.{ordinal_of}
+use Rattle.host_link.specs.Lines.{Line}
+use Rattle.radio_air.specs.Controllers.{Answer, packet_of}
+use Rattle.radio_air.specs.Radio.{controller, after_answer}
+use Rattle.radio_world.specs.Hearing.{acl_limit, HearsWhole}
+use Rattle.radio_world.specs.Faces.{Face, with_out}
+use Rattle.radio_world.specs.Media.{Medium, in_radio, after_moving, face_a, face_b}
+use Rattle.radio_world.specs.Standing.{Stands}
+
+-- Some entries more, none of them a word, while the other host stays as it is: what stood before them stands after them.
+pub record Extends (side : Side) (old new : Medium) (face face' : Face) (trace trace' : Option (List ℕ)) : Type 0 where
+  pub added : List Entry
+  pub trace_is : trace' ≡ gained trace (capture_octets added)
+  pub no_words : flat_map ordinal_of added ≡ []
+  pub size : new.radio.size ≡ old.radio.size
+  pub count : new.radio.count ≡ old.radio.count
+  pub history : (script : List Word) (past : List Entry) (other : Face) → Stands script past old (face_a side face other) (face_b side face other)
+      → Stands script (past ++ added) new (face_a side face' other) (face_b side face' other)
+
+-- the first packet that a host put out moves to its controller
+pub record MovesOut (side : Side) (old new : Medium) (face face' : Face) (trace trace' : Option (List ℕ)) : Type 0 where
+  pub packet : Packet
+  pub left : List ℕ
+  pub is : IsPacket acl_limit packet
+  pub first : face.line.out ≡ spelling packet ++ left
+  pub face_is : face' ≡ with_out left face
+  pub medium_is : new ≡ after_moving side packet old
+  pub trace_is : trace' ≡ gained trace (entry_octets (Moved side Out packet))
+
+-- what a controller owes first comes into its host
+pub record MovesInto (side : Side) (old new : Medium) (face face' : Face) (trace trace' : Option (List ℕ)) : Type 0 where
+  pub answer : Answer
+  pub rest : List Answer
+  pub owed : (controller side old.radio).owed ≡ answer ∷ rest
+  pub medium_is : new ≡ in_radio (after_answer side old.radio) old
+  pub is : IsPacket acl_limit (packet_of side answer)
+  pub hears : HearsWhole (spelling (packet_of side answer)) face.held face'.held face.line face'.line
+  pub trace_is : trace' ≡ gained trace (entry_octets (Moved side Into (packet_of side answer)))
+
+-- no whole packet stands in front
+abbrev pub HasNoPacket : List ℕ → Type 0
+HasNoPacket octets = (packet : Packet) (left : List ℕ) → IsPacket acl_limit packet → octets ≡ spelling packet ++ left → ⊥
+
+-- nothing is there to be moved to the controller, or to the host
+abbrev pub IsStillOut : Line → Type 0
+IsStillOut line = HasNoPacket line.out
+
+abbrev pub IsStillIn : Side → Medium → Type 0
+IsStillIn side medium = (controller side medium.radio).owed ≡ []

@@ -1,0 +1,85 @@
+-- What goes on between two hosts, and how its steps join (this project's own).
+use Rattle.std.specs.Prelude.{ℕ, ◌+◌, ◌≡◌, ◌^◌, ◌<◌, true, false, List, [], ◌++◌, length, drop, Option}
+use Rattle.std.specs.List.{flat_map, list_all}
+use Rattle.bt_base.specs.Streams.{gained}
+use Rattle.push_script.specs.declared.outcome.Outcome.{Outcome}
+use Rattle.push_script.specs.declared.word.Side.TheVariants.{A, B}
+use Rattle.push_script.specs.declared.word.Word.{Word}
+use Rattle.push_script.specs.Outcomes.{IsOutcome}
+use Rattle.capture.specs.Entries.{Entry, Begun, Ended, entry_octets, capture_octets}
+use Rattle.capture.specs.Air.{ordinal_of, is_end}
+use Rattle.radio_air.specs.Radio.{is_quiet}
+use Rattle.radio_world.specs.Faces.{Face}
+use Rattle.radio_world.specs.Hearing.{PutsOut}
+use Rattle.radio_world.specs.Media.{Medium}
+use Rattle.radio_world.specs.Moving.{IsStillOut, IsStillIn}
+use Rattle.radio_world.specs.Standing.{Stands, IdleSince}
+use Rattle.radio_world.specs.Ordering.{Pushes, one_begun, one_ended}
+
+-- what lies between the hosts, the pushes, and how many words were turned
+pub record Scene : Type 0 where
+  pub medium : Medium
+  pub pushes : Pushes
+  pub turned : ℕ
+
+-- ---- one thing that happens
+
+-- the next push begins, as the capture says first; then host a puts out what it wants
+pub record Begins (old new : Scene) (a a' : Face) (trace trace' : Option (List ℕ)) : Type 0 where
+  pub new_is : new ≡ record old { pushes = one_begun old.pushes }
+  pub few : new.pushes.begun < 2 ^ 16
+  pub trace_is : trace' ≡ gained trace (entry_octets (Begun new.pushes.begun))
+  pub puts : PutsOut a.line a'.line
+  pub held_stays : a'.held ≡ a.held
+
+-- the push that goes on ends, as the capture says first
+pub record Ends (outcome : Outcome) (old new : Scene) (trace trace' : Option (List ℕ)) : Type 0 where
+  pub new_is : new ≡ record old { pushes = one_ended outcome old.pushes }
+  pub outcome_is : IsOutcome outcome
+  pub few : old.pushes.begun < 2 ^ 16
+  pub trace_is : trace' ≡ gained trace (entry_octets (Ended old.pushes.begun outcome))
+
+-- ---- steps
+
+-- Some entries more, none of them a word: what stood before them stands after them.
+pub record Goes (old new : Scene) (a a' b b' : Face) (trace trace' : Option (List ℕ)) : Type 0 where
+  pub added : List Entry
+  pub trace_is : trace' ≡ gained trace (capture_octets added)
+  pub no_words : flat_map ordinal_of added ≡ []
+  pub size : new.medium.radio.size ≡ old.medium.radio.size
+  pub count : new.medium.radio.count ≡ old.medium.radio.count
+  pub names : new.pushes.names ≡ old.pushes.names
+  pub turned : new.turned ≡ old.turned
+  pub history : (script : List Word) (past : List Entry) → Stands script past old.medium a b → Stands script (past ++ added) new.medium a' b'
+
+-- nothing is left to be moved
+pub record IsSettled (medium : Medium) (a b : Face) : Type 0 where
+  pub still_a : IsStillOut a.line
+  pub still_b : IsStillOut b.line
+  pub none_a : IsStillIn A medium
+  pub none_b : IsStillIn B medium
+
+-- The next words of a script were turned. Where one did something the capture says so first.
+pub record Turns (words : List Word) (old new : Scene) (a a' b b' : Face) (trace trace' : Option (List ℕ)) : Type 0 where
+  pub added : List Entry
+  pub trace_is : trace' ≡ gained trace (capture_octets added)
+  pub size : new.medium.radio.size ≡ old.medium.radio.size
+  pub count : new.medium.radio.count ≡ old.medium.radio.count
+  pub names : new.pushes.names ≡ old.pushes.names
+  pub turned : new.turned ≡ old.turned + length words
+  pub history : (script behind : List Word) (past : List Entry) → drop old.turned script ≡ words ++ behind → IdleSince old.medium.radio.size script past old.turned → Stands script past old.medium a b
+      → Stands script (past ++ added) new.medium a' b' × IdleSince old.medium.radio.size script (past ++ added) new.turned
+
+-- The last push ended where one went on, as the capture says.
+pub record Finishes (old new : Scene) (trace trace' : Option (List ℕ)) : Type 0 where
+  pub ended : List Entry
+  pub trace_is : trace' ≡ gained trace (capture_octets ended)
+  pub are_ends : list_all is_end ended ≡ true
+  pub medium : new.medium ≡ old.medium
+  pub names : new.pushes.names ≡ old.pushes.names
+  pub history : (script : List Word) (past : List Entry) (a b : Face) → Stands script past old.medium a b → Stands script (past ++ ended) new.medium a b
+
+-- and none goes on
+pub record LastEnds (old new : Scene) (trace trace' : Option (List ℕ)) : Type 0 where
+  pub finishes : Finishes old new trace trace'
+  pub none : new.pushes.going ≡ false

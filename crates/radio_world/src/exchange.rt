@@ -1,0 +1,75 @@
+//! All that moves between a host and its controller.
+
+ghost use Rattle.std.specs.Prelude.{◌≡◌, false, Ok, OnOk};
+ghost use Rattle.radio_air.specs.Controllers.{other_side};
+ghost use Rattle.radio_air.specs.Radio.{controller};
+ghost use Rattle.radio_world.specs.Moving.{Extends, IsStillOut, IsStillIn};
+
+use crate::fault::WorldFault;
+use crate::host::Host;
+use crate::medium::Medium;
+use bt_base::Sink;
+use push_script::Side;
+
+impl Medium {
+    /// All that a host offers moves to its controller, which gives it back at once, and what the
+    /// controller owes then moves into the host. False where nothing moved.
+    pub(crate) fn exchange<P, H: Host<P>, T: Sink>(
+        &mut self,
+        side: Side,
+        host: &mut H,
+        port: &mut P,
+        trace: &mut T,
+    ) -> Result<bool, WorldFault>
+        requires may_hear { H.may_hear host.old port.old }
+        ensures extends { OnOk result (Extends side self.old self.new (H.face host.old) (H.face host.new) (T.content trace.old) (T.content trace.new)) }
+        ensures still { result ≡ Ok false → IsStillOut (H.face host.new).line × IsStillIn side self.new × (H.face host.new ≡ H.face host.old) × (controller (other_side side) self.new.radio ≡ controller (other_side side) self.old.radio) × (T.content trace.new ≡ T.content trace.old) }
+        ensures may_hear { H.may_hear host.new port.new }
+    {
+        let out = self.move_all_out(side, host, port, trace)?;
+        self.radio.offered(side)?;
+        let into = self.move_all_into(side, host, port, trace)?;
+        Ok(out || into)
+    }
+
+    /// Moves all that a host offers to its controller. False where nothing moved.
+    fn move_all_out<P, H: Host<P>, T: Sink>(
+        &mut self,
+        side: Side,
+        host: &mut H,
+        port: &P,
+        trace: &mut T,
+    ) -> Result<bool, WorldFault>
+        ensures extends { OnOk result (Extends side self.old self.new (H.face host.old) (H.face host.new) (T.content trace.old) (T.content trace.new)) }
+        ensures still { OnOk result (IsStillOut (H.face host.new).line) }
+        ensures idle { result ≡ Ok false → (self.new ≡ self.old) × (H.face host.new ≡ H.face host.old) × (T.content trace.new ≡ T.content trace.old) }
+        ensures may_hear { (other : P) → H.may_hear host.old other → H.may_hear host.new other }
+    {
+        let mut moved = false;
+        while self.move_out(side, host, port, trace)? {
+            moved = true;
+        }
+        Ok(moved)
+    }
+
+    /// Moves all that a controller owes into its host. False where nothing moved.
+    fn move_all_into<P, H: Host<P>, T: Sink>(
+        &mut self,
+        side: Side,
+        host: &mut H,
+        port: &mut P,
+        trace: &mut T,
+    ) -> Result<bool, WorldFault>
+        requires may_hear { H.may_hear host.old port.old }
+        ensures extends { OnOk result (Extends side self.old self.new (H.face host.old) (H.face host.new) (T.content trace.old) (T.content trace.new)) }
+        ensures still { OnOk result (IsStillIn side self.new) }
+        ensures idle { result ≡ Ok false → (self.new ≡ self.old) × (H.face host.new ≡ H.face host.old) × (T.content trace.new ≡ T.content trace.old) }
+        ensures may_hear { H.may_hear host.new port.new }
+    {
+        let mut moved = false;
+        while self.move_into(side, host, port, trace)? {
+            moved = true;
+        }
+        Ok(moved)
+    }
+}

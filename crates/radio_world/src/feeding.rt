@@ -1,0 +1,32 @@
+//! Packets handed to a host.
+
+ghost use Rattle.std.specs.Prelude.{◌≡◌, ◌≤◌, OnOk};
+ghost use Rattle.radio_world.specs.Hearing.{HearsWhole};
+
+use crate::fault::WorldFault;
+use crate::host::{Host, HostFault};
+
+/// Hands octets to a host, at most `chunk` at a time. A host that cannot go on with its controller
+/// takes no more of them.
+pub(crate) fn hand_over<P, H: Host<P>>(
+    host: &mut H,
+    octets: &[u8],
+    chunk: usize,
+    port: &mut P,
+) -> Result<(), WorldFault>
+    requires some { 1 ≤ chunk }
+    requires may_hear { H.may_hear host.old port.old }
+    ensures hears { OnOk result (HearsWhole octets.now (H.face host.old).held (H.face host.new).held (H.face host.old).line (H.face host.new).line) }
+    ensures may_hear { H.may_hear host.new port.new }
+{
+    let mut rest = octets;
+    while !rest.is_empty() {
+        let (piece, more) = rest.split_at(chunk.min(rest.len()));
+        match host.hear(piece, port) {
+            Ok(()) => rest = more,
+            Err(HostFault::Refused) => return Ok(()),
+            Err(HostFault::NoMemory) => return Err(WorldFault::NoMemory),
+        }
+    }
+    Ok(())
+}

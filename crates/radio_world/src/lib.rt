@@ -1,0 +1,18 @@
+//! The simulated world: two hosts, their controllers and the air between them.
+#![tactic(auto)]
+
+mod exchange;
+mod fault;
+mod feeding;
+mod host;
+pub mod laws;
+mod medium;
+mod ordering;
+mod own_hosts;
+mod playing;
+mod recording;
+mod scene;
+mod world;
+
+pub use fault::WorldFault;
+pub use world::World;

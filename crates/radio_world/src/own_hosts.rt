@@ -1,0 +1,90 @@
+//! The hosts of this project, as the world sees them.
+
+ghost use Rattle.std.specs.Prelude.{◌≡◌};
+ghost use Rattle.radio_world.specs.OwnHosts.{fault_by, begun};
+
+use crate::host::{Host, HostFault, PushFault, Pusher};
+use bt_base::{Inbox, Shelf};
+use bt_host::{ClientHost, FeedRefusal, PushRefusal, ServerHost};
+use push_script::Outcome;
+
+fn fault_by(refusal: FeedRefusal) -> HostFault
+    ensures { result ≡ fault_by refusal }
+{
+    match refusal {
+        FeedRefusal::NoMemory => HostFault::NoMemory,
+        _ => HostFault::Refused,
+    }
+}
+
+impl<F: Shelf> Host<F> for ClientHost {
+    ghost use Rattle.bt_host.specs.ClientHosts.{IsSupplied};
+    ghost use Rattle.radio_world.specs.OwnHosts.{client_face};
+
+    ghost face = { client_face };
+
+    ghost may_hear = { λ host shelf. IsSupplied (F.content shelf) host };
+
+    fn out(&self) -> &[u8] {
+        ClientHost::out(self)
+    }
+
+    fn taken(&mut self, n: usize) {
+        ClientHost::taken(self, n);
+    }
+
+    fn hear(&mut self, piece: &[u8], shelf: &mut F) -> Result<(), HostFault> {
+        match self.feed(piece, shelf) {
+            Ok(()) => Ok(()),
+            Err(refusal) => Err(fault_by(refusal)),
+        }
+    }
+}
+
+impl<F: Shelf> Pusher<F> for ClientHost {
+    ghost use Rattle.bt_host.specs.Events.{is_idle};
+
+    ghost is_idle = { λ host. is_idle host.client.course.stage };
+
+    ghost came = { λ host. host.client.course.outcome };
+
+    fn idle(&self) -> bool {
+        ClientHost::idle(self)
+    }
+
+    fn outcome(&self) -> Option<Outcome> {
+        ClientHost::outcome(self)
+    }
+
+    fn push(&mut self, name: &str, shelf: &mut F) -> Result<(), PushFault> {
+        match ClientHost::push(self, name, shelf) {
+            Ok(()) => Ok(()),
+            Err(PushRefusal::TooLarge) => Err(PushFault::TooLarge),
+            Err(PushRefusal::NoMemory) => Err(PushFault::NoMemory),
+        }
+    }
+}
+
+impl<B: Inbox> Host<B> for ServerHost {
+    ghost use Rattle.obex_session.specs.Rules.{is_under_way};
+    ghost use Rattle.radio_world.specs.OwnHosts.{server_face};
+
+    ghost face = { server_face };
+
+    ghost may_hear = { λ host inbox. B.is_pending inbox ≡ is_under_way host.server.served.session.progress };
+
+    fn out(&self) -> &[u8] {
+        ServerHost::out(self)
+    }
+
+    fn taken(&mut self, n: usize) {
+        ServerHost::taken(self, n);
+    }
+
+    fn hear(&mut self, piece: &[u8], inbox: &mut B) -> Result<(), HostFault> {
+        match self.feed(piece, inbox) {
+            Ok(()) => Ok(()),
+            Err(refusal) => Err(fault_by(refusal)),
+        }
+    }
+}

@@ -1,0 +1,86 @@
+//! A whole script, word by word.
+
+ghost use Rattle.std.specs.Prelude.{◌≡◌, ◌≤◌, false, take, replicate, length, OnOk};
+ghost use Rattle.obex_session.specs.Rules.{is_under_way};
+ghost use Rattle.capture.specs.Air.{words_of};
+ghost use Rattle.bt_host.specs.ClientHosts.{IsSupplied};
+ghost use Rattle.radio_world.specs.Worlds.{new_world, WorldTurns, IsStill, Happens};
+
+use crate::fault::WorldFault;
+use crate::world::World;
+use bt_base::{Inbox, Shelf, Sink};
+use push_script::{Runs, Scenario, Word};
+
+impl World {
+    /// Turns the same word so many times. It refuses, and needs the ports, as `turn` does.
+    fn turn_times<T: Sink, F: Shelf, B: Inbox>(
+        &mut self,
+        count: u32,
+        word: Word,
+        trace: &mut T,
+        shelf: &mut F,
+        inbox: &mut B,
+    ) -> Result<(), WorldFault>
+        requires still { IsStill self.old }
+        requires supplied { IsSupplied (F.content shelf.old) self.old.client }
+        requires pending { B.is_pending inbox.old ≡ is_under_way self.old.server.server.served.session.progress }
+        ensures turns { OnOk result (WorldTurns (replicate count word) self.old self.new (T.content trace.old) (T.content trace.new)) }
+        ensures still { OnOk result (IsStill self.new) }
+        ensures supplied { IsSupplied (F.content shelf.new) self.new.client }
+        ensures pending { B.is_pending inbox.new ≡ is_under_way self.new.server.server.served.session.progress }
+    {
+        for _i in 0..count {
+            self.turn(word, trace, shelf, inbox)?;
+        }
+        Ok(())
+    }
+
+    /// Turns all words of a script. It refuses, and needs the ports, as `turn` does.
+    pub fn turn_all<T: Sink, F: Shelf, B: Inbox>(
+        &mut self,
+        script: &Runs,
+        trace: &mut T,
+        shelf: &mut F,
+        inbox: &mut B,
+    ) -> Result<(), WorldFault>
+        requires still { IsStill self.old }
+        requires supplied { IsSupplied (F.content shelf.old) self.old.client }
+        requires pending { B.is_pending inbox.old ≡ is_under_way self.old.server.server.served.session.progress }
+        ensures turns { OnOk result (WorldTurns (words_of script.now) self.old self.new (T.content trace.old) (T.content trace.new)) }
+        ensures still { OnOk result (IsStill self.new) }
+        ensures supplied { IsSupplied (F.content shelf.new) self.new.client }
+        ensures pending { B.is_pending inbox.new ≡ is_under_way self.new.server.server.served.session.progress }
+    {
+        for i in 0..script.len() {
+            let Some((count, word)) = script.at(i) else {
+                unreachable!()
+            };
+            self.turn_times(count, word, trace, shelf, inbox)?;
+        }
+        Ok(())
+    }
+
+    /// Runs a scenario: both hosts start, each word of the script is turned, and what goes on then
+    /// ends. It needs the world as `new` makes it of the scenario, and an inbox with no object under
+    /// way.
+    ///
+    /// `TraceFault` where the trace fails, `NoMemory` where none could be had, and `NotBuilt` where an
+    /// object has more than 200 octets or the script has a word other than `pass` and `drop`.
+    pub fn play<T: Sink, F: Shelf, B: Inbox>(
+        &mut self,
+        scenario: &Scenario,
+        trace: &mut T,
+        shelf: &mut F,
+        inbox: &mut B,
+    ) -> Result<(), WorldFault>
+        requires fresh { self.old ≡ new_world scenario.now }
+        requires pending { B.is_pending inbox.old ≡ false }
+        ensures happens { OnOk result (Happens scenario.now.acl_length scenario.now.acl_count (words_of scenario.now.script) self.new.scene.medium.peak_a self.new.scene.medium.peak_b (T.content trace.old) (T.content trace.new)) }
+        ensures each { OnOk result (length self.new.scene.pushes.outcomes ≡ length scenario.now.names) }
+    {
+        self.start(trace, shelf, inbox)?;
+        self.turn_all(&scenario.script, trace, shelf, inbox)?;
+        self.finish(trace)?;
+        Ok(())
+    }
+}

@@ -1,0 +1,226 @@
+//! What goes on between the two hosts.
+
+ghost use Rattle.std.specs.Prelude.{◌≡◌, ◌∷◌, [], true, false, length, Ok, OnOk};
+ghost use Rattle.radio_world.specs.Faces.{Face};
+ghost use Rattle.radio_world.specs.Scenes.{Begins, Ends, Goes, IsSettled, Turns, LastEnds, Finishes};
+
+use crate::fault::WorldFault;
+use crate::host::{Host, PushFault, Pusher};
+use crate::medium::Medium;
+use crate::ordering::Pushes;
+use crate::recording::record;
+use bt_base::Sink;
+use capture::Entry;
+use push_script::{Outcome, Side, Word};
+use std::marker::Model;
+
+/// How many rounds a settling has at most. It ends far earlier, when nothing moves any more.
+const MOST_ROUNDS: u32 = u32::MAX;
+
+/// What lies between the two hosts, and the pushes of a scenario. A clause sees both, and how many
+/// words were turned.
+#[derive(Drop)]
+pub(crate) struct Scene {
+    pub(crate) medium: Medium,
+    pub(crate) pushes: Pushes,
+    pub(crate) turned: u64,
+}
+
+impl Model for Scene {
+    ghost use Rattle.radio_world.specs.Faces.{Face};
+    ghost use Rattle.radio_world.specs.Scenes.{Scene as Seen};
+
+    ghost Value = { Seen };
+
+    ghost view = { λ scene. record { medium = scene.medium; pushes = scene.pushes; turned = scene.turned } };
+}
+
+impl Scene {
+    /// Begins the next push, where host a is idle and an object is left. False where nothing begins.
+    fn begin<P, A: Pusher<P>, T: Sink>(
+        &mut self,
+        a: &mut A,
+        shelf: &mut P,
+        trace: &mut T,
+    ) -> Result<bool, WorldFault>
+        requires may_hear { A.may_hear a.old shelf.old }
+        ensures begins { result ≡ Ok true → Begins self.old self.new (A.face a.old) (A.face a.new) (T.content trace.old) (T.content trace.new) }
+        ensures none { result ≡ Ok false → (self.new ≡ self.old) × (A.face a.new ≡ A.face a.old) × (T.content trace.new ≡ T.content trace.old) }
+        ensures goes { OnOk result ((b : Face) → Goes self.old self.new (A.face a.old) (A.face a.new) b b (T.content trace.old) (T.content trace.new)) }
+        ensures may_hear { A.may_hear a.new shelf.new }
+    {
+        if !a.idle() {
+            return Ok(false);
+        }
+        let Some(name) = self.pushes.next() else {
+            return Ok(false);
+        };
+        record(&Entry::Begun(self.pushes.begun() + 1), trace)?;
+        match a.push(name, shelf) {
+            Ok(()) => {}
+            Err(PushFault::TooLarge) => return Err(WorldFault::NotBuilt),
+            Err(PushFault::NoMemory) => return Err(WorldFault::NoMemory),
+        }
+        self.pushes.begin();
+        Ok(true)
+    }
+
+    /// Ends the push that goes on, with what came of it. It needs one.
+    fn end<T: Sink>(&mut self, outcome: Outcome, trace: &mut T) -> Result<(), WorldFault>
+        requires { self.old.pushes.going ≡ true }
+        ensures { OnOk result (Ends outcome self.old self.new (T.content trace.old) (T.content trace.new)) }
+    {
+        record(&Entry::Ended(self.pushes.begun(), outcome), trace)?;
+        self.pushes.end(outcome)?;
+        Ok(())
+    }
+
+    /// Ends the push that goes on, where host a is idle. False where nothing ends.
+    fn end_idle<P, A: Pusher<P>, T: Sink>(
+        &mut self,
+        a: &A,
+        _shelf: &P,
+        trace: &mut T,
+    ) -> Result<bool, WorldFault>
+        ensures goes { OnOk result ((a b : Face) → Goes self.old self.new a a b b (T.content trace.old) (T.content trace.new)) }
+        ensures none { result ≡ Ok false → (self.new ≡ self.old) × (T.content trace.new ≡ T.content trace.old) }
+    {
+        if !self.pushes.going() || !a.idle() {
+            return Ok(false);
+        }
+        let Some(outcome) = a.outcome() else {
+            return Ok(false);
+        };
+        self.end(outcome, trace)?;
+        Ok(true)
+    }
+
+    /// All moves between host a and its controller, and then between host b and its controller. False
+    /// where nothing moved.
+    fn exchange<P, A: Host<P>, Q, B: Host<Q>, T: Sink>(
+        &mut self,
+        a: &mut A,
+        shelf: &mut P,
+        b: &mut B,
+        inbox: &mut Q,
+        trace: &mut T,
+    ) -> Result<bool, WorldFault>
+        requires may_hear_a { A.may_hear a.old shelf.old }
+        requires may_hear_b { B.may_hear b.old inbox.old }
+        ensures goes { OnOk result (Goes self.old self.new (A.face a.old) (A.face a.new) (B.face b.old) (B.face b.new) (T.content trace.old) (T.content trace.new)) }
+        ensures settled { result ≡ Ok false → IsSettled self.new.medium (A.face a.new) (B.face b.new) }
+        ensures may_hear_a { A.may_hear a.new shelf.new }
+        ensures may_hear_b { B.may_hear b.new inbox.new }
+    {
+        let moved_a = self.medium.exchange(Side::A, a, shelf, trace)?;
+        let moved_b = self.medium.exchange(Side::B, b, inbox, trace)?;
+        Ok(moved_a || moved_b)
+    }
+
+    /// A round: the next push begins, all moves, and a push may end. False where nothing happened.
+    fn round<P, A: Pusher<P>, Q, B: Host<Q>, T: Sink>(
+        &mut self,
+        a: &mut A,
+        shelf: &mut P,
+        b: &mut B,
+        inbox: &mut Q,
+        trace: &mut T,
+    ) -> Result<bool, WorldFault>
+        requires may_hear_a { A.may_hear a.old shelf.old }
+        requires may_hear_b { B.may_hear b.old inbox.old }
+        ensures goes { OnOk result (Goes self.old self.new (A.face a.old) (A.face a.new) (B.face b.old) (B.face b.new) (T.content trace.old) (T.content trace.new)) }
+        ensures settled { result ≡ Ok false → IsSettled self.new.medium (A.face a.new) (B.face b.new) }
+        ensures may_hear_a { A.may_hear a.new shelf.new }
+        ensures may_hear_b { B.may_hear b.new inbox.new }
+    {
+        let began = self.begin(a, shelf, trace)?;
+        let moved = self.exchange(a, shelf, b, inbox, trace)?;
+        let ended = self.end_idle(a, shelf, trace)?;
+        Ok(began || moved || ended)
+    }
+
+    /// Rounds, until one moves nothing.
+    pub(crate) fn settle<P, A: Pusher<P>, Q, B: Host<Q>, T: Sink>(
+        &mut self,
+        a: &mut A,
+        shelf: &mut P,
+        b: &mut B,
+        inbox: &mut Q,
+        trace: &mut T,
+    ) -> Result<(), WorldFault>
+        requires may_hear_a { A.may_hear a.old shelf.old }
+        requires may_hear_b { B.may_hear b.old inbox.old }
+        ensures goes { OnOk result (Goes self.old self.new (A.face a.old) (A.face a.new) (B.face b.old) (B.face b.new) (T.content trace.old) (T.content trace.new)) }
+        ensures settled { OnOk result (IsSettled self.new.medium (A.face a.new) (B.face b.new)) }
+        ensures may_hear_a { A.may_hear a.new shelf.new }
+        ensures may_hear_b { B.may_hear b.new inbox.new }
+    {
+        for _ in 0..MOST_ROUNDS {
+            if !self.round(a, shelf, b, inbox, trace)? {
+                return Ok(());
+            }
+        }
+        Err(WorldFault::NoMemory)
+    }
+}
+
+impl Scene {
+    /// Turns the next word of a script: what it does in the air is done, and all moves that follows
+    /// from it. It needs that nothing is left to be moved. A word that finds nothing to act on does
+    /// nothing.
+    pub(crate) fn turn<P, A: Pusher<P>, Q, B: Host<Q>, T: Sink>(
+        &mut self,
+        word: Word,
+        a: &mut A,
+        shelf: &mut P,
+        b: &mut B,
+        inbox: &mut Q,
+        trace: &mut T,
+    ) -> Result<(), WorldFault>
+        requires settled { IsSettled self.old.medium (A.face a.old) (B.face b.old) }
+        requires may_hear_a { A.may_hear a.old shelf.old }
+        requires may_hear_b { B.may_hear b.old inbox.old }
+        ensures turns { OnOk result (Turns (word ∷ []) self.old self.new (A.face a.old) (A.face a.new) (B.face b.old) (B.face b.new) (T.content trace.old) (T.content trace.new)) }
+        ensures settled { OnOk result (IsSettled self.new.medium (A.face a.new) (B.face b.new)) }
+        ensures may_hear_a { A.may_hear a.new shelf.new }
+        ensures may_hear_b { B.may_hear b.new inbox.new }
+    {
+        let Some(ordinal) = self.turned.checked_add(1) else {
+            return Err(WorldFault::NoMemory);
+        };
+        let acted = self.medium.act(word)?;
+        self.turned = ordinal;
+        if !acted {
+            return Ok(());
+        }
+        record(&Entry::Acted { ordinal, word }, trace)?;
+        self.settle(a, shelf, b, inbox, trace)?;
+        Ok(())
+    }
+
+    /// Ends the push that goes on, if one does: with what came of it, or else with the script.
+    fn end_last<T: Sink>(&mut self, came: Option<Outcome>, trace: &mut T) -> Result<(), WorldFault>
+        ensures { OnOk result (LastEnds self.old self.new (T.content trace.old) (T.content trace.new)) }
+    {
+        if !self.pushes.going() {
+            return Ok(());
+        }
+        let outcome = came.unwrap_or(Outcome::ScriptEnded);
+        self.end(outcome, trace)?;
+        Ok(())
+    }
+
+    /// The script has ended: so has the push that goes on, and all that did not begin.
+    pub(crate) fn finish<T: Sink>(
+        &mut self,
+        came: Option<Outcome>,
+        trace: &mut T,
+    ) -> Result<(), WorldFault>
+        ensures ends { OnOk result (Finishes self.old self.new (T.content trace.old) (T.content trace.new)) }
+        ensures each { OnOk result (length self.new.pushes.outcomes ≡ length self.new.pushes.names) }
+    {
+        self.end_last(came, trace)?;
+        self.pushes.close()?;
+        Ok(())
+    }
+}
