@@ -15,3 +15,5 @@ pub mod ServerFeeding
 pub mod OutLaws
 pub mod WantLaws
 pub mod Settling
+pub mod ChannelLaws
+pub mod Agreeing

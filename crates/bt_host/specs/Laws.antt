@@ -1,9 +1,11 @@
--- Laws of the course of a push.
-use Rattle.std.specs.Prelude.{◌≡◌, ℕ, ◌<◌, ◌≤◌, ◌^◌, Bool, true, false, List, ◌∷◌, length, Option, Some}
+-- Laws of the course of a push and of a server's channel.
+use Rattle.std.specs.Prelude.{◌≡◌, ℕ, ◌<◌, ◌≤◌, ◌^◌, Bool, true, false, List, ◌∷◌, length, Option, Some, None, IsSomeAnd}
 use Rattle.std.specs.Str.{IsUtf8}
 use Rattle.push_script.specs.declared.outcome.Outcome.{Outcome}
 use Rattle.push_script.specs.Names.{utf16_length}
 use Rattle.l2cap_signal.specs.Commands.{Command}
+use Rattle.l2cap_config.specs.Agreement.{only_mtu}
+use Rattle.l2cap_config.specs.Writing.{written}
 use Rattle.obex_headers.specs.Packets.{packet_octets}
 use Rattle.obex_headers.specs.Runs.{spelled}
 use Rattle.bt_host.specs.declared.stages.Stage.{Stage}
@@ -12,8 +14,10 @@ use Rattle.bt_host.specs.declared.stages.PeerRequest.TheVariants.{Awaited, Accep
 use Rattle.bt_host.specs.declared.steps.Step.TheVariants.{Wait}
 use Rattle.bt_host.specs.Pushing.{utf16, connect_packet, put_packet, put_size}
 use Rattle.bt_host.specs.Courses.{Course}
-use Rattle.bt_host.specs.Events.{after_link_up, after_link_failed, after_link_down, after_signal, after_payload}
+use Rattle.bt_host.specs.Events.{after_link_up, after_link_failed, after_link_down, after_signal, after_payload, agreement}
 use Rattle.bt_host.specs.Steps.{next_step}
+use Rattle.bt_host.specs.declared.channel_stages.ChannelStage.TheVariants.{Closed}
+use Rattle.bt_host.specs.Channels.{Channel, after_signal as after_command, sent, hears}
 
 -- what the link and the peer say
 pub data Event : Type 0 where
@@ -71,3 +75,13 @@ PutSpellsObject = (maximum : ℕ) (name octets : List ℕ) (others : List (List 
 -- the units of a name are as many as those by which a scenario bounds it
 abbrev pub UnitsAreCounted : Type 0
 UnitsAreCounted = (name : List ℕ) → IsUtf8 name → length (utf16 name) ≡ utf16_length name
+
+-- a server's channel that is closed stays so on its link: it takes and sends nothing
+pub record ClosedStays : Type 0 where
+  pub signals : (command : Command) (channel : Channel) → channel.stage ≡ Closed → after_command command channel ≡ channel
+  pub sends : (channel : Channel) → channel.stage ≡ Closed → sent channel ≡ (None, channel)
+  pub payloads : (endpoint : ℕ) (channel : Channel) → channel.stage ≡ Closed → hears endpoint channel ≡ false
+
+-- what each side asks for in its configuration request the other one accepts, and takes it for the MTU of its peer
+abbrev pub RequestsAreAccepted : Type 0
+RequestsAreAccepted = (mtu peer_mtu : ℕ) → 48 ≤ peer_mtu → peer_mtu < 2 ^ 16 → IsSomeAnd (agreement mtu (written (only_mtu peer_mtu))) (λ agreed. agreed.send_mtu ≡ peer_mtu)

@@ -1,7 +1,7 @@
 //! Laws of the course of a push, and of hosts, for every one. They speak of no call: the contracts
 //! of the calls tie these to the same definitions.
 
-ghost use Rattle.bt_host.specs.Laws.{OutcomeStays, IdleStays, WaitsWhereAwaited, PutHasSize, PutSpellsObject, UnitsAreCounted};
+ghost use Rattle.bt_host.specs.Laws.{OutcomeStays, IdleStays, WaitsWhereAwaited, PutHasSize, PutSpellsObject, UnitsAreCounted, ClosedStays, RequestsAreAccepted};
 ghost use Rattle.bt_host.specs.Wants.{HostsWant, HostsMove};
 ghost use Rattle.bt_host.specs.Settling.{Settles, TwoStepsSuffice};
 
@@ -57,4 +57,15 @@ pub fn hosts_settle()
 /// nothing to send.
 pub fn two_steps_suffice()
     ensures { TwoStepsSuffice }
+{}
+
+/// A server's channel that is closed stays so on its link: it takes and sends nothing.
+pub fn closed_stays()
+    ensures { ClosedStays }
+{}
+
+/// What each side asks for in its configuration request the other one accepts, and takes it for the
+/// MTU of its peer.
+pub fn requests_are_accepted()
+    ensures { RequestsAreAccepted }
 {}
