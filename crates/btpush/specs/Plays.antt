@@ -1,6 +1,8 @@
 -- What a run of a scenario comes to (this project's own).
-use Rattle.std.specs.Prelude.{ℕ, ◌≡◌, ◌<◌, ◌≤◌, ◌+◌, ◌⊎◌, min, List, [], ◌∷◌, length, Option, Some, None, Result, IsErrOf}
-use Rattle.std.specs.List.{AllByRecursion}
+use Rattle.std.specs.Prelude.{ℕ, ◌++◌, replicate, ◌≡◌, ◌<◌, ◌≤◌, ◌+◌, ◌⊎◌, min, List, [], ◌∷◌, length, Option, Some, None, Result, IsErrOf}
+use Rattle.std.specs.List.{AllByRecursion, filter_map}
+use Rattle.capture.specs.Pushes.{outcome_of}
+use Rattle.push_script.specs.declared.outcome.Outcome.TheVariants.{ScriptEnded}
 use Rattle.bt_base.specs.Counts.{HasRisen}
 use Rattle.bt_base.specs.Objects.{Object, Contents, octets_of}
 use Rattle.bt_base.specs.Streams.{gained}
@@ -15,7 +17,8 @@ use Rattle.btpush.specs.declared.playing.Played.{Played}
 
 -- A scenario was played, and the trace gained the capture of what happened: the air obeyed the words of the script,
 -- both hosts kept within the buffers of their controllers at each moment, and the peaks are those of the capture. No
--- frame of an enhanced channel and no credit is there yet. Each object has its outcome.
+-- frame of an enhanced channel and no credit is there yet. Each object has its outcome, which is the one that the end of its
+-- push states, or the end of the script where it did not begin.
 pub record Plays (scenario : Scenario) (played : Played) (trace trace' : Option (List ℕ)) : Type 0 where
   pub entries : List Entry
   pub entries_are : AllByRecursion IsEntry entries
@@ -30,3 +33,5 @@ pub record Plays (scenario : Scenario) (played : Played) (trace trace' : Option 
   pub credits_a : played.peaks.credits_a ≡ 0
   pub credits_b : played.peaks.credits_b ≡ 0
   pub outcomes : length played.outcomes.items ≡ length scenario.names
+  pub not_begun : ℕ
+  pub outcomes_are : played.outcomes.items ≡ filter_map outcome_of entries ++ replicate not_begun ScriptEnded

@@ -158,6 +158,7 @@ into_extends side old new face face' trace trace' moves =
       added = entry ∷ [];
       trace_is = moves.trace_is ∙ ap (gained trace) (sym (append-nil (entry_octets entry)));
       no_words = refl;
+      no_ends = refl;
       size = ap (λ p. p.0) sizes_same;
       count = ap (λ p. p.1) sizes_same;
       history = λ script past other stands.

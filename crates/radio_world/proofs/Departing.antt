@@ -152,6 +152,7 @@ moved_extends side old new face face' trace trace' moves = record {
   added = Moved side Out moves.packet ∷ [];
   trace_is = moves.trace_is ∙ ap (gained trace) (sym (append-nil (entry_octets (Moved side Out moves.packet))));
   no_words = refl;
+  no_ends = refl;
   size = ap (λ m. m.radio.size) moves.medium_is ∙ ap (λ p. p.0) (moved_sizes side moves.packet old);
   count = ap (λ m. m.radio.count) moves.medium_is ∙ ap (λ p. p.1) (moved_sizes side moves.packet old);
   history = λ script past other stands.

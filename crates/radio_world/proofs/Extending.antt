@@ -1,6 +1,8 @@
 -- Entries that are added, one lot after the other.
+use Rattle.capture.specs.Pushes.{outcome_of}
+use Rattle.std.proofs.lemmas.List.Elements.{filter_map-append}
 use Rattle.std.proofs.Common.{◌≡◌, ℕ, List, [], ◌++◌, Option, refl, sym, ap, subst, ◌∙◌, append_assoc}
-use Rattle.std.specs.List.{flat_map}
+use Rattle.std.specs.List.{flat_map, filter_map}
 use Rattle.std.proofs.lemmas.List.{append-nil}
 use Rattle.std.proofs.lemmas.Grind.{flat_map-append}
 use Rattle.bt_base.specs.Streams.{gained}
@@ -27,6 +29,7 @@ extends_none side medium face trace = record {
   added = [];
   trace_is = sym (gained-nil trace);
   no_words = refl;
+  no_ends = refl;
   size = refl;
   count = refl;
   history = λ script past other stands. subst (λ entries. Stands script entries medium (face_a side face other) (face_b side face other)) (sym (append-nil past)) stands;
@@ -39,6 +42,7 @@ extends_then side first mid last face face' face'' trace trace' trace'' one two 
   added = one.added ++ two.added;
   trace_is = two.trace_is ∙ ap (λ t. gained t (capture_octets two.added)) one.trace_is ∙ gained-gained trace (capture_octets one.added) (capture_octets two.added) ∙ ap (gained trace) (sym (octets-in_parts one.added two.added));
   no_words = flat_map-append ordinal_of one.added two.added ∙ ap (λ xs. xs ++ flat_map ordinal_of two.added) one.no_words ∙ two.no_words;
+  no_ends = filter_map-append outcome_of one.added two.added ∙ ap (λ xs. xs ++ filter_map outcome_of two.added) one.no_ends ∙ two.no_ends;
   size = two.size ∙ one.size;
   count = two.count ∙ one.count;
   history = λ script past other stands.

@@ -1,6 +1,8 @@
 -- Steps between the hosts join.
 use Rattle.std.proofs.Common.{◌≡◌, ℕ, List, [], ◌∷◌, ◌++◌, Option, refl, sym, ap, subst, ◌∙◌, append_assoc}
-use Rattle.std.specs.List.{flat_map}
+use Rattle.std.specs.List.{flat_map, filter_map}
+use Rattle.std.proofs.lemmas.List.Elements.{filter_map-append}
+use Rattle.capture.specs.Pushes.{outcome_of}
 use Rattle.std.proofs.lemmas.List.{append-nil}
 use Rattle.std.proofs.lemmas.Grind.{flat_map-append}
 use Rattle.bt_base.specs.Streams.{gained}
@@ -24,6 +26,7 @@ goes_none scene a b trace = record {
   added = [];
   trace_is = sym (gained-nil trace);
   no_words = refl;
+  outcomes = sym (append-nil scene.pushes.outcomes);
   size = refl;
   count = refl;
   names = refl;
@@ -31,12 +34,18 @@ goes_none scene a b trace = record {
   history = λ script past stands. subst (λ entries. Stands script entries scene.medium a b) (sym (append-nil past)) stands;
 }
 
+-- the ends of two lots, one after the other
+pub ends_join : (first mid last : List Outcome) (one two : List Entry) → mid ≡ first ++ filter_map outcome_of one → last ≡ mid ++ filter_map outcome_of two → last ≡ first ++ filter_map outcome_of (one ++ two)
+ends_join first mid last one two left right =
+    right ∙ ap (λ xs. xs ++ filter_map outcome_of two) left ∙ append_assoc first (filter_map outcome_of one) (filter_map outcome_of two) ∙ ap (λ xs. first ++ xs) (sym (filter_map-append outcome_of one two))
+
 pub goes_then : (first mid last : Scene) (a a' a'' b b' b'' : Face) (trace trace' trace'' : Option (List ℕ))
     → Goes first mid a a' b b' trace trace' → Goes mid last a' a'' b' b'' trace' trace'' → Goes first last a a'' b b'' trace trace''
 goes_then first mid last a a' a'' b b' b'' trace trace' trace'' one two = record {
   added = one.added ++ two.added;
   trace_is = two.trace_is ∙ ap (λ t. gained t (capture_octets two.added)) one.trace_is ∙ gained-gained trace (capture_octets one.added) (capture_octets two.added) ∙ ap (gained trace) (sym (octets-in_parts one.added two.added));
   no_words = flat_map-append ordinal_of one.added two.added ∙ ap (λ xs. xs ++ flat_map ordinal_of two.added) one.no_words ∙ two.no_words;
+  outcomes = ends_join first.pushes.outcomes mid.pushes.outcomes last.pushes.outcomes one.added two.added one.outcomes two.outcomes;
   size = two.size ∙ one.size;
   count = two.count ∙ one.count;
   names = two.names ∙ one.names;
@@ -53,6 +62,7 @@ goes_a old new a a' b trace trace' extends pushes turned = record {
   added = extends.added;
   trace_is = extends.trace_is;
   no_words = extends.no_words;
+  outcomes = ap (λ (p : Pushes). p.outcomes) pushes ∙ sym (append-nil old.pushes.outcomes) ∙ ap (λ xs. old.pushes.outcomes ++ xs) (sym extends.no_ends);
   size = extends.size;
   count = extends.count;
   names = ap (λ (p : Pushes). p.names) pushes;
@@ -66,6 +76,7 @@ goes_b old new a b b' trace trace' extends pushes turned = record {
   added = extends.added;
   trace_is = extends.trace_is;
   no_words = extends.no_words;
+  outcomes = ap (λ (p : Pushes). p.outcomes) pushes ∙ sym (append-nil old.pushes.outcomes) ∙ ap (λ xs. old.pushes.outcomes ++ xs) (sym extends.no_ends);
   size = extends.size;
   count = extends.count;
   names = ap (λ (p : Pushes). p.names) pushes;
@@ -81,6 +92,7 @@ goes_begun old new a a' b trace trace' begins =
       added = entry ∷ [];
       trace_is = begins.trace_is ∙ ap (gained trace) (sym (append-nil (entry_octets entry)));
       no_words = refl;
+      outcomes = ap (λ (s : Scene). s.pushes.outcomes) begins.new_is ∙ sym (append-nil old.pushes.outcomes);
       size = ap (λ (s : Scene). s.medium.radio.size) begins.new_is;
       count = ap (λ (s : Scene). s.medium.radio.count) begins.new_is;
       names = ap (λ (s : Scene). s.pushes.names) begins.new_is;
@@ -97,6 +109,7 @@ goes_ended old new a b outcome trace trace' ends =
       added = entry ∷ [];
       trace_is = ends.trace_is ∙ ap (gained trace) (sym (append-nil (entry_octets entry)));
       no_words = refl;
+      outcomes = ap (λ (s : Scene). s.pushes.outcomes) ends.new_is;
       size = ap (λ (s : Scene). s.medium.radio.size) ends.new_is;
       count = ap (λ (s : Scene). s.medium.radio.count) ends.new_is;
       names = ap (λ (s : Scene). s.pushes.names) ends.new_is;

@@ -58,6 +58,7 @@ offered_extends side old new face trace is =
       added = [];
       trace_is = sym (gained-nil trace);
       no_words = refl;
+      no_ends = refl;
       size = ap (λ (m : Medium). m.radio.size) is ∙ ap (λ p. p.0) same;
       count = ap (λ (m : Medium). m.radio.count) is ∙ ap (λ p. p.1) same;
       history = λ script past other stands.

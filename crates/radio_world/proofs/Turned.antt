@@ -1,7 +1,9 @@
 -- Words that are turned, one after the other.
 use Rattle.std.proofs.Common.{rules, ◌≡◌, ℕ, zero, suc, ◌+◌, ◌^◌, ◌<◌, List, [], ◌∷◌, ◌++◌, length, drop, Bool, true, false, Option, Some, None, refl, sym, ap, subst, ◌∙◌, append_assoc, arith, inl, inr, ◌⊎◌}
 use Rattle.std.specs.Prelude.{slice_get, is_some}
-use Rattle.std.specs.List.{flat_map}
+use Rattle.std.specs.List.{flat_map, filter_map}
+use Rattle.capture.specs.Pushes.{outcome_of}
+use Rattle.radio_world.proofs.Going.{ends_join}
 use Rattle.std.proofs.lemmas.List.{append-nil, length-append, drop-drop}
 use Rattle.std.proofs.Math.Seq.{drop-append_seam}
 use Rattle.bt_base.specs.Streams.{gained}
@@ -57,6 +59,7 @@ turns_nothing old new word a b trace quiet none is = record {
   size = ap (λ (s : Scene). s.medium.radio.size) is;
   count = ap (λ (s : Scene). s.medium.radio.count) is;
   names = ap (λ (s : Scene). s.pushes.names) is;
+  outcomes = ap (λ (s : Scene). s.pushes.outcomes) is ∙ sym (append-nil old.pushes.outcomes);
   turned = ap (λ (s : Scene). s.turned) is;
   history = λ script behind past next idle stands. (
     subst (λ (m : Medium). Stands script (past ++ []) m a b) (sym (ap (λ (s : Scene). s.medium) is))
@@ -80,6 +83,7 @@ turns_acted old mid last word a a' b b' trace trace' trace'' quiet below acts pu
       size = goes.size ∙ ap (λ p. p.0) made;
       count = goes.count ∙ ap (λ p. p.1) made;
       names = goes.names ∙ ap (λ (p : Pushes). p.names) pushes;
+      outcomes = goes.outcomes ∙ ap (λ (p : Pushes). p.outcomes ++ filter_map outcome_of goes.added) pushes;
       turned = goes.turned ∙ turned;
       history = λ script behind past next idle stands.
           let stepped : Stands script (past ++ entry ∷ []) mid.medium a b = subst (λ (m : Medium). Stands script (past ++ entry ∷ []) m a b) (sym acts.new_is)
@@ -117,6 +121,7 @@ turns_none scene a b trace = record {
   size = refl;
   count = refl;
   names = refl;
+  outcomes = sym (append-nil scene.pushes.outcomes);
   turned = omega arith;
   history = λ script behind past next idle stands. (
     subst (λ entries. Stands script entries scene.medium a b) (sym (append-nil past)) stands,
@@ -135,6 +140,7 @@ turns_then one two first mid last a a' a'' b b' b'' trace trace' trace'' left ri
   size = right.size ∙ left.size;
   count = right.count ∙ left.count;
   names = right.names ∙ left.names;
+  outcomes = ends_join first.pushes.outcomes mid.pushes.outcomes last.pushes.outcomes left.added right.added left.outcomes right.outcomes;
   turned = let more = length-append one two in omega (arith, left.turned, right.turned, more);
   history = λ script behind past next idle stands.
       let parted : drop first.turned script ≡ one ++ (two ++ behind) = next ∙ append_assoc one two behind in

@@ -1,6 +1,7 @@
 -- Packets that move between a host and its controller (this project's own).
+use Rattle.capture.specs.Pushes.{outcome_of}
 use Rattle.std.specs.Prelude.{ℕ, ◌≡◌, List, [], ◌∷◌, ◌++◌, Option}
-use Rattle.std.specs.List.{flat_map}
+use Rattle.std.specs.List.{flat_map, filter_map}
 use Rattle.bt_base.specs.Streams.{gained}
 use Rattle.h4_framing.specs.Packets.{Packet, spelling, IsPacket}
 use Rattle.push_script.specs.declared.word.Side.{Side}
@@ -16,11 +17,12 @@ use Rattle.radio_world.specs.Faces.{Face, with_out}
 use Rattle.radio_world.specs.Media.{Medium, in_radio, after_moving, face_a, face_b}
 use Rattle.radio_world.specs.Standing.{Stands}
 
--- Some entries more, none of them a word, while the other host stays as it is: what stood before them stands after them.
+-- Some entries more, none of them a word or the end of a push, while the other host stays as it is: what stood before them stands after them.
 pub record Extends (side : Side) (old new : Medium) (face face' : Face) (trace trace' : Option (List ℕ)) : Type 0 where
   pub added : List Entry
   pub trace_is : trace' ≡ gained trace (capture_octets added)
   pub no_words : flat_map ordinal_of added ≡ []
+  pub no_ends : filter_map outcome_of added ≡ []
   pub size : new.radio.size ≡ old.radio.size
   pub count : new.radio.count ≡ old.radio.count
   pub history : (script : List Word) (past : List Entry) (other : Face) → Stands script past old (face_a side face other) (face_b side face other)

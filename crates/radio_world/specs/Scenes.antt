@@ -1,6 +1,8 @@
 -- What goes on between two hosts, and how its steps join (this project's own).
-use Rattle.std.specs.Prelude.{ℕ, ◌+◌, ◌≡◌, ◌^◌, ◌<◌, true, false, List, [], ◌++◌, length, drop, Option}
-use Rattle.std.specs.List.{flat_map, list_all}
+use Rattle.capture.specs.Pushes.{outcome_of}
+use Rattle.std.specs.Prelude.{ℕ, ◌+◌, ◌≡◌, ◌^◌, ◌<◌, true, false, List, [], ◌++◌, length, drop, replicate, Option}
+use Rattle.push_script.specs.declared.outcome.Outcome.TheVariants.{ScriptEnded}
+use Rattle.std.specs.List.{flat_map, filter_map, list_all}
 use Rattle.bt_base.specs.Streams.{gained}
 use Rattle.push_script.specs.declared.outcome.Outcome.{Outcome}
 use Rattle.push_script.specs.declared.word.Side.TheVariants.{A, B}
@@ -46,6 +48,7 @@ pub record Goes (old new : Scene) (a a' b b' : Face) (trace trace' : Option (Lis
   pub added : List Entry
   pub trace_is : trace' ≡ gained trace (capture_octets added)
   pub no_words : flat_map ordinal_of added ≡ []
+  pub outcomes : new.pushes.outcomes ≡ old.pushes.outcomes ++ filter_map outcome_of added
   pub size : new.medium.radio.size ≡ old.medium.radio.size
   pub count : new.medium.radio.count ≡ old.medium.radio.count
   pub names : new.pushes.names ≡ old.pushes.names
@@ -67,6 +70,7 @@ pub record Turns (words : List Word) (old new : Scene) (a a' b b' : Face) (trace
   pub count : new.medium.radio.count ≡ old.medium.radio.count
   pub names : new.pushes.names ≡ old.pushes.names
   pub turned : new.turned ≡ old.turned + length words
+  pub outcomes : new.pushes.outcomes ≡ old.pushes.outcomes ++ filter_map outcome_of added
   pub history : (script behind : List Word) (past : List Entry) → drop old.turned script ≡ words ++ behind → IdleSince old.medium.radio.size script past old.turned → Stands script past old.medium a b
       → Stands script (past ++ added) new.medium a' b' × IdleSince old.medium.radio.size script (past ++ added) new.turned
 
@@ -75,6 +79,8 @@ pub record Finishes (old new : Scene) (trace trace' : Option (List ℕ)) : Type 
   pub ended : List Entry
   pub trace_is : trace' ≡ gained trace (capture_octets ended)
   pub are_ends : list_all is_end ended ≡ true
+  pub not_begun : ℕ
+  pub outcomes : new.pushes.outcomes ≡ old.pushes.outcomes ++ (filter_map outcome_of ended ++ replicate not_begun ScriptEnded)
   pub medium : new.medium ≡ old.medium
   pub names : new.pushes.names ≡ old.pushes.names
   pub history : (script : List Word) (past : List Entry) (a b : Face) → Stands script past old.medium a b → Stands script (past ++ ended) new.medium a b

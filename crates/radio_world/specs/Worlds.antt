@@ -1,6 +1,9 @@
 -- The simulated world of a scenario (this project's own).
-use Rattle.std.specs.Prelude.{ℕ, ◌≡◌, ◌<◌, ◌≤◌, min, List, [], length, Option}
-use Rattle.std.specs.List.{AllByRecursion}
+use Rattle.std.specs.Prelude.{ℕ, ◌≡◌, ◌<◌, ◌≤◌, ◌++◌, min, List, [], replicate, Option}
+use Rattle.std.specs.List.{AllByRecursion, filter_map}
+use Rattle.capture.specs.Pushes.{outcome_of}
+use Rattle.push_script.specs.declared.outcome.Outcome.{Outcome}
+use Rattle.push_script.specs.declared.outcome.Outcome.TheVariants.{ScriptEnded}
 use Rattle.bt_base.specs.Streams.{gained}
 use Rattle.push_script.specs.declared.scenario.Scenario.{Scenario}
 use Rattle.push_script.specs.declared.word.Side.TheVariants as sides
@@ -53,13 +56,16 @@ IsStill world = IsSettled world.scene.medium (client_face world.client) (server_
 -- ---- a whole run
 
 -- What happened in a run of a script between controllers that take `count` packets of at most `size` octets: the air obeyed
--- the script, both hosts kept within the buffers at each moment, and the greatest numbers are those of the capture.
-pub record Happens (size count : ℕ) (script : List Word) (peak_a peak_b : ℕ) (trace trace' : Option (List ℕ)) : Type 0 where
+-- the script, both hosts kept within the buffers at each moment, and the greatest numbers are those of the capture. What
+-- came of the pushes is what their ends say, and the script ended those that did not begin.
+pub record Happens (size count : ℕ) (script : List Word) (outcomes : List Outcome) (peak_a peak_b : ℕ) (trace trace' : Option (List ℕ)) : Type 0 where
   pub entries : List Entry
   pub entries_are : AllByRecursion IsEntry entries
   pub written : trace' ≡ gained trace (capture_octets entries)
   pub obeys : Obeys size script entries
   pub within_a : KeepsWithin sides.A count entries
   pub within_b : KeepsWithin sides.B count entries
+  pub not_begun : ℕ
+  pub outcomes_are : outcomes ≡ filter_map outcome_of entries ++ replicate not_begun ScriptEnded
   pub buffers_a : peak_a ≡ buffers_peak sides.A entries
   pub buffers_b : peak_b ≡ buffers_peak sides.B entries

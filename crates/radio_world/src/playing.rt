@@ -75,7 +75,7 @@ impl World {
     ) -> Result<(), WorldFault>
         requires fresh { self.old ≡ new_world scenario.now }
         requires pending { B.is_pending inbox.old ≡ false }
-        ensures happens { OnOk result (Happens scenario.now.acl_length scenario.now.acl_count (words_of scenario.now.script) self.new.scene.medium.peak_a self.new.scene.medium.peak_b (T.content trace.old) (T.content trace.new)) }
+        ensures happens { OnOk result (Happens scenario.now.acl_length scenario.now.acl_count (words_of scenario.now.script) self.new.scene.pushes.outcomes self.new.scene.medium.peak_a self.new.scene.medium.peak_b (T.content trace.old) (T.content trace.new)) }
         ensures each { OnOk result (length self.new.scene.pushes.outcomes ≡ length scenario.now.names) }
     {
         self.start(trace, shelf, inbox)?;

@@ -11,6 +11,6 @@ returns-clause-happens g c =
     c.args.self.now.scene c.start.new.self.scene c.turn_all.new.self.scene c.finish.new.self.scene
     (client_face c.args.self.now.client) (client_face c.start.new.self.client) (client_face c.turn_all.new.self.client) (server_face c.args.self.now.server) (server_face c.start.new.self.server) (server_face c.turn_all.new.self.server)
     (g.T.Sink.content c.args.trace.now) (g.T.Sink.content c.start.new.trace) (g.T.Sink.content c.turn_all.new.trace) (g.T.Sink.content c.finish.new.trace)
-    (ap (λ (w : World). w.scene.medium) c.requires.fresh) (ap (λ (w : World). w.scene.turned) c.requires.fresh) (ap (λ (w : World). (client_face w.client).line) c.requires.fresh) (ap (λ (w : World). (server_face w.server).line) c.requires.fresh)
+    (ap (λ (w : World). w.scene.medium) c.requires.fresh) (ap (λ (w : World). w.scene.turned) c.requires.fresh) (ap (λ (w : World). w.scene.pushes.outcomes) c.requires.fresh) (ap (λ (w : World). (client_face w.client).line) c.requires.fresh) (ap (λ (w : World). (server_face w.server).line) c.requires.fresh)
     (ap (λ (w : World). (client_face w.client).held) c.requires.fresh) (ap (λ (w : World). (server_face w.server).held) c.requires.fresh)
     c.in_ok-start.ensures.goes c.in_ok-turn_all.ensures.turns c.in_ok-turn_all.ensures.still c.in_ok-finish.ensures.finishes
