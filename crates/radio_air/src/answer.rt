@@ -41,11 +41,7 @@ impl Answer {
     {
         match self {
             Answer::GivenBack { handle, packets } => {
-                if handle.get() == number {
-                    packets
-                } else {
-                    0
-                }
+                if handle.get() == number { packets } else { 0 }
             }
             _ => 0,
         }
