@@ -19,9 +19,10 @@ use Rattle.bt_host.specs.Refusals.{acl_limit, IsRefused, BeginsRefused, refusal_
 use Rattle.bt_host.specs.Steps.{next_step}
 use Rattle.bt_host.specs.Clients.{Client, Hears, HearsAll, GoesOn, StepsOn, IsSendable, after_step, peer_address, putting_out, told}
 use Rattle.bt_host.specs.ClientHosts.{ClientState, Feeds, Reads, Takes, Stops}
-use Rattle.radio_world.specs.Hosts.{IsAddress}
-use Rattle.radio_world.specs.Hearing.{Want, Connect, End, Send as SendOut, after_want, IsWant, PutsOut, HearsOne, HearsEach, HearsPiece, IsAtFault}
-use Rattle.radio_world.specs.Hearing as world
+use Rattle.world_model.specs.Hosts.{IsAddress}
+use Rattle.world_model.specs.Hearing.{Want, Connect, End, Send as SendOut, after_want, IsWant, PutsOut, HearsOne}
+use Rattle.radio_world.specs.Feeding.{HearsEach, HearsPiece, IsAtFault}
+use Rattle.radio_world.specs.Feeding as world
 use Rattle.radio_world.specs.OwnHosts.{held_by, client_face, fault_by}
 
 -- ---- what a step wants

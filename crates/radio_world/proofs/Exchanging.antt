@@ -1,9 +1,9 @@
 -- Packets move one after the other, in one direction.
 use Rattle.std.proofs.Common.{◌≡◌, ℕ, List, Bool, true, false, Option, refl}
 use Rattle.push_script.specs.declared.word.Side.{Side}
-use Rattle.radio_world.specs.Faces.{Face}
-use Rattle.radio_world.specs.Media.{Medium}
-use Rattle.radio_world.specs.Moving.{Extends}
+use Rattle.world_model.specs.Faces.{Face}
+use Rattle.world_model.specs.Media.{Medium}
+use Rattle.radio_world.specs.Extending.{Extends}
 use Rattle.radio_world.proofs.Extending.{extends_none, extends_then}
 
 -- all is as it was

@@ -18,10 +18,11 @@ use Rattle.h4_framing.proofs.ReadingLemmas.{written_is_read}
 use Rattle.capture.specs.Entries.{capture_octets}
 use Rattle.capture.specs.Air.{ordinal_of}
 use Rattle.capture.proofs.MoreLaws.{octets-in_parts}
-use Rattle.radio_world.specs.Faces.{Face}
-use Rattle.radio_world.specs.Media.{Medium, face_a, face_b}
-use Rattle.radio_world.specs.Standing.{Stands}
-use Rattle.radio_world.specs.Moving.{Extends, HasNoPacket}
+use Rattle.world_model.specs.Faces.{Face}
+use Rattle.world_model.specs.Media.{Medium, face_a, face_b}
+use Rattle.world_model.specs.Standing.{Stands}
+use Rattle.radio_world.specs.Extending.{Extends}
+use Rattle.world_model.specs.Moving.{HasNoPacket}
 
 -- nothing more
 pub extends_none : (side : Side) (medium : Medium) (face : Face) (trace : Option (List ℕ)) → Extends side medium medium face face trace trace

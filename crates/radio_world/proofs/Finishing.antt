@@ -9,11 +9,12 @@ use Rattle.bt_base.proofs.PortLaws.{gained-nil}
 use Rattle.push_script.specs.declared.outcome.Outcome.{Outcome}
 use Rattle.push_script.specs.declared.word.Word.{Word}
 use Rattle.capture.specs.Entries.{Entry, Ended, entry_octets}
-use Rattle.radio_world.specs.Faces.{Face}
-use Rattle.radio_world.specs.Media.{Medium}
-use Rattle.radio_world.specs.Standing.{Stands}
-use Rattle.radio_world.specs.Scenes.{Scene, Ends, Finishes, LastEnds}
-use Rattle.radio_world.proofs.Marking.{ends_step}
+use Rattle.world_model.specs.Faces.{Face}
+use Rattle.world_model.specs.Media.{Medium}
+use Rattle.world_model.specs.Standing.{Stands}
+use Rattle.world_model.specs.Scenes.{Scene}
+use Rattle.radio_world.specs.Going.{Ends, Finishes, LastEnds}
+use Rattle.world_model.proofs.Marking.{ends_step}
 
 -- no push goes on
 pub last_none : (scene : Scene) (trace : Option (List ℕ)) → scene.pushes.going ≡ false → LastEnds scene scene trace trace

@@ -13,13 +13,14 @@ use Rattle.push_script.specs.declared.word.Word.{Word}
 use Rattle.capture.specs.Entries.{Entry, Begun, Ended, entry_octets, capture_octets}
 use Rattle.capture.specs.Air.{ordinal_of}
 use Rattle.capture.proofs.MoreLaws.{octets-in_parts}
-use Rattle.radio_world.specs.Faces.{Face}
-use Rattle.radio_world.specs.Media.{Medium}
-use Rattle.radio_world.specs.Moving.{Extends}
-use Rattle.radio_world.specs.Standing.{Stands}
-use Rattle.radio_world.specs.Ordering.{Pushes, one_begun, one_ended}
-use Rattle.radio_world.specs.Scenes.{Scene, Begins, Ends, Goes}
-use Rattle.radio_world.proofs.Marking.{begins_step, ends_step}
+use Rattle.world_model.specs.Faces.{Face}
+use Rattle.world_model.specs.Media.{Medium}
+use Rattle.radio_world.specs.Extending.{Extends}
+use Rattle.world_model.specs.Standing.{Stands}
+use Rattle.world_model.specs.Ordering.{Pushes, one_begun, one_ended}
+use Rattle.world_model.specs.Scenes.{Scene}
+use Rattle.radio_world.specs.Going.{Begins, Ends, Goes}
+use Rattle.world_model.proofs.Marking.{begins_step, ends_step}
 
 pub goes_none : (scene : Scene) (a b : Face) (trace : Option (List ℕ)) → Goes scene scene a a b b trace trace
 goes_none scene a b trace = record {

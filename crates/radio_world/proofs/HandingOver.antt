@@ -11,7 +11,8 @@ use Rattle.h4_framing.proofs.ReadingLemmas.{no_wrong_nothing}
 use Rattle.host_link.specs.Lines.{Line}
 use Rattle.host_link.specs.Hearing.{fault_of}
 use Rattle.host_link.specs.PuttingOut.{put_out}
-use Rattle.radio_world.specs.Hearing.{acl_limit, put_out_again, HearsOne, HearsEach, HearsPiece, TakesPiece, RefusesPiece, IsAtFault, HearsBehind, FaultsBehind}
+use Rattle.world_model.specs.Hearing.{acl_limit, put_out_again, HearsOne, HearsBehind, FaultsBehind}
+use Rattle.radio_world.specs.Feeding.{HearsEach, HearsPiece, TakesPiece, RefusesPiece, IsAtFault}
 
 -- ---- lists
 

@@ -17,15 +17,16 @@ use Rattle.capture.specs.Air.{KeepsTo, Obeys, IsSettled as AirSettled, air_after
 use Rattle.capture.proofs.MoreLaws.{octets-in_parts}
 use Rattle.host_link.specs.declared.role.Role.TheVariants as role
 use Rattle.host_link.specs.PuttingOut.{started}
-use Rattle.radio_world.specs.Faces.{Face}
-use Rattle.radio_world.specs.Media.{Medium}
-use Rattle.radio_world.specs.Standing.{Stands, IdleSince}
-use Rattle.radio_world.specs.Scenes.{Scene, Goes, Turns, IsSettled, Finishes}
+use Rattle.world_model.specs.Faces.{Face}
+use Rattle.world_model.specs.Media.{Medium}
+use Rattle.world_model.specs.Standing.{Stands, IdleSince}
+use Rattle.world_model.specs.Scenes.{Scene, IsSettled}
+use Rattle.radio_world.specs.Going.{Goes, Turns, Finishes}
 use Rattle.radio_world.specs.Worlds.{first_medium, Happens}
-use Rattle.radio_world.proofs.Beginning.{stands_at_first}
-use Rattle.radio_world.proofs.Turning.{idle_at, done_more, obeys_at_end}
-use Rattle.radio_world.proofs.Turned.{quiet_of}
-use Rattle.radio_world.proofs.Wording.{quiet_settled}
+use Rattle.world_model.proofs.Beginning.{stands_at_first}
+use Rattle.world_model.proofs.Turning.{idle_at, done_more, obeys_at_end}
+use Rattle.world_model.proofs.Settled.{quiet_of}
+use Rattle.world_model.proofs.Wording.{quiet_settled}
 
 zero_first : (n : ℕ) → 0 + n ≡ n
 zero_first n = omega arith

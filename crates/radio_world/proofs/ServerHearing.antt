@@ -14,8 +14,9 @@ use Rattle.bt_host.specs.Refusals.{refusal_in}
 use Rattle.bt_host.specs.Channels.{sent}
 use Rattle.bt_host.specs.Servers.{Served, Server, Kept, Hears, HearsAll, GoesOn, IsSendable, with_response, answering, stepped, putting_out}
 use Rattle.bt_host.specs.ServerHosts.{ServerState, Feeds, Reads, Takes, Stops}
-use Rattle.radio_world.specs.Hearing.{Want, Send as SendOut, after_want, IsWant, PutsOut, HearsEach}
-use Rattle.radio_world.specs.Hearing as world
+use Rattle.world_model.specs.Hearing.{Want, Send as SendOut, after_want, IsWant, PutsOut}
+use Rattle.radio_world.specs.Feeding.{HearsEach}
+use Rattle.radio_world.specs.Feeding as world
 use Rattle.radio_world.specs.OwnHosts.{held_by, server_face, fault_by}
 use Rattle.radio_world.proofs.ClientHearing.{all_joined, why_refused, all_fed, no_error, silent}
 

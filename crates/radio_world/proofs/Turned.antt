@@ -18,14 +18,16 @@ use Rattle.radio_air.specs.Acting.{or_as_before}
 use Rattle.radio_air.specs.Laws.{sizes}
 use Rattle.radio_air.proofs.Sizing.{sizes-stay}
 use Rattle.push_script.specs.declared.word.Side.TheVariants as sides
-use Rattle.radio_world.specs.Faces.{Face}
-use Rattle.radio_world.specs.Media.{Medium, in_radio}
-use Rattle.radio_world.specs.Standing.{Stands, IdleSince}
-use Rattle.radio_world.specs.Acting.{Makes, MakesNothing, Acts}
-use Rattle.radio_world.specs.Ordering.{Pushes}
-use Rattle.radio_world.specs.Scenes.{Scene, Goes, Turns, IsSettled}
-use Rattle.radio_world.proofs.Wording.{word_steps, word_idles}
-use Rattle.radio_world.proofs.Turning.{idle_behind}
+use Rattle.world_model.specs.Faces.{Face}
+use Rattle.world_model.specs.Media.{Medium, in_radio}
+use Rattle.world_model.specs.Standing.{Stands, IdleSince}
+use Rattle.world_model.specs.Acting.{Makes, MakesNothing}
+use Rattle.world_model.specs.Acting.{Acts}
+use Rattle.world_model.specs.Ordering.{Pushes}
+use Rattle.world_model.specs.Scenes.{Scene, IsSettled}
+use Rattle.radio_world.specs.Going.{Goes, Turns}
+use Rattle.world_model.proofs.Wording.{word_steps, word_idles}
+use Rattle.world_model.proofs.Turning.{idle_behind}
 
 -- ---- nothing is owed
 

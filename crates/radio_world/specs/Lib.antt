@@ -1,12 +1,5 @@
-pub mod Hosts
-pub mod HostLaws
-pub mod Faces
-pub mod Hearing
-pub mod Media
-pub mod Standing
-pub mod Moving
-pub mod Acting
-pub mod Ordering
-pub mod Scenes
+pub mod Feeding
+pub mod Extending
+pub mod Going
 pub mod OwnHosts
 pub mod Worlds

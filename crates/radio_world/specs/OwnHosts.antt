@@ -7,7 +7,7 @@ use Rattle.bt_host.specs.declared.steps.PushRefusal.{PushRefusal}
 use Rattle.bt_host.specs.declared.steps.PushRefusal.TheVariants as push
 use Rattle.bt_host.specs.ClientHosts.{ClientState}
 use Rattle.bt_host.specs.ServerHosts.{ServerState}
-use Rattle.radio_world.specs.Faces.{Face}
+use Rattle.world_model.specs.Faces.{Face}
 use Rattle.radio_world.specs.declared.host.HostFault.{HostFault}
 use Rattle.radio_world.specs.declared.host.HostFault.TheVariants.{Refused, NoMemory}
 use Rattle.radio_world.specs.declared.host.PushFault.{PushFault}

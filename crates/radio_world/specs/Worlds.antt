@@ -15,9 +15,10 @@ use Rattle.capture.specs.Peaks.{buffers_peak}
 use Rattle.bt_host.specs.ClientHosts.{ClientState, fresh_client}
 use Rattle.bt_host.specs.ServerHosts.{ServerState, fresh_server}
 use Rattle.radio_air.specs.Radio.{new_radio}
-use Rattle.radio_world.specs.Media.{Medium}
-use Rattle.radio_world.specs.Ordering.{no_pushes}
-use Rattle.radio_world.specs.Scenes.{Scene, Goes, Turns, Finishes, IsSettled}
+use Rattle.world_model.specs.Media.{Medium}
+use Rattle.world_model.specs.Ordering.{no_pushes}
+use Rattle.world_model.specs.Scenes.{Scene, IsSettled}
+use Rattle.radio_world.specs.Going.{Goes, Turns, Finishes}
 use Rattle.radio_world.specs.OwnHosts.{client_face, server_face}
 
 -- the two hosts, and what goes on between them

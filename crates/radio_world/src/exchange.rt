@@ -3,7 +3,8 @@
 ghost use Rattle.std.specs.Prelude.{◌≡◌, false, Ok, OnOk};
 ghost use Rattle.radio_air.specs.Controllers.{other_side};
 ghost use Rattle.radio_air.specs.Radio.{controller};
-ghost use Rattle.radio_world.specs.Moving.{Extends, IsStillOut, IsStillIn};
+ghost use Rattle.radio_world.specs.Extending.{Extends};
+ghost use Rattle.world_model.specs.Moving.{IsStillOut, IsStillIn};
 
 use crate::fault::WorldFault;
 use crate::host::Host;

@@ -1,7 +1,7 @@
 //! Packets handed to a host.
 
 ghost use Rattle.std.specs.Prelude.{◌≡◌, ◌≤◌, OnOk};
-ghost use Rattle.radio_world.specs.Hearing.{HearsWhole};
+ghost use Rattle.world_model.specs.Hearing.{HearsWhole};
 
 use crate::fault::WorldFault;
 use crate::host::{Host, HostFault};

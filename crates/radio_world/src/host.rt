@@ -3,8 +3,9 @@
 ghost use Rattle.std.specs.Prelude.{◌≡◌, ◌≤◌, Bool, true, Option, length, drop, OnOk};
 ghost use Rattle.push_script.specs.Names.{utf16_length};
 ghost use Rattle.push_script.specs.declared.outcome.Outcome.{Outcome};
-ghost use Rattle.radio_world.specs.Faces.{Face, with_out};
-ghost use Rattle.radio_world.specs.Hearing.{Hears, PutsOut};
+ghost use Rattle.world_model.specs.Faces.{Face, with_out};
+ghost use Rattle.radio_world.specs.Feeding.{Hears};
+ghost use Rattle.world_model.specs.Hearing.{PutsOut};
 
 use push_script::Outcome;
 

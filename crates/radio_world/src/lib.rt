@@ -5,7 +5,6 @@ mod exchange;
 mod fault;
 mod feeding;
 mod host;
-pub mod laws;
 mod medium;
 mod ordering;
 mod own_hosts;

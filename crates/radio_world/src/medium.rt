@@ -2,11 +2,13 @@
 
 ghost use Rattle.std.specs.Prelude.{◌≡◌, ◌<◌, ◌≤◌, [], false, true, length, Ok, IfOk, OnOk};
 ghost use Rattle.radio_air.specs.Radio.{controller, is_quiet};
-ghost use Rattle.radio_world.specs.Acting.{Acts, MakesNothing};
+ghost use Rattle.world_model.specs.Acting.{Acts};
+ghost use Rattle.world_model.specs.Acting.{MakesNothing};
 ghost use Rattle.radio_air.specs.Acting.{IsSize};
-ghost use Rattle.radio_world.specs.Media.{noted};
+ghost use Rattle.world_model.specs.Media.{noted};
 ghost use Rattle.radio_world.specs.Worlds.{first_medium};
-ghost use Rattle.radio_world.specs.Moving.{Extends, IsStillOut, IsStillIn};
+ghost use Rattle.radio_world.specs.Extending.{Extends};
+ghost use Rattle.world_model.specs.Moving.{IsStillOut, IsStillIn};
 
 use crate::fault::WorldFault;
 use crate::feeding::hand_over;
@@ -39,7 +41,7 @@ pub(crate) struct Medium {
 
 impl Model for Medium {
     ghost use Rattle.std.specs.Prelude.{◌≤◌};
-    ghost use Rattle.radio_world.specs.Media.{Medium as Seen};
+    ghost use Rattle.world_model.specs.Media.{Medium as Seen};
 
     ghost Value = { Seen };
 

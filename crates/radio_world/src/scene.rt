@@ -1,8 +1,9 @@
 //! What goes on between the two hosts.
 
 ghost use Rattle.std.specs.Prelude.{◌≡◌, ◌∷◌, [], true, false, length, Ok, OnOk};
-ghost use Rattle.radio_world.specs.Faces.{Face};
-ghost use Rattle.radio_world.specs.Scenes.{Begins, Ends, Goes, IsSettled, Turns, LastEnds, Finishes};
+ghost use Rattle.world_model.specs.Faces.{Face};
+ghost use Rattle.radio_world.specs.Going.{Begins, Ends, Goes, Turns, LastEnds, Finishes};
+ghost use Rattle.world_model.specs.Scenes.{IsSettled};
 
 use crate::fault::WorldFault;
 use crate::host::{Host, PushFault, Pusher};
@@ -27,8 +28,8 @@ pub(crate) struct Scene {
 }
 
 impl Model for Scene {
-    ghost use Rattle.radio_world.specs.Faces.{Face};
-    ghost use Rattle.radio_world.specs.Scenes.{Scene as Seen};
+    ghost use Rattle.world_model.specs.Faces.{Face};
+    ghost use Rattle.world_model.specs.Scenes.{Scene as Seen};
 
     ghost Value = { Seen };
 

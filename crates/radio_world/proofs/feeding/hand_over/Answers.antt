@@ -2,7 +2,7 @@ use Rattle.std.proofs.Common.{◌≡◌, ◌≢◌, ℕ, List, [], ◌++◌, len
 use Rattle.std.specs.Bool.{◌==◌}
 use Rattle.host_link.specs.Lines.{Line}
 use Rattle.h4_framing.specs.Packets.{Packet}
-use Rattle.radio_world.specs.Hearing.{Hears, RefusesPiece}
+use Rattle.radio_world.specs.Feeding.{Hears, RefusesPiece}
 use Rattle.radio_world.specs.declared.host.HostFault.{HostFault}
 use Rattle.radio_world.specs.declared.host.HostFault.TheVariants.{Refused}
 use Rattle.radio_world.proofs.HandingOver.{Progress, IsUnderWay, taken, refused}

@@ -1,6 +1,6 @@
 use Rattle.std.proofs.Common.{◌≡◌, ℕ, List, [], Some, length}
 use Rattle.h4_framing.specs.Packets.{Packet, spelling, IsPacket}
-use Rattle.radio_world.specs.Hearing.{acl_limit}
+use Rattle.world_model.specs.Hearing.{acl_limit}
 use Rattle.radio_world.proofs.HandingOver.{Progress}
 use Rattle.radio_world.proofs.feeding.hand_over.Given as goal
 

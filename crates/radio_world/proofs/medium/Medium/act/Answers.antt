@@ -3,8 +3,9 @@ use Rattle.std.specs.Prelude.{is_some}
 use Rattle.push_script.specs.declared.word.Word.{Word}
 use Rattle.radio_air.specs.Radio.{Radio, passed, dropped}
 use Rattle.radio_air.specs.Acting.{or_as_before}
-use Rattle.radio_world.specs.Media.{Medium}
-use Rattle.radio_world.specs.Acting.{Makes, Acts}
+use Rattle.world_model.specs.Media.{Medium}
+use Rattle.world_model.specs.Acting.{Makes}
+use Rattle.world_model.specs.Acting.{Acts}
 use Rattle.radio_world.proofs.medium.Medium.act.Goals as goal
 
 abbrev mk : Radio → ℕ → ℕ → Medium

@@ -1,8 +1,8 @@
 use Rattle.std.proofs.Common.{◌≡◌, ℕ, ap, ◌∙◌}
 use Rattle.push_script.specs.declared.word.Side.{Side}
 use Rattle.radio_air.specs.Radio.{Radio, after_offer}
-use Rattle.radio_world.specs.Media.{Medium, in_radio}
-use Rattle.radio_world.proofs.Offering.{exchange_extends}
+use Rattle.world_model.specs.Media.{Medium, in_radio}
+use Rattle.radio_world.proofs.Offered.{exchange_extends}
 use Rattle.radio_world.proofs.medium.Medium.exchange.Goals as goal
 
 abbrev mk : Radio → ℕ → ℕ → Medium

@@ -6,12 +6,12 @@ use Rattle.capture.specs.Entries.{Moved, entry_octets}
 use Rattle.bt_base.specs.Streams.{gained}
 use Rattle.radio_air.specs.Controllers.{packet_of}
 use Rattle.radio_air.specs.Radio.{Radio, after_answer, controller}
-use Rattle.radio_world.specs.Media.{Medium, in_radio}
-use Rattle.radio_world.specs.Moving.{MovesInto, Extends}
-use Rattle.radio_world.specs.Hearing.{HearsWhole}
+use Rattle.world_model.specs.Media.{Medium, in_radio}
+use Rattle.radio_world.specs.Extending.{MovesInto, Extends}
+use Rattle.world_model.specs.Hearing.{HearsWhole}
 use Rattle.radio_world.proofs.Bringing.{none_owed, stays_as_it_is, IsHanded, handed_first, reads_whole, reads_same, owes_less}
 use Rattle.radio_world.proofs.Extending.{extends_none}
-use Rattle.radio_world.proofs.Arriving.{into_extends}
+use Rattle.radio_world.proofs.Arrived.{into_extends}
 use Rattle.radio_world.proofs.medium.Medium.move_into.Goals as goal
 
 abbrev mk : Radio → ℕ → ℕ → Medium

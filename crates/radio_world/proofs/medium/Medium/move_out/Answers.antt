@@ -4,10 +4,11 @@ use Rattle.h4_framing.specs.Packets.{Packet, packet, spelling}
 use Rattle.push_script.specs.declared.word.Side.{Side}
 use Rattle.radio_air.specs.Radio.{Radio, after_packet}
 use Rattle.h4_framing.specs.Leading.{IsLeading}
-use Rattle.radio_world.specs.Faces.{Face}
-use Rattle.radio_world.specs.Moving.{MovesOut}
-use Rattle.radio_world.specs.Media.{Medium, noted, in_radio}
-use Rattle.radio_world.proofs.Departing.{moved_extends, left_shorter}
+use Rattle.world_model.specs.Faces.{Face}
+use Rattle.radio_world.specs.Extending.{MovesOut}
+use Rattle.world_model.specs.Media.{Medium, noted, in_radio}
+use Rattle.radio_world.proofs.Departed.{moved_extends}
+use Rattle.world_model.proofs.Departing.{left_shorter}
 use Rattle.radio_world.proofs.Extending.{extends_none, nothing_whole}
 use Rattle.radio_world.proofs.medium.Medium.move_out.Goals as goal
 

@@ -1,7 +1,7 @@
 use Rattle.std.proofs.Common.{◌≡◌, Err, sym, ap, subst}
 use Rattle.bt_host.specs.declared.feed_refusal.FeedRefusal.{FeedRefusal}
 use Rattle.radio_world.specs.declared.host.HostFault.{HostFault}
-use Rattle.radio_world.specs.Hearing.{Hears}
+use Rattle.radio_world.specs.Feeding.{Hears}
 use Rattle.radio_world.specs.OwnHosts.{client_face}
 use Rattle.radio_world.proofs.ClientHearing.{client_ok, client_err}
 use Rattle.radio_world.proofs.own_hosts.ClientHostHost.hear.Goals as goal

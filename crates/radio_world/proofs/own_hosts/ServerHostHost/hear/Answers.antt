@@ -1,7 +1,7 @@
 use Rattle.std.proofs.Common.{◌≡◌, Err, sym, ap, subst}
 use Rattle.bt_host.specs.declared.feed_refusal.FeedRefusal.{FeedRefusal}
 use Rattle.radio_world.specs.declared.host.HostFault.{HostFault}
-use Rattle.radio_world.specs.Hearing.{Hears}
+use Rattle.radio_world.specs.Feeding.{Hears}
 use Rattle.radio_world.specs.OwnHosts.{server_face}
 use Rattle.radio_world.proofs.ServerHearing.{server_ok, server_err}
 use Rattle.radio_world.proofs.own_hosts.ServerHostHost.hear.Goals as goal

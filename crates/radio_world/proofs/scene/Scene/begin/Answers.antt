@@ -1,6 +1,7 @@
 use Rattle.std.proofs.Common.{rules}
-use Rattle.radio_world.specs.Faces.{Face}
-use Rattle.radio_world.specs.Scenes.{Scene, Begins, Goes}
+use Rattle.world_model.specs.Faces.{Face}
+use Rattle.world_model.specs.Scenes.{Scene}
+use Rattle.radio_world.specs.Going.{Begins, Goes}
 use Rattle.radio_world.proofs.Going.{goes_none, goes_begun}
 use Rattle.radio_world.proofs.scene.Scene.begin.Goals as goal
 

@@ -1,8 +1,9 @@
 use Rattle.std.proofs.Common.{◌≡◌, ℕ, refl, sym, subst}
-use Rattle.radio_world.specs.Media.{Medium}
-use Rattle.radio_world.specs.Ordering.{Pushes}
-use Rattle.radio_world.specs.Faces.{Face}
-use Rattle.radio_world.specs.Scenes.{Scene, Goes}
+use Rattle.world_model.specs.Media.{Medium}
+use Rattle.world_model.specs.Ordering.{Pushes}
+use Rattle.world_model.specs.Faces.{Face}
+use Rattle.world_model.specs.Scenes.{Scene}
+use Rattle.radio_world.specs.Going.{Goes}
 use Rattle.radio_world.proofs.Going.{goes_a, goes_b, goes_then}
 use Rattle.radio_world.proofs.scene.Scene.exchange.Goals as goal
 

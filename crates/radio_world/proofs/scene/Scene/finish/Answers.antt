@@ -1,8 +1,8 @@
 use Rattle.push_script.specs.declared.outcome.Outcome.TheVariants.{ScriptEnded}
 use Rattle.std.proofs.Common.{◌++◌, ◌-◌, length, replicate, ◌≡◌, ℕ, refl, sym, ap, ◌∙◌}
-use Rattle.radio_world.specs.Media.{Medium}
-use Rattle.radio_world.specs.Ordering.{Pushes}
-use Rattle.radio_world.specs.Scenes.{Scene}
+use Rattle.world_model.specs.Media.{Medium}
+use Rattle.world_model.specs.Ordering.{Pushes}
+use Rattle.world_model.specs.Scenes.{Scene}
 use Rattle.radio_world.proofs.Finishing.{then_closed}
 use Rattle.radio_world.proofs.scene.Scene.finish.Goals as goal
 

@@ -1,4 +1,4 @@
-use Rattle.radio_world.specs.Scenes.{Goes}
+use Rattle.radio_world.specs.Going.{Goes}
 use Rattle.radio_world.proofs.scene.Scene.settle.Given as goal
 
 abbrev pub invariant-loop : goal.invariant-loop

@@ -1,6 +1,7 @@
 use Rattle.std.proofs.Common.{rules, ◌≡◌, ℕ, ◌+◌, ◌^◌, ◌<◌, true, false, Ok, ap, ◌∙◌}
 use Rattle.radio_air.specs.Radio.{is_quiet}
-use Rattle.radio_world.proofs.Turned.{quiet_of, turns_to_nothing, turns_to_act}
+use Rattle.world_model.proofs.Settled.{quiet_of}
+use Rattle.radio_world.proofs.Turned.{turns_to_nothing, turns_to_act}
 use Rattle.radio_world.proofs.scene.Scene.turn.Goals as goal
 
 pub returns-then-not-acted-clause-turns : goal.returns-then-not-acted-clause-turns
