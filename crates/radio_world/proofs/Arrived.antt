@@ -1,39 +1,59 @@
 -- What a controller owes comes into its host, and what stood stands.
-use Rattle.std.proofs.Common.{rules, ◌≡◌, ◌≢◌, ℕ, zero, suc, ◌+◌, ◌<◌, ◌≤◌, List, [], ◌∷◌, ◌++◌, fold, Bool, true, false, cond, Option, Some, None, refl, sym, ap, subst, ◌∙◌, arith, inl, inr, ◌⊎◌}
-use Rattle.std.specs.Prelude.{max}
-use Rattle.std.specs.List.{AllByRecursion}
+use Rattle.std.proofs.Common.{◌≡◌, ℕ, List, [], ◌∷◌, ◌++◌, Option, refl, sym, ap, subst, ◌∙◌}
 use Rattle.std.proofs.lemmas.List.{append-nil}
 use Rattle.bt_base.specs.Streams.{gained}
-use Rattle.h4_framing.specs.Packets.{Packet, spelling, IsPacket}
 use Rattle.push_script.specs.declared.word.Side.{Side}
 use Rattle.push_script.specs.declared.word.Side.TheVariants as sides
 use Rattle.push_script.specs.declared.word.Word.{Word}
 use Rattle.capture.specs.declared.flow.Flow.TheVariants.{Into}
-use Rattle.capture.specs.Entries.{Entry, Moved, IsEntry, entry_octets}
-use Rattle.capture.specs.Buffers.{all_outstanding}
-use Rattle.host_link.specs.Lines.{Line}
-use Rattle.host_link.specs.Hearing.{heard, fault_of}
-use Rattle.radio_air.specs.Controllers.{Answer, Returned, Stated, Called, LinkMade, LinkGone, GivenBack, Carried, Controller, packet_of, after_telling, after_first, after_handing}
-use Rattle.radio_air.specs.Radio.{Radio, controller, with_controller, after_answer, is_together}
-use Rattle.radio_air.specs.Showing.{Shows, IsOwed, back, outstanding_at}
+use Rattle.capture.specs.Entries.{Entry, Moved, entry_octets}
+use Rattle.radio_air.specs.Controllers.{packet_of}
+use Rattle.radio_air.specs.Radio.{after_answer}
 use Rattle.radio_air.specs.Laws.{sizes}
-use Rattle.radio_air.proofs.Coming.{shows-answer}
-use Rattle.radio_air.proofs.Entering.{owed-of}
 use Rattle.radio_air.proofs.Sizing.{sizes-stay}
 use Rattle.world_model.specs.Faces.{Face}
-use Rattle.world_model.specs.Hearing.{acl_limit, put_out_again, HearsBehind, Want, Connect, End, Send, after_want, IsWant, PutsOut, HearsWhole}
-use Rattle.world_model.specs.Hosts.{HostStands, OwesHonestly}
-use Rattle.world_model.specs.HostLaws.{NeverAtFault}
 use Rattle.world_model.specs.Media.{Medium, in_radio, face_a, face_b}
 use Rattle.world_model.specs.Standing.{Stands}
-use Rattle.world_model.proofs.Honest.{answer_honest}
-use Rattle.world_model.proofs.HostSteps.{stands_hearing, stands_beside}
-use Rattle.world_model.proofs.Letting.{connecting_stands, ending_stands, pdu_stands}
-use Rattle.world_model.proofs.Putting.{puts_out}
-use Rattle.world_model.proofs.Departing.{entry_fits, peaks_beside}
-use Rattle.world_model.proofs.Stepping.{IsPeak, IsStep, stands_more, outstanding_is, outstanding_beside}
-use Rattle.world_model.proofs.Arriving.{into_steps}
+use Rattle.world_model.specs.Scenes.{Scene}
+use Rattle.world_model.specs.Happenings.{Arrival, Arrives}
+use Rattle.world_model.proofs.Stepping.{stands_more}
+use Rattle.world_model.proofs.Arriving.{heard_one, into_steps}
+use Rattle.radio_world.specs.Running.{moment, in_medium}
 use Rattle.radio_world.specs.Extending.{MovesInto, Extends}
+use Rattle.radio_world.proofs.Running.{run_one}
+
+-- it is an arrival
+arrives : (side : Side) (script : List Word) (past : List Entry) (old new : Medium) (face face' other : Face) (trace trace' : Option (List ℕ)) (scene : Scene) (moves : MovesInto side old new face face' trace trace')
+    → Stands script past old (face_a side face other) (face_b side face other)
+    → Arrives side (packet_of side moves.answer) (moment (in_medium old scene) (face_a side face other) (face_b side face other)) (moment (in_medium new scene) (face_a side face' other) (face_b side face' other))
+arrives sides.A script past old new face face' other trace trace' scene moves stands =
+    let heard = heard_one sides.A old.radio moves.answer moves.rest face face' moves.owed stands.honest moves.is stands.whole_a moves.hears in
+    record {
+      answer = moves.answer;
+      rest = moves.rest;
+      owed = moves.owed;
+      packet_is = refl;
+      is = moves.is;
+      face = face';
+      whole_before = stands.whole_a;
+      hears = heard.0;
+      whole = heard.1;
+      new_is = ap (λ (m : Medium). moment (in_medium m scene) face' other) moves.medium_is;
+    }
+arrives sides.B script past old new face face' other trace trace' scene moves stands =
+    let heard = heard_one sides.B old.radio moves.answer moves.rest face face' moves.owed stands.honest moves.is stands.whole_b moves.hears in
+    record {
+      answer = moves.answer;
+      rest = moves.rest;
+      owed = moves.owed;
+      packet_is = refl;
+      is = moves.is;
+      face = face';
+      whole_before = stands.whole_b;
+      hears = heard.0;
+      whole = heard.1;
+      new_is = ap (λ (m : Medium). moment (in_medium m scene) other face') moves.medium_is;
+    }
 
 pub into_extends : (side : Side) (old new : Medium) (face face' : Face) (trace trace' : Option (List ℕ)) → MovesInto side old new face face' trace trace' → Extends side old new face face' trace trace'
 into_extends side old new face face' trace trace' moves =
@@ -50,4 +70,7 @@ into_extends side old new face face' trace trace' moves =
           subst (λ (m : Medium). Stands script (past ++ entry ∷ []) m (face_a side face' other) (face_b side face' other)) (sym moves.medium_is)
           (stands_more script past entry old (in_radio (after_answer side old.radio) old) (face_a side face other) (face_b side face other) _ _ stands
           (into_steps side script past old face face' other moves.answer moves.rest moves.owed moves.is moves.hears stands));
+      run = λ script past other scene stands.
+          run_one (Arrival side (packet_of side moves.answer)) [] (entry ∷ []) (moment (in_medium old scene) (face_a side face other) (face_b side face other)) (moment (in_medium new scene) (face_a side face' other) (face_b side face' other)) refl refl
+          (arrives side script past old new face face' other trace trace' scene moves stands);
     }

@@ -18,12 +18,15 @@ use Rattle.bt_host.specs.declared.steps.Step.TheVariants.{Wait, Page, Send, Brea
 use Rattle.bt_host.specs.Refusals.{acl_limit, IsRefused, BeginsRefused, refusal_in}
 use Rattle.bt_host.specs.Steps.{next_step}
 use Rattle.bt_host.specs.Clients.{Client, Hears, HearsAll, GoesOn, StepsOn, IsSendable, after_step, peer_address, putting_out, told}
-use Rattle.bt_host.specs.ClientHosts.{ClientState, Feeds, Reads, Takes, Stops}
+use Rattle.bt_host.specs.Shelves.{Stays}
+use Rattle.bt_host.specs.ClientHosts.{ClientState, Feeds, Reads, Takes, Stops, PushesOn}
+use Rattle.world_model.specs.Insides.{Shelved, StaysShelved, Pushing, StartsPush}
+use Rattle.world_model.specs.Faces.{Face}
 use Rattle.world_model.specs.Hosts.{IsAddress}
 use Rattle.world_model.specs.Hearing.{Want, Connect, End, Send as SendOut, after_want, IsWant, PutsOut, HearsOne}
 use Rattle.radio_world.specs.Feeding.{HearsEach, HearsPiece, IsAtFault}
 use Rattle.radio_world.specs.Feeding as world
-use Rattle.radio_world.specs.OwnHosts.{held_by, client_face, fault_by}
+use Rattle.radio_world.specs.OwnHosts.{held_by, shelved, client_face, fault_by}
 
 -- ---- what a step wants
 
@@ -79,20 +82,39 @@ why_refused line place octets (feed.CommandFailed opcode status at) is = inr (at
 why_refused line place octets (feed.BadBuffers size count at) is = inr (at_fault line place octets (feed.BadBuffers size count at) is)
 why_refused line place octets feed.NoMemory is = absurd is
 
-pub client_stops : (content : Option (List Object)) (faults faults' : ℕ) (piece : List ℕ) (framing framing' : Framing) (old new : Client) (refusal : FeedRefusal) → Stops content faults faults' piece framing framing' (putting_out old) new refusal
-    → (before : List ℕ) → Some framing.held ≡ Some before → world.RefusesPiece before piece old.line new.line
-client_stops content faults faults' piece framing framing' old new refusal stops before same =
-    subst (λ held. world.RefusesPiece held piece old.line new.line) (let e : framing.held ≡ before = cc in e) (record {
-      heard_piece = record { packets = stops.packets; rest = stops.stopped.rest; each = stops.stopped.read.each; octets = stops.stopped.read.octets; hears = hears_each content faults faults' stops.packets (putting_out old) new stops.hears };
+-- a client that holds these octets, beside a shelf
+abbrev pub facing : Client → Option (List ℕ) → Shelved → Face
+facing client held shelf = record { line = client.line; held = held; inside = Pushing client.course shelf }
+
+pub client_stops : (shelf shelf' : Shelved) (piece : List ℕ) (framing framing' : Framing) (held' : Option (List ℕ)) (old new : Client) (refusal : FeedRefusal) → StaysShelved shelf shelf'
+    → Stops shelf.content shelf.faults shelf'.faults piece framing framing' (putting_out old) new refusal
+    → (before : List ℕ) → Some framing.held ≡ Some before → world.RefusesPiece before piece (facing old (Some framing.held) shelf) (facing new held' shelf')
+client_stops shelf shelf' piece framing framing' held' old new refusal stays stops before same =
+    subst (λ held. world.RefusesPiece held piece (facing old (Some framing.held) shelf) (facing new held' shelf')) (let e : framing.held ≡ before = cc in e) (record {
+      heard_piece = record {
+        packets = stops.packets;
+        rest = stops.stopped.rest;
+        each = stops.stopped.read.each;
+        octets = stops.stopped.read.octets;
+        hears = hears_each shelf.content shelf.faults shelf'.faults stops.packets (putting_out old) new stops.hears;
+        tells = (stops.hears, stays);
+      };
       why = why_refused new.line _ stops.stopped.rest refusal stops.stopped.refused;
     })
 
-pub client_takes : (content : Option (List Object)) (faults faults' : ℕ) (piece : List ℕ) (framing framing' : Framing) (old new : Client) → Takes content faults faults' piece framing framing' (putting_out old) new
-    → world.TakesPiece (Some framing.held) (Some framing'.held) piece old.line new.line
-client_takes content faults faults' piece framing framing' old new takes = record {
+pub client_takes : (shelf shelf' : Shelved) (piece : List ℕ) (framing framing' : Framing) (old new : Client) → StaysShelved shelf shelf' → Takes shelf.content shelf.faults shelf'.faults piece framing framing' (putting_out old) new
+    → world.TakesPiece piece (facing old (Some framing.held) shelf) (facing new (Some framing'.held) shelf')
+client_takes shelf shelf' piece framing framing' old new stays takes = record {
   before = framing.held;
   held_was = refl;
-  heard_piece = record { packets = takes.packets; rest = takes.taken.rest; each = takes.taken.read.each; octets = takes.taken.read.octets; hears = hears_each content faults faults' takes.packets (putting_out old) new takes.hears };
+  heard_piece = record {
+    packets = takes.packets;
+    rest = takes.taken.rest;
+    each = takes.taken.read.each;
+    octets = takes.taken.read.octets;
+    hears = hears_each shelf.content shelf.faults shelf'.faults takes.packets (putting_out old) new takes.hears;
+    tells = (takes.hears, stays);
+  };
   unfinished = takes.taken.unfinished;
   held_is = ap (λ (f : Framing). Some f.held) takes.taken.framing_is;
 }
@@ -106,33 +128,42 @@ all_fed = Ok tt
 pub no_error : (refusal : FeedRefusal) → all_fed ≡ Err refusal → ⊥
 no_error refusal e = absurd cc
 
-ok_by : (content : Option (List Object)) (faults faults' : ℕ) (piece : List ℕ) (refused refused' : Option FeedRefusal) (framing framing' : Framing) (old new : Client) (X : Type 0)
-    → MatchOption refused (Takes content faults faults' piece framing framing' (putting_out old) new × (refused' ≡ None)) (λ refusal. (all_fed ≡ Err refusal) × X)
-    → world.TakesPiece (held_by refused framing) (held_by refused' framing') piece old.line new.line
-ok_by content faults faults' piece None refused' framing framing' old new X fed =
-    subst (λ r. world.TakesPiece (Some framing.held) (held_by r framing') piece old.line new.line) (sym fed.1) (client_takes content faults faults' piece framing framing' old new fed.0)
-ok_by content faults faults' piece (Some refusal) refused' framing framing' old new X fed = absurd (no_error refusal fed.0)
+ok_by : (shelf shelf' : Shelved) (piece : List ℕ) (refused refused' : Option FeedRefusal) (framing framing' : Framing) (old new : Client) (X : Type 0) → StaysShelved shelf shelf'
+    → MatchOption refused (Takes shelf.content shelf.faults shelf'.faults piece framing framing' (putting_out old) new × (refused' ≡ None)) (λ refusal. (all_fed ≡ Err refusal) × X)
+    → world.TakesPiece piece (facing old (held_by refused framing) shelf) (facing new (held_by refused' framing') shelf')
+ok_by shelf shelf' piece None refused' framing framing' old new X stays fed =
+    subst (λ r. world.TakesPiece piece (facing old (Some framing.held) shelf) (facing new (held_by r framing') shelf')) (sym fed.1) (client_takes shelf shelf' piece framing framing' old new stays fed.0)
+ok_by shelf shelf' piece (Some refusal) refused' framing framing' old new X stays fed = absurd (no_error refusal fed.0)
 
-pub client_ok : (content : Option (List Object)) (faults faults' : ℕ) (piece : List ℕ) (old new : ClientState) → Feeds content faults faults' piece old new (Ok tt)
-    → world.TakesPiece (client_face old).held (client_face new).held piece old.client.line new.client.line
-client_ok content faults faults' piece old new fed = ok_by content faults faults' piece old.refusal new.refusal old.framing new.framing old.client new.client (new ≡ old) fed
+pub client_ok : (shelf shelf' : Shelved) (piece : List ℕ) (old new : ClientState) → StaysShelved shelf shelf' → Feeds shelf.content shelf.faults shelf'.faults piece old new (Ok tt)
+    → world.TakesPiece piece (client_face old shelf) (client_face new shelf')
+client_ok shelf shelf' piece old new stays fed = ok_by shelf shelf' piece old.refusal new.refusal old.framing new.framing old.client new.client (new ≡ old) stays fed
 
 pub silent : (before : List ℕ) → None ≡ Some before → ⊥
 silent before e = absurd cc
 
-err_by : (content : Option (List Object)) (faults faults' : ℕ) (piece : List ℕ) (refusal : FeedRefusal) (refused : Option FeedRefusal) (held' : Option (List ℕ)) (framing framing' : Framing) (old new : Client) (X : Type 0) (Y : FeedRefusal → Type 0)
-    → MatchOption refused (Reads content faults faults' piece framing framing' (putting_out old) new (Err refusal) × X) Y
-    → world.Hears (held_by refused framing) held' piece old.line new.line (Err (fault_by refusal))
-err_by content faults faults' piece (feed.Transport why at) None held' framing framing' old new X Y fed = client_stops content faults faults' piece framing framing' old new (feed.Transport why at) fed.0
-err_by content faults faults' piece (feed.CommandFailed opcode status at) None held' framing framing' old new X Y fed = client_stops content faults faults' piece framing framing' old new (feed.CommandFailed opcode status at) fed.0
-err_by content faults faults' piece (feed.BadBuffers size count at) None held' framing framing' old new X Y fed = client_stops content faults faults' piece framing framing' old new (feed.BadBuffers size count at) fed.0
-err_by content faults faults' piece feed.NoMemory None held' framing framing' old new X Y fed = tt
-err_by content faults faults' piece (feed.Transport why at) (Some r) held' framing framing' old new X Y fed = λ before e. absurd (silent before e)
-err_by content faults faults' piece (feed.CommandFailed opcode status at) (Some r) held' framing framing' old new X Y fed = λ before e. absurd (silent before e)
-err_by content faults faults' piece (feed.BadBuffers size count at) (Some r) held' framing framing' old new X Y fed = λ before e. absurd (silent before e)
-err_by content faults faults' piece feed.NoMemory (Some r) held' framing framing' old new X Y fed = tt
+err_by : (shelf shelf' : Shelved) (piece : List ℕ) (refusal : FeedRefusal) (refused : Option FeedRefusal) (held' : Option (List ℕ)) (framing framing' : Framing) (old new : Client) (X : Type 0) (Y : FeedRefusal → Type 0) → StaysShelved shelf shelf'
+    → MatchOption refused (Reads shelf.content shelf.faults shelf'.faults piece framing framing' (putting_out old) new (Err refusal) × X) Y
+    → world.Hears piece (facing old (held_by refused framing) shelf) (facing new held' shelf') (Err (fault_by refusal))
+err_by shelf shelf' piece (feed.Transport why at) None held' framing framing' old new X Y stays fed = client_stops shelf shelf' piece framing framing' held' old new (feed.Transport why at) stays fed.0
+err_by shelf shelf' piece (feed.CommandFailed opcode status at) None held' framing framing' old new X Y stays fed = client_stops shelf shelf' piece framing framing' held' old new (feed.CommandFailed opcode status at) stays fed.0
+err_by shelf shelf' piece (feed.BadBuffers size count at) None held' framing framing' old new X Y stays fed = client_stops shelf shelf' piece framing framing' held' old new (feed.BadBuffers size count at) stays fed.0
+err_by shelf shelf' piece feed.NoMemory None held' framing framing' old new X Y stays fed = tt
+err_by shelf shelf' piece (feed.Transport why at) (Some r) held' framing framing' old new X Y stays fed = λ before e. absurd (silent before e)
+err_by shelf shelf' piece (feed.CommandFailed opcode status at) (Some r) held' framing framing' old new X Y stays fed = λ before e. absurd (silent before e)
+err_by shelf shelf' piece (feed.BadBuffers size count at) (Some r) held' framing framing' old new X Y stays fed = λ before e. absurd (silent before e)
+err_by shelf shelf' piece feed.NoMemory (Some r) held' framing framing' old new X Y stays fed = tt
 
-pub client_err : (content : Option (List Object)) (faults faults' : ℕ) (piece : List ℕ) (old new : ClientState) (refusal : FeedRefusal) → Feeds content faults faults' piece old new (Err refusal)
-    → world.Hears (client_face old).held (client_face new).held piece old.client.line new.client.line (Err (fault_by refusal))
-client_err content faults faults' piece old new refusal fed =
-    err_by content faults faults' piece refusal old.refusal (held_by new.refusal new.framing) old.framing new.framing old.client new.client (new.refusal ≡ refusal_in (Err refusal)) (λ r. (Err refusal ≡ Err r) × (new ≡ old)) fed
+pub client_err : (shelf shelf' : Shelved) (piece : List ℕ) (old new : ClientState) (refusal : FeedRefusal) → StaysShelved shelf shelf' → Feeds shelf.content shelf.faults shelf'.faults piece old new (Err refusal)
+    → world.Hears piece (client_face old shelf) (client_face new shelf') (Err (fault_by refusal))
+client_err shelf shelf' piece old new refusal stays fed =
+    err_by shelf shelf' piece refusal old.refusal (held_by new.refusal new.framing) old.framing new.framing old.client new.client (new.refusal ≡ refusal_in (Err refusal)) (λ r. (Err refusal ≡ Err r) × (new ≡ old)) stays fed
+
+-- ---- a push
+
+pub client_starts : (shelf shelf' : Shelved) (name : List ℕ) (old new : Client) → StaysShelved shelf shelf' → PushesOn shelf.content shelf.faults shelf'.faults name old new
+    → PutsOut old.line new.line × StartsPush name old.line new.line (Pushing old.course shelf) (Pushing new.course shelf')
+client_starts shelf shelf' name old new stays pushes = (client_puts shelf.content shelf.faults shelf'.faults (record { line = old.line; course = pushes.course }) new pushes.goes, (pushes, stays))
+
+pub stays_shelved : (content content' : Option (List Object)) (faults faults' shortages shortages' : ℕ) → Stays content content' faults faults' shortages shortages' → StaysShelved (shelved content faults) (shelved content' faults')
+stays_shelved content content' faults faults' shortages shortages' stays = record { content_is = stays.told; faults_stay = stays.faults_stay }

@@ -21,7 +21,9 @@ use Rattle.capture.proofs.MoreLaws.{octets-in_parts}
 use Rattle.world_model.specs.Faces.{Face}
 use Rattle.world_model.specs.Media.{Medium, face_a, face_b}
 use Rattle.world_model.specs.Standing.{Stands}
+use Rattle.radio_world.specs.Running.{moment, in_medium}
 use Rattle.radio_world.specs.Extending.{Extends}
+use Rattle.radio_world.proofs.Running.{run_none, run_then}
 use Rattle.world_model.specs.Moving.{HasNoPacket}
 
 -- nothing more
@@ -34,6 +36,7 @@ extends_none side medium face trace = record {
   size = refl;
   count = refl;
   history = λ script past other stands. subst (λ entries. Stands script entries medium (face_a side face other) (face_b side face other)) (sym (append-nil past)) stands;
+  run = λ script past other scene stands. run_none (moment (in_medium medium scene) (face_a side face other) (face_b side face other));
 }
 
 -- one lot behind another
@@ -49,6 +52,10 @@ extends_then side first mid last face face' face'' trace trace' trace'' one two 
   history = λ script past other stands.
       subst (λ entries. Stands script entries last (face_a side face'' other) (face_b side face'' other)) (append_assoc past one.added two.added)
       (two.history script (past ++ one.added) other (one.history script past other stands));
+  run = λ script past other scene stands.
+      run_then [] [] one.added two.added (moment (in_medium first scene) (face_a side face other) (face_b side face other)) (moment (in_medium mid scene) (face_a side face' other) (face_b side face' other))
+      (moment (in_medium last scene) (face_a side face'' other) (face_b side face'' other))
+      (one.run script past other scene stands) (two.run script (past ++ one.added) other scene (one.history script past other stands));
 }
 
 -- ---- what stands in front of octets

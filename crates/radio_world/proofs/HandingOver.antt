@@ -11,8 +11,11 @@ use Rattle.h4_framing.proofs.ReadingLemmas.{no_wrong_nothing}
 use Rattle.host_link.specs.Lines.{Line}
 use Rattle.host_link.specs.Hearing.{fault_of}
 use Rattle.host_link.specs.PuttingOut.{put_out}
+use Rattle.world_model.specs.Insides.{Inside, Tells}
+use Rattle.world_model.specs.Faces.{Face}
 use Rattle.world_model.specs.Hearing.{acl_limit, put_out_again, HearsOne, HearsBehind, FaultsBehind}
-use Rattle.radio_world.specs.Feeding.{HearsEach, HearsPiece, TakesPiece, RefusesPiece, IsAtFault}
+use Rattle.radio_world.specs.Feeding.{HearsEach, TellsEach, TakesPiece, RefusesPiece, IsAtFault}
+use Rattle.radio_world.proofs.Insides.{StaysInside, stays_same, stays_on, tells_none, tells_one, tells_behind}
 
 -- ---- lists
 
@@ -29,25 +32,26 @@ no_spelling packet more e =
 -- ---- what a piece of a packet's octets is
 
 -- the octets so far and those that are left are the packet
-pub record IsUnderWay (packet : Packet) (held : Option (List ℕ)) (rest : List ℕ) (old now : Line) : Type 0 where
+pub record IsUnderWay (packet : Packet) (rest : List ℕ) (old now : Face) : Type 0 where
   pub times : ℕ
-  pub same : now ≡ put_out_again times old
+  pub same : now.line ≡ put_out_again times old.line
+  pub stays : StaysInside old.inside now.inside
   pub before : List ℕ
-  pub held_was : held ≡ Some before
+  pub held_was : now.held ≡ Some before
   pub octets : before ++ rest ≡ spelling packet
 
-pub record IsDone (packet : Packet) (held : Option (List ℕ)) (old now : Line) : Type 0 where
+pub record IsDone (packet : Packet) (old now : Face) : Type 0 where
   pub hears : HearsBehind packet old now
-  pub held_none : held ≡ Some []
+  pub held_none : now.held ≡ Some []
 
 -- while octets are left, nothing was heard; then the packet was
-pub record Progress (packet : Packet) (held : Option (List ℕ)) (rest : List ℕ) (old now : Line) : Type 0 where
-  pub goes_on : rest ≢ [] → IsUnderWay packet held rest old now
-  pub done : rest ≡ [] → IsDone packet held old now
+pub record Progress (packet : Packet) (rest : List ℕ) (old now : Face) : Type 0 where
+  pub goes_on : rest ≢ [] → IsUnderWay packet rest old now
+  pub done : rest ≡ [] → IsDone packet old now
 
-pub at_first : (packet : Packet) (held : Option (List ℕ)) (octets : List ℕ) (line : Line) → octets ≡ spelling packet → held ≡ Some [] → Progress packet held octets line line
-at_first packet held octets line spelled none = record {
-  goes_on = λ some. record { times = 0; same = refl; before = []; held_was = none; octets = spelled };
+pub at_first : (packet : Packet) (octets : List ℕ) (face : Face) → octets ≡ spelling packet → face.held ≡ Some [] → Progress packet octets face face
+at_first packet octets face spelled none = record {
+  goes_on = λ some. record { times = 0; same = refl; stays = stays_same face.inside; before = []; held_was = none; octets = spelled };
   done = λ empty. absurd (no_spelling packet [] (append-nil (spelling packet) ∙ sym spelled ∙ empty));
 }
 
@@ -77,33 +81,53 @@ heard_one packet q packets old now same none (between, first, rest) =
     let at_end : HearsEach [] between now = subst (λ ps. HearsEach ps between now) none rest in
     subst (λ p. HearsOne p old now) (sym same) (subst (λ line. HearsOne q old line) (sym at_end) first)
 
-behind : (packet : Packet) (times : ℕ) (start first now : Line) → first ≡ put_out_again times start → HearsOne packet first now → HearsBehind packet start now
-behind packet times start first now same hears = record { times = times; hears = subst (λ line. HearsOne packet line now) same hears }
+told_one : (packet q : Packet) (packets : List Packet) (line line' : Line) (old new : Inside) → packet ≡ q → packets ≡ [] → TellsEach (q ∷ packets) line line' old new → Tells packet line line' old new
+told_one packet q packets line line' old new same none tells =
+    subst (λ p. Tells p line line' old new) (sym same) (tells_one q line line' old new (subst (λ ps. TellsEach (q ∷ ps) line line' old new) none tells))
 
-by_packets : (packet : Packet) (packets : List Packet) (before piece more rest : List ℕ) (held' : Option (List ℕ)) (times : ℕ) (start first now : Line) → IsPacket acl_limit packet → first ≡ put_out_again times start
+behind : (packet : Packet) (times : ℕ) (start now : Face) (mid : Inside) (first : Line) → first ≡ put_out_again times start.line → StaysInside start.inside mid → HearsOne packet first now.line
+    → Tells packet first now.line mid now.inside → HearsBehind packet start now
+behind packet times start now mid first same stays hears tells = record {
+  times = times;
+  hears = subst (λ line. HearsOne packet line now.line) same hears;
+  tells = subst (λ line. Tells packet line now.line start.inside now.inside) same (tells_behind packet first now.line start.inside mid now.inside stays tells);
+}
+
+by_packets : (packet : Packet) (packets : List Packet) (before piece more rest : List ℕ) (times : ℕ) (start now : Face) (mid : Inside) (first : Line) → IsPacket acl_limit packet
+    → first ≡ put_out_again times start.line → StaysInside start.inside mid
     → (before ++ piece) ++ more ≡ spelling packet → AllByRecursion (IsPacket acl_limit) packets → before ++ piece ≡ spellings packets ++ rest
-    → HearsEach packets first now → IsUnfinished acl_limit rest → held' ≡ Some rest → Progress packet held' more start now
-by_packets packet [] before piece more rest held' times start first now is same spelled each octets hears unfinished kept = record {
-  goes_on = λ some. record { times = times; same = hears ∙ same; before = rest; held_was = kept; octets = ap (λ h. h ++ more) (sym octets) ∙ spelled };
+    → HearsEach packets first now.line → TellsEach packets first now.line mid now.inside → IsUnfinished acl_limit rest → now.held ≡ Some rest → Progress packet more start now
+by_packets packet [] before piece more rest times start now mid first is same stays spelled each octets hears tells unfinished kept = record {
+  goes_on = λ some. record {
+      times = times;
+      same = hears ∙ same;
+      stays = stays_on start.inside mid now.inside stays (tells_none first now.line mid now.inside tells);
+      before = rest;
+      held_was = kept;
+      octets = ap (λ h. h ++ more) (sym octets) ∙ spelled;
+    };
   done = λ none. absurd (whole_is_finished packet is (subst (IsUnfinished acl_limit) (sym octets ∙ sym (append-nil (before ++ piece)) ∙ ap (λ m. (before ++ piece) ++ m) (sym none) ∙ spelled) unfinished));
 }
-by_packets packet (q ∷ packets) before piece more rest held' times start first now is same spelled each octets hears unfinished kept =
+by_packets packet (q ∷ packets) before piece more rest times start now mid first is same stays spelled each octets hears tells unfinished kept =
     let one = one_of packet packets q (before ++ piece) more rest is each.0 octets spelled in
     record {
       goes_on = λ some. absurd (some one.3);
-      done = λ none. record { hears = behind packet times start first now same (heard_one packet q packets first now one.0 one.1 hears); held_none = kept ∙ ap Some one.2 };
+      done = λ none. record {
+          hears = behind packet times start now mid first same stays (heard_one packet q packets first now.line one.0 one.1 hears) (told_one packet q packets first now.line mid now.inside one.0 one.1 tells);
+          held_none = kept ∙ ap Some one.2;
+        };
     }
 
 same_held : {A : Type 0} (held : Option A) (x y : A) → held ≡ Some x → held ≡ Some y → x ≡ y
 same_held held x y e f = cc
 
 -- the host takes a piece of the packet
-pub taken : (packet : Packet) (held held' : Option (List ℕ)) (piece more : List ℕ) (start old now : Line) → IsPacket acl_limit packet
-    → IsUnderWay packet held (piece ++ more) start old → TakesPiece held held' piece old now → Progress packet held' more start now
-taken packet held held' piece more start old now is under takes =
-    let same : takes.before ≡ under.before = same_held held takes.before under.before takes.held_was under.held_was in
-    by_packets packet takes.heard_piece.packets takes.before piece more takes.heard_piece.rest held' (suc under.times) start (put_out old) now is (ap put_out under.same)
-    (append_assoc takes.before piece more ∙ ap (λ xs. xs ++ (piece ++ more)) same ∙ under.octets) takes.heard_piece.each takes.heard_piece.octets takes.heard_piece.hears takes.unfinished takes.held_is
+pub taken : (packet : Packet) (piece more : List ℕ) (start old now : Face) → IsPacket acl_limit packet
+    → IsUnderWay packet (piece ++ more) start old → TakesPiece piece old now → Progress packet more start now
+taken packet piece more start old now is under takes =
+    let same : takes.before ≡ under.before = same_held old.held takes.before under.before takes.held_was under.held_was in
+    by_packets packet takes.heard_piece.packets takes.before piece more takes.heard_piece.rest (suc under.times) start now old.inside (put_out old.line) is (ap put_out under.same) under.stays
+    (append_assoc takes.before piece more ∙ ap (λ xs. xs ++ (piece ++ more)) same ∙ under.octets) takes.heard_piece.each takes.heard_piece.octets takes.heard_piece.hears takes.heard_piece.tells takes.unfinished takes.held_is
 
 -- ---- a host that cannot go on
 
@@ -135,9 +159,9 @@ by_refusal packet (q ∷ packets) before piece more rest times start first now i
     absurd (nothing_wrong now (subst (λ r. ((refusal : H4Refusal) × (n : ℕ) × GoesWrong acl_limit r refusal n) ⊎ IsAtFault r now) one.2 why))
 
 -- the host refuses a piece of the packet
-pub refused : (packet : Packet) (held : Option (List ℕ)) (piece more : List ℕ) (start old now : Line) → IsPacket acl_limit packet
-    → IsUnderWay packet held (piece ++ more) start old → ((before : List ℕ) → held ≡ Some before → RefusesPiece before piece old now) → FaultsBehind packet start
-refused packet held piece more start old now is under refuses =
+pub refused : (packet : Packet) (piece more : List ℕ) (start old now : Face) → IsPacket acl_limit packet
+    → IsUnderWay packet (piece ++ more) start old → ((before : List ℕ) → old.held ≡ Some before → RefusesPiece before piece old now) → FaultsBehind packet start.line
+refused packet piece more start old now is under refuses =
     let refusal = refuses under.before under.held_was in
-    by_refusal packet refusal.heard_piece.packets under.before piece more refusal.heard_piece.rest (suc under.times) start (put_out old) now is (ap put_out under.same)
+    by_refusal packet refusal.heard_piece.packets under.before piece more refusal.heard_piece.rest (suc under.times) start.line (put_out old.line) now.line is (ap put_out under.same)
     (append_assoc under.before piece more ∙ under.octets) refusal.heard_piece.each refusal.heard_piece.octets refusal.heard_piece.hears refusal.why

@@ -1,9 +1,11 @@
+pub mod Running
 pub mod Extending
 pub mod Bringing
 pub mod Departed
 pub mod Arrived
 pub mod Offered
 pub mod Exchanging
+pub mod Insides
 pub mod HandingOver
 pub mod Going
 pub mod Turned

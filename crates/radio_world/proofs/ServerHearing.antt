@@ -14,6 +14,8 @@ use Rattle.bt_host.specs.Refusals.{refusal_in}
 use Rattle.bt_host.specs.Channels.{sent}
 use Rattle.bt_host.specs.Servers.{Served, Server, Kept, Hears, HearsAll, GoesOn, IsSendable, with_response, answering, stepped, putting_out}
 use Rattle.bt_host.specs.ServerHosts.{ServerState, Feeds, Reads, Takes, Stops}
+use Rattle.world_model.specs.Insides.{Serving}
+use Rattle.world_model.specs.Faces.{Face}
 use Rattle.world_model.specs.Hearing.{Want, Send as SendOut, after_want, IsWant, PutsOut}
 use Rattle.radio_world.specs.Feeding.{HearsEach}
 use Rattle.radio_world.specs.Feeding as world
@@ -60,20 +62,38 @@ hears_each inbox inbox' (packet ∷ packets) old new hears =
     let one : Hears inbox hears.0 packet old between = hears.2 in
     (between.line, (record { sound = one.sound; puts = server_puts one.response (record { line = heard packet old.line; served = one.served }) between one.goes }), hears_each hears.0 inbox' packets between new hears.3)
 
-pub server_stops : (inbox inbox' : Kept) (piece : List ℕ) (framing framing' : Framing) (old new : Server) (refusal : FeedRefusal) → Stops inbox inbox' piece framing framing' (putting_out old) new refusal
-    → (before : List ℕ) → Some framing.held ≡ Some before → world.RefusesPiece before piece old.line new.line
-server_stops inbox inbox' piece framing framing' old new refusal stops before same =
-    subst (λ held. world.RefusesPiece held piece old.line new.line) (let e : framing.held ≡ before = cc in e) (record {
-      heard_piece = record { packets = stops.packets; rest = stops.stopped.rest; each = stops.stopped.read.each; octets = stops.stopped.read.octets; hears = hears_each inbox inbox' stops.packets (putting_out old) new stops.hears };
+-- a server that holds these octets, beside an inbox
+abbrev facing : Server → Option (List ℕ) → Kept → Face
+facing server held inbox = record { line = server.line; held = held; inside = Serving server.served inbox }
+
+server_stops : (inbox inbox' : Kept) (piece : List ℕ) (framing framing' : Framing) (held' : Option (List ℕ)) (old new : Server) (refusal : FeedRefusal) → Stops inbox inbox' piece framing framing' (putting_out old) new refusal
+    → (before : List ℕ) → Some framing.held ≡ Some before → world.RefusesPiece before piece (facing old (Some framing.held) inbox) (facing new held' inbox')
+server_stops inbox inbox' piece framing framing' held' old new refusal stops before same =
+    subst (λ held. world.RefusesPiece held piece (facing old (Some framing.held) inbox) (facing new held' inbox')) (let e : framing.held ≡ before = cc in e) (record {
+      heard_piece = record {
+        packets = stops.packets;
+        rest = stops.stopped.rest;
+        each = stops.stopped.read.each;
+        octets = stops.stopped.read.octets;
+        hears = hears_each inbox inbox' stops.packets (putting_out old) new stops.hears;
+        tells = stops.hears;
+      };
       why = why_refused new.line _ stops.stopped.rest refusal stops.stopped.refused;
     })
 
-pub server_takes : (inbox inbox' : Kept) (piece : List ℕ) (framing framing' : Framing) (old new : Server) → Takes inbox inbox' piece framing framing' (putting_out old) new
-    → world.TakesPiece (Some framing.held) (Some framing'.held) piece old.line new.line
+server_takes : (inbox inbox' : Kept) (piece : List ℕ) (framing framing' : Framing) (old new : Server) → Takes inbox inbox' piece framing framing' (putting_out old) new
+    → world.TakesPiece piece (facing old (Some framing.held) inbox) (facing new (Some framing'.held) inbox')
 server_takes inbox inbox' piece framing framing' old new takes = record {
   before = framing.held;
   held_was = refl;
-  heard_piece = record { packets = takes.packets; rest = takes.taken.rest; each = takes.taken.read.each; octets = takes.taken.read.octets; hears = hears_each inbox inbox' takes.packets (putting_out old) new takes.hears };
+  heard_piece = record {
+    packets = takes.packets;
+    rest = takes.taken.rest;
+    each = takes.taken.read.each;
+    octets = takes.taken.read.octets;
+    hears = hears_each inbox inbox' takes.packets (putting_out old) new takes.hears;
+    tells = takes.hears;
+  };
   unfinished = takes.taken.unfinished;
   held_is = ap (λ (f : Framing). Some f.held) takes.taken.framing_is;
 }
@@ -82,21 +102,21 @@ server_takes inbox inbox' piece framing framing' old new takes = record {
 
 ok_by : (inbox inbox' : Kept) (piece : List ℕ) (refused refused' : Option FeedRefusal) (framing framing' : Framing) (old new : Server) (X Y : Type 0)
     → MatchOption refused (Takes inbox inbox' piece framing framing' (putting_out old) new × (refused' ≡ None)) (λ refusal. (all_fed ≡ Err refusal) × X × Y)
-    → world.TakesPiece (held_by refused framing) (held_by refused' framing') piece old.line new.line
+    → world.TakesPiece piece (facing old (held_by refused framing) inbox) (facing new (held_by refused' framing') inbox')
 ok_by inbox inbox' piece None refused' framing framing' old new X Y fed =
-    subst (λ r. world.TakesPiece (Some framing.held) (held_by r framing') piece old.line new.line) (sym fed.1) (server_takes inbox inbox' piece framing framing' old new fed.0)
+    subst (λ r. world.TakesPiece piece (facing old (Some framing.held) inbox) (facing new (held_by r framing') inbox')) (sym fed.1) (server_takes inbox inbox' piece framing framing' old new fed.0)
 ok_by inbox inbox' piece (Some refusal) refused' framing framing' old new X Y fed = absurd (no_error refusal fed.0)
 
 pub server_ok : (inbox inbox' : Kept) (piece : List ℕ) (old new : ServerState) → Feeds inbox inbox' piece old new (Ok tt)
-    → world.TakesPiece (server_face old).held (server_face new).held piece old.server.line new.server.line
+    → world.TakesPiece piece (server_face old inbox) (server_face new inbox')
 server_ok inbox inbox' piece old new fed = ok_by inbox inbox' piece old.refusal new.refusal old.framing new.framing old.server new.server (new ≡ old) (inbox' ≡ inbox) fed
 
 err_by : (inbox inbox' : Kept) (piece : List ℕ) (refusal : FeedRefusal) (refused : Option FeedRefusal) (held' : Option (List ℕ)) (framing framing' : Framing) (old new : Server) (X : Type 0) (Y : FeedRefusal → Type 0)
     → MatchOption refused (Reads inbox inbox' piece framing framing' (putting_out old) new (Err refusal) × X) Y
-    → world.Hears (held_by refused framing) held' piece old.line new.line (Err (fault_by refusal))
-err_by inbox inbox' piece (feed.Transport why at) None held' framing framing' old new X Y fed = server_stops inbox inbox' piece framing framing' old new (feed.Transport why at) fed.0
-err_by inbox inbox' piece (feed.CommandFailed opcode status at) None held' framing framing' old new X Y fed = server_stops inbox inbox' piece framing framing' old new (feed.CommandFailed opcode status at) fed.0
-err_by inbox inbox' piece (feed.BadBuffers size count at) None held' framing framing' old new X Y fed = server_stops inbox inbox' piece framing framing' old new (feed.BadBuffers size count at) fed.0
+    → world.Hears piece (facing old (held_by refused framing) inbox) (facing new held' inbox') (Err (fault_by refusal))
+err_by inbox inbox' piece (feed.Transport why at) None held' framing framing' old new X Y fed = server_stops inbox inbox' piece framing framing' held' old new (feed.Transport why at) fed.0
+err_by inbox inbox' piece (feed.CommandFailed opcode status at) None held' framing framing' old new X Y fed = server_stops inbox inbox' piece framing framing' held' old new (feed.CommandFailed opcode status at) fed.0
+err_by inbox inbox' piece (feed.BadBuffers size count at) None held' framing framing' old new X Y fed = server_stops inbox inbox' piece framing framing' held' old new (feed.BadBuffers size count at) fed.0
 err_by inbox inbox' piece feed.NoMemory None held' framing framing' old new X Y fed = tt
 err_by inbox inbox' piece (feed.Transport why at) (Some r) held' framing framing' old new X Y fed = λ before e. absurd (silent before e)
 err_by inbox inbox' piece (feed.CommandFailed opcode status at) (Some r) held' framing framing' old new X Y fed = λ before e. absurd (silent before e)
@@ -104,6 +124,6 @@ err_by inbox inbox' piece (feed.BadBuffers size count at) (Some r) held' framing
 err_by inbox inbox' piece feed.NoMemory (Some r) held' framing framing' old new X Y fed = tt
 
 pub server_err : (inbox inbox' : Kept) (piece : List ℕ) (old new : ServerState) (refusal : FeedRefusal) → Feeds inbox inbox' piece old new (Err refusal)
-    → world.Hears (server_face old).held (server_face new).held piece old.server.line new.server.line (Err (fault_by refusal))
+    → world.Hears piece (server_face old inbox) (server_face new inbox') (Err (fault_by refusal))
 server_err inbox inbox' piece old new refusal fed =
     err_by inbox inbox' piece refusal old.refusal (held_by new.refusal new.framing) old.framing new.framing old.server new.server (new.refusal ≡ refusal_in (Err refusal)) (λ r. (Err refusal ≡ Err r) × (new ≡ old) × (inbox' ≡ inbox)) fed

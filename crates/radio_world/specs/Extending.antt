@@ -16,6 +16,8 @@ use Rattle.world_model.specs.Hearing.{acl_limit, HearsWhole}
 use Rattle.world_model.specs.Faces.{Face, with_out}
 use Rattle.world_model.specs.Media.{Medium, in_radio, after_moving, face_a, face_b}
 use Rattle.world_model.specs.Standing.{Stands}
+use Rattle.world_model.specs.Scenes.{Scene}
+use Rattle.radio_world.specs.Running.{IsRun, moment, in_medium}
 
 -- the first packet that a host put out moves to its controller
 pub record MovesOut (side : Side) (old new : Medium) (face face' : Face) (trace trace' : Option (List ℕ)) : Type 0 where
@@ -34,10 +36,11 @@ pub record MovesInto (side : Side) (old new : Medium) (face face' : Face) (trace
   pub owed : (controller side old.radio).owed ≡ answer ∷ rest
   pub medium_is : new ≡ in_radio (after_answer side old.radio) old
   pub is : IsPacket acl_limit (packet_of side answer)
-  pub hears : HearsWhole (spelling (packet_of side answer)) face.held face'.held face.line face'.line
+  pub hears : HearsWhole (spelling (packet_of side answer)) face face'
   pub trace_is : trace' ≡ gained trace (entry_octets (Moved side Into (packet_of side answer)))
 
--- Some entries more, none of them a word or the end of a push, while the other host stays as it is: what stood before them stands after them.
+-- Some entries more, none of them a word or the end of a push, while the other host stays as it is: what stood before them
+-- stands after them, and they are what happened.
 pub record Extends (side : Side) (old new : Medium) (face face' : Face) (trace trace' : Option (List ℕ)) : Type 0 where
   pub added : List Entry
   pub trace_is : trace' ≡ gained trace (capture_octets added)
@@ -47,4 +50,5 @@ pub record Extends (side : Side) (old new : Medium) (face face' : Face) (trace t
   pub count : new.radio.count ≡ old.radio.count
   pub history : (script : List Word) (past : List Entry) (other : Face) → Stands script past old (face_a side face other) (face_b side face other)
       → Stands script (past ++ added) new (face_a side face' other) (face_b side face' other)
-
+  pub run : (script : List Word) (past : List Entry) (other : Face) (scene : Scene) → Stands script past old (face_a side face other) (face_b side face other)
+      → IsRun [] added (moment (in_medium old scene) (face_a side face other) (face_b side face other)) (moment (in_medium new scene) (face_a side face' other) (face_b side face' other))

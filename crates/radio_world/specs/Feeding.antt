@@ -1,15 +1,18 @@
 -- A host that is fed octets (this project's own).
-use Rattle.std.specs.Prelude.{ℕ, zero, suc, ◌≡◌, ◌≢◌, ◌++◌, ◌⊎◌, List, [], ◌∷◌, fold, Option, Some, None, Result, Ok, Err}
+use Rattle.std.specs.Prelude.{ℕ, ◌≡◌, ◌++◌, ◌⊎◌, List, [], ◌∷◌, Option, Some, None, Result, Ok, Err}
 use Rattle.std.specs.List.{AllByRecursion}
 use Rattle.h4_framing.specs.Packets.{Packet, spelling, spellings, IsPacket}
 use Rattle.h4_framing.specs.Stream.{IsUnfinished, GoesWrong}
 use Rattle.h4_framing.specs.declared.refusal.H4Refusal.{H4Refusal}
 use Rattle.host_link.specs.Lines.{Line}
-use Rattle.host_link.specs.Hearing.{heard, fault_of}
-use Rattle.host_link.specs.PuttingOut.{put_out, connecting, ending, with_pdu}
+use Rattle.host_link.specs.Hearing.{fault_of}
+use Rattle.host_link.specs.PuttingOut.{put_out}
 use Rattle.host_link.specs.declared.news.ControllerFault.{ControllerFault}
-use Rattle.bt_base.specs.Octets.{IsOctets}
-use Rattle.world_model.specs.Hosts.{IsAddress}
+use Rattle.bt_host.specs.Clients as pushing
+use Rattle.bt_host.specs.Servers as serving
+use Rattle.world_model.specs.Insides.{Inside, Pushing, Serving, StaysShelved, client, server}
+use Rattle.world_model.specs.Faces.{Face}
+use Rattle.world_model.specs.Hearing.{acl_limit, HearsOne}
 use Rattle.radio_world.specs.declared.host.HostFault.{HostFault}
 use Rattle.radio_world.specs.declared.host.HostFault.TheVariants.{Refused, NoMemory}
 
@@ -17,22 +20,30 @@ abbrev pub HearsEach : List Packet → Line → Line → Type 0
 HearsEach [] old new = new ≡ old
 HearsEach (packet ∷ packets) old new = (between : Line) × HearsOne packet old between × HearsEach packets between new
 
+-- what packets that are heard one after the other make of what a host has within
+abbrev pub TellsEach : List Packet → (line line' : Line) → (old new : Inside) → Type 0
+TellsEach packets line line' (Pushing course shelf) (Pushing course' shelf') =
+    pushing.HearsAll shelf.content shelf.faults shelf'.faults packets (client line course) (client line' course') × StaysShelved shelf shelf'
+TellsEach packets line line' (Serving served inbox) (Serving served' inbox') = serving.HearsAll inbox inbox' packets (server line served) (server line' served')
+TellsEach packets line line' _ _ = ⊥
+
 -- what was held back goes out; the octets that were held and those of a piece are whole packets, which the host heard, and
 -- a rest
-pub record HearsPiece (held piece : List ℕ) (old new : Line) : Type 0 where
+pub record HearsPiece (held piece : List ℕ) (old new : Face) : Type 0 where
   pub packets : List Packet
   pub rest : List ℕ
   pub each : AllByRecursion (IsPacket acl_limit) packets
   pub octets : held ++ piece ≡ spellings packets ++ rest
-  pub hears : HearsEach packets (put_out old) new
+  pub hears : HearsEach packets (put_out old.line) new.line
+  pub tells : TellsEach packets (put_out old.line) new.line old.inside new.inside
 
 -- the rest is the beginning of a packet, and held
-pub record TakesPiece (held held' : Option (List ℕ)) (piece : List ℕ) (old new : Line) : Type 0 where
+pub record TakesPiece (piece : List ℕ) (old new : Face) : Type 0 where
   pub before : List ℕ
-  pub held_was : held ≡ Some before
+  pub held_was : old.held ≡ Some before
   pub heard_piece : HearsPiece before piece old new
   pub unfinished : IsUnfinished acl_limit heard_piece.rest
-  pub held_is : held' ≡ Some heard_piece.rest
+  pub held_is : new.held ≡ Some heard_piece.rest
 
 -- a packet at which the controller is at fault
 pub record IsAtFault (octets : List ℕ) (line : Line) : Type 0 where
@@ -44,13 +55,12 @@ pub record IsAtFault (octets : List ℕ) (line : Line) : Type 0 where
   pub at_fault : fault_of packet line ≡ Some fault
 
 -- the rest is no packet, or one at which the controller is at fault
-pub record RefusesPiece (held piece : List ℕ) (old new : Line) : Type 0 where
+pub record RefusesPiece (held piece : List ℕ) (old new : Face) : Type 0 where
   pub heard_piece : HearsPiece held piece old new
-  pub why : ((refusal : H4Refusal) × (n : ℕ) × GoesWrong acl_limit heard_piece.rest refusal n) ⊎ IsAtFault heard_piece.rest new
+  pub why : ((refusal : H4Refusal) × (n : ℕ) × GoesWrong acl_limit heard_piece.rest refusal n) ⊎ IsAtFault heard_piece.rest new.line
 
 -- What a host makes of a piece. Nothing is said where no memory could be had, or where it went no further before.
-abbrev pub Hears : (held held' : Option (List ℕ)) → (piece : List ℕ) → Line → Line → Result (Unit {0}) HostFault → Type 0
-Hears held held' piece old new (Ok _) = TakesPiece held held' piece old new
-Hears held held' piece old new (Err Refused) = (before : List ℕ) → held ≡ Some before → RefusesPiece before piece old new
-Hears held held' piece old new (Err NoMemory) = Unit {0}
-
+abbrev pub Hears : (piece : List ℕ) → (old new : Face) → Result (Unit {0}) HostFault → Type 0
+Hears piece old new (Ok _) = TakesPiece piece old new
+Hears piece old new (Err Refused) = (before : List ℕ) → old.held ≡ Some before → RefusesPiece before piece old new
+Hears piece old new (Err NoMemory) = Unit {0}

@@ -1,4 +1,5 @@
 pub mod Feeding
+pub mod Running
 pub mod Extending
 pub mod Going
 pub mod OwnHosts

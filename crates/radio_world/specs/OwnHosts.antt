@@ -1,5 +1,6 @@
 -- The hosts of this project, as the world sees them (this project's own).
 use Rattle.std.specs.Prelude.{ℕ, List, Option, Some, None, Result, Ok, Err}
+use Rattle.bt_base.specs.Objects.{Object}
 use Rattle.h4_framing.specs.Framing.{Framing}
 use Rattle.bt_host.specs.declared.feed_refusal.FeedRefusal.{FeedRefusal}
 use Rattle.bt_host.specs.declared.feed_refusal.FeedRefusal.TheVariants as feed
@@ -7,6 +8,8 @@ use Rattle.bt_host.specs.declared.steps.PushRefusal.{PushRefusal}
 use Rattle.bt_host.specs.declared.steps.PushRefusal.TheVariants as push
 use Rattle.bt_host.specs.ClientHosts.{ClientState}
 use Rattle.bt_host.specs.ServerHosts.{ServerState}
+use Rattle.bt_host.specs.Servers.{Kept}
+use Rattle.world_model.specs.Insides.{Shelved, Pushing, Serving}
 use Rattle.world_model.specs.Faces.{Face}
 use Rattle.radio_world.specs.declared.host.HostFault.{HostFault}
 use Rattle.radio_world.specs.declared.host.HostFault.TheVariants.{Refused, NoMemory}
@@ -18,11 +21,14 @@ abbrev pub held_by : Option FeedRefusal → Framing → Option (List ℕ)
 held_by None framing = Some framing.held
 held_by (Some refusal) framing = None
 
-abbrev pub client_face : ClientState → Face
-client_face state = record { line = state.client.line; held = held_by state.refusal state.framing }
+abbrev pub shelved : Option (List Object) → ℕ → Shelved
+shelved content faults = record { content = content; faults = faults }
 
-abbrev pub server_face : ServerState → Face
-server_face state = record { line = state.server.line; held = held_by state.refusal state.framing }
+abbrev pub client_face : ClientState → Shelved → Face
+client_face state shelf = record { line = state.client.line; held = held_by state.refusal state.framing; inside = Pushing state.client.course shelf }
+
+abbrev pub server_face : ServerState → Kept → Face
+server_face state inbox = record { line = state.server.line; held = held_by state.refusal state.framing; inside = Serving state.server.served inbox }
 
 -- why a host does not take octets
 abbrev pub fault_by : FeedRefusal → HostFault

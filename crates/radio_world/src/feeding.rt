@@ -16,7 +16,7 @@ pub(crate) fn hand_over<P, H: Host<P>>(
 ) -> Result<(), WorldFault>
     requires some { 1 ≤ chunk }
     requires may_hear { H.may_hear host.old port.old }
-    ensures hears { OnOk result (HearsWhole octets.now (H.face host.old).held (H.face host.new).held (H.face host.old).line (H.face host.new).line) }
+    ensures hears { OnOk result (HearsWhole octets.now (H.face host.old port.old) (H.face host.new port.new)) }
     ensures may_hear { H.may_hear host.new port.new }
 {
     let mut rest = octets;

@@ -1,8 +1,8 @@
 //! A host as the world sees it.
 
-ghost use Rattle.std.specs.Prelude.{◌≡◌, ◌≤◌, Bool, true, Option, length, drop, OnOk};
+ghost use Rattle.std.specs.Prelude.{◌≡◌, ◌≤◌, true, length, drop, OnOk};
 ghost use Rattle.push_script.specs.Names.{utf16_length};
-ghost use Rattle.push_script.specs.declared.outcome.Outcome.{Outcome};
+ghost use Rattle.world_model.specs.Insides.{StartsPush, idles, came_of};
 ghost use Rattle.world_model.specs.Faces.{Face, with_out};
 ghost use Rattle.radio_world.specs.Feeding.{Hears};
 ghost use Rattle.world_model.specs.Hearing.{PutsOut};
@@ -20,26 +20,26 @@ pub(crate) enum HostFault {
 
 /// A host as the world sees it: octets in, octets out. `P` is the port that it works on.
 pub(crate) trait Host<P> {
-    /// What the world sees of it.
-    ghost face: { Self → Face };
+    /// What the world sees of it and its port.
+    ghost face: { Self → P → Face };
 
     /// What the host needs of its port.
     ghost may_hear: { Self → P → Type 0 };
 
     /// The octets for its controller.
     fn out(&self) -> &[u8]
-        ensures { result.now ≡ (face self.now).line.out };
+        ensures { (port : P) → result.now ≡ (face self.now port).line.out };
 
-    /// Its controller took the first `n` octets of `out`.
-    fn taken(&mut self, n: usize)
-        requires { n ≤ length (face self.old).line.out }
-        ensures face { face self.new ≡ with_out (drop n (face self.old).line.out) (face self.old) }
-        ensures may_hear { (port : P) → may_hear self.old port → may_hear self.new port };
+    /// Its controller took the first `n` octets of `out`. Nothing happens to the port.
+    fn taken(&mut self, n: usize, port: &P)
+        requires { n ≤ length (face self.old port.now).line.out }
+        ensures face { face self.new port.now ≡ with_out (drop n (face self.old port.now).line.out) (face self.old port.now) }
+        ensures may_hear { may_hear self.old port.now → may_hear self.new port.now };
 
     /// Takes octets of its controller.
     fn hear(&mut self, piece: &[u8], port: &mut P) -> Result<(), HostFault>
         requires { may_hear self.old port.old }
-        ensures hears { Hears (face self.old).held (face self.new).held piece.now (face self.old).line (face self.new).line result }
+        ensures hears { Hears piece.now (face self.old port.old) (face self.new port.new) result }
         ensures may_hear { may_hear self.new port.new };
 }
 
@@ -55,23 +55,19 @@ pub(crate) enum PushFault {
 /// A host that pushes objects, one after the other.
 pub(crate) trait Pusher<P>: Host<P> {
     /// Whether no push goes on.
-    ghost is_idle: { Self → Bool };
-
-    /// What came of the last push, once that is fixed.
-    ghost came: { Self → Option Outcome };
-
-    /// Whether no push goes on.
     fn idle(&self) -> bool
-        ensures { result ≡ is_idle self.now };
+        ensures { (port : P) → result ≡ idles (Self.face self.now port).inside };
 
     /// What came of the last push, once that is fixed.
     fn outcome(&self) -> Option<Outcome>
-        ensures { result ≡ came self.now };
+        ensures { (port : P) → result ≡ came_of (Self.face self.now port).inside };
 
     /// Begins to push the object of that name.
     fn push(&mut self, name: &str, port: &mut P) -> Result<(), PushFault>
-        requires idle { is_idle self.old ≡ true }
+        requires idle { idles (Self.face self.old port.old).inside ≡ true }
         requires name { utf16_length name.now ≤ 100 }
-        ensures puts { OnOk result (PutsOut (Self.face self.old).line (Self.face self.new).line × ((Self.face self.new).held ≡ (Self.face self.old).held)) }
+        ensures puts { OnOk result (PutsOut (Self.face self.old port.old).line (Self.face self.new port.new).line) }
+        ensures starts { OnOk result (StartsPush name.now (Self.face self.old port.old).line (Self.face self.new port.new).line (Self.face self.old port.old).inside (Self.face self.new port.new).inside) }
+        ensures held { OnOk result ((Self.face self.new port.new).held ≡ (Self.face self.old port.old).held) }
         ensures may_hear { Self.may_hear self.new port.new };
 }

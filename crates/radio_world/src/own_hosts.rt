@@ -19,9 +19,9 @@ fn fault_by(refusal: FeedRefusal) -> HostFault
 
 impl<F: Shelf> Host<F> for ClientHost {
     ghost use Rattle.bt_host.specs.ClientHosts.{IsSupplied};
-    ghost use Rattle.radio_world.specs.OwnHosts.{client_face};
+    ghost use Rattle.radio_world.specs.OwnHosts.{shelved, client_face};
 
-    ghost face = { client_face };
+    ghost face = { λ host shelf. client_face host (shelved (F.content shelf) (F.faults shelf)) };
 
     ghost may_hear = { λ host shelf. IsSupplied (F.content shelf) host };
 
@@ -29,7 +29,7 @@ impl<F: Shelf> Host<F> for ClientHost {
         ClientHost::out(self)
     }
 
-    fn taken(&mut self, n: usize) {
+    fn taken(&mut self, n: usize, _shelf: &F) {
         ClientHost::taken(self, n);
     }
 
@@ -42,12 +42,6 @@ impl<F: Shelf> Host<F> for ClientHost {
 }
 
 impl<F: Shelf> Pusher<F> for ClientHost {
-    ghost use Rattle.bt_host.specs.Events.{is_idle};
-
-    ghost is_idle = { λ host. is_idle host.client.course.stage };
-
-    ghost came = { λ host. host.client.course.outcome };
-
     fn idle(&self) -> bool {
         ClientHost::idle(self)
     }
@@ -67,9 +61,10 @@ impl<F: Shelf> Pusher<F> for ClientHost {
 
 impl<B: Inbox> Host<B> for ServerHost {
     ghost use Rattle.obex_session.specs.Rules.{is_under_way};
+    ghost use Rattle.bt_host.specs.Servers.{kept};
     ghost use Rattle.radio_world.specs.OwnHosts.{server_face};
 
-    ghost face = { server_face };
+    ghost face = { λ host inbox. server_face host (kept (B.content inbox) (B.faults inbox) (B.shortages inbox)) };
 
     ghost may_hear = { λ host inbox. B.is_pending inbox ≡ is_under_way host.server.served.session.progress };
 
@@ -77,7 +72,7 @@ impl<B: Inbox> Host<B> for ServerHost {
         ServerHost::out(self)
     }
 
-    fn taken(&mut self, n: usize) {
+    fn taken(&mut self, n: usize, _inbox: &B) {
         ServerHost::taken(self, n);
     }
 

@@ -27,3 +27,4 @@ pub mod Beginning
 pub mod Offering
 pub mod Settled
 pub mod Holding
+pub mod Runs

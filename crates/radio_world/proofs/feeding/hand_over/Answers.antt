@@ -1,7 +1,7 @@
 use Rattle.std.proofs.Common.{◌≡◌, ◌≢◌, ℕ, List, [], ◌++◌, length, subst, sym, ◌∙◌, ap, inr, Bool, false, true, nat_eq, Result, Err, Option, Some}
 use Rattle.std.specs.Bool.{◌==◌}
-use Rattle.host_link.specs.Lines.{Line}
 use Rattle.h4_framing.specs.Packets.{Packet}
+use Rattle.world_model.specs.Faces.{Face}
 use Rattle.radio_world.specs.Feeding.{Hears, RefusesPiece}
 use Rattle.radio_world.specs.declared.host.HostFault.{HostFault}
 use Rattle.radio_world.specs.declared.host.HostFault.TheVariants.{Refused}
@@ -12,26 +12,32 @@ some_left : (xs : List ℕ) (empty : Bool) → empty ≡ (length xs == 0) → em
 some_left xs empty is not none = let there : (length xs == 0) ≡ true = ap (λ ys. length ys == 0) none in absurd cc
 
 -- while octets are left, the packet is under way
-with_rest : (packet : Packet) (held : Option (List ℕ)) (rest piece more : List ℕ) (old now : Line) → Progress packet held rest old now → rest ≢ [] → rest ≡ piece ++ more → IsUnderWay packet held (piece ++ more) old now
-with_rest packet held rest piece more old now so_far some split = subst (λ xs. IsUnderWay packet held xs old now) split (so_far.goes_on some)
+with_rest : (packet : Packet) (rest piece more : List ℕ) (old now : Face) → Progress packet rest old now → rest ≢ [] → rest ≡ piece ++ more → IsUnderWay packet (piece ++ more) old now
+with_rest packet rest piece more old now so_far some split = subst (λ xs. IsUnderWay packet xs old now) split (so_far.goes_on some)
 
-refuses : (held held' : Option (List ℕ)) (piece : List ℕ) (old now : Line) (answer : Result (Unit {0}) HostFault) (fault : HostFault) → answer ≡ Err fault → fault ≡ Refused → Hears held held' piece old now answer
-    → (before : List ℕ) → held ≡ Some before → RefusesPiece before piece old now
-refuses held held' piece old now answer fault is refused hears = subst (Hears held held' piece old now) (is ∙ ap Err refused) hears
+refuses : (piece : List ℕ) (old now : Face) (answer : Result (Unit {0}) HostFault) (fault : HostFault) → answer ≡ Err fault → fault ≡ Refused → Hears piece old now answer
+    → (before : List ℕ) → old.held ≡ Some before → RefusesPiece before piece old now
+refuses piece old now answer fault is refused hears = subst (Hears piece old now) (is ∙ ap Err refused) hears
 
 pub loop-rest-preserved : goal.loop-rest-preserved
-loop-rest-preserved g c = (
-  λ packet is spelled none.
-      taken packet ((g.H.Host.face c.loop-rest.host).held) ((g.H.Host.face c.hear.new.self).held) c.split_at.result.0.now c.split_at.result.1.now (g.H.Host.face c.args.host.now).line (g.H.Host.face c.loop-rest.host).line (g.H.Host.face c.hear.new.self).line is
-      (with_rest packet ((g.H.Host.face c.loop-rest.host).held) c.loop-rest.rest.now c.split_at.result.0.now c.split_at.result.1.now (g.H.Host.face c.args.host.now).line (g.H.Host.face c.loop-rest.host).line
-      (c.loop-rest.invariant.0 packet is spelled none) (some_left c.loop-rest.rest.now c.is_empty.result c.is_empty.ensures c.loop-rest-test.true) c.split_at.ensures.by_index.0)
-      c.in-Ok.ensures.hears,
-  c.hear.ensures.may_hear,
-)
+loop-rest-preserved g c =
+    let start : Face = g.H.Host.face c.args.host.now c.args.port.now in
+    let old : Face = g.H.Host.face c.loop-rest.host c.loop-rest.port in
+    let now : Face = g.H.Host.face c.hear.new.self c.hear.new.port in (
+      λ packet is spelled none.
+          taken packet c.split_at.result.0.now c.split_at.result.1.now start old now is
+          (with_rest packet c.loop-rest.rest.now c.split_at.result.0.now c.split_at.result.1.now start old
+          (c.loop-rest.invariant.0 packet is spelled none) (some_left c.loop-rest.rest.now c.is_empty.result c.is_empty.ensures c.loop-rest-test.true) c.split_at.ensures.by_index.0)
+          c.in-Ok.ensures.hears,
+      c.hear.ensures.may_hear,
+    )
 
 pub returns-in-Err-Refused-clause-hears : goal.returns-in-Err-Refused-clause-hears
 returns-in-Err-Refused-clause-hears g c = λ packet is spelled none.
-    inr (refused packet ((g.H.Host.face c.loop-rest.host).held) c.split_at.result.0.now c.split_at.result.1.now (g.H.Host.face c.args.host.now).line (g.H.Host.face c.loop-rest.host).line (g.H.Host.face c.hear.new.self).line is
-    (with_rest packet ((g.H.Host.face c.loop-rest.host).held) c.loop-rest.rest.now c.split_at.result.0.now c.split_at.result.1.now (g.H.Host.face c.args.host.now).line (g.H.Host.face c.loop-rest.host).line
+    let start : Face = g.H.Host.face c.args.host.now c.args.port.now in
+    let old : Face = g.H.Host.face c.loop-rest.host c.loop-rest.port in
+    let now : Face = g.H.Host.face c.hear.new.self c.hear.new.port in
+    inr (refused packet c.split_at.result.0.now c.split_at.result.1.now start old now is
+    (with_rest packet c.loop-rest.rest.now c.split_at.result.0.now c.split_at.result.1.now start old
     (c.loop-rest.invariant.0 packet is spelled none) (some_left c.loop-rest.rest.now c.is_empty.result c.is_empty.ensures c.loop-rest-test.true) c.split_at.ensures.by_index.0)
-    (refuses ((g.H.Host.face c.loop-rest.host).held) ((g.H.Host.face c.hear.new.self).held) c.split_at.result.0.now (g.H.Host.face c.loop-rest.host).line (g.H.Host.face c.hear.new.self).line c.hear.result c.in-Err-Refused.field-0 c.in-Err-Refused.is c.in-Err-Refused.field-0-is c.hear.ensures.hears))
+    (refuses c.split_at.result.0.now old now c.hear.result c.in-Err-Refused.field-0 c.in-Err-Refused.is c.in-Err-Refused.field-0-is c.hear.ensures.hears))

@@ -6,8 +6,8 @@ use Rattle.radio_world.proofs.feeding.hand_over.Given as goal
 
 abbrev pub invariant-loop-rest : goal.invariant-loop-rest
 invariant-loop-rest g l =
-    ((packet : Packet) → IsPacket acl_limit packet → l.octets ≡ spelling packet → (g.H.Host.face l.fn.host).held ≡ Some []
-    → Progress packet ((g.H.Host.face l.host).held) l.rest (g.H.Host.face l.fn.host).line (g.H.Host.face l.host).line)
+    ((packet : Packet) → IsPacket acl_limit packet → l.octets ≡ spelling packet → (g.H.Host.face l.fn.host l.fn.port).held ≡ Some []
+    → Progress packet l.rest (g.H.Host.face l.fn.host l.fn.port) (g.H.Host.face l.host l.port))
     × g.H.Host.may_hear l.host l.port
 
 abbrev pub decreases-loop-rest : goal.decreases-loop-rest

@@ -1,5 +1,5 @@
-use Rattle.std.proofs.Common.{◌≡◌, Err, sym, ap, subst}
-use Rattle.bt_host.specs.declared.feed_refusal.FeedRefusal.{FeedRefusal}
+use Rattle.std.proofs.Common.{◌≡◌, Err, sym, subst}
+use Rattle.bt_host.specs.Servers.{Kept, kept}
 use Rattle.radio_world.specs.declared.host.HostFault.{HostFault}
 use Rattle.radio_world.specs.Feeding.{Hears}
 use Rattle.radio_world.specs.OwnHosts.{server_face}
@@ -11,5 +11,7 @@ returns-in-Ok-clause-hears g c = server_ok _ _ c.args.piece.now c.args.self.now 
 
 pub returns-in-Err-clause-hears : goal.returns-in-Err-clause-hears
 returns-in-Err-clause-hears g c =
-    subst (λ (fault : HostFault). Hears (server_face c.args.self.now).held (server_face c.feed.new.self).held c.args.piece.now c.args.self.now.server.line c.feed.new.self.server.line (Err fault)) (sym c.fault_by.ensures)
-    (server_err _ _ c.args.piece.now c.args.self.now c.feed.new.self c.in-Err.refusal c.in-Err.ensures.feeds)
+    let inbox : Kept = kept (g.B.Inbox.content c.args.inbox.now) (g.B.Inbox.faults c.args.inbox.now) (g.B.Inbox.shortages c.args.inbox.now) in
+    let inbox' : Kept = kept (g.B.Inbox.content c.feed.new.inbox) (g.B.Inbox.faults c.feed.new.inbox) (g.B.Inbox.shortages c.feed.new.inbox) in
+    subst (λ (fault : HostFault). Hears c.args.piece.now (server_face c.args.self.now inbox) (server_face c.feed.new.self inbox') (Err fault)) (sym c.fault_by.ensures)
+    (server_err inbox inbox' c.args.piece.now c.args.self.now c.feed.new.self c.in-Err.refusal c.in-Err.ensures.feeds)
