@@ -1,22 +1,18 @@
 -- What a controller owes comes into its host.
-use Rattle.std.proofs.Common.{rules, ◌≡◌, ◌≢◌, ℕ, zero, suc, ◌+◌, ◌<◌, ◌≤◌, List, [], ◌∷◌, ◌++◌, fold, Bool, true, false, cond, Option, Some, None, refl, sym, ap, subst, ◌∙◌, arith, inl, inr, ◌⊎◌}
-use Rattle.std.specs.Prelude.{max}
+use Rattle.std.proofs.Common.{rules, ◌≡◌, ℕ, zero, suc, ◌+◌, ◌≤◌, List, [], ◌∷◌, ◌++◌, fold, Bool, true, false, cond, Some, refl, sym, ap, subst, ◌∙◌, arith, inl, inr}
 use Rattle.std.specs.List.{AllByRecursion}
-use Rattle.std.proofs.lemmas.List.{append-nil}
-use Rattle.bt_base.specs.Streams.{gained}
-use Rattle.h4_framing.specs.Packets.{Packet, spelling, IsPacket}
+use Rattle.h4_framing.specs.Packets.{spelling, IsPacket}
 use Rattle.push_script.specs.declared.word.Side.{Side}
 use Rattle.push_script.specs.declared.word.Side.TheVariants as sides
 use Rattle.push_script.specs.declared.word.Word.{Word}
 use Rattle.capture.specs.declared.flow.Flow.TheVariants.{Into}
-use Rattle.capture.specs.Entries.{Entry, Moved, IsEntry, entry_octets}
+use Rattle.capture.specs.Entries.{Entry, Moved}
 use Rattle.capture.specs.Buffers.{all_outstanding}
 use Rattle.host_link.specs.Lines.{Line}
-use Rattle.host_link.specs.Hearing.{heard, fault_of}
+use Rattle.host_link.specs.Hearing.{heard}
 use Rattle.radio_air.specs.Controllers.{Answer, Returned, Stated, Called, LinkMade, LinkGone, GivenBack, Carried, Controller, packet_of, after_telling, after_first, after_handing}
-use Rattle.radio_air.specs.Radio.{Radio, controller, with_controller, after_answer, is_together}
+use Rattle.radio_air.specs.Radio.{Radio, controller, after_answer, is_together}
 use Rattle.radio_air.specs.Showing.{Shows, IsOwed, back, outstanding_at}
-use Rattle.radio_air.specs.Laws.{sizes}
 use Rattle.radio_air.proofs.Coming.{shows-answer}
 use Rattle.radio_air.proofs.Entering.{owed-of}
 use Rattle.radio_air.proofs.Sizing.{sizes-stay}
@@ -31,7 +27,7 @@ use Rattle.world_model.proofs.HostSteps.{stands_hearing, stands_beside}
 use Rattle.world_model.proofs.Letting.{connecting_stands, ending_stands, pdu_stands}
 use Rattle.world_model.proofs.Putting.{puts_out}
 use Rattle.world_model.proofs.Departing.{entry_fits, peaks_beside}
-use Rattle.world_model.proofs.Stepping.{IsPeak, IsStep, stands_more, outstanding_is, outstanding_beside}
+use Rattle.world_model.proofs.Stepping.{IsPeak, IsStep, outstanding_is}
 
 -- ---- the host goes on
 
@@ -86,7 +82,7 @@ outstanding_falls side past radio answer rest owed shows then =
 still_peak : (side : Side) (past : List Entry) (peak : ℕ) → all_outstanding side past ≤ peak → IsPeak side past peak peak
 still_peak side past peak below = omega (arith, below)
 
-again : (side : Side) (count : ℕ) (past : List Entry) (times : ℕ) (line : Line) → HostStands side count past line → HostStands side count past (put_out_again times line)
+pub again : (side : Side) (count : ℕ) (past : List Entry) (times : ℕ) (line : Line) → HostStands side count past line → HostStands side count past (put_out_again times line)
 again side count past zero line stands = stands
 again side count past (suc times) line stands = puts_out side count past (put_out_again times line) (again side count past times line stands)
 
@@ -148,4 +144,3 @@ into_steps sides.B script past old this this' other answer rest owed is hears st
       peak_a = peaks_beside sides.A past entry old.peak_a refl stands.covered_a;
       peak_b = still_peak sides.B (past ++ entry ∷ []) old.peak_b (omega (arith, falls, stands.covered_b));
     }
-

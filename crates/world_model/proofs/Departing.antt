@@ -1,8 +1,8 @@
 -- A packet moves from a host to its controller.
-use Rattle.std.proofs.Common.{◌≡◌, ℕ, ◌+◌, ◌-◌, ◌^◌, ◌<◌, ◌≤◌, List, [], ◌∷◌, ◌++◌, length, Option, None, refl, sym, ap, subst, ◌∙◌, arith}
+use Rattle.std.proofs.Common.{◌≡◌, ℕ, ◌+◌, ◌-◌, ◌^◌, ◌<◌, ◌≤◌, List, [], ◌∷◌, ◌++◌, length, None, refl, sym, ap, subst, ◌∙◌, arith}
 use Rattle.std.specs.Prelude.{min, max}
 use Rattle.std.specs.List.{AllByRecursion}
-use Rattle.std.proofs.lemmas.List.{append-nil, length-append}
+use Rattle.std.proofs.lemmas.List.{length-append}
 use Rattle.h4_framing.specs.Packets.{Packet, Command, Acl, Sync, Event, spelling, spellings, IsPacket}
 use Rattle.h4_framing.proofs.SpellingLemmas.{one_spelling}
 use Rattle.h4_framing.proofs.ExtentLemmas.{packet_long}
@@ -11,7 +11,7 @@ use Rattle.push_script.specs.declared.word.Side.TheVariants as sides
 use Rattle.push_script.specs.declared.word.Word.{Word}
 use Rattle.capture.specs.declared.flow.Flow.{Flow}
 use Rattle.capture.specs.declared.flow.Flow.TheVariants.{Out}
-use Rattle.capture.specs.Entries.{Entry, Moved, IsEntry, entry_octets}
+use Rattle.capture.specs.Entries.{Entry, Moved, IsEntry}
 use Rattle.capture.specs.Moves.{move_of}
 use Rattle.capture.specs.Buffers.{all_outstanding}
 use Rattle.host_link.specs.Lines.{Line}
@@ -25,10 +25,9 @@ use Rattle.world_model.specs.Hearing.{acl_limit}
 use Rattle.world_model.specs.Hosts.{HostStands}
 use Rattle.world_model.specs.Media.{Medium, outstanding_now, after_moving, face_a, face_b}
 use Rattle.world_model.specs.Standing.{Stands}
-use Rattle.bt_base.specs.Streams.{gained}
 use Rattle.world_model.proofs.Honest.{packet_honest}
 use Rattle.world_model.proofs.HostSteps.{stands_moved, stands_beside}
-use Rattle.world_model.proofs.Stepping.{IsPeak, IsStep, stands_more, outstanding_is, outstanding_beside, within_of}
+use Rattle.world_model.proofs.Stepping.{IsPeak, IsStep, outstanding_is, outstanding_beside, within_of}
 
 -- ---- the first packet that was put out
 
@@ -145,4 +144,3 @@ moved_steps sides.B script past old this other packet left is first stands =
 pub moved_sizes : (side : Side) (packet : Packet) (old : Medium) → sizes (after_moving side packet old).radio ≡ sizes old.radio
 moved_sizes sides.A packet old = (sizes-stay old.radio sides.A).0 packet
 moved_sizes sides.B packet old = (sizes-stay old.radio sides.B).0 packet
-

@@ -1,5 +1,5 @@
 -- Whatever happens, a world is as its capture says.
-use Rattle.std.proofs.Common.{◌≡◌, ℕ, ◌+◌, ◌≤◌, List, [], ◌∷◌, ◌++◌, Option, Some, None, refl, sym, ap, subst, ◌∙◌, append_assoc}
+use Rattle.std.proofs.Common.{◌≡◌, ℕ, List, [], ◌∷◌, ◌++◌, refl, sym, ap, subst, ◌∙◌, append_assoc}
 use Rattle.std.proofs.lemmas.List.{append-nil}
 use Rattle.h4_framing.specs.Packets.{Packet}
 use Rattle.push_script.specs.declared.word.Side.{Side}
@@ -8,24 +8,22 @@ use Rattle.push_script.specs.declared.word.Word.{Word}
 use Rattle.push_script.specs.declared.outcome.Outcome.{Outcome}
 use Rattle.capture.specs.declared.flow.Flow.TheVariants.{Out, Into}
 use Rattle.capture.specs.Entries.{Entry, Moved, Begun, Ended, Acted}
-use Rattle.capture.specs.Moves.{move_of}
 use Rattle.host_link.specs.Lines.{Line}
 use Rattle.host_link.specs.Hearing.{heard}
-use Rattle.radio_air.specs.Radio.{Radio, after_packet, after_answer, after_offer}
+use Rattle.radio_air.specs.Radio.{Radio, after_answer}
 use Rattle.radio_air.specs.Controllers.{Answer, packet_of}
 use Rattle.radio_air.specs.Showing.{Shows}
-use Rattle.radio_air.specs.Laws.{sizes}
 use Rattle.radio_air.proofs.Sizing.{sizes-stay}
 use Rattle.radio_air.proofs.Offering.{shows-offer}
 use Rattle.radio_air.proofs.Entering.{shows-more}
 use Rattle.radio_air.proofs.Coming.{shows-answer}
 use Rattle.radio_air.proofs.Leaving.{shows-packet}
-use Rattle.world_model.specs.Faces.{Face, with_out}
-use Rattle.world_model.specs.Hosts.{HostStands, OwesHonestly}
-use Rattle.world_model.specs.Hearing.{acl_limit, put_out_again, HearsBehind}
-use Rattle.world_model.specs.Media.{Medium, in_radio, after_moving}
+use Rattle.world_model.specs.Faces.{Face}
+use Rattle.world_model.specs.Hosts.{HostStands}
+use Rattle.world_model.specs.Hearing.{put_out_again, HearsBehind}
+use Rattle.world_model.specs.Media.{Medium}
 use Rattle.world_model.specs.Moments.{Moment}
-use Rattle.world_model.specs.Happenings.{Happening, Departure, Arrival, GivingBack, Opening, Closing, Deed, Miss, Does, Runs, Departs, Arrives, GivesBack, Opens, Closes, Acts, Misses, entries_of, all_entries}
+use Rattle.world_model.specs.Happenings.{Departure, Arrival, GivingBack, Opening, Closing, Deed, Miss, Departs, Arrives, GivesBack, Opens, Closes, Acts, Misses, entries_of, all_entries}
 use Rattle.world_model.specs.Holding.{Holds, HoldsOn, KeptAlong}
 use Rattle.world_model.proofs.Settled.{quiet_of}
 use Rattle.world_model.proofs.Honest.{packet_honest, answer_honest, offer_honest}
@@ -41,8 +39,8 @@ counted side past line n m same stands = subst (λ k. HostStands side k past lin
 
 -- ---- a packet departs
 
-departs : (side : Side) (past : List Entry) (packet : Packet) (old new : Moment) → Departs side packet old new → Holds past old → Holds (past ++ Moved side Out packet ∷ []) new
-departs sides.A past packet old new departs holds =
+departs_holding : (side : Side) (past : List Entry) (packet : Packet) (old new : Moment) → Departs side packet old new → Holds past old → Holds (past ++ Moved side Out packet ∷ []) new
+departs_holding sides.A past packet old new departs holds =
     let medium : Medium = old.scene.medium in
     let entry : Entry = Moved sides.A Out packet in
     let sent = first_is holds.host_a.said packet old.a.line.out departs.left holds.host_a.each departs.is holds.host_a.out departs.first in
@@ -55,7 +53,7 @@ departs sides.A past packet old new departs holds =
       whole_a = holds.whole_a;
       whole_b = holds.whole_b;
     })
-departs sides.B past packet old new departs holds =
+departs_holding sides.B past packet old new departs holds =
     let medium : Medium = old.scene.medium in
     let entry : Entry = Moved sides.B Out packet in
     let sent = first_is holds.host_b.said packet old.b.line.out departs.left holds.host_b.each departs.is holds.host_b.out departs.first in
@@ -81,8 +79,8 @@ hears_it side past radio packet answer face face' same hears then stands =
     goes_on side radio.count (past ++ Moved side Into packet ∷ []) (heard packet behind) face'.line hears.hears.puts
     (subst (λ p. HostStands side radio.count (past ++ Moved side Into p ∷ []) (heard p behind)) (sym same) host)
 
-arrives : (side : Side) (past : List Entry) (packet : Packet) (old new : Moment) → Arrives side packet old new → Holds past old → Holds (past ++ Moved side Into packet ∷ []) new
-arrives sides.A past packet old new arrives holds =
+arrives_holding : (side : Side) (past : List Entry) (packet : Packet) (old new : Moment) → Arrives side packet old new → Holds past old → Holds (past ++ Moved side Into packet ∷ []) new
+arrives_holding sides.A past packet old new arrives holds =
     let medium : Medium = old.scene.medium in
     let entry : Entry = Moved sides.A Into packet in
     let told = shows-answer past medium.radio sides.A arrives.answer arrives.rest arrives.owed holds.shows in
@@ -96,7 +94,7 @@ arrives sides.A past packet old new arrives holds =
       whole_a = arrives.whole;
       whole_b = holds.whole_b;
     })
-arrives sides.B past packet old new arrives holds =
+arrives_holding sides.B past packet old new arrives holds =
     let medium : Medium = old.scene.medium in
     let entry : Entry = Moved sides.B Into packet in
     let told = shows-answer past medium.radio sides.B arrives.answer arrives.rest arrives.owed holds.shows in
@@ -126,8 +124,8 @@ gives_back side past old new gives holds =
       whole_b = holds.whole_b;
     }))
 
-opens : (past : List Entry) (push : ℕ) (old new : Moment) → Opens push old new → Holds past old → Holds (past ++ Begun push ∷ []) new
-opens past push old new opens holds =
+opens_holding : (past : List Entry) (push : ℕ) (old new : Moment) → Opens push old new → Holds past old → Holds (past ++ Begun push ∷ []) new
+opens_holding past push old new opens holds =
     let radio : Radio = old.scene.medium.radio in
     let entry : Entry = Begun push in
     subst (Holds (past ++ entry ∷ [])) (sym opens.new_is) (record {
@@ -139,8 +137,8 @@ opens past push old new opens holds =
       whole_b = holds.whole_b;
     })
 
-closes : (past : List Entry) (push : ℕ) (outcome : Outcome) (old new : Moment) → Closes push outcome old new → Holds past old → Holds (past ++ Ended push outcome ∷ []) new
-closes past push outcome old new closes holds =
+closes_holding : (past : List Entry) (push : ℕ) (outcome : Outcome) (old new : Moment) → Closes push outcome old new → Holds past old → Holds (past ++ Ended push outcome ∷ []) new
+closes_holding past push outcome old new closes holds =
     let radio : Radio = old.scene.medium.radio in
     let entry : Entry = Ended push outcome in
     subst (Holds (past ++ entry ∷ [])) (sym closes.new_is) (record {
@@ -152,8 +150,8 @@ closes past push outcome old new closes holds =
       whole_b = holds.whole_b;
     })
 
-acts : (past : List Entry) (ordinal : ℕ) (word : Word) (old new : Moment) → Acts ordinal word old new → Holds past old → Holds (past ++ Acted ordinal word ∷ []) new
-acts past ordinal word old new acts holds =
+acts_holding : (past : List Entry) (ordinal : ℕ) (word : Word) (old new : Moment) → Acts ordinal word old new → Holds past old → Holds (past ++ Acted ordinal word ∷ []) new
+acts_holding past ordinal word old new acts holds =
     let radio : Radio = old.scene.medium.radio in
     let entry : Entry = Acted ordinal word in
     let lead = leads past radio acts.acts.next word ordinal acts.acts.makes (quiet_of old.scene.medium old.a old.b acts.rest.settled) holds.shows holds.honest in
@@ -167,8 +165,8 @@ acts past ordinal word old new acts holds =
       whole_b = holds.whole_b;
     })
 
-misses : (past : List Entry) (word : Word) (old new : Moment) → Misses word old new → Holds past old → Holds (past ++ []) new
-misses past word old new misses holds =
+misses_holding : (past : List Entry) (word : Word) (old new : Moment) → Misses word old new → Holds past old → Holds (past ++ []) new
+misses_holding past word old new misses holds =
     subst (λ entries. Holds entries new) (sym (append-nil past)) (subst (Holds past) (sym misses.new_is) (record {
       shows = holds.shows;
       honest = holds.honest;
@@ -179,13 +177,13 @@ misses past word old new misses holds =
     }))
 
 pub holds_on : HoldsOn
-holds_on past (Departure side packet) old new does holds = departs side past packet old new does holds
-holds_on past (Arrival side packet) old new does holds = arrives side past packet old new does holds
+holds_on past (Departure side packet) old new does holds = departs_holding side past packet old new does holds
+holds_on past (Arrival side packet) old new does holds = arrives_holding side past packet old new does holds
 holds_on past (GivingBack side) old new does holds = gives_back side past old new does holds
-holds_on past (Opening push) old new does holds = opens past push old new does holds
-holds_on past (Closing push outcome) old new does holds = closes past push outcome old new does holds
-holds_on past (Deed ordinal word) old new does holds = acts past ordinal word old new does holds
-holds_on past (Miss word) old new does holds = misses past word old new does holds
+holds_on past (Opening push) old new does holds = opens_holding past push old new does holds
+holds_on past (Closing push outcome) old new does holds = closes_holding past push outcome old new does holds
+holds_on past (Deed ordinal word) old new does holds = acts_holding past ordinal word old new does holds
+holds_on past (Miss word) old new does holds = misses_holding past word old new does holds
 
 -- ---- along a run
 

@@ -1,7 +1,5 @@
 -- All that a host offered was taken: its controller gives it back, and nothing moves.
-use Rattle.std.proofs.Common.{◌≡◌, ℕ, List, [], Option, refl, sym, ap, subst, ◌∙◌}
-use Rattle.std.proofs.lemmas.List.{append-nil}
-use Rattle.bt_base.proofs.PortLaws.{gained-nil}
+use Rattle.std.proofs.Common.{◌≡◌, List, [], refl, sym, ap, subst}
 use Rattle.push_script.specs.declared.word.Side.{Side}
 use Rattle.push_script.specs.declared.word.Side.TheVariants as sides
 use Rattle.push_script.specs.declared.word.Word.{Word}
@@ -13,13 +11,10 @@ use Rattle.radio_air.specs.Controllers.{other_side}
 use Rattle.radio_air.specs.Radio.{Radio, controller, after_offer}
 use Rattle.radio_air.specs.Showing.{Shows}
 use Rattle.radio_air.specs.Laws.{sizes}
-use Rattle.radio_air.proofs.Offering.{shows-offer}
-use Rattle.radio_air.proofs.Sizing.{sizes-stay}
 use Rattle.world_model.specs.Faces.{Face}
 use Rattle.world_model.specs.Hosts.{HostStands, OwesHonestly}
-use Rattle.world_model.specs.Media.{Medium, in_radio, face_a, face_b}
+use Rattle.world_model.specs.Media.{Medium, in_radio}
 use Rattle.world_model.specs.Standing.{Stands}
-use Rattle.world_model.proofs.Honest.{offer_honest}
 
 -- the other controller stays as it is
 pub offer_beside : (side : Side) (radio : Radio) → controller (other_side side) (after_offer side radio) ≡ controller (other_side side) radio
@@ -48,4 +43,3 @@ radio_stands script past old next a b same shows honest stands =
       covered_a = stands.covered_a;
       covered_b = stands.covered_b;
     }
-

@@ -1,6 +1,6 @@
 -- Where nothing is owed to the hosts.
 use Rattle.std.proofs.Common.{rules, ◌≡◌, List, [], true, ap}
-use Rattle.radio_air.specs.Radio.{Radio, is_quiet, is_owed_nothing}
+use Rattle.radio_air.specs.Radio.{is_quiet, is_owed_nothing}
 use Rattle.radio_air.specs.Controllers.{Answer}
 use Rattle.world_model.specs.Faces.{Face}
 use Rattle.world_model.specs.Media.{Medium}

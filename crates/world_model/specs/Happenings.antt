@@ -1,5 +1,5 @@
 -- What may happen in a world, one thing at a time, and what the capture says of it (this project's own).
-use Rattle.std.specs.Prelude.{ℕ, ◌+◌, ◌^◌, ◌≡◌, ◌<◌, ◌×◌, Bool, true, false, List, [], ◌∷◌, ◌++◌, Option, Some, unwrap_or}
+use Rattle.std.specs.Prelude.{ℕ, ◌+◌, ◌^◌, ◌≡◌, ◌<◌, Bool, true, false, List, [], ◌∷◌, ◌++◌, Some, unwrap_or}
 use Rattle.std.specs.List.{flat_map}
 use Rattle.h4_framing.specs.Packets.{Packet, spelling, IsPacket}
 use Rattle.push_script.specs.declared.word.Side.{Side}

@@ -1,13 +1,10 @@
 -- A host as the world sees it: octets in, octets out (this project's own).
-use Rattle.std.specs.Prelude.{ℕ, zero, suc, ◌≡◌, ◌≢◌, ◌++◌, ◌⊎◌, List, [], ◌∷◌, fold, Option, Some, None, Result, Ok, Err}
+use Rattle.std.specs.Prelude.{ℕ, zero, suc, ◌≡◌, ◌≢◌, ◌⊎◌, List, [], fold, Some, None}
 use Rattle.std.specs.List.{AllByRecursion}
-use Rattle.h4_framing.specs.Packets.{Packet, spelling, spellings, IsPacket}
-use Rattle.h4_framing.specs.Stream.{IsUnfinished, GoesWrong}
-use Rattle.h4_framing.specs.declared.refusal.H4Refusal.{H4Refusal}
+use Rattle.h4_framing.specs.Packets.{Packet, spelling, IsPacket}
 use Rattle.host_link.specs.Lines.{Line}
 use Rattle.host_link.specs.Hearing.{heard, fault_of}
 use Rattle.host_link.specs.PuttingOut.{put_out, connecting, ending, with_pdu}
-use Rattle.host_link.specs.declared.news.ControllerFault.{ControllerFault}
 use Rattle.bt_base.specs.Octets.{IsOctets}
 use Rattle.world_model.specs.Hosts.{IsAddress}
 use Rattle.world_model.specs.Faces.{Face}

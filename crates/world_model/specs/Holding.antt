@@ -1,5 +1,5 @@
 -- What is true of a world after a capture of all that happened, whatever the script (this project's own).
-use Rattle.std.specs.Prelude.{ℕ, ◌≡◌, ◌++◌, List, [], Option, Some}
+use Rattle.std.specs.Prelude.{◌≡◌, ◌++◌, List, [], Some}
 use Rattle.push_script.specs.declared.word.Side.TheVariants as sides
 use Rattle.capture.specs.Entries.{Entry}
 use Rattle.radio_air.specs.Showing.{Shows}

@@ -1,5 +1,5 @@
 -- What a host has within, and what a packet or a push makes of it (this project's own).
-use Rattle.std.specs.Prelude.{ℕ, ◌≡◌, ◌≤◌, ◌×◌, Bool, false, List, Option, None}
+use Rattle.std.specs.Prelude.{ℕ, ◌≡◌, ◌≤◌, Bool, false, List, Option, None}
 use Rattle.bt_base.specs.Objects.{Object}
 use Rattle.h4_framing.specs.Packets.{Packet}
 use Rattle.push_script.specs.declared.outcome.Outcome.{Outcome}

@@ -1,5 +1,5 @@
 -- A moment of a world: both hosts, what lies between them, and how far pushes and script have come (this project's own).
-use Rattle.std.specs.Prelude.{ℕ, ◌≡◌, true, List, [], Option, Some, None, min}
+use Rattle.std.specs.Prelude.{ℕ, ◌≡◌, true, List, [], Some, None, min}
 use Rattle.push_script.specs.declared.word.Side.{Side}
 use Rattle.push_script.specs.declared.word.Side.TheVariants as sides
 use Rattle.obex_session.specs.declared.ruling.Progress.TheVariants.{Unnamed}

@@ -1,5 +1,5 @@
 -- The pushes of a scenario, one after the other (this project's own).
-use Rattle.std.specs.Prelude.{ℕ, ◌+◌, Bool, true, false, List, [], ◌∷◌, ◌++◌, length, Option, Some, None, slice_get, if◌then◌else◌, cond}
+use Rattle.std.specs.Prelude.{ℕ, ◌+◌, Bool, true, false, List, [], ◌∷◌, ◌++◌, Option, None, slice_get, if◌then◌else◌}
 use Rattle.push_script.specs.declared.outcome.Outcome.{Outcome}
 
 -- The names of the objects in their order, how many pushes were begun, whether the last of them goes on, and what came of

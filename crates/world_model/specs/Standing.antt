@@ -1,6 +1,6 @@
 -- What a world stands for after a capture of all that happened in it (this project's own). Each promise on a run is a field,
 -- which each step of the world keeps.
-use Rattle.std.specs.Prelude.{ℕ, ◌-◌, ◌≡◌, ◌≤◌, true, List, [], Some, take, drop}
+use Rattle.std.specs.Prelude.{ℕ, ◌-◌, ◌≡◌, ◌≤◌, List, [], Some, take, drop}
 use Rattle.std.specs.List.{AllByRecursion}
 use Rattle.push_script.specs.declared.word.Side.TheVariants as sides
 use Rattle.push_script.specs.declared.word.Word.{Word}
@@ -10,7 +10,6 @@ use Rattle.capture.specs.Buffers.{KeepsWithin, all_outstanding}
 use Rattle.capture.specs.Peaks.{buffers_peak}
 use Rattle.capture.specs.Air.{KeepsTo, FindsNothing, air_after, words_done}
 use Rattle.world_model.specs.Faces.{Face}
-use Rattle.radio_air.specs.Radio.{is_quiet}
 use Rattle.radio_air.specs.Showing.{Shows}
 use Rattle.world_model.specs.Hosts.{HostStands, OwesHonestly}
 use Rattle.world_model.specs.Media.{Medium}

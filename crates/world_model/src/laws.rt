@@ -2,7 +2,7 @@
 //! buffers of their controllers.
 
 ghost use Rattle.world_model.specs.HostLaws.{StandsAtFirst, StandsMoved, StandsHearing, NeverAtFault, StandsWaiting, StandsPutting, StandsBeside, StandsWithin, HonestSteps};
-ghost use Rattle.world_model.specs.Holding.{HoldsOn, KeptAlong};
+ghost use Rattle.world_model.specs.Holding.{HoldsOn};
 
 /// A host that is made stands at the beginning of a capture.
 pub fn hosts_stand_at_first()
@@ -52,9 +52,4 @@ pub fn controllers_stay_honest()
 /// Whatever happens, a world is as its capture says.
 pub fn worlds_are_as_captured()
     ensures { HoldsOn }
-{}
-
-/// What every happening keeps, a run keeps.
-pub fn runs_keep()
-    ensures { KeptAlong }
 {}
