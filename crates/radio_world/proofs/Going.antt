@@ -19,7 +19,10 @@ use Rattle.radio_world.specs.Extending.{Extends}
 use Rattle.world_model.specs.Standing.{Stands}
 use Rattle.world_model.specs.Ordering.{Pushes, one_begun, one_ended}
 use Rattle.world_model.specs.Scenes.{Scene}
-use Rattle.radio_world.specs.Going.{Begins, Ends, Goes}
+use Rattle.world_model.specs.Happenings.{Opening, Closing}
+use Rattle.radio_world.specs.Running.{moment, in_medium}
+use Rattle.radio_world.specs.Going.{Begins, Ends, EndsIdle, Goes}
+use Rattle.radio_world.proofs.Running.{run_none, run_one, run_then, run_to}
 use Rattle.world_model.proofs.Marking.{begins_step, ends_step}
 
 pub goes_none : (scene : Scene) (a b : Face) (trace : Option (List ℕ)) → Goes scene scene a a b b trace trace
@@ -33,6 +36,7 @@ goes_none scene a b trace = record {
   names = refl;
   turned = refl;
   history = λ script past stands. subst (λ entries. Stands script entries scene.medium a b) (sym (append-nil past)) stands;
+  run = λ script past stands. run_none (moment scene a b);
 }
 
 -- the ends of two lots, one after the other
@@ -54,7 +58,16 @@ goes_then first mid last a a' a'' b b' b'' trace trace' trace'' one two = record
   history = λ script past stands.
       subst (λ entries. Stands script entries last.medium a'' b'') (append_assoc past one.added two.added)
       (two.history script (past ++ one.added) (one.history script past stands));
+  run = λ script past stands.
+      run_then [] [] one.added two.added (moment first a b) (moment mid a' b') (moment last a'' b'') (one.run script past stands) (two.run script (past ++ one.added) (one.history script past stands));
 }
+
+-- only what lies between changed
+abbrev scene_of : Medium → Pushes → ℕ → Scene
+scene_of medium pushes turned = record { medium = medium; pushes = pushes; turned = turned }
+
+by_parts : (old new : Scene) → new.pushes ≡ old.pushes → new.turned ≡ old.turned → new ≡ in_medium new.medium old
+by_parts old new pushes turned = ap (λ (p : Pushes). scene_of new.medium p new.turned) pushes ∙ ap (scene_of new.medium old.pushes) turned
 
 -- what moves between host a and its controller, and between host b and its controller
 pub goes_a : (old new : Scene) (a a' b : Face) (trace trace' : Option (List ℕ)) → Extends sides.A old.medium new.medium a a' trace trace' → new.pushes ≡ old.pushes → new.turned ≡ old.turned
@@ -69,6 +82,7 @@ goes_a old new a a' b trace trace' extends pushes turned = record {
   names = ap (λ (p : Pushes). p.names) pushes;
   turned = turned;
   history = λ script past stands. extends.history script past b stands;
+  run = λ script past stands. run_to [] extends.added (moment old a b) (moment (in_medium new.medium old) a' b) (moment new a' b) (ap (λ s. moment s a' b) (by_parts old new pushes turned)) (extends.run script past b old stands);
 }
 
 pub goes_b : (old new : Scene) (a b b' : Face) (trace trace' : Option (List ℕ)) → Extends sides.B old.medium new.medium b b' trace trace' → new.pushes ≡ old.pushes → new.turned ≡ old.turned
@@ -83,6 +97,7 @@ goes_b old new a b b' trace trace' extends pushes turned = record {
   names = ap (λ (p : Pushes). p.names) pushes;
   turned = turned;
   history = λ script past stands. extends.history script past a stands;
+  run = λ script past stands. run_to [] extends.added (moment old a b) (moment (in_medium new.medium old) a b') (moment new a b') (ap (λ s. moment s a b') (by_parts old new pushes turned)) (extends.run script past a old stands);
 }
 
 -- a push begins, and ends
@@ -101,10 +116,23 @@ goes_begun old new a a' b trace trace' begins =
       history = λ script past stands.
           subst (λ (m : Medium). Stands script (past ++ entry ∷ []) m a' b) (sym (ap (λ (s : Scene). s.medium) begins.new_is))
           (begins_step script past new.pushes.begun old.medium a a' b begins.few begins.puts begins.held_stays stands);
+      run = λ script past stands. run_one (Opening new.pushes.begun) [] (entry ∷ []) (moment old a b) (moment new a' b) refl refl (record {
+          idle = begins.idle;
+          name = begins.name;
+          next = begins.next;
+          push_is = ap (λ (s : Scene). s.pushes.begun) begins.new_is;
+          few = begins.few;
+          face = a';
+          puts = begins.puts;
+          starts = begins.starts;
+          held_stays = begins.held_stays;
+          new_is = ap (λ (s : Scene). moment s a' b) begins.new_is;
+        });
     }
 
-pub goes_ended : (old new : Scene) (a b : Face) (outcome : Outcome) (trace trace' : Option (List ℕ)) → Ends outcome old new trace trace' → Goes old new a a b b trace trace'
-goes_ended old new a b outcome trace trace' ends =
+pub goes_ended : (old new : Scene) (a b : Face) (outcome : Outcome) (trace trace' : Option (List ℕ)) → EndsIdle outcome old new a trace trace' → Goes old new a a b b trace trace'
+goes_ended old new a b outcome trace trace' idle =
+    let ends : Ends outcome old new trace trace' = idle.ends in
     let entry : Entry = Ended old.pushes.begun outcome in
     record {
       added = entry ∷ [];
@@ -118,4 +146,14 @@ goes_ended old new a b outcome trace trace' ends =
       history = λ script past stands.
           subst (λ (m : Medium). Stands script (past ++ entry ∷ []) m a b) (sym (ap (λ (s : Scene). s.medium) ends.new_is))
           (ends_step script past old.pushes.begun outcome old.medium a b ends.few ends.outcome_is stands);
+      run = λ script past stands. run_one (Closing old.pushes.begun outcome) [] (entry ∷ []) (moment old a b) (moment new a b) refl refl (record {
+          going = idle.going;
+          push_is = refl;
+          few = ends.few;
+          idle = idle.idle;
+          came = idle.came;
+          outcome_is = ends.outcome_is;
+          none_b = idle.none_b;
+          new_is = ap (λ (s : Scene). moment s a b) ends.new_is;
+        });
     }

@@ -1,23 +1,25 @@
 -- The simulated world of a scenario (this project's own).
-use Rattle.std.specs.Prelude.{ℕ, ◌≡◌, ◌<◌, ◌≤◌, ◌++◌, min, List, [], replicate, Option}
+use Rattle.std.specs.Prelude.{ℕ, ◌-◌, ◌≡◌, ◌++◌, min, List, length, replicate, Option}
 use Rattle.std.specs.List.{AllByRecursion, filter_map}
-use Rattle.capture.specs.Pushes.{outcome_of}
-use Rattle.push_script.specs.declared.outcome.Outcome.{Outcome}
-use Rattle.push_script.specs.declared.outcome.Outcome.TheVariants.{ScriptEnded}
 use Rattle.bt_base.specs.Streams.{gained}
+use Rattle.push_script.specs.declared.outcome.Outcome.TheVariants.{ScriptEnded}
 use Rattle.push_script.specs.declared.scenario.Scenario.{Scenario}
 use Rattle.push_script.specs.declared.word.Side.TheVariants as sides
 use Rattle.push_script.specs.declared.word.Word.{Word}
+use Rattle.capture.specs.Pushes.{outcome_of}
 use Rattle.capture.specs.Entries.{Entry, IsEntry, capture_octets}
-use Rattle.capture.specs.Air.{Obeys}
+use Rattle.capture.specs.Air.{Obeys, words_of}
 use Rattle.capture.specs.Buffers.{KeepsWithin}
 use Rattle.capture.specs.Peaks.{buffers_peak}
 use Rattle.bt_host.specs.ClientHosts.{ClientState, fresh_client}
+use Rattle.bt_host.specs.Servers.{Kept}
 use Rattle.bt_host.specs.ServerHosts.{ServerState, fresh_server}
-use Rattle.radio_air.specs.Radio.{new_radio}
-use Rattle.world_model.specs.Media.{Medium}
+use Rattle.world_model.specs.Insides.{Shelved}
 use Rattle.world_model.specs.Ordering.{no_pushes}
-use Rattle.world_model.specs.Scenes.{Scene, IsSettled}
+use Rattle.world_model.specs.Scenes.{Scene}
+use Rattle.world_model.specs.Moments.{Moment, IsAtRest, first_medium, first_moment}
+use Rattle.world_model.specs.Happenings.{Plays}
+use Rattle.radio_world.specs.Running.{moment}
 use Rattle.radio_world.specs.Going.{Goes, Turns, Finishes}
 use Rattle.radio_world.specs.OwnHosts.{client_face, server_face}
 
@@ -27,10 +29,6 @@ pub record World : Type 0 where
   pub server : ServerState
   pub scene : Scene
 
--- nothing has moved, and nothing was noted
-abbrev pub first_medium : ℕ → ℕ → Medium
-first_medium size count = record { radio = new_radio size count; peak_a = 0; peak_b = 0 }
-
 abbrev pub new_world : Scenario → World
 new_world scenario = record {
   client = fresh_client scenario.settings.mtu scenario.settings.obex;
@@ -38,35 +36,56 @@ new_world scenario = record {
   scene = record { medium = first_medium scenario.acl_length scenario.acl_count; pushes = no_pushes scenario.names; turned = 0 };
 }
 
+-- its moment, beside a shelf and an inbox
+abbrev pub moment_of : World → Shelved → Kept → Moment
+moment_of world shelf inbox = moment world.scene (client_face world.client shelf) (server_face world.server inbox)
+
 -- all moves that can, as the capture says
-abbrev pub WorldGoes : World → World → Option (List ℕ) → Option (List ℕ) → Type 0
-WorldGoes old new trace trace' = Goes old.scene new.scene (client_face old.client) (client_face new.client) (server_face old.server) (server_face new.server) trace trace'
+abbrev pub WorldGoes : (old new : World) → (shelf shelf' : Shelved) → (inbox inbox' : Kept) → Option (List ℕ) → Option (List ℕ) → Type 0
+WorldGoes old new shelf shelf' inbox inbox' trace trace' =
+    Goes old.scene new.scene (client_face old.client shelf) (client_face new.client shelf') (server_face old.server inbox) (server_face new.server inbox') trace trace'
 
 -- the next words of a script are turned, as the capture says
-abbrev pub WorldTurns : List Word → World → World → Option (List ℕ) → Option (List ℕ) → Type 0
-WorldTurns words old new trace trace' = Turns words old.scene new.scene (client_face old.client) (client_face new.client) (server_face old.server) (server_face new.server) trace trace'
+abbrev pub WorldTurns : List Word → (old new : World) → (shelf shelf' : Shelved) → (inbox inbox' : Kept) → Option (List ℕ) → Option (List ℕ) → Type 0
+WorldTurns words old new shelf shelf' inbox inbox' trace trace' =
+    Turns words old.scene new.scene (client_face old.client shelf) (client_face new.client shelf') (server_face old.server inbox) (server_face new.server inbox') trace trace'
 
 -- the script has ended, as the capture says
 abbrev pub WorldFinishes : World → World → Option (List ℕ) → Option (List ℕ) → Type 0
-WorldFinishes old new trace trace' = Finishes old.scene new.scene trace trace'
+WorldFinishes old new trace trace' = Finishes old.client.client.course.outcome old.scene new.scene trace trace'
 
--- nothing is left to be moved
-abbrev pub IsStill : World → Type 0
-IsStill world = IsSettled world.scene.medium (client_face world.client) (server_face world.server)
+-- nothing is left to be moved or to be given back, no push can begin, and none can end
+abbrev pub IsStill : World → Shelved → Kept → Type 0
+IsStill world shelf inbox = IsAtRest (moment_of world shelf inbox)
 
 -- ---- a whole run
 
--- What happened in a run of a script between controllers that take `count` packets of at most `size` octets: the air obeyed
--- the script, both hosts kept within the buffers at each moment, and the greatest numbers are those of the capture. What
--- came of the pushes is what their ends say, and the script ended those that did not begin.
-pub record Happens (size count : ℕ) (script : List Word) (outcomes : List Outcome) (peak_a peak_b : ℕ) (trace trace' : Option (List ℕ)) : Type 0 where
+-- where a scenario begins: its controllers, its hosts and its objects
+abbrev pub beginning : Scenario → Shelved → Kept → Moment
+beginning scenario shelf inbox = first_moment scenario.acl_length scenario.acl_count scenario.settings.mtu scenario.settings.obex scenario.names shelf inbox
+
+-- the world is as at that moment, but that the pushes that did not begin have ended with the script
+pub record EndsAt (last : Moment) (world : World) (shelf : Shelved) (inbox : Kept) : Type 0 where
+  pub medium : world.scene.medium ≡ last.scene.medium
+  pub client : client_face world.client shelf ≡ last.a
+  pub server : server_face world.server inbox ≡ last.b
+  pub outcomes : world.scene.pushes.outcomes ≡ last.scene.pushes.outcomes ++ replicate (length last.scene.pushes.names - length last.scene.pushes.outcomes) ScriptEnded
+
+-- What happened in a run of a scenario: the air obeyed the script, both hosts kept within the buffers at each moment, and the
+-- greatest numbers are those of the capture. What came of the pushes is what their ends say, and the script ended those that
+-- did not begin. All that happened is what may happen in a world from its first moment on, and leaves the hosts, the shelf and
+-- the inbox as it says.
+pub record Happens (scenario : Scenario) (new : World) (shelf shelf' : Shelved) (inbox inbox' : Kept) (trace trace' : Option (List ℕ)) : Type 0 where
   pub entries : List Entry
   pub entries_are : AllByRecursion IsEntry entries
   pub written : trace' ≡ gained trace (capture_octets entries)
-  pub obeys : Obeys size script entries
-  pub within_a : KeepsWithin sides.A count entries
-  pub within_b : KeepsWithin sides.B count entries
+  pub obeys : Obeys scenario.acl_length (words_of scenario.script) entries
+  pub within_a : KeepsWithin sides.A scenario.acl_count entries
+  pub within_b : KeepsWithin sides.B scenario.acl_count entries
   pub not_begun : ℕ
-  pub outcomes_are : outcomes ≡ filter_map outcome_of entries ++ replicate not_begun ScriptEnded
-  pub buffers_a : peak_a ≡ buffers_peak sides.A entries
-  pub buffers_b : peak_b ≡ buffers_peak sides.B entries
+  pub outcomes_are : new.scene.pushes.outcomes ≡ filter_map outcome_of entries ++ replicate not_begun ScriptEnded
+  pub buffers_a : new.scene.medium.peak_a ≡ buffers_peak sides.A entries
+  pub buffers_b : new.scene.medium.peak_b ≡ buffers_peak sides.B entries
+  pub last : Moment
+  pub plays : Plays (words_of scenario.script) (beginning scenario shelf inbox) last entries
+  pub ends : EndsAt last new shelf' inbox'

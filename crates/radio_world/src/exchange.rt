@@ -14,7 +14,7 @@ use push_script::Side;
 
 impl Medium {
     /// All that a host offers moves to its controller, which gives it back at once, and what the
-    /// controller owes then moves into the host. False where nothing moved.
+    /// controller owes then moves into the host: it owes nothing any more. False where nothing moved.
     pub(crate) fn exchange<P, H: Host<P>, T: Sink>(
         &mut self,
         side: Side,
@@ -23,8 +23,9 @@ impl Medium {
         trace: &mut T,
     ) -> Result<bool, WorldFault>
         requires may_hear { H.may_hear host.old port.old }
-        ensures extends { OnOk result (Extends side self.old self.new (H.face host.old) (H.face host.new) (T.content trace.old) (T.content trace.new)) }
-        ensures still { result ≡ Ok false → IsStillOut (H.face host.new).line × IsStillIn side self.new × (H.face host.new ≡ H.face host.old) × (controller (other_side side) self.new.radio ≡ controller (other_side side) self.old.radio) × (T.content trace.new ≡ T.content trace.old) }
+        ensures extends { OnOk result (Extends side self.old self.new (H.face host.old port.old) (H.face host.new port.new) (T.content trace.old) (T.content trace.new)) }
+        ensures none { OnOk result (IsStillIn side self.new) }
+        ensures still { result ≡ Ok false → IsStillOut (H.face host.new port.new).line × ((controller side self.new.radio).taken ≡ 0) × (H.face host.new port.new ≡ H.face host.old port.old) × (controller (other_side side) self.new.radio ≡ controller (other_side side) self.old.radio) × (T.content trace.new ≡ T.content trace.old) }
         ensures may_hear { H.may_hear host.new port.new }
     {
         let out = self.move_all_out(side, host, port, trace)?;
@@ -41,10 +42,10 @@ impl Medium {
         port: &P,
         trace: &mut T,
     ) -> Result<bool, WorldFault>
-        ensures extends { OnOk result (Extends side self.old self.new (H.face host.old) (H.face host.new) (T.content trace.old) (T.content trace.new)) }
-        ensures still { OnOk result (IsStillOut (H.face host.new).line) }
-        ensures idle { result ≡ Ok false → (self.new ≡ self.old) × (H.face host.new ≡ H.face host.old) × (T.content trace.new ≡ T.content trace.old) }
-        ensures may_hear { (other : P) → H.may_hear host.old other → H.may_hear host.new other }
+        ensures extends { OnOk result (Extends side self.old self.new (H.face host.old port.now) (H.face host.new port.now) (T.content trace.old) (T.content trace.new)) }
+        ensures still { OnOk result (IsStillOut (H.face host.new port.now).line) }
+        ensures idle { result ≡ Ok false → (self.new ≡ self.old) × (H.face host.new port.now ≡ H.face host.old port.now) × (T.content trace.new ≡ T.content trace.old) }
+        ensures may_hear { H.may_hear host.old port.now → H.may_hear host.new port.now }
     {
         let mut moved = false;
         while self.move_out(side, host, port, trace)? {
@@ -62,9 +63,9 @@ impl Medium {
         trace: &mut T,
     ) -> Result<bool, WorldFault>
         requires may_hear { H.may_hear host.old port.old }
-        ensures extends { OnOk result (Extends side self.old self.new (H.face host.old) (H.face host.new) (T.content trace.old) (T.content trace.new)) }
+        ensures extends { OnOk result (Extends side self.old self.new (H.face host.old port.old) (H.face host.new port.new) (T.content trace.old) (T.content trace.new)) }
         ensures still { OnOk result (IsStillIn side self.new) }
-        ensures idle { result ≡ Ok false → (self.new ≡ self.old) × (H.face host.new ≡ H.face host.old) × (T.content trace.new ≡ T.content trace.old) }
+        ensures idle { result ≡ Ok false → (self.new ≡ self.old) × (H.face host.new port.new ≡ H.face host.old port.old) × (T.content trace.new ≡ T.content trace.old) }
         ensures may_hear { H.may_hear host.new port.new }
     {
         let mut moved = false;

@@ -6,7 +6,7 @@ ghost use Rattle.world_model.specs.Acting.{Acts};
 ghost use Rattle.world_model.specs.Acting.{MakesNothing};
 ghost use Rattle.radio_air.specs.Acting.{IsSize};
 ghost use Rattle.world_model.specs.Media.{noted};
-ghost use Rattle.radio_world.specs.Worlds.{first_medium};
+ghost use Rattle.world_model.specs.Moments.{first_medium};
 ghost use Rattle.radio_world.specs.Extending.{Extends};
 ghost use Rattle.world_model.specs.Moving.{IsStillOut, IsStillIn};
 
@@ -71,13 +71,13 @@ impl Medium {
         &mut self,
         side: Side,
         host: &mut H,
-        _port: &P,
+        port: &P,
         trace: &mut T,
     ) -> Result<bool, WorldFault>
-        ensures extends { OnOk result (Extends side self.old self.new (H.face host.old) (H.face host.new) (T.content trace.old) (T.content trace.new)) }
-        ensures still { result ≡ Ok false → IsStillOut (H.face host.old).line × (self.new ≡ self.old) × (H.face host.new ≡ H.face host.old) × (T.content trace.new ≡ T.content trace.old) }
-        ensures shorter { result ≡ Ok true → length (H.face host.new).line.out < length (H.face host.old).line.out }
-        ensures may_hear { (other : P) → H.may_hear host.old other → H.may_hear host.new other }
+        ensures extends { OnOk result (Extends side self.old self.new (H.face host.old port.now) (H.face host.new port.now) (T.content trace.old) (T.content trace.new)) }
+        ensures still { result ≡ Ok false → IsStillOut (H.face host.old port.now).line × (self.new ≡ self.old) × (H.face host.new port.now ≡ H.face host.old port.now) × (T.content trace.new ≡ T.content trace.old) }
+        ensures shorter { result ≡ Ok true → length (H.face host.new port.now).line.out < length (H.face host.old port.now).line.out }
+        ensures may_hear { H.may_hear host.old port.now → H.may_hear host.new port.now }
     {
         let Leading::Whole(unit, n) = first(host.out(), ACL_LIMIT) else {
             return Ok(false);
@@ -89,7 +89,7 @@ impl Medium {
         };
         record(&entry, trace)?;
         self.radio.take(side, &unit)?;
-        host.taken(n);
+        host.taken(n, port);
         self.note(side);
         Ok(true)
     }
@@ -114,8 +114,8 @@ impl Medium {
         trace: &mut T,
     ) -> Result<bool, WorldFault>
         requires may_hear { H.may_hear host.old port.old }
-        ensures extends { OnOk result (Extends side self.old self.new (H.face host.old) (H.face host.new) (T.content trace.old) (T.content trace.new)) }
-        ensures still { result ≡ Ok false → IsStillIn side self.old × (self.new ≡ self.old) × (H.face host.new ≡ H.face host.old) × (T.content trace.new ≡ T.content trace.old) }
+        ensures extends { OnOk result (Extends side self.old self.new (H.face host.old port.old) (H.face host.new port.new) (T.content trace.old) (T.content trace.new)) }
+        ensures still { result ≡ Ok false → IsStillIn side self.old × (self.new ≡ self.old) × (H.face host.new port.new ≡ H.face host.old port.old) × (T.content trace.new ≡ T.content trace.old) }
         ensures shorter { result ≡ Ok true → length (controller side self.new.radio).owed < length (controller side self.old.radio).owed }
         ensures may_hear { H.may_hear host.new port.new }
     {

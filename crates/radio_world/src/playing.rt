@@ -4,6 +4,8 @@ ghost use Rattle.std.specs.Prelude.{◌≡◌, ◌≤◌, false, take, replicate
 ghost use Rattle.obex_session.specs.Rules.{is_under_way};
 ghost use Rattle.capture.specs.Air.{words_of};
 ghost use Rattle.bt_host.specs.ClientHosts.{IsSupplied};
+ghost use Rattle.bt_host.specs.Servers.{kept};
+ghost use Rattle.radio_world.specs.OwnHosts.{shelved};
 ghost use Rattle.radio_world.specs.Worlds.{new_world, WorldTurns, IsStill, Happens};
 
 use crate::fault::WorldFault;
@@ -21,11 +23,11 @@ impl World {
         shelf: &mut F,
         inbox: &mut B,
     ) -> Result<(), WorldFault>
-        requires still { IsStill self.old }
+        requires still { IsStill self.old (shelved (F.content shelf.old) (F.faults shelf.old)) (kept (B.content inbox.old) (B.faults inbox.old) (B.shortages inbox.old)) }
         requires supplied { IsSupplied (F.content shelf.old) self.old.client }
         requires pending { B.is_pending inbox.old ≡ is_under_way self.old.server.server.served.session.progress }
-        ensures turns { OnOk result (WorldTurns (replicate count word) self.old self.new (T.content trace.old) (T.content trace.new)) }
-        ensures still { OnOk result (IsStill self.new) }
+        ensures turns { OnOk result (WorldTurns (replicate count word) self.old self.new (shelved (F.content shelf.old) (F.faults shelf.old)) (shelved (F.content shelf.new) (F.faults shelf.new)) (kept (B.content inbox.old) (B.faults inbox.old) (B.shortages inbox.old)) (kept (B.content inbox.new) (B.faults inbox.new) (B.shortages inbox.new)) (T.content trace.old) (T.content trace.new)) }
+        ensures still { OnOk result (IsStill self.new (shelved (F.content shelf.new) (F.faults shelf.new)) (kept (B.content inbox.new) (B.faults inbox.new) (B.shortages inbox.new))) }
         ensures supplied { IsSupplied (F.content shelf.new) self.new.client }
         ensures pending { B.is_pending inbox.new ≡ is_under_way self.new.server.server.served.session.progress }
     {
@@ -43,11 +45,11 @@ impl World {
         shelf: &mut F,
         inbox: &mut B,
     ) -> Result<(), WorldFault>
-        requires still { IsStill self.old }
+        requires still { IsStill self.old (shelved (F.content shelf.old) (F.faults shelf.old)) (kept (B.content inbox.old) (B.faults inbox.old) (B.shortages inbox.old)) }
         requires supplied { IsSupplied (F.content shelf.old) self.old.client }
         requires pending { B.is_pending inbox.old ≡ is_under_way self.old.server.server.served.session.progress }
-        ensures turns { OnOk result (WorldTurns (words_of script.now) self.old self.new (T.content trace.old) (T.content trace.new)) }
-        ensures still { OnOk result (IsStill self.new) }
+        ensures turns { OnOk result (WorldTurns (words_of script.now) self.old self.new (shelved (F.content shelf.old) (F.faults shelf.old)) (shelved (F.content shelf.new) (F.faults shelf.new)) (kept (B.content inbox.old) (B.faults inbox.old) (B.shortages inbox.old)) (kept (B.content inbox.new) (B.faults inbox.new) (B.shortages inbox.new)) (T.content trace.old) (T.content trace.new)) }
+        ensures still { OnOk result (IsStill self.new (shelved (F.content shelf.new) (F.faults shelf.new)) (kept (B.content inbox.new) (B.faults inbox.new) (B.shortages inbox.new))) }
         ensures supplied { IsSupplied (F.content shelf.new) self.new.client }
         ensures pending { B.is_pending inbox.new ≡ is_under_way self.new.server.server.served.session.progress }
     {
@@ -75,7 +77,7 @@ impl World {
     ) -> Result<(), WorldFault>
         requires fresh { self.old ≡ new_world scenario.now }
         requires pending { B.is_pending inbox.old ≡ false }
-        ensures happens { OnOk result (Happens scenario.now.acl_length scenario.now.acl_count (words_of scenario.now.script) self.new.scene.pushes.outcomes self.new.scene.medium.peak_a self.new.scene.medium.peak_b (T.content trace.old) (T.content trace.new)) }
+        ensures happens { OnOk result (Happens scenario.now self.new (shelved (F.content shelf.old) (F.faults shelf.old)) (shelved (F.content shelf.new) (F.faults shelf.new)) (kept (B.content inbox.old) (B.faults inbox.old) (B.shortages inbox.old)) (kept (B.content inbox.new) (B.faults inbox.new) (B.shortages inbox.new)) (T.content trace.old) (T.content trace.new)) }
         ensures each { OnOk result (length self.new.scene.pushes.outcomes ≡ length scenario.now.names) }
     {
         self.start(trace, shelf, inbox)?;

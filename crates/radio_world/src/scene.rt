@@ -1,9 +1,14 @@
 //! What goes on between the two hosts.
 
-ghost use Rattle.std.specs.Prelude.{◌≡◌, ◌∷◌, [], true, false, length, Ok, OnOk};
+ghost use Rattle.std.specs.Prelude.{◌≡◌, ◌∷◌, [], true, false, length, None, Ok, OnOk};
+ghost use Rattle.push_script.specs.declared.word.Side.TheVariants.{B as B_side};
+ghost use Rattle.world_model.specs.Insides.{idles, came_of};
 ghost use Rattle.world_model.specs.Faces.{Face};
-ghost use Rattle.radio_world.specs.Going.{Begins, Ends, Goes, Turns, LastEnds, Finishes};
-ghost use Rattle.world_model.specs.Scenes.{IsSettled};
+ghost use Rattle.world_model.specs.Moving.{IsStillIn};
+ghost use Rattle.world_model.specs.Ordering.{next_name};
+ghost use Rattle.world_model.specs.Moments.{IsAtRest};
+ghost use Rattle.radio_world.specs.Running.{moment};
+ghost use Rattle.radio_world.specs.Going.{Begins, Ends, Goes, StaysPut, Turns, LastEnds, Finishes};
 
 use crate::fault::WorldFault;
 use crate::host::{Host, PushFault, Pusher};
@@ -45,9 +50,9 @@ impl Scene {
         trace: &mut T,
     ) -> Result<bool, WorldFault>
         requires may_hear { A.may_hear a.old shelf.old }
-        ensures begins { result ≡ Ok true → Begins self.old self.new (A.face a.old) (A.face a.new) (T.content trace.old) (T.content trace.new) }
-        ensures none { result ≡ Ok false → (self.new ≡ self.old) × (A.face a.new ≡ A.face a.old) × (T.content trace.new ≡ T.content trace.old) }
-        ensures goes { OnOk result ((b : Face) → Goes self.old self.new (A.face a.old) (A.face a.new) b b (T.content trace.old) (T.content trace.new)) }
+        ensures begins { result ≡ Ok true → Begins self.old self.new (A.face a.old shelf.old) (A.face a.new shelf.new) (T.content trace.old) (T.content trace.new) }
+        ensures none { result ≡ Ok false → (self.new ≡ self.old) × (A.face a.new shelf.new ≡ A.face a.old shelf.old) × (T.content trace.new ≡ T.content trace.old) × (idles (A.face a.old shelf.old).inside ≡ true → next_name self.old.pushes ≡ None) }
+        ensures goes { OnOk result ((b : Face) → Goes self.old self.new (A.face a.old shelf.old) (A.face a.new shelf.new) b b (T.content trace.old) (T.content trace.new)) }
         ensures may_hear { A.may_hear a.new shelf.new }
     {
         if !a.idle() {
@@ -76,15 +81,17 @@ impl Scene {
         Ok(())
     }
 
-    /// Ends the push that goes on, where host a is idle. False where nothing ends.
+    /// Ends the push that goes on, where host a is idle and something came of it. It needs that
+    /// nothing is on its way into host b. False where nothing ends.
     fn end_idle<P, A: Pusher<P>, T: Sink>(
         &mut self,
         a: &A,
         _shelf: &P,
         trace: &mut T,
     ) -> Result<bool, WorldFault>
-        ensures goes { OnOk result ((a b : Face) → Goes self.old self.new a a b b (T.content trace.old) (T.content trace.new)) }
-        ensures none { result ≡ Ok false → (self.new ≡ self.old) × (T.content trace.new ≡ T.content trace.old) }
+        requires none_b { IsStillIn B_side self.old.medium }
+        ensures goes { OnOk result ((b : Face) → Goes self.old self.new (A.face a.now _shelf.now) (A.face a.now _shelf.now) b b (T.content trace.old) (T.content trace.new)) }
+        ensures none { result ≡ Ok false → (self.new ≡ self.old) × (T.content trace.new ≡ T.content trace.old) × (self.old.pushes.going ≡ true → idles (A.face a.now _shelf.now).inside ≡ true → came_of (A.face a.now _shelf.now).inside ≡ None) }
     {
         if !self.pushes.going() || !a.idle() {
             return Ok(false);
@@ -108,8 +115,9 @@ impl Scene {
     ) -> Result<bool, WorldFault>
         requires may_hear_a { A.may_hear a.old shelf.old }
         requires may_hear_b { B.may_hear b.old inbox.old }
-        ensures goes { OnOk result (Goes self.old self.new (A.face a.old) (A.face a.new) (B.face b.old) (B.face b.new) (T.content trace.old) (T.content trace.new)) }
-        ensures settled { result ≡ Ok false → IsSettled self.new.medium (A.face a.new) (B.face b.new) }
+        ensures goes { OnOk result (Goes self.old self.new (A.face a.old shelf.old) (A.face a.new shelf.new) (B.face b.old inbox.old) (B.face b.new inbox.new) (T.content trace.old) (T.content trace.new)) }
+        ensures none_b { OnOk result (IsStillIn B_side self.new.medium) }
+        ensures idle { result ≡ Ok false → StaysPut self.old self.new (A.face a.old shelf.old) (A.face a.new shelf.new) (B.face b.new inbox.new) }
         ensures may_hear_a { A.may_hear a.new shelf.new }
         ensures may_hear_b { B.may_hear b.new inbox.new }
     {
@@ -129,8 +137,8 @@ impl Scene {
     ) -> Result<bool, WorldFault>
         requires may_hear_a { A.may_hear a.old shelf.old }
         requires may_hear_b { B.may_hear b.old inbox.old }
-        ensures goes { OnOk result (Goes self.old self.new (A.face a.old) (A.face a.new) (B.face b.old) (B.face b.new) (T.content trace.old) (T.content trace.new)) }
-        ensures settled { result ≡ Ok false → IsSettled self.new.medium (A.face a.new) (B.face b.new) }
+        ensures goes { OnOk result (Goes self.old self.new (A.face a.old shelf.old) (A.face a.new shelf.new) (B.face b.old inbox.old) (B.face b.new inbox.new) (T.content trace.old) (T.content trace.new)) }
+        ensures rest { result ≡ Ok false → IsAtRest (moment self.new (A.face a.new shelf.new) (B.face b.new inbox.new)) }
         ensures may_hear_a { A.may_hear a.new shelf.new }
         ensures may_hear_b { B.may_hear b.new inbox.new }
     {
@@ -140,7 +148,7 @@ impl Scene {
         Ok(began || moved || ended)
     }
 
-    /// Rounds, until one moves nothing.
+    /// Rounds, until in one nothing happens: all is at rest.
     pub(crate) fn settle<P, A: Pusher<P>, Q, B: Host<Q>, T: Sink>(
         &mut self,
         a: &mut A,
@@ -151,8 +159,8 @@ impl Scene {
     ) -> Result<(), WorldFault>
         requires may_hear_a { A.may_hear a.old shelf.old }
         requires may_hear_b { B.may_hear b.old inbox.old }
-        ensures goes { OnOk result (Goes self.old self.new (A.face a.old) (A.face a.new) (B.face b.old) (B.face b.new) (T.content trace.old) (T.content trace.new)) }
-        ensures settled { OnOk result (IsSettled self.new.medium (A.face a.new) (B.face b.new)) }
+        ensures goes { OnOk result (Goes self.old self.new (A.face a.old shelf.old) (A.face a.new shelf.new) (B.face b.old inbox.old) (B.face b.new inbox.new) (T.content trace.old) (T.content trace.new)) }
+        ensures rest { OnOk result (IsAtRest (moment self.new (A.face a.new shelf.new) (B.face b.new inbox.new))) }
         ensures may_hear_a { A.may_hear a.new shelf.new }
         ensures may_hear_b { B.may_hear b.new inbox.new }
     {
@@ -167,8 +175,7 @@ impl Scene {
 
 impl Scene {
     /// Turns the next word of a script: what it does in the air is done, and all moves that follows
-    /// from it. It needs that nothing is left to be moved. A word that finds nothing to act on does
-    /// nothing.
+    /// from it. It needs that all is at rest. A word that finds nothing to act on does nothing.
     pub(crate) fn turn<P, A: Pusher<P>, Q, B: Host<Q>, T: Sink>(
         &mut self,
         word: Word,
@@ -178,11 +185,11 @@ impl Scene {
         inbox: &mut Q,
         trace: &mut T,
     ) -> Result<(), WorldFault>
-        requires settled { IsSettled self.old.medium (A.face a.old) (B.face b.old) }
+        requires rest { IsAtRest (moment self.old (A.face a.old shelf.old) (B.face b.old inbox.old)) }
         requires may_hear_a { A.may_hear a.old shelf.old }
         requires may_hear_b { B.may_hear b.old inbox.old }
-        ensures turns { OnOk result (Turns (word ∷ []) self.old self.new (A.face a.old) (A.face a.new) (B.face b.old) (B.face b.new) (T.content trace.old) (T.content trace.new)) }
-        ensures settled { OnOk result (IsSettled self.new.medium (A.face a.new) (B.face b.new)) }
+        ensures turns { OnOk result (Turns (word ∷ []) self.old self.new (A.face a.old shelf.old) (A.face a.new shelf.new) (B.face b.old inbox.old) (B.face b.new inbox.new) (T.content trace.old) (T.content trace.new)) }
+        ensures rest { OnOk result (IsAtRest (moment self.new (A.face a.new shelf.new) (B.face b.new inbox.new))) }
         ensures may_hear_a { A.may_hear a.new shelf.new }
         ensures may_hear_b { B.may_hear b.new inbox.new }
     {
@@ -201,7 +208,7 @@ impl Scene {
 
     /// Ends the push that goes on, if one does: with what came of it, or else with the script.
     fn end_last<T: Sink>(&mut self, came: Option<Outcome>, trace: &mut T) -> Result<(), WorldFault>
-        ensures { OnOk result (LastEnds self.old self.new (T.content trace.old) (T.content trace.new)) }
+        ensures { OnOk result (LastEnds came self.old self.new (T.content trace.old) (T.content trace.new)) }
     {
         if !self.pushes.going() {
             return Ok(());
@@ -217,7 +224,7 @@ impl Scene {
         came: Option<Outcome>,
         trace: &mut T,
     ) -> Result<(), WorldFault>
-        ensures ends { OnOk result (Finishes self.old self.new (T.content trace.old) (T.content trace.new)) }
+        ensures ends { OnOk result (Finishes came self.old self.new (T.content trace.old) (T.content trace.new)) }
         ensures each { OnOk result (length self.new.pushes.outcomes ≡ length self.new.pushes.names) }
     {
         self.end_last(came, trace)?;

@@ -5,6 +5,8 @@ ghost use Rattle.std.specs.Option.{option_map};
 ghost use Rattle.radio_air.specs.Radio.{frames};
 ghost use Rattle.obex_session.specs.Rules.{is_under_way};
 ghost use Rattle.bt_host.specs.ClientHosts.{IsSupplied};
+ghost use Rattle.bt_host.specs.Servers.{kept};
+ghost use Rattle.radio_world.specs.OwnHosts.{shelved};
 ghost use Rattle.radio_world.specs.Worlds.{new_world, WorldGoes, WorldTurns, WorldFinishes, IsStill};
 
 use crate::fault::WorldFault;
@@ -113,8 +115,8 @@ impl World {
     ) -> Result<(), WorldFault>
         requires supplied { IsSupplied (F.content shelf.old) self.old.client }
         requires pending { B.is_pending inbox.old ≡ is_under_way self.old.server.server.served.session.progress }
-        ensures goes { OnOk result (WorldGoes self.old self.new (T.content trace.old) (T.content trace.new)) }
-        ensures still { OnOk result (IsStill self.new) }
+        ensures goes { OnOk result (WorldGoes self.old self.new (shelved (F.content shelf.old) (F.faults shelf.old)) (shelved (F.content shelf.new) (F.faults shelf.new)) (kept (B.content inbox.old) (B.faults inbox.old) (B.shortages inbox.old)) (kept (B.content inbox.new) (B.faults inbox.new) (B.shortages inbox.new)) (T.content trace.old) (T.content trace.new)) }
+        ensures still { OnOk result (IsStill self.new (shelved (F.content shelf.new) (F.faults shelf.new)) (kept (B.content inbox.new) (B.faults inbox.new) (B.shortages inbox.new))) }
         ensures supplied { IsSupplied (F.content shelf.new) self.new.client }
         ensures pending { B.is_pending inbox.new ≡ is_under_way self.new.server.server.served.session.progress }
     {
@@ -124,8 +126,8 @@ impl World {
     }
 
     /// Does what the next word of the script says in the air, and all moves that can. A word that
-    /// finds nothing to act on does nothing. It needs that nothing is left to be moved, as `start` and
-    /// `turn` leave it, and the ports as `start` does.
+    /// finds nothing to act on does nothing. It needs that all is at rest, as `start` and `turn` leave
+    /// it, and the ports as `start` does.
     ///
     /// It refuses as `start` does; `NotBuilt` also for all words but `pass` and `drop`.
     pub fn turn<T: Sink, F: Shelf, B: Inbox>(
@@ -135,11 +137,11 @@ impl World {
         shelf: &mut F,
         inbox: &mut B,
     ) -> Result<(), WorldFault>
-        requires still { IsStill self.old }
+        requires still { IsStill self.old (shelved (F.content shelf.old) (F.faults shelf.old)) (kept (B.content inbox.old) (B.faults inbox.old) (B.shortages inbox.old)) }
         requires supplied { IsSupplied (F.content shelf.old) self.old.client }
         requires pending { B.is_pending inbox.old ≡ is_under_way self.old.server.server.served.session.progress }
-        ensures turns { OnOk result (WorldTurns (word ∷ []) self.old self.new (T.content trace.old) (T.content trace.new)) }
-        ensures still { OnOk result (IsStill self.new) }
+        ensures turns { OnOk result (WorldTurns (word ∷ []) self.old self.new (shelved (F.content shelf.old) (F.faults shelf.old)) (shelved (F.content shelf.new) (F.faults shelf.new)) (kept (B.content inbox.old) (B.faults inbox.old) (B.shortages inbox.old)) (kept (B.content inbox.new) (B.faults inbox.new) (B.shortages inbox.new)) (T.content trace.old) (T.content trace.new)) }
+        ensures still { OnOk result (IsStill self.new (shelved (F.content shelf.new) (F.faults shelf.new)) (kept (B.content inbox.new) (B.faults inbox.new) (B.shortages inbox.new))) }
         ensures supplied { IsSupplied (F.content shelf.new) self.new.client }
         ensures pending { B.is_pending inbox.new ≡ is_under_way self.new.server.server.served.session.progress }
     {

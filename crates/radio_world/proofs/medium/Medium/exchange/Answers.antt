@@ -14,12 +14,12 @@ with_radio side radio radio' a b old offered same = ap (λ r. mk r a b) offered 
 
 pub returns-then-out-clause-extends : goal.returns-then-out-clause-extends
 returns-then-out-clause-extends g c =
-    exchange_extends _ _ _ _ _ _ _ _ _ _ _ c.in_ok-out.ensures.extends
+    exchange_extends _ _ _ _ _ _ _ _ _ _ _ c.in_ok-out.ensures.extends c.in_ok-out.ensures.still
     (with_radio c.args.side c.self.inside.radio c.offered.new.self c.self.inside.peak_a c.self.inside.peak_b c.move_all_out.new.self c.in_ok-offered.ensures c.self.view_is)
     c.in_ok-into.ensures.extends
 
 pub returns-else-out-clause-extends : goal.returns-else-out-clause-extends
 returns-else-out-clause-extends g c =
-    exchange_extends _ _ _ _ _ _ _ _ _ _ _ c.in_ok-out.ensures.extends
+    exchange_extends _ _ _ _ _ _ _ _ _ _ _ c.in_ok-out.ensures.extends c.in_ok-out.ensures.still
     (with_radio c.args.side c.self.inside.radio c.offered.new.self c.self.inside.peak_a c.self.inside.peak_b c.move_all_out.new.self c.in_ok-offered.ensures c.self.view_is)
     c.in_ok-into.ensures.extends

@@ -2,12 +2,12 @@ use Rattle.radio_world.proofs.Exchanging.{on_none, on_one}
 use Rattle.radio_world.proofs.medium.Medium.move_all_into.Goals as goal
 
 pub loop-moved-init : goal.loop-moved-init
-loop-moved-init g c = (on_none c.args.side c.args.self.now (g.H.Host.face c.args.host.now) (g.T.Sink.content c.args.trace.now), c.requires.may_hear)
+loop-moved-init g c = (on_none c.args.side c.args.self.now (g.H.Host.face c.args.host.now c.args.port.now) (g.T.Sink.content c.args.trace.now), c.requires.may_hear)
 
 pub loop-moved-preserved : goal.loop-moved-preserved
 loop-moved-preserved g c = (
   on_one c.args.side c.loop-moved.moved c.args.self.now c.loop-moved.self c.move_into.new.self
-      (g.H.Host.face c.args.host.now) (g.H.Host.face c.loop-moved.host) (g.H.Host.face c.move_into.new.host)
+      (g.H.Host.face c.args.host.now c.args.port.now) (g.H.Host.face c.loop-moved.host c.loop-moved.port) (g.H.Host.face c.move_into.new.host c.move_into.new.port)
       (g.T.Sink.content c.args.trace.now) (g.T.Sink.content c.loop-moved.trace) (g.T.Sink.content c.move_into.new.trace)
       c.loop-moved.invariant.0 c.in_ok-move_into.ensures.extends,
   c.move_into.ensures.may_hear,

@@ -2,13 +2,13 @@ use Rattle.radio_world.proofs.Exchanging.{on_none, on_one}
 use Rattle.radio_world.proofs.medium.Medium.move_all_out.Goals as goal
 
 pub loop-moved-init : goal.loop-moved-init
-loop-moved-init g c = (on_none c.args.side c.args.self.now (g.H.Host.face c.args.host.now) (g.T.Sink.content c.args.trace.now), λ other may. may)
+loop-moved-init g c = (on_none c.args.side c.args.self.now (g.H.Host.face c.args.host.now c.args.port.now) (g.T.Sink.content c.args.trace.now), λ may. may)
 
 pub loop-moved-preserved : goal.loop-moved-preserved
 loop-moved-preserved g c = (
   on_one c.args.side c.loop-moved.moved c.args.self.now c.loop-moved.self c.move_out.new.self
-      (g.H.Host.face c.args.host.now) (g.H.Host.face c.loop-moved.host) (g.H.Host.face c.move_out.new.host)
+      (g.H.Host.face c.args.host.now c.args.port.now) (g.H.Host.face c.loop-moved.host c.args.port.now) (g.H.Host.face c.move_out.new.host c.args.port.now)
       (g.T.Sink.content c.args.trace.now) (g.T.Sink.content c.loop-moved.trace) (g.T.Sink.content c.move_out.new.trace)
       c.loop-moved.invariant.0 c.in_ok-move_out.ensures.extends,
-  λ other may. c.move_out.ensures.may_hear other (c.loop-moved.invariant.1 other may),
+  λ may. c.move_out.ensures.may_hear (c.loop-moved.invariant.1 may),
 )

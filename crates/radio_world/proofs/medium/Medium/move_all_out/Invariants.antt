@@ -4,8 +4,8 @@ use Rattle.radio_world.proofs.medium.Medium.move_all_out.Given as goal
 
 abbrev pub invariant-loop-moved : goal.invariant-loop-moved
 invariant-loop-moved g l =
-    MovesOn l.side l.moved l.fn.self l.self (g.H.Host.face l.fn.host) (g.H.Host.face l.host) (g.T.Sink.content l.fn.trace) (g.T.Sink.content l.trace)
-    × ((other : _) → g.H.Host.may_hear l.fn.host other → g.H.Host.may_hear l.host other)
+    MovesOn l.side l.moved l.fn.self l.self (g.H.Host.face l.fn.host l.port) (g.H.Host.face l.host l.port) (g.T.Sink.content l.fn.trace) (g.T.Sink.content l.trace)
+    × (g.H.Host.may_hear l.fn.host l.port → g.H.Host.may_hear l.host l.port)
 
 abbrev pub decreases-loop-moved : goal.decreases-loop-moved
-decreases-loop-moved g l = length (g.H.Host.face l.host).line.out
+decreases-loop-moved g l = length (g.H.Host.face l.host l.port).line.out

@@ -34,8 +34,8 @@ returns-in_default g c =
     let none = none_owed c.args.side c.self.inside.radio c.hand.result _ c.hand.new.into c.hand.ensures.handed c.in_default.is in
     let same = idle c.args.side c.self.inside.radio c.hand.new.self c.self.inside.peak_a c.self.inside.peak_b c.args.self.now c.hand.ensures.radio none c.self.view_is in
     record {
-      extends = subst (λ (m : Medium). Extends c.args.side c.args.self.now m (g.H.Host.face c.args.host.now) (g.H.Host.face c.args.host.now) (g.T.Sink.content c.args.trace.now) (g.T.Sink.content c.args.trace.now)) (sym same)
-          (extends_none c.args.side c.args.self.now (g.H.Host.face c.args.host.now) (g.T.Sink.content c.args.trace.now));
+      extends = subst (λ (m : Medium). Extends c.args.side c.args.self.now m (g.H.Host.face c.args.host.now c.args.port.now) (g.H.Host.face c.args.host.now c.args.port.now) (g.T.Sink.content c.args.trace.now) (g.T.Sink.content c.args.trace.now)) (sym same)
+          (extends_none c.args.side c.args.self.now (g.H.Host.face c.args.host.now c.args.port.now) (g.T.Sink.content c.args.trace.now));
       still = λ _. (subst (λ (m : Medium). (controller c.args.side m.radio).owed ≡ []) c.self.view_is none, same, refl, refl);
       shorter = λ is. absurd cc;
       may_hear = c.requires.may_hear;
@@ -45,15 +45,15 @@ pub returns-clause-extends : goal.returns-clause-extends
 returns-clause-extends g c =
     let handed : IsHanded c.args.side c.self.inside.radio c.in-Some.n c.hand.new.into = handed_first c.args.side c.self.inside.radio c.hand.result c.in-Some.n _ c.hand.new.into c.hand.ensures.handed c.in-Some.is in
     let read : packet c.in-Whole.unit ≡ packet_of c.args.side handed.answer = reads_same c.args.side c.self.inside.radio c.in-Some.n c.hand.new.into (take c.in-Some.n c.hand.new.into) c.in-Whole.unit c.in-Whole.field-1 handed refl c.in-Whole.ensures in
-    let host = g.H.Host.face c.args.host.now in
-    let host' = g.H.Host.face c.hand_over.new.host in
-    let moves : MovesInto c.args.side c.args.self.now (mk c.hand.new.self c.self.inside.peak_a c.self.inside.peak_b) (g.H.Host.face c.args.host.now) (g.H.Host.face c.hand_over.new.host) (g.T.Sink.content c.args.trace.now) (g.T.Sink.content c.record.new.trace) = record {
+    let host = g.H.Host.face c.args.host.now c.args.port.now in
+    let host' = g.H.Host.face c.hand_over.new.host c.hand_over.new.port in
+    let moves : MovesInto c.args.side c.args.self.now (mk c.hand.new.self c.self.inside.peak_a c.self.inside.peak_b) (g.H.Host.face c.args.host.now c.args.port.now) (g.H.Host.face c.hand_over.new.host c.hand_over.new.port) (g.T.Sink.content c.args.trace.now) (g.T.Sink.content c.record.new.trace) = record {
       answer = handed.answer;
       rest = handed.rest;
       owed = ap (λ (m : Medium). (controller c.args.side m.radio).owed) (sym c.self.view_is) ∙ handed.owed;
       medium_is = with_radio c.args.side c.self.inside.radio c.hand.new.self c.self.inside.peak_a c.self.inside.peak_b c.args.self.now c.hand.ensures.radio c.self.view_is;
       is = handed.is;
-      hears = subst (λ xs. HearsWhole xs host.held host'.held host.line host'.line) handed.front c.in_ok-hand_over.ensures.hears;
+      hears = subst (λ xs. HearsWhole xs host host') handed.front c.in_ok-hand_over.ensures.hears;
       trace_is = c.in_ok-record.ensures.ok ∙ ap (λ p. gained (g.T.Sink.content c.args.trace.now) (entry_octets (Moved c.args.side Into p))) read;
     } in
     into_extends _ _ _ _ _ _ _ moves

@@ -14,10 +14,10 @@ use Rattle.radio_world.proofs.medium.Medium.move_out.Goals as goal
 
 pub returns-in_default : goal.returns-in_default
 returns-in_default g c = record {
-  extends = extends_none c.args.side c.args.self.now (g.H.Host.face c.args.host.now) (g.T.Sink.content c.args.trace.now);
-  still = λ _. (nothing_whole (g.H.Host.face c.args.host.now).line.out c.first.result (subst (λ xs. IsLeading 1021 xs c.first.result) c.out.ensures c.first.ensures) c.in_default.not-Whole, refl, refl, refl);
+  extends = extends_none c.args.side c.args.self.now (g.H.Host.face c.args.host.now c.args.port.now) (g.T.Sink.content c.args.trace.now);
+  still = λ _. (nothing_whole (g.H.Host.face c.args.host.now c.args.port.now).line.out c.first.result (subst (λ xs. IsLeading 1021 xs c.first.result) (c.out.ensures c.args.port.now) c.first.ensures) c.in_default.not-Whole, refl, refl, refl);
   shorter = λ is. absurd cc;
-  may_hear = λ other may. may;
+  may_hear = λ may. may;
 }
 
 abbrev mk : Radio → ℕ → ℕ → Medium
@@ -33,11 +33,11 @@ with_radio side p radio radio' a b old taken same = ap (λ r. mk r a b) taken �
 
 pub returns-clause-extends : goal.returns-clause-extends
 returns-clause-extends g c =
-    let moves : MovesOut c.args.side c.args.self.now c.note.new.self (g.H.Host.face c.args.host.now) (g.H.Host.face c.taken.new.self) (g.T.Sink.content c.args.trace.now) (g.T.Sink.content c.record.new.trace) = record {
+    let moves : MovesOut c.args.side c.args.self.now c.note.new.self (g.H.Host.face c.args.host.now c.args.port.now) (g.H.Host.face c.taken.new.self c.args.port.now) (g.T.Sink.content c.args.trace.now) (g.T.Sink.content c.record.new.trace) = record {
       packet = packet c.in-Whole.unit;
-      left = drop c.in-Whole.n (g.H.Host.face c.args.host.now).line.out;
+      left = drop c.in-Whole.n (g.H.Host.face c.args.host.now c.args.port.now).line.out;
       is = c.in-Whole.ensures.0;
-      first = split_off (g.H.Host.face c.args.host.now).line.out (spelling (packet c.in-Whole.unit)) c.in-Whole.n (ap (take c.in-Whole.n) (sym c.out.ensures) ∙ c.in-Whole.ensures.3);
+      first = split_off (g.H.Host.face c.args.host.now c.args.port.now).line.out (spelling (packet c.in-Whole.unit)) c.in-Whole.n (ap (take c.in-Whole.n) (sym (c.out.ensures c.args.port.now)) ∙ c.in-Whole.ensures.3);
       face_is = c.taken.ensures.face;
       medium_is = c.note.ensures ∙ ap (noted c.args.side) (with_radio c.args.side (packet c.in-Whole.unit) c.self.inside.radio c.take.new.self c.self.inside.peak_a c.self.inside.peak_b c.args.self.now c.in_ok-take.ensures c.self.view_is);
       trace_is = c.in_ok-record.ensures.ok;
@@ -46,6 +46,6 @@ returns-clause-extends g c =
 
 pub returns-clause-shorter : goal.returns-clause-shorter
 returns-clause-shorter g c = λ moved.
-    subst (λ (face : Face). length face.line.out < length (g.H.Host.face c.args.host.now).line.out) (sym c.taken.ensures.face)
-    (left_shorter (packet c.in-Whole.unit) (g.H.Host.face c.args.host.now).line.out (drop c.in-Whole.n (g.H.Host.face c.args.host.now).line.out)
-    (split_off (g.H.Host.face c.args.host.now).line.out (spelling (packet c.in-Whole.unit)) c.in-Whole.n (ap (take c.in-Whole.n) (sym c.out.ensures) ∙ c.in-Whole.ensures.3)))
+    subst (λ (face : Face). length face.line.out < length (g.H.Host.face c.args.host.now c.args.port.now).line.out) (sym c.taken.ensures.face)
+    (left_shorter (packet c.in-Whole.unit) (g.H.Host.face c.args.host.now c.args.port.now).line.out (drop c.in-Whole.n (g.H.Host.face c.args.host.now c.args.port.now).line.out)
+    (split_off (g.H.Host.face c.args.host.now c.args.port.now).line.out (spelling (packet c.in-Whole.unit)) c.in-Whole.n (ap (take c.in-Whole.n) (sym (c.out.ensures c.args.port.now)) ∙ c.in-Whole.ensures.3)))

@@ -15,7 +15,7 @@ returns-clause-goes g c =
     let first : Scene = mk c.self.inside.medium c.self.inside.pushes c.self.inside.turned in
     let mid : Scene = mk c.exchange.new.self c.self.inside.pushes c.self.inside.turned in
     let last : Scene = mk c.exchange-2.new.self c.self.inside.pushes c.self.inside.turned in
-    let by_a = goes_a first mid (g.A.Host.face c.args.a.now) (g.A.Host.face c.exchange.new.host) (g.B.Host.face c.args.b.now) (g.T.Sink.content c.args.trace.now) (g.T.Sink.content c.exchange.new.trace) c.in_ok-moved_a.ensures.extends refl refl in
-    let by_b = goes_b mid last (g.A.Host.face c.exchange.new.host) (g.B.Host.face c.args.b.now) (g.B.Host.face c.exchange-2.new.host) (g.T.Sink.content c.exchange.new.trace) (g.T.Sink.content c.exchange-2.new.trace) c.in_ok-moved_b.ensures.extends refl refl in
-    subst (λ (s : Scene). Goes s last (g.A.Host.face c.args.a.now) (g.A.Host.face c.exchange.new.host) (g.B.Host.face c.args.b.now) (g.B.Host.face c.exchange-2.new.host) (g.T.Sink.content c.args.trace.now) (g.T.Sink.content c.exchange-2.new.trace)) c.self.view_is
+    let by_a = goes_a first mid (g.A.Host.face c.args.a.now c.args.shelf.now) (g.A.Host.face c.exchange.new.host c.exchange.new.port) (g.B.Host.face c.args.b.now c.args.inbox.now) (g.T.Sink.content c.args.trace.now) (g.T.Sink.content c.exchange.new.trace) c.in_ok-moved_a.ensures.extends refl refl in
+    let by_b = goes_b mid last (g.A.Host.face c.exchange.new.host c.exchange.new.port) (g.B.Host.face c.args.b.now c.args.inbox.now) (g.B.Host.face c.exchange-2.new.host c.exchange-2.new.port) (g.T.Sink.content c.exchange.new.trace) (g.T.Sink.content c.exchange-2.new.trace) c.in_ok-moved_b.ensures.extends refl refl in
+    subst (λ (s : Scene). Goes s last (g.A.Host.face c.args.a.now c.args.shelf.now) (g.A.Host.face c.exchange.new.host c.exchange.new.port) (g.B.Host.face c.args.b.now c.args.inbox.now) (g.B.Host.face c.exchange-2.new.host c.exchange-2.new.port) (g.T.Sink.content c.args.trace.now) (g.T.Sink.content c.exchange-2.new.trace)) c.self.view_is
     (goes_then first mid last _ _ _ _ _ _ _ _ _ by_a by_b)

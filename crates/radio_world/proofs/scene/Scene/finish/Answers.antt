@@ -1,17 +1,15 @@
+use Rattle.std.proofs.Common.{◌++◌, ◌-◌, length, replicate, ◌≡◌, ℕ, sym, ap, ◌∙◌}
 use Rattle.push_script.specs.declared.outcome.Outcome.TheVariants.{ScriptEnded}
-use Rattle.std.proofs.Common.{◌++◌, ◌-◌, length, replicate, ◌≡◌, ℕ, refl, sym, ap, ◌∙◌}
-use Rattle.world_model.specs.Media.{Medium}
-use Rattle.world_model.specs.Ordering.{Pushes}
 use Rattle.world_model.specs.Scenes.{Scene}
-use Rattle.radio_world.proofs.Finishing.{then_closed}
 use Rattle.radio_world.proofs.scene.Scene.finish.Goals as goal
 
-abbrev mk : Medium → Pushes → ℕ → Scene
-mk medium pushes turned = record { medium = medium; pushes = pushes; turned = turned }
-
 pub returns-clause-ends : goal.returns-clause-ends
-returns-clause-ends g c =
-    then_closed c.args.self.now c.end_last.new.self (mk c.self.inside.medium c.close.new.self c.self.inside.turned) (g.T.Sink.content c.args.trace.now) (g.T.Sink.content c.end_last.new.trace)
-    c.in_ok-end_last.ensures.finishes (ap (λ (s : Scene). s.medium) c.self.view_is) (c.in_ok-close.ensures.same ∙ ap (λ (s : Scene). s.pushes.names) c.self.view_is)
-    (length c.self.inside.pushes.names - length c.self.inside.pushes.outcomes)
-    (c.in_ok-close.ensures.all ∙ ap (λ (s : Scene). s.pushes.outcomes ++ replicate (length c.self.inside.pushes.names - length c.self.inside.pushes.outcomes) ScriptEnded) c.self.view_is)
+returns-clause-ends g c = record {
+  last = c.end_last.new.self;
+  last_ends = c.in_ok-end_last.ensures;
+  closes = record {
+      medium = ap (λ (s : Scene). s.medium) c.self.view_is;
+      names = c.in_ok-close.ensures.same ∙ ap (λ (s : Scene). s.pushes.names) c.self.view_is;
+      outcomes = c.in_ok-close.ensures.all ∙ ap (λ (s : Scene). s.pushes.outcomes ++ replicate (length s.pushes.names - length s.pushes.outcomes) ScriptEnded) c.self.view_is;
+    };
+}

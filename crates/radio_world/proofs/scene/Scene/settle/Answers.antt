@@ -2,7 +2,7 @@ use Rattle.radio_world.proofs.Going.{goes_none, goes_then}
 use Rattle.radio_world.proofs.scene.Scene.settle.Goals as goal
 
 pub loop-init : goal.loop-init
-loop-init g c = (goes_none c.args.self.now (g.A.Host.face c.args.a.now) (g.B.Host.face c.args.b.now) (g.T.Sink.content c.args.trace.now), c.requires.may_hear_a, c.requires.may_hear_b)
+loop-init g c = (goes_none c.args.self.now (g.A.Host.face c.args.a.now c.args.shelf.now) (g.B.Host.face c.args.b.now c.args.inbox.now) (g.T.Sink.content c.args.trace.now), c.requires.may_hear_a, c.requires.may_hear_b)
 
 pub returns-then-not-branch-clause-goes : goal.returns-then-not-branch-clause-goes
 returns-then-not-branch-clause-goes g c = goes_then c.args.self.now c.loop.self c.round.new.self _ _ _ _ _ _ _ _ _ c.loop.invariant.0 c.in_ok-round.ensures.goes

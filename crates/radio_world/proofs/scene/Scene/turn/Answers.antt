@@ -1,21 +1,17 @@
 use Rattle.std.proofs.Common.{rules, ◌≡◌, ℕ, ◌+◌, ◌^◌, ◌<◌, true, false, Ok, ap, ◌∙◌}
-use Rattle.radio_air.specs.Radio.{is_quiet}
-use Rattle.world_model.proofs.Settled.{quiet_of}
 use Rattle.radio_world.proofs.Turned.{turns_to_nothing, turns_to_act}
 use Rattle.radio_world.proofs.scene.Scene.turn.Goals as goal
 
 pub returns-then-not-acted-clause-turns : goal.returns-then-not-acted-clause-turns
 returns-then-not-acted-clause-turns g c =
-    let quiet = quiet_of c.args.self.now.medium (g.A.Host.face c.args.a.now) (g.B.Host.face c.args.b.now) c.requires.settled in
     let next : c.in-Some.ordinal ≡ c.self.inside.turned + 1 = search rules in
-    turns_to_nothing c.self.inside.medium c.act.new.self c.self.inside.pushes c.self.inside.turned c.in-Some.ordinal c.args.self.now c.args.word (g.A.Host.face c.args.a.now) (g.B.Host.face c.args.b.now) (g.T.Sink.content c.args.trace.now)
-    c.self.view_is quiet (c.in_ok-acted.ensures.none (ap Ok c.if-not-acted.true)) next
+    turns_to_nothing c.self.inside.medium c.act.new.self c.self.inside.pushes c.self.inside.turned c.in-Some.ordinal c.args.self.now c.args.word (g.A.Host.face c.args.a.now c.args.shelf.now) (g.B.Host.face c.args.b.now c.args.inbox.now) (g.T.Sink.content c.args.trace.now)
+    c.self.view_is c.requires.rest (c.in_ok-acted.ensures.none (ap Ok c.if-not-acted.true)) next
 
 pub returns-clause-turns : goal.returns-clause-turns
 returns-clause-turns g c =
-    let quiet = quiet_of c.args.self.now.medium (g.A.Host.face c.args.a.now) (g.B.Host.face c.args.b.now) c.requires.settled in
     let next : c.in-Some.ordinal ≡ c.self.inside.turned + 1 = search rules in
     let below : c.in-Some.ordinal < 2 ^ 64 = search rules in
-    turns_to_act c.self.inside.medium c.act.new.self c.self.inside.pushes c.self.inside.turned c.in-Some.ordinal c.args.self.now c.settle.new.self c.args.word (g.A.Host.face c.args.a.now) (g.A.Host.face c.settle.new.a)
-    (g.B.Host.face c.args.b.now) (g.B.Host.face c.settle.new.b) (g.T.Sink.content c.args.trace.now) (g.T.Sink.content c.record.new.trace) (g.T.Sink.content c.settle.new.trace)
-    c.self.view_is quiet (c.in_ok-acted.ensures.acts (ap Ok c.if-not-acted.false)) next below c.in_ok-record.ensures.ok c.in_ok-settle.ensures.goes
+    turns_to_act c.self.inside.medium c.act.new.self c.self.inside.pushes c.self.inside.turned c.in-Some.ordinal c.args.self.now c.settle.new.self c.args.word (g.A.Host.face c.args.a.now c.args.shelf.now) (g.A.Host.face c.settle.new.a c.settle.new.shelf)
+    (g.B.Host.face c.args.b.now c.args.inbox.now) (g.B.Host.face c.settle.new.b c.settle.new.inbox) (g.T.Sink.content c.args.trace.now) (g.T.Sink.content c.record.new.trace) (g.T.Sink.content c.settle.new.trace)
+    c.self.view_is c.requires.rest (c.in_ok-acted.ensures.acts (ap Ok c.if-not-acted.false)) next below c.in_ok-record.ensures.ok c.in_ok-settle.ensures.goes

@@ -1,21 +1,22 @@
 use Rattle.std.proofs.Common.{◌≡◌, List, [], ◌∷◌, ◌++◌, replicate, take, sym, ap, subst, ◌∙◌}
 use Rattle.push_script.specs.declared.word.Word.{Word}
 use Rattle.capture.specs.Air.{words_of}
+use Rattle.bt_host.specs.Servers.{kept}
 use Rattle.radio_world.specs.Worlds.{WorldTurns}
-use Rattle.radio_world.specs.OwnHosts.{client_face, server_face}
+use Rattle.radio_world.specs.OwnHosts.{shelved, client_face, server_face}
 use Rattle.radio_world.proofs.Turned.{turns_none, turns_then}
 use Rattle.radio_world.proofs.Runs.{run_more, none_beyond}
 use Rattle.radio_world.proofs.world.World.turn_all.Goals as goal
 
 pub loop-i-init : goal.loop-i-init
-loop-i-init g c = (turns_none c.args.self.now.scene (client_face c.args.self.now.client) (server_face c.args.self.now.server) (g.T.Sink.content c.args.trace.now), c.requires.still, c.requires.supplied, c.requires.pending)
+loop-i-init g c = (turns_none c.args.self.now.scene (client_face c.args.self.now.client (shelved (g.F.Shelf.content c.args.shelf.now) (g.F.Shelf.faults c.args.shelf.now))) (server_face c.args.self.now.server (kept (g.B.Inbox.content c.args.inbox.now) (g.B.Inbox.faults c.args.inbox.now) (g.B.Inbox.shortages c.args.inbox.now))) (g.T.Sink.content c.args.trace.now), c.requires.still, c.requires.supplied, c.requires.pending)
 
 pub unreachable-requires : goal.unreachable-requires
 unreachable-requires g c = none_beyond c.args.script.now c.loop-i.i c.len-i-end.result c.len-i-end.ensures.count c.loop-i-test.true (sym c.at.ensures ∙ c.in_default.is)
 
 pub loop-i-preserved : goal.loop-i-preserved
 loop-i-preserved g c = (
-  subst (λ (words : List Word). WorldTurns words c.args.self.now c.turn_times.new.self (g.T.Sink.content c.args.trace.now) (g.T.Sink.content c.turn_times.new.trace)) (run_more c.args.script.now c.loop-i.i c.in-Some.count c.in-Some.word (sym c.at.ensures ∙ c.in-Some.is))
+  subst (λ (words : List Word). WorldTurns words c.args.self.now c.turn_times.new.self (shelved (g.F.Shelf.content c.args.shelf.now) (g.F.Shelf.faults c.args.shelf.now)) (shelved (g.F.Shelf.content c.turn_times.new.shelf) (g.F.Shelf.faults c.turn_times.new.shelf)) (kept (g.B.Inbox.content c.args.inbox.now) (g.B.Inbox.faults c.args.inbox.now) (g.B.Inbox.shortages c.args.inbox.now)) (kept (g.B.Inbox.content c.turn_times.new.inbox) (g.B.Inbox.faults c.turn_times.new.inbox) (g.B.Inbox.shortages c.turn_times.new.inbox)) (g.T.Sink.content c.args.trace.now) (g.T.Sink.content c.turn_times.new.trace)) (run_more c.args.script.now c.loop-i.i c.in-Some.count c.in-Some.word (sym c.at.ensures ∙ c.in-Some.is))
       (turns_then (words_of (take c.loop-i.i c.args.script.now)) (replicate c.in-Some.count c.in-Some.word) c.args.self.now.scene c.loop-i.self.scene c.turn_times.new.self.scene _ _ _ _ _ _ _ _ _ c.loop-i.invariant.0 c.in_ok-turn_times.ensures.turns),
   c.in_ok-turn_times.ensures.still,
   c.turn_times.ensures.supplied,

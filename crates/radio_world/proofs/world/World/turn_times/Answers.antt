@@ -1,17 +1,18 @@
 use Rattle.std.proofs.Common.{◌≡◌, List, [], ◌∷◌, ◌++◌, replicate, subst}
 use Rattle.push_script.specs.declared.word.Word.{Word}
+use Rattle.bt_host.specs.Servers.{kept}
 use Rattle.radio_world.specs.Worlds.{WorldTurns}
-use Rattle.radio_world.specs.OwnHosts.{client_face, server_face}
+use Rattle.radio_world.specs.OwnHosts.{shelved, client_face, server_face}
 use Rattle.radio_world.proofs.Turned.{turns_none, turns_then}
 use Rattle.radio_world.proofs.Runs.{once_more}
 use Rattle.radio_world.proofs.world.World.turn_times.Goals as goal
 
 pub loop-i-init : goal.loop-i-init
-loop-i-init g c = (turns_none c.args.self.now.scene (client_face c.args.self.now.client) (server_face c.args.self.now.server) (g.T.Sink.content c.args.trace.now), c.requires.still, c.requires.supplied, c.requires.pending)
+loop-i-init g c = (turns_none c.args.self.now.scene (client_face c.args.self.now.client (shelved (g.F.Shelf.content c.args.shelf.now) (g.F.Shelf.faults c.args.shelf.now))) (server_face c.args.self.now.server (kept (g.B.Inbox.content c.args.inbox.now) (g.B.Inbox.faults c.args.inbox.now) (g.B.Inbox.shortages c.args.inbox.now))) (g.T.Sink.content c.args.trace.now), c.requires.still, c.requires.supplied, c.requires.pending)
 
 pub loop-i-preserved : goal.loop-i-preserved
 loop-i-preserved g c = (
-  subst (λ (words : List Word). WorldTurns words c.args.self.now c.turn.new.self (g.T.Sink.content c.args.trace.now) (g.T.Sink.content c.turn.new.trace)) (once_more c.loop-i._i c.args.word)
+  subst (λ (words : List Word). WorldTurns words c.args.self.now c.turn.new.self (shelved (g.F.Shelf.content c.args.shelf.now) (g.F.Shelf.faults c.args.shelf.now)) (shelved (g.F.Shelf.content c.turn.new.shelf) (g.F.Shelf.faults c.turn.new.shelf)) (kept (g.B.Inbox.content c.args.inbox.now) (g.B.Inbox.faults c.args.inbox.now) (g.B.Inbox.shortages c.args.inbox.now)) (kept (g.B.Inbox.content c.turn.new.inbox) (g.B.Inbox.faults c.turn.new.inbox) (g.B.Inbox.shortages c.turn.new.inbox)) (g.T.Sink.content c.args.trace.now) (g.T.Sink.content c.turn.new.trace)) (once_more c.loop-i._i c.args.word)
       (turns_then (replicate c.loop-i._i c.args.word) (c.args.word ∷ []) c.args.self.now.scene c.loop-i.self.scene c.turn.new.self.scene _ _ _ _ _ _ _ _ _ c.loop-i.invariant.0 c.in_ok-turn.ensures.turns),
   c.in_ok-turn.ensures.still,
   c.turn.ensures.supplied,

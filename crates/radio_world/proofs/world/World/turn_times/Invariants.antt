@@ -1,11 +1,14 @@
 use Rattle.std.proofs.Common.{◌≡◌, replicate}
 use Rattle.obex_session.specs.Rules.{is_under_way}
 use Rattle.bt_host.specs.ClientHosts.{IsSupplied}
+use Rattle.bt_host.specs.Servers.{kept}
+use Rattle.radio_world.specs.OwnHosts.{shelved}
 use Rattle.radio_world.specs.Worlds.{WorldTurns, IsStill}
 use Rattle.radio_world.proofs.world.World.turn_times.Given as goal
 
 abbrev pub invariant-loop-i : goal.invariant-loop-i
 invariant-loop-i g l =
-    WorldTurns (replicate l._i l.word) l.fn.self l.self (g.T.Sink.content l.fn.trace) (g.T.Sink.content l.trace)
-    × IsStill l.self × IsSupplied (g.F.Shelf.content l.shelf) l.self.client
+    WorldTurns (replicate l._i l.word) l.fn.self l.self (shelved (g.F.Shelf.content l.fn.shelf) (g.F.Shelf.faults l.fn.shelf)) (shelved (g.F.Shelf.content l.shelf) (g.F.Shelf.faults l.shelf)) (kept (g.B.Inbox.content l.fn.inbox) (g.B.Inbox.faults l.fn.inbox) (g.B.Inbox.shortages l.fn.inbox)) (kept (g.B.Inbox.content l.inbox) (g.B.Inbox.faults l.inbox) (g.B.Inbox.shortages l.inbox))
+    (g.T.Sink.content l.fn.trace) (g.T.Sink.content l.trace)
+    × IsStill l.self (shelved (g.F.Shelf.content l.shelf) (g.F.Shelf.faults l.shelf)) (kept (g.B.Inbox.content l.inbox) (g.B.Inbox.faults l.inbox) (g.B.Inbox.shortages l.inbox)) × IsSupplied (g.F.Shelf.content l.shelf) l.self.client
     × (g.B.Inbox.is_pending l.inbox ≡ is_under_way l.self.server.server.served.session.progress)
