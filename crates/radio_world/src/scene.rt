@@ -1,7 +1,7 @@
 //! What goes on between the two hosts.
 
 ghost use Rattle.std.specs.Prelude.{◌≡◌, ◌∷◌, [], true, false, length, None, Ok, OnOk};
-ghost use Rattle.push_script.specs.declared.word.Side.TheVariants.{B as B_side};
+ghost use Rattle.push_script.specs.declared.word.Side.TheVariants as sides;
 ghost use Rattle.world_model.specs.Insides.{idles, came_of};
 ghost use Rattle.world_model.specs.Faces.{Face};
 ghost use Rattle.world_model.specs.Moving.{IsStillIn};
@@ -89,7 +89,7 @@ impl Scene {
         _shelf: &P,
         trace: &mut T,
     ) -> Result<bool, WorldFault>
-        requires none_b { IsStillIn B_side self.old.medium }
+        requires none_b { IsStillIn sides.B self.old.medium }
         ensures goes { OnOk result ((b : Face) → Goes self.old self.new (A.face a.now _shelf.now) (A.face a.now _shelf.now) b b (T.content trace.old) (T.content trace.new)) }
         ensures none { result ≡ Ok false → (self.new ≡ self.old) × (T.content trace.new ≡ T.content trace.old) × (self.old.pushes.going ≡ true → idles (A.face a.now _shelf.now).inside ≡ true → came_of (A.face a.now _shelf.now).inside ≡ None) }
     {
@@ -116,7 +116,7 @@ impl Scene {
         requires may_hear_a { A.may_hear a.old shelf.old }
         requires may_hear_b { B.may_hear b.old inbox.old }
         ensures goes { OnOk result (Goes self.old self.new (A.face a.old shelf.old) (A.face a.new shelf.new) (B.face b.old inbox.old) (B.face b.new inbox.new) (T.content trace.old) (T.content trace.new)) }
-        ensures none_b { OnOk result (IsStillIn B_side self.new.medium) }
+        ensures none_b { OnOk result (IsStillIn sides.B self.new.medium) }
         ensures idle { result ≡ Ok false → StaysPut self.old self.new (A.face a.old shelf.old) (A.face a.new shelf.new) (B.face b.new inbox.new) }
         ensures may_hear_a { A.may_hear a.new shelf.new }
         ensures may_hear_b { B.may_hear b.new inbox.new }
