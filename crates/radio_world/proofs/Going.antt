@@ -117,17 +117,17 @@ goes_begun old new a a' b trace trace' begins =
           subst (λ (m : Medium). Stands script (past ++ entry ∷ []) m a' b) (sym (ap (λ (s : Scene). s.medium) begins.new_is))
           (begins_step script past new.pushes.begun old.medium a a' b begins.few begins.puts begins.held_stays stands);
       run = λ script past stands. run_one (Opening new.pushes.begun) [] (entry ∷ []) (moment old a b) (moment new a' b) refl refl (record {
-          idle = begins.idle;
-          name = begins.name;
-          next = begins.next;
-          push_is = ap (λ (s : Scene). s.pushes.begun) begins.new_is;
-          few = begins.few;
-          face = a';
-          puts = begins.puts;
-          starts = begins.starts;
-          held_stays = begins.held_stays;
-          new_is = ap (λ (s : Scene). moment s a' b) begins.new_is;
-        });
+        idle = begins.idle;
+        name = begins.name;
+        next = begins.next;
+        push_is = ap (λ (s : Scene). s.pushes.begun) begins.new_is;
+        few = begins.few;
+        face = a';
+        puts = begins.puts;
+        starts = begins.starts;
+        held_stays = begins.held_stays;
+        new_is = ap (λ (s : Scene). moment s a' b) begins.new_is;
+      });
     }
 
 pub goes_ended : (old new : Scene) (a b : Face) (outcome : Outcome) (trace trace' : Option (List ℕ)) → EndsIdle outcome old new a trace trace' → Goes old new a a b b trace trace'
@@ -147,13 +147,13 @@ goes_ended old new a b outcome trace trace' idle =
           subst (λ (m : Medium). Stands script (past ++ entry ∷ []) m a b) (sym (ap (λ (s : Scene). s.medium) ends.new_is))
           (ends_step script past old.pushes.begun outcome old.medium a b ends.few ends.outcome_is stands);
       run = λ script past stands. run_one (Closing old.pushes.begun outcome) [] (entry ∷ []) (moment old a b) (moment new a b) refl refl (record {
-          going = idle.going;
-          push_is = refl;
-          few = ends.few;
-          idle = idle.idle;
-          came = idle.came;
-          outcome_is = ends.outcome_is;
-          none_b = idle.none_b;
-          new_is = ap (λ (s : Scene). moment s a b) ends.new_is;
-        });
+        going = idle.going;
+        push_is = refl;
+        few = ends.few;
+        idle = idle.idle;
+        came = idle.came;
+        outcome_is = ends.outcome_is;
+        none_b = idle.none_b;
+        new_is = ap (λ (s : Scene). moment s a b) ends.new_is;
+      });
     }

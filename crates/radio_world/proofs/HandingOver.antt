@@ -99,13 +99,13 @@ by_packets : (packet : Packet) (packets : List Packet) (before piece more rest :
     → HearsEach packets first now.line → TellsEach packets first now.line mid now.inside → IsUnfinished acl_limit rest → now.held ≡ Some rest → Progress packet more start now
 by_packets packet [] before piece more rest times start now mid first is same stays spelled each octets hears tells unfinished kept = record {
   goes_on = λ some. record {
-      times = times;
-      same = hears ∙ same;
-      stays = stays_on start.inside mid now.inside stays (tells_none first now.line mid now.inside tells);
-      before = rest;
-      held_was = kept;
-      octets = ap (λ h. h ++ more) (sym octets) ∙ spelled;
-    };
+    times = times;
+    same = hears ∙ same;
+    stays = stays_on start.inside mid now.inside stays (tells_none first now.line mid now.inside tells);
+    before = rest;
+    held_was = kept;
+    octets = ap (λ h. h ++ more) (sym octets) ∙ spelled;
+  };
   done = λ none. absurd (whole_is_finished packet is (subst (IsUnfinished acl_limit) (sym octets ∙ sym (append-nil (before ++ piece)) ∙ ap (λ m. (before ++ piece) ++ m) (sym none) ∙ spelled) unfinished));
 }
 by_packets packet (q ∷ packets) before piece more rest times start now mid first is same stays spelled each octets hears tells unfinished kept =
@@ -113,9 +113,9 @@ by_packets packet (q ∷ packets) before piece more rest times start now mid fir
     record {
       goes_on = λ some. absurd (some one.3);
       done = λ none. record {
-          hears = behind packet times start now mid first same stays (heard_one packet q packets first now.line one.0 one.1 hears) (told_one packet q packets first now.line mid now.inside one.0 one.1 tells);
-          held_none = kept ∙ ap Some one.2;
-        };
+        hears = behind packet times start now mid first same stays (heard_one packet q packets first now.line one.0 one.1 hears) (told_one packet q packets first now.line mid now.inside one.0 one.1 tells);
+        held_none = kept ∙ ap Some one.2;
+      };
     }
 
 same_held : {A : Type 0} (held : Option A) (x y : A) → held ≡ Some x → held ≡ Some y → x ≡ y

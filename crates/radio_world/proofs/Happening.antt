@@ -40,9 +40,6 @@ use Rattle.radio_world.specs.OwnHosts.{client_face, server_face}
 use Rattle.radio_world.proofs.Going.{ends_join}
 use Rattle.radio_world.proofs.Running.{run_then}
 
-zero_first : (n : ℕ) → 0 + n ≡ n
-zero_first n = omega arith
-
 -- what happened between hosts of any kind
 pub record HappensBetween (size count : ℕ) (script : List Word) (first new : Scene) (a0 a2 b0 b2 : Face) (trace trace' : Option (List ℕ)) : Type 0 where
   pub entries : List Entry

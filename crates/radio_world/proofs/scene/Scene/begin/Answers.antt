@@ -1,7 +1,14 @@
-use Rattle.std.proofs.Common.{rules}
+use Rattle.std.proofs.Common.{rules, ◌≡◌, ℕ, ◌+◌, ◌^◌, ◌<◌, List, Option, Some, true, sym, ap, ◌∙◌}
+use Rattle.std.specs.Option.{option_map}
+use Rattle.bt_base.specs.Streams.{gained}
+use Rattle.capture.specs.Entries.{Begun, entry_octets}
+use Rattle.world_model.specs.Insides.{StartsPush, idles}
 use Rattle.world_model.specs.Faces.{Face}
+use Rattle.world_model.specs.Hearing.{PutsOut}
+use Rattle.world_model.specs.Media.{Medium}
+use Rattle.world_model.specs.Ordering.{Pushes, next_name, one_begun}
 use Rattle.world_model.specs.Scenes.{Scene}
-use Rattle.radio_world.specs.Going.{Begins, Goes}
+use Rattle.radio_world.specs.Going.{Begins}
 use Rattle.radio_world.proofs.Going.{goes_none, goes_begun}
 use Rattle.radio_world.proofs.scene.Scene.begin.Goals as goal
 
@@ -11,8 +18,39 @@ returns-then-not-idle-clause-goes g c = λ b. goes_none _ _ b _
 pub returns-in_default-clause-goes : goal.returns-in_default-clause-goes
 returns-in_default-clause-goes g c = λ b. goes_none _ _ b _
 
+abbrev mk : Medium → Pushes → ℕ → Scene
+mk medium pushes turned = record { medium = medium; pushes = pushes; turned = turned }
+
+-- a push begins in a scene that is there in parts
+begins : (old : Scene) (medium : Medium) (pushes pushes' : Pushes) (turned : ℕ) (a a' : Face) (name : List ℕ) (trace trace' : Option (List ℕ)) → mk medium pushes turned ≡ old → pushes' ≡ one_begun pushes → pushes'.begun < 2 ^ 16
+    → idles a.inside ≡ true → next_name pushes ≡ Some name → PutsOut a.line a'.line → StartsPush name a.line a'.line a.inside a'.inside → a'.held ≡ a.held → trace' ≡ gained trace (entry_octets (Begun (pushes.begun + 1)))
+    → Begins old (mk medium pushes' turned) a a' trace trace'
+begins old medium pushes pushes' turned a a' name trace trace' same is few idle next puts starts held written = record {
+  new_is = ap (λ p. mk medium p turned) is ∙ ap (λ (s : Scene). record s { pushes = one_begun s.pushes }) same;
+  few = few;
+  trace_is = written ∙ ap (λ (p : Pushes). gained trace (entry_octets (Begun p.begun))) (sym is);
+  idle = idle;
+  name = name;
+  next = sym (ap (λ (s : Scene). next_name s.pushes) same) ∙ next;
+  puts = puts;
+  starts = starts;
+  held_stays = held;
+}
+
 pub returns-clause-begins : goal.returns-clause-begins
-returns-clause-begins g c = ?
+returns-clause-begins g c =
+    let few : c.begin.new.self.begun < 2 ^ 16 = search rules in
+    let idle : idles (g.A.Host.face c.args.a.now c.args.shelf.now).inside ≡ true = search rules in
+    let next : next_name c.self.inside.pushes ≡ Some c.in-Some.name.now = search rules in
+    let written : g.T.Sink.content c.record.new.trace ≡ gained (g.T.Sink.content c.args.trace.now) (entry_octets (Begun (c.self.inside.pushes.begun + 1))) = search rules in
+    λ began. begins c.args.self.now c.self.inside.medium c.self.inside.pushes c.begin.new.self c.self.inside.turned _ _ c.in-Some.name.now _ _ c.self.view_is c.begin.ensures few idle next
+    c.in-Ok.ensures.puts c.in-Ok.ensures.starts c.in-Ok.ensures.held written
 
 pub returns-clause-goes : goal.returns-clause-goes
-returns-clause-goes g c = ?
+returns-clause-goes g c =
+    let few : c.begin.new.self.begun < 2 ^ 16 = search rules in
+    let idle : idles (g.A.Host.face c.args.a.now c.args.shelf.now).inside ≡ true = search rules in
+    let next : next_name c.self.inside.pushes ≡ Some c.in-Some.name.now = search rules in
+    let written : g.T.Sink.content c.record.new.trace ≡ gained (g.T.Sink.content c.args.trace.now) (entry_octets (Begun (c.self.inside.pushes.begun + 1))) = search rules in
+    λ b. goes_begun _ _ _ _ b _ _ (begins c.args.self.now c.self.inside.medium c.self.inside.pushes c.begin.new.self c.self.inside.turned _ _ c.in-Some.name.now _ _ c.self.view_is c.begin.ensures few idle next
+    c.in-Ok.ensures.puts c.in-Ok.ensures.starts c.in-Ok.ensures.held written)

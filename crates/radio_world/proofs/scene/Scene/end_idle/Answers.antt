@@ -1,3 +1,5 @@
+use Rattle.std.proofs.Common.{rules, ◌≡◌, Some, true}
+use Rattle.world_model.specs.Insides.{idles, came_of}
 use Rattle.radio_world.proofs.Going.{goes_none, goes_ended}
 use Rattle.radio_world.proofs.scene.Scene.end_idle.Goals as goal
 
@@ -8,4 +10,8 @@ pub returns-in_default-clause-goes : goal.returns-in_default-clause-goes
 returns-in_default-clause-goes g c = λ b. goes_none _ _ b _
 
 pub returns-clause-goes : goal.returns-clause-goes
-returns-clause-goes g c = ?
+returns-clause-goes g c =
+    let going : c.args.self.now.pushes.going ≡ true = search rules in
+    let idle : idles (g.A.Host.face c.args.a.now c.args._shelf.now).inside ≡ true = search rules in
+    let came : came_of (g.A.Host.face c.args.a.now c.args._shelf.now).inside ≡ Some c.in-Some.outcome = search rules in
+    λ b. goes_ended c.args.self.now c.end.new.self _ b c.in-Some.outcome _ _ (record { ends = c.in_ok-end.ensures; going = going; idle = idle; came = came; none_b = c.requires.none_b })

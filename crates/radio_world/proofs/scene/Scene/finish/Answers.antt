@@ -8,8 +8,8 @@ returns-clause-ends g c = record {
   last = c.end_last.new.self;
   last_ends = c.in_ok-end_last.ensures;
   closes = record {
-      medium = ap (λ (s : Scene). s.medium) c.self.view_is;
-      names = c.in_ok-close.ensures.same ∙ ap (λ (s : Scene). s.pushes.names) c.self.view_is;
-      outcomes = c.in_ok-close.ensures.all ∙ ap (λ (s : Scene). s.pushes.outcomes ++ replicate (length s.pushes.names - length s.pushes.outcomes) ScriptEnded) c.self.view_is;
-    };
+    medium = ap (λ (s : Scene). s.medium) c.self.view_is;
+    names = c.in_ok-close.ensures.same ∙ ap (λ (s : Scene). s.pushes.names) c.self.view_is;
+    outcomes = c.in_ok-close.ensures.all ∙ ap (λ (s : Scene). s.pushes.outcomes ++ replicate (length s.pushes.names - length s.pushes.outcomes) ScriptEnded) c.self.view_is;
+  };
 }
