@@ -1,15 +1,14 @@
 -- A client as the world sees it.
 use Rattle.std.specs.Prelude.{MatchOption}
-use Rattle.std.proofs.Common.{rules, ◌≡◌, ◌≤◌, ℕ, List, [], ◌∷◌, ◌++◌, fold, Option, Some, None, Result, Ok, Err, refl, sym, ap, subst, ◌∙◌, inl, inr, ◌⊎◌}
+use Rattle.std.proofs.Common.{rules, ◌≡◌, ℕ, List, [], ◌∷◌, ◌++◌, fold, Option, Some, None, Result, Ok, Err, refl, sym, ap, subst, ◌∙◌, inl, inr, ◌⊎◌}
 use Rattle.std.specs.List.{AllByRecursion}
 use Rattle.std.proofs.lemmas.Grind.{fold-append}
 use Rattle.bt_base.specs.Objects.{Object}
-use Rattle.h4_framing.specs.Packets.{Packet, spelling, IsPacket}
+use Rattle.h4_framing.specs.Packets.{Packet}
 use Rattle.h4_framing.specs.Framing.{Framing}
 use Rattle.h4_framing.specs.Stream.{GoesWrong}
 use Rattle.h4_framing.specs.declared.refusal.H4Refusal.{H4Refusal}
 use Rattle.host_link.specs.Lines.{Line}
-use Rattle.host_link.specs.Hearing.{heard, fault_of}
 use Rattle.host_link.specs.PuttingOut.{put_out}
 use Rattle.bt_host.specs.declared.feed_refusal.FeedRefusal.{FeedRefusal}
 use Rattle.bt_host.specs.declared.feed_refusal.FeedRefusal.TheVariants as feed
@@ -17,13 +16,13 @@ use Rattle.bt_host.specs.declared.steps.Step.{Step}
 use Rattle.bt_host.specs.declared.steps.Step.TheVariants.{Wait, Page, Send, BreakLink}
 use Rattle.bt_host.specs.Refusals.{acl_limit, IsRefused, BeginsRefused, refusal_in}
 use Rattle.bt_host.specs.Steps.{next_step}
-use Rattle.bt_host.specs.Clients.{Client, Hears, HearsAll, GoesOn, StepsOn, IsSendable, after_step, peer_address, putting_out, told}
+use Rattle.bt_host.specs.Clients.{Client, HearsAll, GoesOn, StepsOn, IsSendable, after_step, peer_address, putting_out, told}
 use Rattle.bt_host.specs.Shelves.{Stays}
 use Rattle.bt_host.specs.ClientHosts.{ClientState, Feeds, Reads, Takes, Stops, PushesOn}
 use Rattle.world_model.specs.Insides.{Shelved, StaysShelved, Pushing, StartsPush}
 use Rattle.world_model.specs.Faces.{Face}
 use Rattle.world_model.specs.Hosts.{IsAddress}
-use Rattle.world_model.specs.Hearing.{Want, Connect, End, Send as SendOut, after_want, IsWant, PutsOut, HearsOne}
+use Rattle.world_model.specs.Hearing.{Want, Connect, End, Send as SendOut, after_want, IsWant, PutsOut}
 use Rattle.radio_world.specs.Feeding.{HearsEach, HearsPiece, IsAtFault}
 use Rattle.radio_world.specs.Feeding as world
 use Rattle.radio_world.specs.OwnHosts.{held_by, shelved, client_face, fault_by}

@@ -1,5 +1,5 @@
 -- A packet that a host put out moves, and what stood stands.
-use Rattle.std.proofs.Common.{◌≡◌, ℕ, List, [], ◌∷◌, ◌++◌, Option, refl, sym, ap, subst, ◌∙◌}
+use Rattle.std.proofs.Common.{ℕ, List, [], ◌∷◌, ◌++◌, Option, refl, sym, ap, subst, ◌∙◌}
 use Rattle.std.proofs.lemmas.List.{append-nil}
 use Rattle.bt_base.specs.Streams.{gained}
 use Rattle.push_script.specs.declared.word.Side.{Side}
@@ -10,11 +10,10 @@ use Rattle.world_model.specs.Faces.{Face, with_out}
 use Rattle.world_model.specs.Media.{Medium, after_moving, face_a, face_b}
 use Rattle.world_model.specs.Standing.{Stands}
 use Rattle.world_model.specs.Scenes.{Scene}
-use Rattle.world_model.specs.Moments.{Moment, with_face, with_medium}
 use Rattle.world_model.specs.Happenings.{Departure, Departs}
 use Rattle.world_model.proofs.Stepping.{stands_more}
 use Rattle.world_model.proofs.Departing.{moved_steps, moved_sizes}
-use Rattle.radio_world.specs.Running.{IsRun, moment, in_medium}
+use Rattle.radio_world.specs.Running.{moment, in_medium}
 use Rattle.radio_world.specs.Extending.{MovesOut, Extends}
 use Rattle.radio_world.proofs.Running.{run_one}
 

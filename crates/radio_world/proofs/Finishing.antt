@@ -1,5 +1,5 @@
 -- The end of a script.
-use Rattle.std.proofs.Common.{◌≡◌, ℕ, List, [], ◌∷◌, ◌++◌, Bool, true, false, Option, Some, None, refl, sym, ap, subst, ◌∙◌}
+use Rattle.std.proofs.Common.{◌≡◌, ℕ, List, [], ◌∷◌, ◌++◌, true, false, Option, refl, sym, ap, subst, ◌∙◌}
 use Rattle.std.specs.Prelude.{unwrap_or}
 use Rattle.std.proofs.lemmas.List.{append-nil}
 use Rattle.bt_base.specs.Streams.{gained}
@@ -8,7 +8,6 @@ use Rattle.push_script.specs.declared.outcome.Outcome.{Outcome}
 use Rattle.push_script.specs.declared.outcome.Outcome.TheVariants.{ScriptEnded}
 use Rattle.capture.specs.Entries.{Entry, Ended, entry_octets}
 use Rattle.world_model.specs.Insides.{came_of}
-use Rattle.world_model.specs.Faces.{Face}
 use Rattle.world_model.specs.Media.{Medium}
 use Rattle.world_model.specs.Ordering.{one_ended}
 use Rattle.world_model.specs.Standing.{Stands}

@@ -9,7 +9,6 @@ use Rattle.bt_base.specs.Streams.{gained}
 use Rattle.bt_base.proofs.PortLaws.{gained-gained, gained-nil}
 use Rattle.push_script.specs.declared.outcome.Outcome.{Outcome}
 use Rattle.push_script.specs.declared.word.Side.TheVariants as sides
-use Rattle.push_script.specs.declared.word.Word.{Word}
 use Rattle.capture.specs.Entries.{Entry, Begun, Ended, entry_octets, capture_octets}
 use Rattle.capture.specs.Air.{ordinal_of}
 use Rattle.capture.proofs.MoreLaws.{octets-in_parts}
@@ -17,7 +16,7 @@ use Rattle.world_model.specs.Faces.{Face}
 use Rattle.world_model.specs.Media.{Medium}
 use Rattle.radio_world.specs.Extending.{Extends}
 use Rattle.world_model.specs.Standing.{Stands}
-use Rattle.world_model.specs.Ordering.{Pushes, one_begun, one_ended}
+use Rattle.world_model.specs.Ordering.{Pushes}
 use Rattle.world_model.specs.Scenes.{Scene}
 use Rattle.world_model.specs.Happenings.{Opening, Closing}
 use Rattle.radio_world.specs.Running.{moment, in_medium}

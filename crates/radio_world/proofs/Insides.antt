@@ -1,5 +1,5 @@
 -- What a host has within while it hears no packet, or one.
-use Rattle.std.proofs.Common.{◌≡◌, ℕ, ◌≤◌, List, [], ◌∷◌, Option, refl, sym, ap, subst, ◌∙◌, arith}
+use Rattle.std.proofs.Common.{◌≡◌, List, [], ◌∷◌, Option, refl, sym, ap, subst, ◌∙◌, arith}
 use Rattle.bt_base.specs.Objects.{Object}
 use Rattle.h4_framing.specs.Packets.{Packet}
 use Rattle.host_link.specs.Lines.{Line}

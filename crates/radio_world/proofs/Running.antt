@@ -1,11 +1,10 @@
 -- Runs join.
 use Rattle.std.proofs.Common.{◌≡◌, List, [], ◌∷◌, ◌++◌, refl, sym, ap, subst, ◌∙◌}
-use Rattle.std.specs.List.{flat_map}
 use Rattle.std.proofs.lemmas.Grind.{flat_map-append}
 use Rattle.push_script.specs.declared.word.Word.{Word}
 use Rattle.capture.specs.Entries.{Entry}
 use Rattle.world_model.specs.Moments.{Moment}
-use Rattle.world_model.specs.Happenings.{Happening, Does, Runs, entries_of, words_in, all_entries, all_words}
+use Rattle.world_model.specs.Happenings.{Happening, Does, entries_of, words_in, all_entries, all_words}
 use Rattle.world_model.proofs.Runs.{runs_then}
 use Rattle.radio_world.specs.Running.{IsRun}
 

@@ -12,7 +12,7 @@ use Rattle.bt_host.specs.declared.feed_refusal.FeedRefusal.{FeedRefusal}
 use Rattle.bt_host.specs.declared.feed_refusal.FeedRefusal.TheVariants as feed
 use Rattle.bt_host.specs.Refusals.{refusal_in}
 use Rattle.bt_host.specs.Channels.{sent}
-use Rattle.bt_host.specs.Servers.{Served, Server, Kept, Hears, HearsAll, GoesOn, IsSendable, with_response, answering, stepped, putting_out}
+use Rattle.bt_host.specs.Servers.{Server, Kept, Hears, HearsAll, GoesOn, IsSendable, with_response, answering, stepped, putting_out}
 use Rattle.bt_host.specs.ServerHosts.{ServerState, Feeds, Reads, Takes, Stops}
 use Rattle.world_model.specs.Insides.{Serving}
 use Rattle.world_model.specs.Faces.{Face}

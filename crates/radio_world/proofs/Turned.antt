@@ -1,7 +1,7 @@
 -- Words that are turned, one after the other.
-use Rattle.std.proofs.Common.{◌≡◌, ℕ, zero, suc, ◌+◌, ◌^◌, ◌<◌, List, [], ◌∷◌, ◌++◌, length, drop, Bool, true, false, Option, Some, None, refl, sym, ap, subst, ◌∙◌, append_assoc, arith, inl, inr, ◌⊎◌}
+use Rattle.std.proofs.Common.{◌≡◌, ℕ, zero, suc, ◌+◌, ◌^◌, ◌<◌, List, [], ◌∷◌, ◌++◌, length, drop, true, Option, Some, refl, sym, ap, subst, ◌∙◌, append_assoc, arith, inl, inr}
 use Rattle.std.specs.Prelude.{slice_get}
-use Rattle.std.specs.List.{flat_map, filter_map}
+use Rattle.std.specs.List.{filter_map}
 use Rattle.capture.specs.Pushes.{outcome_of}
 use Rattle.radio_world.proofs.Going.{ends_join}
 use Rattle.std.proofs.lemmas.List.{append-nil, length-append, drop-drop}
@@ -10,14 +10,13 @@ use Rattle.bt_base.specs.Streams.{gained}
 use Rattle.bt_base.proofs.PortLaws.{gained-gained, gained-nil}
 use Rattle.push_script.specs.declared.word.Word.{Word}
 use Rattle.capture.specs.Entries.{Entry, Acted, entry_octets, capture_octets}
-use Rattle.capture.specs.Air.{ordinal_of}
 use Rattle.capture.proofs.MoreLaws.{octets-in_parts}
 use Rattle.radio_air.specs.Radio.{Radio, is_quiet}
 use Rattle.radio_air.specs.Laws.{sizes}
 use Rattle.radio_air.proofs.Sizing.{sizes-stay}
 use Rattle.push_script.specs.declared.word.Side.TheVariants as sides
 use Rattle.world_model.specs.Faces.{Face}
-use Rattle.world_model.specs.Media.{Medium, in_radio}
+use Rattle.world_model.specs.Media.{Medium}
 use Rattle.world_model.specs.Standing.{Stands, IdleSince}
 use Rattle.world_model.specs.Acting.{Makes, MakesNothing}
 use Rattle.world_model.specs.Acting.{Acts}

@@ -9,7 +9,6 @@ use Rattle.push_script.specs.declared.word.Word.{Word}
 use Rattle.capture.specs.declared.flow.Flow.TheVariants.{Out, Into}
 use Rattle.capture.specs.Entries.{Entry, Moved, entry_octets, capture_octets}
 use Rattle.capture.specs.Air.{ordinal_of}
-use Rattle.host_link.specs.Lines.{Line}
 use Rattle.radio_air.specs.Controllers.{Answer, packet_of}
 use Rattle.radio_air.specs.Radio.{controller, after_answer}
 use Rattle.world_model.specs.Hearing.{acl_limit, HearsWhole}

@@ -1,4 +1,4 @@
-use Rattle.std.proofs.Common.{◌≡◌, ◌≢◌, ℕ, List, [], ◌++◌, length, subst, sym, ◌∙◌, ap, inr, Bool, false, true, nat_eq, Result, Err, Option, Some}
+use Rattle.std.proofs.Common.{◌≡◌, ◌≢◌, ℕ, List, [], ◌++◌, length, subst, ◌∙◌, ap, inr, Bool, false, true, Result, Err, Some}
 use Rattle.std.specs.Bool.{◌==◌}
 use Rattle.h4_framing.specs.Packets.{Packet}
 use Rattle.world_model.specs.Faces.{Face}

@@ -1,6 +1,6 @@
-use Rattle.std.proofs.Common.{◌≡◌, Err, sym, subst}
+use Rattle.std.proofs.Common.{Err, sym, subst}
 use Rattle.radio_world.specs.declared.host.HostFault.{HostFault}
-use Rattle.world_model.specs.Insides.{Shelved, StaysShelved}
+use Rattle.world_model.specs.Insides.{Shelved}
 use Rattle.radio_world.specs.Feeding.{Hears}
 use Rattle.radio_world.specs.OwnHosts.{shelved, client_face}
 use Rattle.radio_world.proofs.ClientHearing.{client_ok, client_err, stays_shelved}

@@ -1,4 +1,4 @@
-use Rattle.std.proofs.Common.{◌≡◌, Err, sym, subst}
+use Rattle.std.proofs.Common.{Err, sym, subst}
 use Rattle.bt_host.specs.Servers.{Kept, kept}
 use Rattle.radio_world.specs.declared.host.HostFault.{HostFault}
 use Rattle.radio_world.specs.Feeding.{Hears}

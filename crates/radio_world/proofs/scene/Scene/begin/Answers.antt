@@ -1,5 +1,4 @@
 use Rattle.std.proofs.Common.{rules, ◌≡◌, ℕ, ◌+◌, ◌^◌, ◌<◌, List, Option, Some, true, sym, ap, ◌∙◌}
-use Rattle.std.specs.Option.{option_map}
 use Rattle.bt_base.specs.Streams.{gained}
 use Rattle.capture.specs.Entries.{Begun, entry_octets}
 use Rattle.world_model.specs.Insides.{StartsPush, idles}

@@ -1,4 +1,4 @@
-use Rattle.std.proofs.Common.{rules, ◌≡◌, ℕ, suc, ◌≤◌, length, arith}
+use Rattle.std.proofs.Common.{rules, ℕ, suc, ◌≤◌, length, arith}
 use Rattle.push_script.specs.Outcomes.{outcome_text, IsOutcome}
 use Rattle.push_script.proofs.Lengths.{outcome_short}
 use Rattle.radio_world.proofs.scene.Scene.end.Goals as goal

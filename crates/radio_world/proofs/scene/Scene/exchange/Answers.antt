@@ -1,7 +1,6 @@
-use Rattle.std.proofs.Common.{◌≡◌, ℕ, refl, sym, subst}
+use Rattle.std.proofs.Common.{ℕ, refl, subst}
 use Rattle.world_model.specs.Media.{Medium}
 use Rattle.world_model.specs.Ordering.{Pushes}
-use Rattle.world_model.specs.Faces.{Face}
 use Rattle.world_model.specs.Scenes.{Scene}
 use Rattle.radio_world.specs.Going.{Goes}
 use Rattle.radio_world.proofs.Going.{goes_a, goes_b, goes_then}

@@ -1,4 +1,4 @@
-use Rattle.std.proofs.Common.{◌++◌, ◌-◌, length, replicate, ◌≡◌, ℕ, sym, ap, ◌∙◌}
+use Rattle.std.proofs.Common.{◌++◌, ◌-◌, length, replicate, ap, ◌∙◌}
 use Rattle.push_script.specs.declared.outcome.Outcome.TheVariants.{ScriptEnded}
 use Rattle.world_model.specs.Scenes.{Scene}
 use Rattle.radio_world.proofs.scene.Scene.finish.Goals as goal

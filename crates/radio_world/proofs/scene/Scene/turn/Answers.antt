@@ -1,4 +1,4 @@
-use Rattle.std.proofs.Common.{rules, ◌≡◌, ℕ, ◌+◌, ◌^◌, ◌<◌, true, false, Ok, ap, ◌∙◌}
+use Rattle.std.proofs.Common.{rules, ◌≡◌, ◌+◌, ◌^◌, ◌<◌, Ok, ap}
 use Rattle.radio_world.proofs.Turned.{turns_to_nothing, turns_to_act}
 use Rattle.radio_world.proofs.scene.Scene.turn.Goals as goal
 

@@ -1,4 +1,4 @@
-use Rattle.std.proofs.Common.{◌≡◌, List, [], ◌∷◌, ◌++◌, replicate, subst}
+use Rattle.std.proofs.Common.{List, [], ◌∷◌, replicate, subst}
 use Rattle.push_script.specs.declared.word.Word.{Word}
 use Rattle.bt_host.specs.Servers.{kept}
 use Rattle.radio_world.specs.Worlds.{WorldTurns}
