@@ -53,6 +53,7 @@ pub record HappensBetween (size count : ℕ) (script : List Word) (first new : S
   pub buffers_b : new.medium.peak_b ≡ buffers_peak sides.B entries
   pub last : Scene
   pub plays : Plays script (moment first a0 b0) (moment last a2 b2) entries
+  pub names : last.pushes.names ≡ first.pushes.names
   pub closes : Closes last new
 
 zero_first : (n : ℕ) → 0 + n ≡ n
@@ -109,6 +110,7 @@ happens_between size count long short some few script s0 s1 s2 s4 a0 a1 a2 b0 b1
         ends = finishes.ends a2 b2 refl;
         entries_are = ap (λ xs. xs ++ finishes.ended) so_run.entries_are;
       };
+      names = finishes.names ∙ turns.names ∙ goes.names;
       closes = ends.closes;
     }
 
@@ -144,6 +146,6 @@ happens scenario long short some few w0 w1 w2 w4 shelf0 shelf1 shelf2 inbox0 inb
         medium = between.closes.medium;
         client = ap (λ (state : ClientState). client_face state shelf2) client;
         server = ap (λ (state : ServerState). server_face state inbox2) server;
-        outcomes = between.closes.outcomes;
+        outcomes = between.closes.outcomes ∙ ap (λ names. between.last.pushes.outcomes ++ replicate (length names - length between.last.pushes.outcomes) ScriptEnded) (between.names ∙ ap (λ (w : World). w.scene.pushes.names) fresh);
       };
     }

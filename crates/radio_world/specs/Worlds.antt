@@ -64,12 +64,13 @@ IsStill world shelf inbox = IsAtRest (moment_of world shelf inbox)
 abbrev pub beginning : Scenario → Shelved → Kept → Moment
 beginning scenario shelf inbox = first_moment scenario.acl_length scenario.acl_count scenario.settings.mtu scenario.settings.obex scenario.names shelf inbox
 
--- the world is as at that moment, but that the pushes that did not begin have ended with the script
-pub record EndsAt (last : Moment) (world : World) (shelf : Shelved) (inbox : Kept) : Type 0 where
+-- The hosts and what lies between them are as at that moment. What came of the pushes is what came of them then, and the
+-- script ended those of the other objects.
+pub record EndsAt (names : List (List ℕ)) (last : Moment) (world : World) (shelf : Shelved) (inbox : Kept) : Type 0 where
   pub medium : world.scene.medium ≡ last.scene.medium
   pub client : client_face world.client shelf ≡ last.a
   pub server : server_face world.server inbox ≡ last.b
-  pub outcomes : world.scene.pushes.outcomes ≡ last.scene.pushes.outcomes ++ replicate (length last.scene.pushes.names - length last.scene.pushes.outcomes) ScriptEnded
+  pub outcomes : world.scene.pushes.outcomes ≡ last.scene.pushes.outcomes ++ replicate (length names - length last.scene.pushes.outcomes) ScriptEnded
 
 -- What happened in a run of a scenario: the air obeyed the script, both hosts kept within the buffers at each moment, and the
 -- greatest numbers are those of the capture. What came of the pushes is what their ends say, and the script ended those that
@@ -88,4 +89,4 @@ pub record Happens (scenario : Scenario) (new : World) (shelf shelf' : Shelved) 
   pub buffers_b : new.scene.medium.peak_b ≡ buffers_peak sides.B entries
   pub last : Moment
   pub plays : Plays (words_of scenario.script) (beginning scenario shelf inbox) last entries
-  pub ends : EndsAt last new shelf' inbox'
+  pub ends : EndsAt scenario.names last new shelf' inbox'
