@@ -1,0 +1,5 @@
+pub mod Lists
+pub mod Joining
+pub mod Parts
+pub mod Marks
+pub mod Beginning
