@@ -3,3 +3,8 @@ pub mod Joining
 pub mod Parts
 pub mod Marks
 pub mod Beginning
+pub mod Behind
+pub mod Bodies
+pub mod Courses
+pub mod Turning
+pub mod Ending

@@ -17,18 +17,12 @@ pub record IsPart (push : ℕ) (body past : List Entry) : Type 0 where
   pub before : list_any (is_begin push) front ≡ false
   pub within : list_any (is_end push) body ≡ false
 
--- the begin of any push
-abbrev pub is_any_begin : Entry → Bool
-is_any_begin (Begun push) = true
-is_any_begin _ = false
-
 -- that is the part so far of a push that goes on
 pub record IsOpen (push : ℕ) (body past : List Entry) : Type 0 where
   pub front : List Entry
   pub shape : past ≡ front ++ (Begun push ∷ body)
   pub before : list_any (is_begin push) front ≡ false
   pub within : list_any (is_end push) body ≡ false
-  pub none_begins : list_any is_any_begin body ≡ false
 
 pub part_is : (push : ℕ) (body past : List Entry) → IsPart push body past → part_of push past ≡ body
 part_is push body past part =
@@ -51,20 +45,14 @@ part_more push body past more part = record {
 
 -- a push begins
 pub opens_part : (push : ℕ) (past : List Entry) → list_any (is_begin push) past ≡ false → IsOpen push [] (past ++ Begun push ∷ [])
-opens_part push past none = record { front = past; shape = refl; before = none; within = refl; none_begins = refl }
+opens_part push past none = record { front = past; shape = refl; before = none; within = refl }
 
--- neither a begin nor an end
+-- an entry without a mark is no end
 no_end : (push : ℕ) (entry : Entry) → mark_of entry ≡ None → is_end push entry ≡ false
 no_end push (Moved side flow packet) none = refl
 no_end push (Acted ordinal word) none = refl
 no_end push (Begun other) none = refl
 no_end push (Ended other outcome) none = absurd cc
-
-no_begin : (entry : Entry) → mark_of entry ≡ None → is_any_begin entry ≡ false
-no_begin (Moved side flow packet) none = refl
-no_begin (Acted ordinal word) none = refl
-no_begin (Begun other) none = absurd cc
-no_begin (Ended other outcome) none = refl
 
 -- it goes on
 pub goes_part : (push : ℕ) (body past : List Entry) (entry : Entry) → mark_of entry ≡ None → IsOpen push body past → IsOpen push (body ++ entry ∷ []) (past ++ entry ∷ [])
@@ -73,7 +61,6 @@ goes_part push body past entry none part = record {
   shape = ap (λ (es : List Entry). es ++ entry ∷ []) part.shape ∙ append_assoc part.front (Begun push ∷ body) (entry ∷ []);
   before = part.before;
   within = none_more (is_end push) body entry part.within (no_end push entry none);
-  none_begins = none_more is_any_begin body entry part.none_begins (no_begin entry none);
 }
 
 -- it ends
