@@ -1,7 +1,6 @@
 -- Where the pushes stand after a capture of all that happened: between two of them, or during one.
-use Rattle.std.proofs.Common.{◌≡◌, ℕ, ◌+◌, ◌<◌, List, [], ◌∷◌, ◌++◌, length, Bool, true, false, Some, None}
+use Rattle.std.proofs.Common.{◌≡◌, ℕ, ◌+◌, ◌<◌, List, [], ◌∷◌, ◌++◌, length, true, false, Some, None}
 use Rattle.std.specs.List.{filter_map, flat_map, list_any, AllByRecursion}
-use Rattle.push_script.specs.declared.word.Side.{Side}
 use Rattle.push_script.specs.declared.word.Side.TheVariants as sides
 use Rattle.capture.specs.Histories.{EachAfter}
 use Rattle.capture.specs.Entries.{Entry}

@@ -1,13 +1,13 @@
 -- What the end of a push does to the pushes and their parts.
-use Rattle.std.proofs.Common.{◌≡◌, ℕ, ◌+◌, ◌<◌, List, [], ◌∷◌, ◌++◌, length, length-append, Bool, false, Some, None, refl, sym, ap, ◌∙◌, arith}
-use Rattle.std.specs.List.{flat_map, list_any, AllByRecursion}
+use Rattle.std.proofs.Common.{◌≡◌, ℕ, ◌+◌, List, [], ◌∷◌, ◌++◌, length, length-append, false, refl, sym, ap, ◌∙◌, arith}
+use Rattle.std.specs.List.{flat_map, AllByRecursion}
 use Rattle.std.proofs.lemmas.List.{flat_map_more}
 use Rattle.push_script.specs.declared.word.Side.{Side}
 use Rattle.push_script.specs.declared.word.Side.TheVariants as sides
 use Rattle.push_script.specs.declared.outcome.Outcome.{Outcome}
 use Rattle.capture.specs.Entries.{Entry, Ended}
 use Rattle.capture.specs.Links.{links}
-use Rattle.capture.specs.Pushes.{Mark, marks_from, is_begin, LinksWithin, ends_with_script}
+use Rattle.capture.specs.Pushes.{marks_from, is_begin, LinksWithin, ends_with_script}
 use Rattle.capture.proofs.HistoryLaws.{each_after-more}
 use Rattle.capture.proofs.FurtherLaws.{under_way-more}
 use Rattle.world_model.specs.Ordering.{Pushes, one_ended}

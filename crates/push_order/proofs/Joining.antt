@@ -1,7 +1,7 @@
 -- Links behind other links: from a moment without a link on, they go on as they would from the beginning.
-use Rattle.std.proofs.Common.{◌≡◌, ℕ, List, [], ◌∷◌, ◌++◌, Bool, true, false, cond, Option, Some, None, refl, sym, ap, ◌∙◌, eqb, append_assoc}
+use Rattle.std.proofs.Common.{◌≡◌, ℕ, List, [], ◌∷◌, ◌++◌, Bool, true, false, cond, Option, Some, None, refl, ap, eqb, append_assoc}
 use Rattle.capture.specs.Moves.{Move}
-use Rattle.capture.specs.Links.{Link, Linking, LinkNews, Asked, Answered, LinkEnded, NoNews, link_news, gone_on, ends_with, after_news, after_move}
+use Rattle.capture.specs.Links.{Link, Linking, LinkNews, Asked, Answered, LinkEnded, NoNews, link_news, gone_on, ends_with, after_news}
 use Rattle.capture.specs.Laws.{led_on}
 
 -- the course of links, behind links that were there before

@@ -8,3 +8,5 @@ pub mod Bodies
 pub mod Courses
 pub mod Turning
 pub mod Ending
+pub mod Following
+pub mod Finishing

@@ -1,9 +1,12 @@
 -- Lists that a test goes over.
-use Rattle.std.proofs.Common.{◌≡◌, List, [], ◌∷◌, ◌++◌, Bool, true, false, cond, Option, Some, None, refl, sym, ap, ◌∙◌}
+use Rattle.std.proofs.Common.{◌≡◌, List, [], ◌∷◌, ◌++◌, Bool, true, false, cond, Option, Some, None, option_map, refl, ap, ◌∙◌}
 use Rattle.std.specs.Prelude.{◌||◌, not}
 use Rattle.std.specs.List.{list_any, take_while}
+use Rattle.std.specs.Option.{option_or}
 use Rattle.std.proofs.lemmas.List.Folds.{list_any-append}
 use Rattle.std.proofs.lemmas.List.Sums.{take_while-cons}
+use Rattle.capture.specs.Channels.{last_of}
+use Rattle.capture.proofs.Moding.{last_of-append}
 use Rattle.capture.specs.Pushes.{behind_first, without_last}
 
 -- ---- tests that fail
@@ -57,3 +60,17 @@ none_without_last test (x ∷ []) none = refl
 none_without_last test (x ∷ y ∷ xs) none =
     or_none (test x) (list_any test (without_last (y ∷ xs))) (first_false (test x) (list_any test (y ∷ xs)) none)
     (none_without_last test (y ∷ xs) (second_false (test x) (list_any test (y ∷ xs)) none))
+
+pub last_of-more : {X : Type 0} (xs : List X) (x : X) → last_of (xs ++ x ∷ []) ≡ Some x
+last_of-more xs x = last_of-append xs (x ∷ [])
+
+-- the last member is none that fails a test
+pub last_passes : {X : Type 0} (test : X → Bool) (found : Option X) (x : X) → test x ≡ false → option_map test (option_or found (Some x)) ≡ Some true → option_map test found ≡ Some true
+last_passes test None x fails passes = let e : ◌≡◌ {A = Option Bool} (Some (test x)) (Some true) = passes in absurd cc
+last_passes test (Some last) x fails passes = passes
+
+pub none_last : {X : Type 0} (test : X → Bool) (xs : List X) → list_any test xs ≡ false → option_map test (last_of xs) ≡ Some true → ⊥
+none_last test [] none passes = absurd cc
+none_last test (x ∷ xs) none passes =
+    none_last test xs (second_false (test x) (list_any test xs) none)
+    (last_passes test (last_of xs) x (first_false (test x) (list_any test xs) none) passes)

@@ -1,26 +1,21 @@
 -- What each entry does to the pushes and their parts.
-use Rattle.std.proofs.Common.{◌≡◌, ℕ, suc, ◌+◌, ◌<◌, List, [], ◌∷◌, ◌++◌, length, length-append, Bool, true, false, Option, Some, None, refl, sym, ap, subst, ◌∙◌, arith}
-use Rattle.std.specs.List.{filter_map, flat_map, list_any, AllByRecursion}
-use Rattle.std.proofs.lemmas.List.{flat_map_more}
+use Rattle.std.proofs.Common.{◌≡◌, ℕ, ◌+◌, ◌<◌, List, [], ◌∷◌, ◌++◌, length, false, Some, None, refl, sym, ap, subst, ◌∙◌, arith}
+use Rattle.std.specs.List.{flat_map}
 use Rattle.std.proofs.lemmas.Bool.{ne_eqb}
 use Rattle.std.proofs.lemmas.List.Sums.{fold-append}
-use Rattle.push_script.specs.declared.word.Side.{Side}
 use Rattle.push_script.specs.declared.word.Side.TheVariants as sides
-use Rattle.push_script.specs.declared.outcome.Outcome.{Outcome}
-use Rattle.capture.specs.Histories.{EachAfter}
 use Rattle.capture.specs.Entries.{Entry, Moved, Acted, Begun, Ended}
-use Rattle.capture.specs.Links.{link_up, links}
-use Rattle.capture.specs.Pushes.{Mark, Begins, marks_from, mark_of, under_way, NoLinkOutside, LinksWithin, outcome_of, is_begin, ends_with_script}
+use Rattle.capture.specs.Links.{links}
+use Rattle.capture.specs.Pushes.{Mark, Begins, marks_from, mark_of, NoLinkOutside, LinksWithin, is_begin, ends_with_script}
 use Rattle.capture.proofs.HistoryLaws.{each_after-more}
 use Rattle.capture.proofs.FurtherLaws.{under_way-more}
-use Rattle.world_model.specs.Ordering.{Pushes, one_begun, one_ended}
-use Rattle.world_model.proofs.Lists.{all_both}
+use Rattle.world_model.specs.Ordering.{Pushes, one_begun}
 use Rattle.world_links.specs.LinkFacts.{IsUnlinked, with_entry, since_begin}
 use Rattle.push_order.proofs.Lists.{none_more}
-use Rattle.push_order.proofs.Parts.{IsOpen, opens_part, goes_part, closes_part}
-use Rattle.push_order.proofs.Marks.{marks-still, outcomes-still, marks-begun, outcomes-begun, outcomes-ended, marks_from-closed, under-still}
-use Rattle.push_order.proofs.Behind.{past-still, joined-begun, joined-still, links-ended, past-all}
-use Rattle.push_order.proofs.Bodies.{HasFew, parts_more, parts_last}
+use Rattle.push_order.proofs.Parts.{IsOpen, opens_part, goes_part}
+use Rattle.push_order.proofs.Marks.{marks-still, outcomes-still, marks-begun, outcomes-begun, under-still}
+use Rattle.push_order.proofs.Behind.{past-still, joined-begun, joined-still}
+use Rattle.push_order.proofs.Bodies.{parts_more}
 use Rattle.push_order.proofs.Courses.{Told, Between, During}
 
 -- while no push goes on, no host has a link or has asked for one
