@@ -14,8 +14,8 @@ use Rattle.capture.specs.Pushes.{NoLinkOutside, NoLinkAtEnd, is_any_end, ends_wi
 use Rattle.world_model.specs.Ordering.{Pushes, next_name}
 use Rattle.world_model.specs.Moments.{Moment, first_moment}
 use Rattle.world_model.specs.Happenings.{EndsScript, last_outcome, all_entries}
-use Rattle.world_links.specs.LinkFacts.{LinkFacts, LinkedAtRest, LinksOfRuns, RestsOfRuns}
-use Rattle.push_order.specs.InOrder.{all_outcomes, PushesInTurn}
+use Rattle.world_links.specs.LinkFacts.{LinkFacts, RestsOfRuns}
+use Rattle.push_order.specs.InOrder.{all_outcomes, UpAtRest, OrderFromLinks}
 use Rattle.push_order.proofs.Lists.{without_last-more, none_without_last, last_of-more, none_last}
 use Rattle.push_order.proofs.Behind.{linking-ended}
 use Rattle.push_order.proofs.Bodies.{links_of_pushes}
@@ -116,16 +116,21 @@ finishes names past before last ended finished ends (inr during) =
     (subst (λ (more : List Entry). InTurn (all_outcomes names (pushes.outcomes ++ last_outcome before ∷ [])) (past ++ more)) (sym some.0) turn)
 
 -- where links keep to pushes, pushes are in turn
-pub pushes_in_turn : LinksOfRuns → RestsOfRuns → PushesInTurn
-pushes_in_turn links rests size count mtu obex names shelf inbox script last entries beginning plays =
+pub pushes_in_turn : OrderFromLinks
+pushes_in_turn links up size count mtu obex names shelf inbox script last entries beginning plays =
     let first : Moment = first_moment size count mtu obex names shelf inbox in
     let past : List Entry = all_entries plays.happenings in
     let facts : FactsFrom first = λ happenings moment runs. links size count mtu obex names shelf inbox happenings moment beginning runs in
-    let rest : LinkedAtRest past plays.before = rests size count mtu obex names shelf inbox plays.happenings plays.before beginning plays.runs in
+    let now : LinkFacts past plays.before = facts plays.happenings plays.before plays.runs in
     let finished : Finished names past plays.before = record {
-      facts = facts plays.happenings plays.before plays.runs;
-      linked = λ going. (rest.linked plays.rest going).up_a;
-      none_left = λ going. rest.none_left plays.rest going;
+      facts = now;
+      linked = up size count mtu obex names shelf inbox plays.happenings plays.before beginning plays.runs plays.rest;
+      none_left = λ none. plays.rest.none_opens (now.idle none);
     } in
     subst (InTurn (all_outcomes names last.scene.pushes.outcomes)) (sym plays.entries_are)
     (finishes names past plays.before last plays.ended finished plays.ends (follows names first plays.before plays.happenings facts refl plays.runs))
+
+-- the link of a push is up at rest, as it is known of all runs
+pub up_from_rests : RestsOfRuns → UpAtRest
+up_from_rests rests size count mtu obex names shelf inbox happenings moment beginning runs rest going =
+    ((rests size count mtu obex names shelf inbox happenings moment beginning runs).linked rest going).up_a

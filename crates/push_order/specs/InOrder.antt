@@ -1,16 +1,18 @@
 -- Pushes follow one another in every capture of the pure world (this project's own).
-use Rattle.std.specs.Prelude.{ℕ, ◌-◌, ◌≡◌, ◌≢◌, ◌<◌, List, [], ◌∷◌, ◌++◌, length, replicate}
+use Rattle.std.specs.Prelude.{ℕ, ◌-◌, ◌≡◌, ◌≢◌, ◌<◌, List, [], ◌∷◌, ◌++◌, length, replicate, true, is_some}
 use Rattle.std.specs.List.{filter_map}
+use Rattle.push_script.specs.declared.word.Side.TheVariants as sides
 use Rattle.push_script.specs.declared.word.Word.{Word}
 use Rattle.push_script.specs.declared.outcome.Outcome.{Outcome}
 use Rattle.push_script.specs.declared.outcome.Outcome.TheVariants.{ScriptEnded}
 use Rattle.capture.specs.Entries.{Entry}
+use Rattle.capture.specs.Links.{link_up}
 use Rattle.capture.specs.Pushes.{Mark, Begins, mark_of, InTurn}
 use Rattle.bt_host.specs.Servers.{Kept}
 use Rattle.world_model.specs.Insides.{Shelved}
-use Rattle.world_model.specs.Moments.{Moment, first_moment}
-use Rattle.world_model.specs.Happenings.{Plays}
-use Rattle.world_links.specs.LinkFacts.{IsBeginning, LinksOfRuns, RestsOfRuns}
+use Rattle.world_model.specs.Moments.{Moment, IsAtRest, first_moment}
+use Rattle.world_model.specs.Happenings.{Happening, Runs, Plays, all_entries}
+use Rattle.world_links.specs.LinkFacts.{IsBeginning, LinksOfRuns}
 
 -- what came of the objects of those names: of those that were not pushed, that the script ended
 abbrev pub all_outcomes : List (List ℕ) → List Outcome → List Outcome
@@ -40,9 +42,16 @@ PlaysBegin = (size count mtu obex : ℕ) (names : List (List ℕ)) (shelf : Shel
 
 -- ---- where links keep to pushes
 
--- no link is up outside of a push, a push has one at most, and it is up where nothing is left to be moved
-abbrev pub OrderFromLinks : Type 0
-OrderFromLinks = LinksOfRuns → RestsOfRuns → PushesInTurn
+-- where nothing is left to be moved, a push that goes on has its link
+abbrev pub UpAtRest : Type 0
+UpAtRest = (size count mtu obex : ℕ) (names : List (List ℕ)) (shelf : Shelved) (inbox : Kept) (happenings : List Happening) (moment : Moment) → IsBeginning size count names
+    → Runs happenings (first_moment size count mtu obex names shelf inbox) moment → IsAtRest moment → moment.scene.pushes.going ≡ true → is_some (link_up sides.A (all_entries happenings)) ≡ true
 
+-- no link is up outside of a push, a push has one at most, and it is up where nothing is left to be moved: then pushes are
+-- in turn
+abbrev pub OrderFromLinks : Type 0
+OrderFromLinks = LinksOfRuns → UpAtRest → PushesInTurn
+
+-- and each play with an object begins the first push
 abbrev pub BeginFromLinks : Type 0
-BeginFromLinks = LinksOfRuns → RestsOfRuns → PlaysBegin
+BeginFromLinks = LinksOfRuns → UpAtRest → PlaysBegin
