@@ -7,3 +7,4 @@ pub mod ListLaws
 pub mod PutPacketLaws
 pub mod NameLaws
 pub mod WritingLaws
+pub mod StoringLaws

@@ -1,7 +1,7 @@
 //! Laws of what packets store, for every list of them. They speak of no call: the contracts of the
 //! calls tie these to the same definitions.
 
-ghost use Rattle.obex_session.specs.Laws.{NoRuleFails, StoresWhatIsSpelled};
+ghost use Rattle.obex_session.specs.Laws.{NoRuleFails, StoresAsAnswered, StoresWhatIsSpelled};
 ghost use Rattle.obex_session.specs.PutPackets.{SpellsWhatIsPut};
 
 /// Where the inbox never failed, the objects that the packets spell were stored.
@@ -17,4 +17,9 @@ pub fn no_rule_fails()
 /// The PUT packets of an object spell it, however its body is cut.
 pub fn put_is_spelled()
     ensures { SpellsWhatIsPut }
+{}
+
+/// An object is stored exactly where success answers a final PUT.
+pub fn success_says_what_is_stored()
+    ensures { StoresAsAnswered }
 {}

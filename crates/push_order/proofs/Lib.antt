@@ -1,0 +1,12 @@
+pub mod Lists
+pub mod Joining
+pub mod Parts
+pub mod Marks
+pub mod Beginning
+pub mod Behind
+pub mod Bodies
+pub mod Courses
+pub mod Turning
+pub mod Ending
+pub mod Following
+pub mod Finishing

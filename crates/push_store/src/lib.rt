@@ -1,0 +1,4 @@
+//! What a server stores while things happen in the pure world.
+#![tactic(auto)]
+
+pub mod laws;
