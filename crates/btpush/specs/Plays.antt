@@ -1,25 +1,49 @@
 -- What a run of a scenario comes to (this project's own).
-use Rattle.std.specs.Prelude.{ℕ, ◌++◌, replicate, ◌≡◌, ◌<◌, ◌≤◌, ◌+◌, ◌⊎◌, min, List, [], ◌∷◌, length, Option, Some, None, Result, IsErrOf}
+use Rattle.std.specs.Prelude.{ℕ, ◌++◌, replicate, ◌≡◌, ◌-◌, min, List, length, Option}
 use Rattle.std.specs.List.{AllByRecursion, filter_map}
-use Rattle.capture.specs.Pushes.{outcome_of}
-use Rattle.push_script.specs.declared.outcome.Outcome.TheVariants.{ScriptEnded}
-use Rattle.bt_base.specs.Counts.{HasRisen}
-use Rattle.bt_base.specs.Objects.{Object, Contents, octets_of}
+use Rattle.bt_base.specs.Objects.{Object, Contents}
 use Rattle.bt_base.specs.Streams.{gained}
+use Rattle.push_script.specs.declared.outcome.Outcome.TheVariants.{ScriptEnded}
 use Rattle.push_script.specs.declared.scenario.Scenario.{Scenario}
 use Rattle.push_script.specs.declared.word.Side.TheVariants as sides
-use Rattle.push_script.specs.Turns.{length_of}
+use Rattle.capture.specs.Pushes.{outcome_of}
 use Rattle.capture.specs.Entries.{Entry, IsEntry, capture_octets}
 use Rattle.capture.specs.Air.{Obeys, words_of}
 use Rattle.capture.specs.Buffers.{KeepsWithin}
 use Rattle.capture.specs.Peaks.{buffers_peak}
+use Rattle.bt_host.specs.Courses.{Course}
+use Rattle.bt_host.specs.Servers.{Served, Kept, kept}
+use Rattle.world_model.specs.Insides.{Shelved, Pushing, Serving}
+use Rattle.world_model.specs.Moments.{Moment}
+use Rattle.world_model.specs.Happenings as world
+use Rattle.radio_world.specs.OwnHosts.{shelved}
+use Rattle.radio_world.specs.Worlds.{beginning}
 use Rattle.btpush.specs.declared.playing.Played.{Played}
+
+-- a shelf and an inbox, by their contents where they tell those, and by their counts
+pub record Stocked : Type 0 where
+  pub shelf : Shelved
+  pub inbox : Kept
+
+abbrev pub stocked : Option (List Object) → (shelf_faults : ℕ) → Option Contents → (inbox_faults inbox_shortages : ℕ) → Stocked
+stocked objects shelf_faults contents inbox_faults inbox_shortages = record { shelf = shelved objects shelf_faults; inbox = kept contents inbox_faults inbox_shortages }
+
+-- At that moment host a has the shelf and host b the inbox, which say how many objects were stored. What came of the
+-- pushes is what came of them then, and the script ended those of the other objects.
+pub record EndsWith (names : List (List ℕ)) (played : Played) (last : Moment) (stock : Stocked) : Type 0 where
+  pub course : Course
+  pub client : last.a.inside ≡ Pushing course stock.shelf
+  pub served : Served
+  pub server : last.b.inside ≡ Serving served stock.inbox
+  pub stored : played.kept ≡ served.stored
+  pub outcomes : played.outcomes.items ≡ last.scene.pushes.outcomes ++ replicate (length names - length last.scene.pushes.outcomes) ScriptEnded
 
 -- A scenario was played, and the trace gained the capture of what happened: the air obeyed the words of the script,
 -- both hosts kept within the buffers of their controllers at each moment, and the peaks are those of the capture. No
 -- frame of an enhanced channel and no credit is there yet. Each object has its outcome, which is the one that the end of its
--- push states, or the end of the script where it did not begin.
-pub record Plays (scenario : Scenario) (played : Played) (trace trace' : Option (List ℕ)) : Type 0 where
+-- push states, or the end of the script where it did not begin. All that happened is what may happen in a world from its
+-- first moment on, and ends as it says.
+pub record Plays (scenario : Scenario) (played : Played) (stock stock' : Stocked) (trace trace' : Option (List ℕ)) : Type 0 where
   pub entries : List Entry
   pub entries_are : AllByRecursion IsEntry entries
   pub written : trace' ≡ gained trace (capture_octets entries)
@@ -35,3 +59,6 @@ pub record Plays (scenario : Scenario) (played : Played) (trace trace' : Option 
   pub outcomes : length played.outcomes.items ≡ length scenario.names
   pub not_begun : ℕ
   pub outcomes_are : played.outcomes.items ≡ filter_map outcome_of entries ++ replicate not_begun ScriptEnded
+  pub last : Moment
+  pub happened : world.Plays (words_of scenario.script) (beginning scenario stock.shelf stock.inbox) last entries
+  pub ends : EndsWith scenario.names played last stock'

@@ -1,7 +1,7 @@
 //! A scenario is played in the simulated world.
 
 ghost use Rattle.std.specs.Prelude.{◌≡◌, false, IfOk};
-ghost use Rattle.btpush.specs.Plays.{Plays};
+ghost use Rattle.btpush.specs.Plays.{stocked, Plays};
 
 use bt_base::{Inbox, NoMemory, Shelf, Sink};
 use push_script::{Outcome, Peaks, Scenario};
@@ -36,7 +36,7 @@ pub(crate) fn play<F: Shelf, B: Inbox, T: Sink>(
     trace: &mut T,
 ) -> Result<Played, WorldFault>
     requires pending { B.is_pending inbox.old ≡ false }
-    ensures { IfOk result (λ played. Plays scenario.now played (T.content trace.old) (T.content trace.new)) }
+    ensures { IfOk result (λ played. Plays scenario.now played (stocked (F.content shelf.old) (F.faults shelf.old) (B.content inbox.old) (B.faults inbox.old) (B.shortages inbox.old)) (stocked (F.content shelf.new) (F.faults shelf.new) (B.content inbox.new) (B.faults inbox.new) (B.shortages inbox.new)) (T.content trace.old) (T.content trace.new)) }
 {
     let mut world = World::new(alloc, scenario)?;
     world.play(scenario, trace, shelf, inbox)?;

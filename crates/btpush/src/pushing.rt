@@ -6,6 +6,7 @@ ghost use Rattle.h4_view.specs.View.{IsAnswered};
 ghost use Rattle.push_script.specs.Features.{missing_features};
 ghost use Rattle.push_script.specs.Reading.{text_limit};
 ghost use Rattle.push_script.specs.Refusals.{refusal_line, object_line};
+ghost use Rattle.btpush.specs.Plays.{stocked};
 ghost use Rattle.btpush.specs.Pushing.{is_done, Refuses, Reports, Runs, Pushes};
 ghost use Rattle.btpush.specs.Run.{HasCauses, HasPushCauses, HasEnded};
 
@@ -80,7 +81,7 @@ fn run_scenario<K: Sink, T: Sink, F: Shelf, B: Inbox>(
     inbox: &mut B,
 ) -> Status
     requires pending { B.is_pending inbox.old ≡ false }
-    ensures runs { Runs scenario.now line (K.content sink.old) (K.content sink.new) (T.content trace.old) (T.content trace.new) result }
+    ensures runs { Runs scenario.now line (stocked (F.content shelf.old) (F.faults shelf.old) (B.content inbox.old) (B.faults inbox.old) (B.shortages inbox.old)) (stocked (F.content shelf.new) (F.faults shelf.new) (B.content inbox.new) (B.faults inbox.new) (B.shortages inbox.new)) (K.content sink.old) (K.content sink.new) (T.content trace.old) (T.content trace.new) result }
     ensures causes { HasPushCauses 0 0 (K.faults sink.old) (K.faults sink.new) result }
     ensures sink_short { IsAnswered (K.shortages sink.old) (K.shortages sink.new) (result ≡ Status.NoMemory) }
 {
@@ -108,7 +109,7 @@ pub(crate) fn push<S: Source, K: Sink, T: Sink, F: Shelf, B: Inbox>(
     inbox: &mut B,
 ) -> Status
     requires pending { B.is_pending inbox.old ≡ false }
-    ensures pushes { IfSome (S.content source.old) (λ input. Pushes input (S.content source.new) (K.content sink.old) (K.content sink.new) (T.content trace.old) (T.content trace.new) ((trace.new ≡ trace.old) × (shelf.new ≡ shelf.old) × (inbox.new ≡ inbox.old)) result) }
+    ensures pushes { IfSome (S.content source.old) (λ input. Pushes input (stocked (F.content shelf.old) (F.faults shelf.old) (B.content inbox.old) (B.faults inbox.old) (B.shortages inbox.old)) (stocked (F.content shelf.new) (F.faults shelf.new) (B.content inbox.new) (B.faults inbox.new) (B.shortages inbox.new)) (S.content source.new) (K.content sink.old) (K.content sink.new) (T.content trace.old) (T.content trace.new) ((trace.new ≡ trace.old) × (shelf.new ≡ shelf.old) × (inbox.new ≡ inbox.old)) result) }
     ensures known { result ≢ Status.BadWords }
     ensures finish { HasEnded result → IfSome (S.content source.new) (λ left. left ≡ []) }
     ensures causes { HasPushCauses (S.faults source.old) (S.faults source.new) (K.faults sink.old) (K.faults sink.new) result }

@@ -1,0 +1,49 @@
+-- What a world that was played comes to.
+use Rattle.std.proofs.Common.{◌≡◌, ℕ, List, length, Option, sym, ap, ◌∙◌}
+use Rattle.std.specs.Prelude.{min}
+use Rattle.push_script.specs.declared.scenario.Scenario.{Scenario}
+use Rattle.world_model.specs.Faces.{Face}
+use Rattle.radio_world.specs.Worlds.{World, Happens}
+use Rattle.btpush.specs.declared.playing.Played.{Played}
+use Rattle.btpush.specs.Plays.{Stocked, Plays}
+
+-- what is told of a world
+pub record Tells (world : World) (played : Played) : Type 0 where
+  pub outcomes : played.outcomes.items ≡ world.scene.pushes.outcomes
+  pub stored : played.kept ≡ world.server.server.served.stored
+  pub buffers_a : played.peaks.buffers_a ≡ min world.scene.medium.peak_a 65535
+  pub buffers_b : played.peaks.buffers_b ≡ min world.scene.medium.peak_b 65535
+  pub window_a : played.peaks.window_a ≡ 0
+  pub window_b : played.peaks.window_b ≡ 0
+  pub credits_a : played.peaks.credits_a ≡ 0
+  pub credits_b : played.peaks.credits_b ≡ 0
+
+pub plays_of : (scenario : Scenario) (world : World) (played : Played) (stock stock' : Stocked) (trace trace' : Option (List ℕ)) → Tells world played → length world.scene.pushes.outcomes ≡ length scenario.names
+    → Happens scenario world stock.shelf stock'.shelf stock.inbox stock'.inbox trace trace' → Plays scenario played stock stock' trace trace'
+plays_of scenario world played stock stock' trace trace' tells each happens = record {
+  entries = happens.entries;
+  entries_are = happens.entries_are;
+  written = happens.written;
+  obeys = happens.obeys;
+  within_a = happens.within_a;
+  within_b = happens.within_b;
+  buffers_a = tells.buffers_a ∙ ap (λ n. min n 65535) happens.buffers_a;
+  buffers_b = tells.buffers_b ∙ ap (λ n. min n 65535) happens.buffers_b;
+  window_a = tells.window_a;
+  window_b = tells.window_b;
+  credits_a = tells.credits_a;
+  credits_b = tells.credits_b;
+  outcomes = ap length tells.outcomes ∙ each;
+  not_begun = happens.not_begun;
+  outcomes_are = tells.outcomes ∙ happens.outcomes_are;
+  last = happens.last;
+  happened = happens.plays;
+  ends = record {
+    course = world.client.client.course;
+    client = ap (λ (f : Face). f.inside) (sym happens.ends.client);
+    served = world.server.server.served;
+    server = ap (λ (f : Face). f.inside) (sym happens.ends.server);
+    stored = tells.stored;
+    outcomes = tells.outcomes ∙ happens.ends.outcomes;
+  };
+}
