@@ -1,2 +1,4 @@
 pub mod Joining
 pub mod Piping
+pub mod Completing
+pub mod Numbers
