@@ -4,3 +4,4 @@ pub mod Completing
 pub mod Numbers
 pub mod Ways
 pub mod Saying
+pub mod Hears
