@@ -5,3 +5,5 @@ pub mod Numbers
 pub mod Ways
 pub mod Saying
 pub mod Hears
+pub mod Coming
+pub mod Hearing
