@@ -1,7 +1,7 @@
 use Rattle.link_pipe.proofs.Joining.{frames_complete}
 use Rattle.link_pipe.proofs.Saying.{pipes_saying}
 use Rattle.link_pipe.proofs.Coming.{event_into_a}
-use Rattle.link_pipe.proofs.Hearing.{boundary-flag}
+use Rattle.link_pipe.proofs.Hearing.{pipes_hearing}
 use Rattle.link_pipe.proofs.laws.links_are_pipes.Goals as goal
 
 pub returns : goal.returns
