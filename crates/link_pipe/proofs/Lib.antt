@@ -7,3 +7,6 @@ pub mod Saying
 pub mod Hears
 pub mod Coming
 pub mod Hearing
+pub mod Wording
+pub mod Fronts
+pub mod Keeping
