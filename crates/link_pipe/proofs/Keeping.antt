@@ -40,7 +40,9 @@ use Rattle.link_pipe.proofs.Wording.{IsSettled, pipes_passing, pipes_breaking}
 
 low_up : (up : Option Link) (one : Controller) → ShowsUp up one → one.told ≤ 0x0EFF → IsLow up
 low_up None one down low = tt
-low_up (Some link) one (up, handle, more) low = omega (arith, handle, low)
+low_up (Some link) one shows low =
+    let handle : link.handle ≡ one.told = shows.1 in
+    omega (arith, handle, low)
 
 known_of : (past : List Entry) (radio : Radio) → Shows past radio → AreKnown radio.size past
 known_of past radio shows =

@@ -10,3 +10,4 @@ pub mod Hearing
 pub mod Wording
 pub mod Fronts
 pub mod Keeping
+pub mod Beginning
