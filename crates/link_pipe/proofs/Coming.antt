@@ -7,7 +7,7 @@ use Rattle.push_script.specs.declared.word.Side.TheVariants as sides
 use Rattle.capture.specs.declared.flow.Flow.TheVariants.{Into}
 use Rattle.capture.specs.Entries.{Entry, Moved}
 use Rattle.capture.specs.Moves.{moves}
-use Rattle.capture.specs.Links.{Link, Linking, links, link_news, after_move, linking}
+use Rattle.capture.specs.Links.{Linking, links, link_news, after_move, linking}
 use Rattle.capture.specs.Pdus.{piece_of}
 use Rattle.capture.specs.Frames.{waiting}
 use Rattle.capture.specs.Air.{Air, renewed, after_event, ComesBehind}
@@ -30,7 +30,7 @@ module _ (size : ℕ) (known known' : Linking) (last count : ℕ) (broken : Bool
   hears_new : (said_on : ℕ → List (List ℕ)) (due : List Piece) → IsHeard known known' due → last < count → said_on count ≡ [] → Way size said_on (numbered came (all_links known)) (length (all_links known)) last broken waits due
       → Way size said_on (numbered came (all_links known')) (length (all_links known')) count false [] due
   hears_new said_on due heard more none way =
-      let behind : due ≡ [] = elim heard.count [ | inl same ↦ absurd (omega (arith, same, counts, is_last, more)) | inr new ↦ new.1 ] in
+      let behind : due ≡ [] = elim heard.count [ inl same ↦ absurd (omega (arith, same, counts, is_last, more)) | inr new ↦ new.1 ] in
       subst (λ told. Way size said_on (numbered came (all_links known')) told count false [] due) counts
       (way_same size said_on said_on (numbered came (all_links known)) (numbered came (all_links known')) count count false [] due (λ n. refl) heard.came_same
       (way_told size said_on said_on (numbered came (all_links known)) (numbered came (all_links known)) (length (all_links known)) last broken waits due count count false []

@@ -1,12 +1,12 @@
 -- What a host heard on a link is what the pieces that came on it complete, and what it said are whole frames.
-use Rattle.std.proofs.Common.{◌≡◌, ℕ, zero, suc, ◌+◌, ◌≤◌, List, [], ◌∷◌, ◌++◌, length, take, Option, Some, None, refl, sym, ap, ap₂, subst, ◌∙◌, append_assoc, arith}
+use Rattle.std.proofs.Common.{◌≡◌, ℕ, zero, suc, ◌≤◌, List, [], ◌∷◌, ◌++◌, length, take, Option, Some, None, refl, sym, ap, ap₂, subst, ◌∙◌, arith}
 use Rattle.std.specs.List.{filter_map, cons_option, AllByRecursion}
 use Rattle.std.proofs.lemmas.List.{append-nil}
 use Rattle.std.proofs.lemmas.List.Elements.{filter_map-append}
 use Rattle.h4_framing.specs.Packets.{Packet}
 use Rattle.acl_fragments.specs.Pieces.{Piece, starts, pdu_length, joined}
 use Rattle.acl_fragments.specs.Groups.{GivesPdu, last_group}
-use Rattle.acl_fragments.specs.Answers.{Answer, Pdu, More, Dropped, open_after, answer, held_after}
+use Rattle.acl_fragments.specs.Answers.{Answer, Pdu, More, Dropped, open_after, answer}
 use Rattle.acl_fragments.specs.Laws.{IsPdu}
 use Rattle.acl_fragments.proofs.Holding.{open_after-append}
 use Rattle.acl_fragments.proofs.Given.{answered_is_given}

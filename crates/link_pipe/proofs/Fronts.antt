@@ -1,13 +1,12 @@
 -- Where the pieces that came are those of a front of what was said, what is heard is a front of it.
-use Rattle.std.proofs.Common.{◌≡◌, ℕ, ◌≤◌, List, [], ◌∷◌, ◌++◌, length, refl, sym, ap, subst, ◌∙◌, append_assoc}
+use Rattle.std.proofs.Common.{◌≡◌, ℕ, ◌≤◌, List, [], ◌∷◌, ◌++◌, sym, ap, subst, ◌∙◌, append_assoc}
 use Rattle.std.specs.List.{AllByRecursion}
 use Rattle.acl_fragments.specs.Laws.{IsPdu}
-use Rattle.acl_fragments.specs.Pieces.{Piece}
 use Rattle.capture.specs.declared.flow.Flow.TheVariants.{Into}
 use Rattle.capture.specs.Links.{Link}
 use Rattle.capture.specs.Pdus.{pdu_limit}
 use Rattle.link_pipe.specs.Pipes.{said, heard, IsFront, AreTaken, IsPipe}
-use Rattle.link_pipe.proofs.Joining.{completions, completions-front, all_pieces, IsFrame, frames_complete}
+use Rattle.link_pipe.proofs.Joining.{completions, completions-front, IsFrame, frames_complete}
 use Rattle.link_pipe.proofs.Completing.{came, heard_is, said_pdus}
 use Rattle.link_pipe.proofs.Piping.{IsPiped}
 

@@ -1,10 +1,9 @@
 -- A packet comes into a host: a piece of a frame, or an event.
-use Rattle.std.proofs.Common.{◌≡◌, ℕ, ◌+◌, ◌*◌, ◌/◌, ◌%◌, ◌≤◌, List, [], ◌∷◌, ◌++◌, length, drop, Bool, true, false, cond, eqb, not, ◌||◌, Option, Some, None, option_map, refl, sym, ap, subst, ◌∙◌, arith, le-ltb, eq-eqb, ne_eqb}
+use Rattle.std.proofs.Common.{◌≡◌, ℕ, ◌+◌, ◌*◌, ◌/◌, ◌%◌, ◌≤◌, List, [], ◌∷◌, ◌++◌, length, drop, Bool, cond, Option, Some, None, option_map, refl, sym, ap, subst, ◌∙◌, arith, le-ltb, eq-eqb, ne_eqb}
 use Rattle.std.specs.List.{cons_option}
 use Rattle.hci_packets.specs.declared.acl.Boundary.{Boundary}
 use Rattle.hci_packets.specs.declared.acl.Boundary.TheVariants.{First, Continuing, FirstFromController}
 use Rattle.hci_packets.specs.AclWords.{flag_of}
-use Rattle.hci_packets.specs.Refusals.{bad_handle}
 use Rattle.h4_framing.specs.Packets.{Packet, Command, Acl, Sync, Event}
 use Rattle.acl_fragments.specs.Pieces.{Piece}
 use Rattle.push_script.specs.declared.word.Side.{Side}
@@ -13,9 +12,9 @@ use Rattle.push_script.specs.declared.word.Word.{Word}
 use Rattle.capture.specs.declared.flow.Flow.TheVariants.{Into}
 use Rattle.capture.specs.Entries.{Entry, Moved}
 use Rattle.capture.specs.Moves.{moves}
-use Rattle.capture.specs.Links.{Link, Linking, longer, after_move, linking, link_up}
+use Rattle.capture.specs.Links.{Link, Linking, longer, after_move, linking}
 use Rattle.capture.specs.PieceHeads.{boundary_of, piece_head}
-use Rattle.capture.specs.Pdus.{piece_with, piece_of, piece_in}
+use Rattle.capture.specs.Pdus.{piece_with, piece_of}
 use Rattle.capture.specs.Frames.{waiting}
 use Rattle.capture.specs.Air.{Air, without_first_due, air_after, IsFirst, KeepsTo}
 use Rattle.link_pipe.specs.Pipes.{said}

@@ -1,18 +1,18 @@
 -- What a packet into a host does to the links that it knows of.
-use Rattle.std.proofs.Common.{◌≡◌, ℕ, ◌+◌, List, [], ◌∷◌, ◌++◌, length, Bool, true, false, cond, eqb, ◌&&◌, Option, Some, None, is_none, option_map, option_to_list, refl, sym, ap, subst, ◌∙◌, inl, inr, ◌⊎◌, length-append}
+use Rattle.std.proofs.Common.{◌≡◌, ℕ, ◌+◌, List, [], ◌∷◌, ◌++◌, length, Bool, true, false, cond, eqb, ◌&&◌, Option, Some, None, is_none, option_map, refl, sym, ap, subst, ◌∙◌, inl, inr, ◌⊎◌, length-append}
 use Rattle.std.specs.Option.{option_or}
 use Rattle.std.specs.List.{cons_option}
 use Rattle.std.proofs.lemmas.List.{append-nil}
-use Rattle.h4_framing.specs.Packets.{Packet, Command, Acl, Sync, Event}
+use Rattle.h4_framing.specs.Packets.{Packet}
 use Rattle.acl_fragments.specs.Pieces.{Piece}
 use Rattle.capture.specs.declared.flow.Flow.TheVariants.{Into}
 use Rattle.capture.specs.Moves.{Move}
-use Rattle.capture.specs.Links.{Link, LinkNews, Linking, Asked, Answered, LinkEnded, NoNews, link_news, longer, gone_on, made, ends_with, after_news, after_move}
-use Rattle.capture.specs.Pdus.{piece_of, piece_in, pieces}
+use Rattle.capture.specs.Links.{Link, LinkNews, Linking, Asked, Answered, LinkEnded, NoNews, link_news, longer, gone_on, ends_with, after_news, after_move}
+use Rattle.capture.specs.Pdus.{piece_of, pieces}
 use Rattle.capture.specs.Air.{ComesBehind}
 use Rattle.link_pipe.specs.Pipes.{said}
 use Rattle.link_pipe.proofs.Completing.{came, none_said, pieces-more}
-use Rattle.link_pipe.proofs.Numbers.{numbered, with_last, numbered-new, changed-same, changed-count}
+use Rattle.link_pipe.proofs.Numbers.{numbered, numbered-new, changed-same, changed-count}
 use Rattle.link_pipe.proofs.Ways.{all_links, said-more}
 
 abbrev pub inward : Packet → Move

@@ -1,14 +1,13 @@
 -- What pieces join to, and frames that come back from their pieces.
-use Rattle.std.proofs.Common.{◌≡◌, ℕ, zero, suc, ◌+◌, ◌≤◌, ◌<◌, List, [], ◌∷◌, ◌++◌, length, take, drop, Bool, true, false, refl, sym, ap, subst, ◌∙◌, append_assoc, length-append, inl, inr, arith, eqb, ltb}
+use Rattle.std.proofs.Common.{◌≡◌, ℕ, zero, suc, ◌+◌, ◌≤◌, ◌<◌, List, [], ◌∷◌, ◌++◌, length, take, drop, refl, sym, ap, ◌∙◌, append_assoc, length-append, inl, inr, arith}
 use Rattle.std.specs.List.{flat_map, AllByRecursion}
-use Rattle.std.proofs.lemmas.List.{append-nil, take-append-drop, length-take, take_all, drop_all}
-use Rattle.std.proofs.lemmas.Bool.{cases_lt, le-ltb, lt-ltb, eq-eqb, ne_eqb}
+use Rattle.std.proofs.lemmas.List.{take-append-drop, length-take, take_all, drop_all}
+use Rattle.std.proofs.lemmas.Bool.{cases_lt, le-ltb, eq-eqb, ne_eqb}
 use Rattle.byteorder.specs.Numbers.{little_from-append}
-use Rattle.byteorder.specs.Endian.{little_number}
 use Rattle.hci_packets.specs.declared.acl.Boundary.TheVariants.{Continuing, FirstFromController}
 use Rattle.acl_fragments.specs.Pieces.{Piece, starts, pdu_length, channel_of}
-use Rattle.acl_fragments.specs.Cuts.{first_pieces, cut}
-use Rattle.acl_fragments.specs.Answers.{Answer, Pdu, More, Dropped, start_answer, next_answer, answer, kept, held_after}
+use Rattle.acl_fragments.specs.Cuts.{first_pieces}
+use Rattle.acl_fragments.specs.Answers.{Answer, Pdu, More, start_answer, next_answer, answer, kept, held_after}
 use Rattle.acl_fragments.specs.Laws.{IsPdu}
 use Rattle.capture.specs.Frames.{frame_pieces}
 use Rattle.link_pipe.specs.Pipes.{IsFront}

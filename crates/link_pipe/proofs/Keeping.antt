@@ -1,21 +1,18 @@
 -- The links of a world are pipes, whatever happens.
-use Rattle.std.proofs.Common.{◌≡◌, ◌≢◌, ℕ, zero, suc, ◌≤◌, max, List, [], ◌∷◌, ◌++◌, length, Bool, true, false, not, Option, Some, None, refl, sym, ap, subst, ◌∙◌, inl, inr, arith, true≢false}
-use Rattle.std.specs.Prelude.{slice_get}
+use Rattle.std.proofs.Common.{◌≡◌, ℕ, ◌≤◌, max, List, [], ◌∷◌, ◌++◌, length, true, false, not, Option, Some, None, refl, sym, ap, subst, ◌∙◌, inl, inr, arith, true≢false}
 use Rattle.std.proofs.lemmas.List.{append-nil}
 use Rattle.std.proofs.lemmas.Bool.{cases_Bool}
 use Rattle.h4_framing.specs.Packets.{Packet}
 use Rattle.push_script.specs.declared.word.Side.{Side}
 use Rattle.push_script.specs.declared.word.Side.TheVariants as sides
 use Rattle.push_script.specs.declared.word.Word.{Word}
-use Rattle.push_script.specs.declared.outcome.Outcome.{Outcome}
 use Rattle.capture.specs.declared.flow.Flow.TheVariants.{Out, Into}
 use Rattle.capture.specs.Entries.{Entry, Moved, Begun, Ended, Acted}
 use Rattle.capture.specs.Moves.{moves}
-use Rattle.capture.specs.Links.{Link, Linking, linking, links}
-use Rattle.capture.specs.Air.{Air, KeepsTo, air_after}
-use Rattle.capture.specs.Frames.{waiting}
-use Rattle.radio_air.specs.Radio.{Radio, is_together, controller, after_answer}
-use Rattle.radio_air.specs.Controllers.{Controller, packet_of}
+use Rattle.capture.specs.Links.{Link, linking}
+use Rattle.capture.specs.Air.{KeepsTo, air_after}
+use Rattle.radio_air.specs.Radio.{Radio, is_together}
+use Rattle.radio_air.specs.Controllers.{Controller}
 use Rattle.radio_air.specs.Showing.{IsOwed, ShowsUp, Shows, in_air}
 use Rattle.radio_air.proofs.Entering.{links-of}
 use Rattle.radio_air.proofs.Owing.{owed-told}
@@ -25,7 +22,7 @@ use Rattle.world_model.specs.Acting.{Makes}
 use Rattle.world_model.specs.Faces.{Face}
 use Rattle.world_model.specs.Media.{Medium}
 use Rattle.world_model.specs.Moments.{Moment, with_face}
-use Rattle.world_model.specs.Happenings.{Happening, Departure, Arrival, GivingBack, Opening, Closing, Deed, Miss, Does, Departs, Arrives, GivesBack, Opens, Closes, Acts, Misses, entries_of}
+use Rattle.world_model.specs.Happenings.{Happening, Departure, Arrival, GivingBack, Opening, Closing, Deed, Miss, Does, Departs, Arrives, Acts, entries_of}
 use Rattle.world_model.specs.Holding.{Holds}
 use Rattle.world_model.proofs.Settled.{quiet_of}
 use Rattle.world_model.proofs.Departing.{moved_sizes}
@@ -71,10 +68,10 @@ settled_of past radio none_a none_b shows =
     let told_a : radio.a.told ≡ radio.number = leads_a.0 in
     let told_b : radio.b.told ≡ radio.number = leads_b.0 in
     let out : (air_after radio.size past).broken ≡ true → in_air radio ≡ false = λ lost.
-        elim (cases_Bool (in_air radio)) [
-          | inl flies ↦ absurd (true≢false (sym lost ∙ (shows.air.broken ∙ ap not flies)))
-          | inr gone ↦ gone
-        ] in
+    elim (cases_Bool (in_air radio)) [
+      | inl flies ↦ absurd (true≢false (sym lost ∙ (shows.air.broken ∙ ap not flies)))
+      | inr gone ↦ gone
+    ] in
     record {
       told_a = omega (arith, a, link, told_a, told_b);
       told_b = omega (arith, b, link, told_a, told_b);

@@ -66,14 +66,14 @@ module _ (size : ℕ) (said said' : ℕ → List (List ℕ)) (came came' : ℕ �
       let more_at : (n : ℕ) → (added : List (List ℕ)) × (said' n ≡ said n ++ added) = grown k more others now in
       -- what is said on the link in the air is put into it
       let adds : broken ≡ false → said' last ≡ said last ++ put = λ flies.
-          elim (cases_Bool (eqb k last)) [
-            | inl same ↦
-                let is : k ≡ last = eqb-true k last same in
-                subst (λ m. said' m ≡ said m ++ more) is now ∙ ap (λ xs. said last ++ xs) (sym (put_here flies is))
-            | inr apart ↦
-                let no : k ≡ last → ⊥ = eqb-false k last apart in
-                others last (λ is. no (sym is)) ∙ (sym (append-nil (said last)) ∙ ap (λ xs. said last ++ xs) (sym (put_none flies no)))
-          ] in
+      elim (cases_Bool (eqb k last)) [
+        | inl same ↦
+            let is : k ≡ last = eqb-true k last same in
+            subst (λ m. said' m ≡ said m ++ more) is now ∙ ap (λ xs. said last ++ xs) (sym (put_here flies is))
+        | inr apart ↦
+            let no : k ≡ last → ⊥ = eqb-false k last apart in
+            others last (λ is. no (sym is)) ∙ (sym (append-nil (said last)) ∙ ap (λ xs. said last ++ xs) (sym (put_none flies no)))
+      ] in
       record {
         each = λ n. still_piped n (more_at n) (way.each n);
         handed = way.handed;

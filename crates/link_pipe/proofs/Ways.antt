@@ -1,6 +1,6 @@
 -- Both ways of the links of two hosts after a capture, and what a packet out of a host says.
 use Rattle.std.proofs.Common.{◌≡◌, ℕ, ◌≤◌, List, [], ◌∷◌, ◌++◌, length, map, Bool, true, false, cond, not, eqb, ◌&&◌, Option, Some, None, option_map, refl, sym, ap, subst, ◌∙◌, true≢false}
-use Rattle.std.specs.List.{filter_map, cons_option}
+use Rattle.std.specs.List.{filter_map}
 use Rattle.std.proofs.lemmas.List.{append-nil, drop-append-le}
 use Rattle.std.proofs.lemmas.List.Elements.{filter_map-append}
 use Rattle.std.proofs.lemmas.Bool.{and_from, and_left, ne_eqb, eq-eqb}
@@ -13,7 +13,7 @@ use Rattle.capture.specs.declared.flow.Flow.TheVariants.{Out, Into}
 use Rattle.capture.specs.Entries.{Entry}
 use Rattle.capture.specs.Moves.{Move, move_of, moves}
 use Rattle.capture.specs.Links.{Link, Linking, Asked, NoNews, longer, after_news, after_move, linking}
-use Rattle.capture.specs.Pdus.{pdu_limit, piece_of, piece_in, pdus, pieces, whole_of, completed_by, completed}
+use Rattle.capture.specs.Pdus.{pdu_limit, piece_of, pdus, pieces, whole_of, completed_by, completed}
 use Rattle.capture.specs.Frames.{Direction, waiting, with_frames}
 use Rattle.capture.specs.Air.{Air, due, frames_of, after_entry, air_after}
 use Rattle.capture.specs.Laws.{led_on}

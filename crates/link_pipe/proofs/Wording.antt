@@ -1,5 +1,5 @@
 -- A word of the script acts on the air: a frame is handed over, or the link breaks.
-use Rattle.std.proofs.Common.{◌≡◌, ℕ, ◌+◌, List, [], ◌∷◌, ◌++◌, length, drop, Bool, true, false, cond, Option, Some, None, option_map, refl, sym, ap, subst, ◌∙◌, inl, inr}
+use Rattle.std.proofs.Common.{◌≡◌, ℕ, List, [], ◌∷◌, ◌++◌, length, drop, Bool, true, false, cond, Option, Some, None, option_map, refl, sym, ap, subst, ◌∙◌, inl, inr}
 use Rattle.std.proofs.lemmas.Bool.{cases_Bool}
 use Rattle.std.proofs.lemmas.List.{drop-drop}
 use Rattle.push_script.specs.declared.word.Side.TheVariants as sides
@@ -15,7 +15,7 @@ use Rattle.link_pipe.specs.Pipes.{said}
 use Rattle.link_pipe.proofs.Piping.{Way, way_broken, way_passes}
 use Rattle.link_pipe.proofs.Completing.{came}
 use Rattle.link_pipe.proofs.Numbers.{numbered}
-use Rattle.link_pipe.proofs.Ways.{all_links, WayFrom, BothWays, Pipes, pipes_more}
+use Rattle.link_pipe.proofs.Ways.{all_links, BothWays, Pipes, pipes_more}
 
 -- both hosts know of the link in the air, and frames wait in it only while it is not broken off
 pub record IsSettled (a b : Linking) (air : Air) : Type 0 where
