@@ -31,7 +31,8 @@ IsFront front whole = (rest : List (List ℕ)) × (whole ≡ front ++ rest)
 abbrev pub AreTaken : List (List ℕ) → Type 0
 AreTaken pdus = AllByRecursion (λ pdu. length pdu ≤ pdu_limit Into) pdus
 
--- Of the two ends of a link, what this one said is what that one heard so far, and what is still to come.
+-- Of the two ends of a link: what that one heard so far is a front of what this one said, where no PDU of it is too long. What is
+-- left is still to come, or was lost with the link
 abbrev pub IsPipe : Link → Link → Type 0
 IsPipe from to = AreTaken (said from) → IsFront (heard to) (said from)
 
