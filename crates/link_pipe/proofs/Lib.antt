@@ -1,0 +1,13 @@
+pub mod Joining
+pub mod Piping
+pub mod Completing
+pub mod Numbers
+pub mod Ways
+pub mod Saying
+pub mod Hears
+pub mod Coming
+pub mod Hearing
+pub mod Wording
+pub mod Fronts
+pub mod Keeping
+pub mod Beginning

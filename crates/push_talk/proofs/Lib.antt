@@ -1,0 +1,4 @@
+pub mod Silence
+pub mod Opening
+pub mod Payloads
+pub mod Conversing

@@ -1,0 +1,13 @@
+//! Laws of the conversation of a push, for every front of it.
+
+ghost use Rattle.push_talk.specs.Laws.{SilentWhileOpening, PayloadsArePackets};
+
+/// While the channel is opened no packets of OBEX are heard or spoken.
+pub fn silent_while_opening()
+    ensures { SilentWhileOpening }
+{}
+
+/// Then each payload is a packet.
+pub fn payloads_are_packets()
+    ensures { PayloadsArePackets }
+{}

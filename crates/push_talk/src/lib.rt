@@ -1,0 +1,4 @@
+//! What a capture reads off the conversation of a push.
+#![tactic(auto)]
+
+pub mod laws;
