@@ -33,7 +33,7 @@ use Rattle.world_model.proofs.Turning.{idle_at, done_more, obeys_at_end}
 use Rattle.world_model.proofs.Settled.{quiet_of}
 use Rattle.world_model.proofs.Wording.{quiet_settled}
 use Rattle.radio_world.specs.Running.{IsRun, moment}
-use Rattle.radio_world.specs.Going.{Goes, Turns, LastEnds, Closes, Finishes}
+use Rattle.radio_world.specs.Going.{Goes, Turns, LastEnds, EndsOthers, Finishes}
 use Rattle.radio_world.specs.Worlds.{World, WorldGoes, WorldTurns, WorldFinishes, IsStill, Happens, new_world, beginning}
 use Rattle.radio_world.specs.OwnHosts.{client_face, server_face}
 use Rattle.radio_world.proofs.Going.{ends_join}
@@ -54,7 +54,7 @@ pub record HappensBetween (size count : ℕ) (script : List Word) (first new : S
   pub last : Scene
   pub plays : Plays script (moment first a0 b0) (moment last a2 b2) entries
   pub names : last.pushes.names ≡ first.pushes.names
-  pub closes : Closes last new
+  pub closes : EndsOthers last new
 
 zero_first : (n : ℕ) → 0 + n ≡ n
 zero_first n = omega arith

@@ -99,7 +99,7 @@ pub record LastEnds (came : Option Outcome) (old new : Scene) (trace trace' : Op
   pub ends : (a b : Face) → came_of a.inside ≡ came → EndsScript old.pushes.going (moment old a b) (moment new a b) ended
 
 -- so many pushes did not begin, and end with the script
-pub record Closes (last new : Scene) : Type 0 where
+pub record EndsOthers (last new : Scene) : Type 0 where
   pub medium : new.medium ≡ last.medium
   pub names : new.pushes.names ≡ last.pushes.names
   pub outcomes : new.pushes.outcomes ≡ last.pushes.outcomes ++ replicate (length last.pushes.names - length last.pushes.outcomes) ScriptEnded
@@ -108,4 +108,4 @@ pub record Closes (last new : Scene) : Type 0 where
 pub record Finishes (came : Option Outcome) (old new : Scene) (trace trace' : Option (List ℕ)) : Type 0 where
   pub last : Scene
   pub last_ends : LastEnds came old last trace trace'
-  pub closes : Closes last new
+  pub closes : EndsOthers last new
