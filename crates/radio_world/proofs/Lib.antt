@@ -36,3 +36,4 @@ pub mod Runs
 pub mod Happening
 pub mod Offering
 pub mod Exchanging
+pub mod Blaming

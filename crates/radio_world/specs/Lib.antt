@@ -10,3 +10,4 @@ pub mod Ordering
 pub mod Scenes
 pub mod OwnHosts
 pub mod Worlds
+pub mod Blaming

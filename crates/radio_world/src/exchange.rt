@@ -1,9 +1,10 @@
 //! All that moves between a host and its controller.
 
-ghost use Rattle.std.specs.Prelude.{◌≡◌, false, Ok, OnOk};
+ghost use Rattle.std.specs.Prelude.{◌≡◌, false, Ok, OnOk, IsErrOf};
 ghost use Rattle.radio_air.specs.Controllers.{other_side};
 ghost use Rattle.radio_air.specs.Radio.{controller};
 ghost use Rattle.radio_world.specs.Moving.{Extends, IsStillOut, IsStillIn};
+ghost use Rattle.radio_world.specs.Blaming.{BlamesTrace, KeepsPort};
 
 use crate::fault::WorldFault;
 use crate::host::Host;
@@ -25,6 +26,9 @@ impl Medium {
         ensures extends { OnOk result (Extends side self.old self.new (H.face host.old) (H.face host.new) (T.content trace.old) (T.content trace.new)) }
         ensures still { result ≡ Ok false → IsStillOut (H.face host.new).line × IsStillIn side self.new × (H.face host.new ≡ H.face host.old) × (controller (other_side side) self.new.radio ≡ controller (other_side side) self.old.radio) × (T.content trace.new ≡ T.content trace.old) }
         ensures may_hear { H.may_hear host.new port.new }
+        ensures blame { BlamesTrace (T.faults trace.old) (T.faults trace.new) (T.shortages trace.old) (T.shortages trace.new) result }
+        ensures keeps { KeepsPort (H.content port.old) (H.content port.new) (H.faults port.old) (H.faults port.new) (H.shortages port.old) (H.shortages port.new) result }
+        ensures built { IsErrOf result WorldFault.NotBuilt → ⊥ }
     {
         let out = self.move_all_out(side, host, port, trace)?;
         self.radio.offered(side)?;
@@ -44,6 +48,8 @@ impl Medium {
         ensures still { OnOk result (IsStillOut (H.face host.new).line) }
         ensures idle { result ≡ Ok false → (self.new ≡ self.old) × (H.face host.new ≡ H.face host.old) × (T.content trace.new ≡ T.content trace.old) }
         ensures may_hear { (other : P) → H.may_hear host.old other → H.may_hear host.new other }
+        ensures blame { BlamesTrace (T.faults trace.old) (T.faults trace.new) (T.shortages trace.old) (T.shortages trace.new) result }
+        ensures built { IsErrOf result WorldFault.NotBuilt → ⊥ }
     {
         let mut moved = false;
         while self.move_out(side, host, port, trace)? {
@@ -65,6 +71,9 @@ impl Medium {
         ensures still { OnOk result (IsStillIn side self.new) }
         ensures idle { result ≡ Ok false → (self.new ≡ self.old) × (H.face host.new ≡ H.face host.old) × (T.content trace.new ≡ T.content trace.old) }
         ensures may_hear { H.may_hear host.new port.new }
+        ensures blame { BlamesTrace (T.faults trace.old) (T.faults trace.new) (T.shortages trace.old) (T.shortages trace.new) result }
+        ensures keeps { KeepsPort (H.content port.old) (H.content port.new) (H.faults port.old) (H.faults port.new) (H.shortages port.old) (H.shortages port.new) result }
+        ensures built { IsErrOf result WorldFault.NotBuilt → ⊥ }
     {
         let mut moved = false;
         while self.move_into(side, host, port, trace)? {

@@ -1,10 +1,13 @@
 //! A host as the world sees it.
 
-ghost use Rattle.std.specs.Prelude.{◌≡◌, ◌≤◌, Bool, true, Option, length, drop, OnOk};
+ghost use Rattle.std.specs.Prelude.{◌≡◌, ◌≤◌, ◌<◌, ℕ, Bool, true, List, Option, length, drop, OnOk, IsErrOf};
+ghost use Rattle.bt_base.specs.Objects.{Object};
+ghost use Rattle.bt_host.specs.Shelves.{Stays};
 ghost use Rattle.push_script.specs.Names.{utf16_length};
 ghost use Rattle.push_script.specs.declared.outcome.Outcome.{Outcome};
 ghost use Rattle.radio_world.specs.Faces.{Face, with_out};
 ghost use Rattle.radio_world.specs.Hearing.{Hears, PutsOut};
+ghost use Rattle.radio_world.specs.Blaming.{IsLong};
 
 use push_script::Outcome;
 
@@ -25,6 +28,15 @@ pub(crate) trait Host<P> {
     /// What the host needs of its port.
     ghost may_hear: { Self → P → Type 0 };
 
+    /// The objects of its port, where that is a shelf which tells them.
+    ghost content: { P → Option (List Object) };
+
+    /// How often its port has failed.
+    ghost faults: { P → ℕ };
+
+    /// How often its port has found no memory.
+    ghost shortages: { P → ℕ };
+
     /// The octets for its controller.
     fn out(&self) -> &[u8]
         ensures { result.now ≡ (face self.now).line.out };
@@ -39,7 +51,9 @@ pub(crate) trait Host<P> {
     fn hear(&mut self, piece: &[u8], port: &mut P) -> Result<(), HostFault>
         requires { may_hear self.old port.old }
         ensures hears { Hears (face self.old).held (face self.new).held piece.now (face self.old).line (face self.new).line result }
-        ensures may_hear { may_hear self.new port.new };
+        ensures may_hear { may_hear self.new port.new }
+        ensures stays { Stays (content port.old) (content port.new) (faults port.old) (faults port.new) (shortages port.old) (shortages port.new) }
+        ensures short { shortages port.old < shortages port.new → IsErrOf result HostFault.NoMemory };
 }
 
 /// Why a push did not begin.
@@ -72,5 +86,8 @@ pub(crate) trait Pusher<P>: Host<P> {
         requires idle { is_idle self.old ≡ true }
         requires name { utf16_length name.now ≤ 100 }
         ensures puts { OnOk result (PutsOut (Self.face self.old).line (Self.face self.new).line × ((Self.face self.new).held ≡ (Self.face self.old).held)) }
-        ensures may_hear { Self.may_hear self.new port.new };
+        ensures may_hear { Self.may_hear self.new port.new }
+        ensures stays { Stays (Self.content port.old) (Self.content port.new) (Self.faults port.old) (Self.faults port.new) (Self.shortages port.old) (Self.shortages port.new) }
+        ensures short { Self.shortages port.old < Self.shortages port.new → IsErrOf result PushFault.NoMemory }
+        ensures long { IsErrOf result PushFault.TooLarge → IsLong (Self.content port.old) name.now };
 }

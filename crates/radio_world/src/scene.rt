@@ -1,8 +1,9 @@
 //! What goes on between the two hosts.
 
-ghost use Rattle.std.specs.Prelude.{◌≡◌, ◌∷◌, [], true, false, length, Ok, OnOk};
+ghost use Rattle.std.specs.Prelude.{◌≡◌, ◌⊎◌, ◌∷◌, [], true, false, length, Ok, OnOk, IsErrOf};
 ghost use Rattle.radio_world.specs.Faces.{Face};
 ghost use Rattle.radio_world.specs.Scenes.{Begins, Ends, Goes, IsSettled, Turns, LastEnds, Finishes};
+ghost use Rattle.radio_world.specs.Blaming.{BlamesTrace, KeepsPort, HasLong, IsUnbuilt};
 
 use crate::fault::WorldFault;
 use crate::host::{Host, PushFault, Pusher};
@@ -48,6 +49,9 @@ impl Scene {
         ensures none { result ≡ Ok false → (self.new ≡ self.old) × (A.face a.new ≡ A.face a.old) × (T.content trace.new ≡ T.content trace.old) }
         ensures goes { OnOk result ((b : Face) → Goes self.old self.new (A.face a.old) (A.face a.new) b b (T.content trace.old) (T.content trace.new)) }
         ensures may_hear { A.may_hear a.new shelf.new }
+        ensures blame { BlamesTrace (T.faults trace.old) (T.faults trace.new) (T.shortages trace.old) (T.shortages trace.new) result }
+        ensures keeps_a { KeepsPort (A.content shelf.old) (A.content shelf.new) (A.faults shelf.old) (A.faults shelf.new) (A.shortages shelf.old) (A.shortages shelf.new) result }
+        ensures built { IsErrOf result WorldFault.NotBuilt → HasLong (A.content shelf.old) self.old.pushes.names }
     {
         if !a.idle() {
             return Ok(false);
@@ -68,7 +72,9 @@ impl Scene {
     /// Ends the push that goes on, with what came of it. It needs one.
     fn end<T: Sink>(&mut self, outcome: Outcome, trace: &mut T) -> Result<(), WorldFault>
         requires { self.old.pushes.going ≡ true }
-        ensures { OnOk result (Ends outcome self.old self.new (T.content trace.old) (T.content trace.new)) }
+        ensures ends { OnOk result (Ends outcome self.old self.new (T.content trace.old) (T.content trace.new)) }
+        ensures blame { BlamesTrace (T.faults trace.old) (T.faults trace.new) (T.shortages trace.old) (T.shortages trace.new) result }
+        ensures built { IsErrOf result WorldFault.NotBuilt → ⊥ }
     {
         record(&Entry::Ended(self.pushes.begun(), outcome), trace)?;
         self.pushes.end(outcome)?;
@@ -84,6 +90,8 @@ impl Scene {
     ) -> Result<bool, WorldFault>
         ensures goes { OnOk result ((a b : Face) → Goes self.old self.new a a b b (T.content trace.old) (T.content trace.new)) }
         ensures none { result ≡ Ok false → (self.new ≡ self.old) × (T.content trace.new ≡ T.content trace.old) }
+        ensures blame { BlamesTrace (T.faults trace.old) (T.faults trace.new) (T.shortages trace.old) (T.shortages trace.new) result }
+        ensures built { IsErrOf result WorldFault.NotBuilt → ⊥ }
     {
         if !self.pushes.going() || !a.idle() {
             return Ok(false);
@@ -111,6 +119,10 @@ impl Scene {
         ensures settled { result ≡ Ok false → IsSettled self.new.medium (A.face a.new) (B.face b.new) }
         ensures may_hear_a { A.may_hear a.new shelf.new }
         ensures may_hear_b { B.may_hear b.new inbox.new }
+        ensures blame { BlamesTrace (T.faults trace.old) (T.faults trace.new) (T.shortages trace.old) (T.shortages trace.new) result }
+        ensures keeps_a { KeepsPort (A.content shelf.old) (A.content shelf.new) (A.faults shelf.old) (A.faults shelf.new) (A.shortages shelf.old) (A.shortages shelf.new) result }
+        ensures keeps_b { KeepsPort (B.content inbox.old) (B.content inbox.new) (B.faults inbox.old) (B.faults inbox.new) (B.shortages inbox.old) (B.shortages inbox.new) result }
+        ensures built { IsErrOf result WorldFault.NotBuilt → ⊥ }
     {
         let moved_a = self.medium.exchange(Side::A, a, shelf, trace)?;
         let moved_b = self.medium.exchange(Side::B, b, inbox, trace)?;
@@ -132,6 +144,10 @@ impl Scene {
         ensures settled { result ≡ Ok false → IsSettled self.new.medium (A.face a.new) (B.face b.new) }
         ensures may_hear_a { A.may_hear a.new shelf.new }
         ensures may_hear_b { B.may_hear b.new inbox.new }
+        ensures blame { BlamesTrace (T.faults trace.old) (T.faults trace.new) (T.shortages trace.old) (T.shortages trace.new) result }
+        ensures keeps_a { KeepsPort (A.content shelf.old) (A.content shelf.new) (A.faults shelf.old) (A.faults shelf.new) (A.shortages shelf.old) (A.shortages shelf.new) result }
+        ensures keeps_b { KeepsPort (B.content inbox.old) (B.content inbox.new) (B.faults inbox.old) (B.faults inbox.new) (B.shortages inbox.old) (B.shortages inbox.new) result }
+        ensures built { IsErrOf result WorldFault.NotBuilt → HasLong (A.content shelf.old) self.old.pushes.names }
     {
         let began = self.begin(a, shelf, trace)?;
         let moved = self.exchange(a, shelf, b, inbox, trace)?;
@@ -154,6 +170,10 @@ impl Scene {
         ensures settled { OnOk result (IsSettled self.new.medium (A.face a.new) (B.face b.new)) }
         ensures may_hear_a { A.may_hear a.new shelf.new }
         ensures may_hear_b { B.may_hear b.new inbox.new }
+        ensures blame { BlamesTrace (T.faults trace.old) (T.faults trace.new) (T.shortages trace.old) (T.shortages trace.new) result }
+        ensures keeps_a { KeepsPort (A.content shelf.old) (A.content shelf.new) (A.faults shelf.old) (A.faults shelf.new) (A.shortages shelf.old) (A.shortages shelf.new) result }
+        ensures keeps_b { KeepsPort (B.content inbox.old) (B.content inbox.new) (B.faults inbox.old) (B.faults inbox.new) (B.shortages inbox.old) (B.shortages inbox.new) result }
+        ensures built { IsErrOf result WorldFault.NotBuilt → HasLong (A.content shelf.old) self.old.pushes.names }
     {
         for _ in 0..MOST_ROUNDS {
             if !self.round(a, shelf, b, inbox, trace)? {
@@ -184,6 +204,10 @@ impl Scene {
         ensures settled { OnOk result (IsSettled self.new.medium (A.face a.new) (B.face b.new)) }
         ensures may_hear_a { A.may_hear a.new shelf.new }
         ensures may_hear_b { B.may_hear b.new inbox.new }
+        ensures blame { BlamesTrace (T.faults trace.old) (T.faults trace.new) (T.shortages trace.old) (T.shortages trace.new) result }
+        ensures keeps_a { KeepsPort (A.content shelf.old) (A.content shelf.new) (A.faults shelf.old) (A.faults shelf.new) (A.shortages shelf.old) (A.shortages shelf.new) result }
+        ensures keeps_b { KeepsPort (B.content inbox.old) (B.content inbox.new) (B.faults inbox.old) (B.faults inbox.new) (B.shortages inbox.old) (B.shortages inbox.new) result }
+        ensures built { IsErrOf result WorldFault.NotBuilt → HasLong (A.content shelf.old) self.old.pushes.names ⊎ IsUnbuilt word }
     {
         let Some(ordinal) = self.turned.checked_add(1) else {
             return Err(WorldFault::NoMemory);
@@ -200,7 +224,9 @@ impl Scene {
 
     /// Ends the push that goes on, if one does: with what came of it, or else with the script.
     fn end_last<T: Sink>(&mut self, came: Option<Outcome>, trace: &mut T) -> Result<(), WorldFault>
-        ensures { OnOk result (LastEnds self.old self.new (T.content trace.old) (T.content trace.new)) }
+        ensures ends { OnOk result (LastEnds self.old self.new (T.content trace.old) (T.content trace.new)) }
+        ensures blame { BlamesTrace (T.faults trace.old) (T.faults trace.new) (T.shortages trace.old) (T.shortages trace.new) result }
+        ensures built { IsErrOf result WorldFault.NotBuilt → ⊥ }
     {
         if !self.pushes.going() {
             return Ok(());
@@ -218,6 +244,8 @@ impl Scene {
     ) -> Result<(), WorldFault>
         ensures ends { OnOk result (Finishes self.old self.new (T.content trace.old) (T.content trace.new)) }
         ensures each { OnOk result (length self.new.pushes.outcomes ≡ length self.new.pushes.names) }
+        ensures blame { BlamesTrace (T.faults trace.old) (T.faults trace.new) (T.shortages trace.old) (T.shortages trace.new) result }
+        ensures built { IsErrOf result WorldFault.NotBuilt → ⊥ }
     {
         self.end_last(came, trace)?;
         self.pushes.close()?;

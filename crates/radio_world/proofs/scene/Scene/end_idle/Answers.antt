@@ -8,4 +8,4 @@ pub returns-in_default-clause-goes : goal.returns-in_default-clause-goes
 returns-in_default-clause-goes g c = λ a b. goes_none _ a b _
 
 pub returns-clause-goes : goal.returns-clause-goes
-returns-clause-goes g c = λ a b. goes_ended c.args.self.now c.end.new.self a b c.in-Some.outcome _ _ c.in_ok-end.ensures
+returns-clause-goes g c = λ a b. goes_ended c.args.self.now c.end.new.self a b c.in-Some.outcome _ _ c.in_ok-end.ensures.ends

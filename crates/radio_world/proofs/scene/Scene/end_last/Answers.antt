@@ -2,10 +2,10 @@ use Rattle.std.proofs.Common.{rules, ◌≡◌, false}
 use Rattle.radio_world.proofs.Finishing.{last_none, last_one}
 use Rattle.radio_world.proofs.scene.Scene.end_last.Goals as goal
 
-pub returns-then-not-going : goal.returns-then-not-going
-returns-then-not-going g c =
+pub returns-then-not-going-clause-ends : goal.returns-then-not-going-clause-ends
+returns-then-not-going-clause-ends g c =
     let none : c.args.self.now.pushes.going ≡ false = search rules in
     last_none c.args.self.now (g.T.Sink.content c.args.trace.now) none
 
-pub returns : goal.returns
-returns g c = last_one c.args.self.now c.end.new.self c.unwrap_or-outcome.result (g.T.Sink.content c.args.trace.now) (g.T.Sink.content c.end.new.trace) c.in_ok-end.ensures
+pub returns-clause-ends : goal.returns-clause-ends
+returns-clause-ends g c = last_one c.args.self.now c.end.new.self c.unwrap_or-outcome.result (g.T.Sink.content c.args.trace.now) (g.T.Sink.content c.end.new.trace) c.in_ok-end.ensures.ends

@@ -5,10 +5,11 @@ use Rattle.radio_world.specs.Worlds.{WorldTurns}
 use Rattle.radio_world.specs.OwnHosts.{client_face, server_face}
 use Rattle.radio_world.proofs.Turned.{turns_none, turns_then}
 use Rattle.radio_world.proofs.Runs.{run_more, none_beyond}
+use Rattle.radio_world.proofs.Blaming.{blames_none, blames_then, keeps_none, keeps_then}
 use Rattle.radio_world.proofs.world.World.turn_all.Goals as goal
 
 pub loop-i-init : goal.loop-i-init
-loop-i-init g c = (turns_none c.args.self.now.scene (client_face c.args.self.now.client) (server_face c.args.self.now.server) (g.T.Sink.content c.args.trace.now), c.requires.still, c.requires.supplied, c.requires.pending)
+loop-i-init g c = (turns_none c.args.self.now.scene (client_face c.args.self.now.client) (server_face c.args.self.now.server) (g.T.Sink.content c.args.trace.now), c.requires.still, c.requires.supplied, c.requires.pending, blames_none, keeps_none, keeps_none)
 
 pub unreachable-requires : goal.unreachable-requires
 unreachable-requires g c = none_beyond c.args.script.now c.loop-i.i c.len-i-end.result c.len-i-end.ensures.count c.loop-i-test.true (sym c.at.ensures ∙ c.in_default.is)
@@ -20,4 +21,7 @@ loop-i-preserved g c = (
   c.in_ok-turn_times.ensures.still,
   c.turn_times.ensures.supplied,
   c.turn_times.ensures.pending,
+  blames_then c.loop-i.invariant.4 c.in_ok-turn_times.ensures.blame,
+  keeps_then c.loop-i.invariant.5 c.in_ok-turn_times.ensures.shelf,
+  keeps_then c.loop-i.invariant.6 c.in_ok-turn_times.ensures.inbox,
 )

@@ -4,10 +4,11 @@ use Rattle.radio_world.specs.Worlds.{WorldTurns}
 use Rattle.radio_world.specs.OwnHosts.{client_face, server_face}
 use Rattle.radio_world.proofs.Turned.{turns_none, turns_then}
 use Rattle.radio_world.proofs.Runs.{once_more}
+use Rattle.radio_world.proofs.Blaming.{blames_none, blames_then, keeps_none, keeps_then}
 use Rattle.radio_world.proofs.world.World.turn_times.Goals as goal
 
 pub loop-i-init : goal.loop-i-init
-loop-i-init g c = (turns_none c.args.self.now.scene (client_face c.args.self.now.client) (server_face c.args.self.now.server) (g.T.Sink.content c.args.trace.now), c.requires.still, c.requires.supplied, c.requires.pending)
+loop-i-init g c = (turns_none c.args.self.now.scene (client_face c.args.self.now.client) (server_face c.args.self.now.server) (g.T.Sink.content c.args.trace.now), c.requires.still, c.requires.supplied, c.requires.pending, blames_none, keeps_none, keeps_none)
 
 pub loop-i-preserved : goal.loop-i-preserved
 loop-i-preserved g c = (
@@ -16,4 +17,7 @@ loop-i-preserved g c = (
   c.in_ok-turn.ensures.still,
   c.turn.ensures.supplied,
   c.turn.ensures.pending,
+  blames_then c.loop-i.invariant.4 c.in_ok-turn.ensures.blame,
+  keeps_then c.loop-i.invariant.5 c.in_ok-turn.ensures.shelf,
+  keeps_then c.loop-i.invariant.6 c.in_ok-turn.ensures.inbox,
 )
