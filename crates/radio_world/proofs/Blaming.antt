@@ -1,11 +1,11 @@
 -- How what calls say of the counts of ports goes on from one call to the next.
-use Rattle.std.proofs.Common.{◌≡◌, ℕ, ◌<◌, ◌≤◌, List, Option, Result, Ok, Err, refl, sym, ap, ◌∙◌, arith, inl, inr}
+use Rattle.std.proofs.Common.{◌≡◌, ℕ, ◌<◌, ◌≤◌, List, Option, Result, Ok, Err, refl, sym, ap, subst, ◌∙◌, ◌⊎◌, arith, inl, inr}
 use Rattle.std.specs.Prelude.{IsErrOf}
 use Rattle.std.proofs.lemmas.Bool.{cases_lt}
 use Rattle.bt_base.specs.Counts.{HasRisen}
 use Rattle.bt_base.specs.Objects.{Object}
 use Rattle.bt_host.specs.Shelves.{Stays}
-use Rattle.radio_world.specs.Blaming.{BlamesTrace, KeepsPort}
+use Rattle.radio_world.specs.Blaming.{BlamesTrace, KeepsPort, HasLong}
 use Rattle.radio_world.specs.declared.fault.WorldFault.{WorldFault}
 use Rattle.radio_world.specs.declared.fault.WorldFault.TheVariants.{TraceFault, NoMemory}
 
@@ -116,3 +116,11 @@ keeps_told k not = record { told = k.told; faults_stay = k.faults_stay; shortage
 
 pub keeps_short : {A : Type 0} {o o' : Option (List Object)} {f f' s s' : ℕ} {fault : WorldFault} → Stays o o' f f' s s' → fault ≡ NoMemory → KeepsPort {A = A} o o' f f' s s' (Err fault)
 keeps_short {A} k is = record { told = k.told; faults_stay = k.faults_stay; shortages_stay = k.shortages_stay; only_short = λ lt. ap (λ (f : WorldFault). mk_err A f) is }
+
+-- ---- what is not built yet
+
+-- the shelf and the names are as they were
+pub unbuilt_before : {content content' : Option (List Object)} {names names' : List (List ℕ)} {V W : Type 0} → content' ≡ content → names' ≡ names → (V → W) → HasLong content' names' ⊎ V → HasLong content names ⊎ W
+unbuilt_before {content} {content'} {names} {names'} told same more (inl long) =
+    inl (subst (λ (o : Option (List Object)). HasLong o names) told (subst (λ (xs : List (List ℕ)). HasLong content' xs) same long))
+unbuilt_before told same more (inr word) = inr (more word)

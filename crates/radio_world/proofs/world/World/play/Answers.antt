@@ -1,8 +1,9 @@
-use Rattle.std.proofs.Common.{refl, ap}
+use Rattle.std.proofs.Common.{rules, refl, ap, ◌∙◌}
 use Rattle.capture.specs.Air.{words_of}
 use Rattle.radio_world.specs.Worlds.{World}
 use Rattle.radio_world.specs.OwnHosts.{client_face, server_face}
 use Rattle.radio_world.proofs.Happening.{happens}
+use Rattle.radio_world.proofs.Blaming.{unbuilt_before}
 use Rattle.radio_world.proofs.world.World.play.Goals as goal
 
 pub returns-clause-happens : goal.returns-clause-happens
@@ -14,3 +15,7 @@ returns-clause-happens g c =
     (ap (λ (w : World). w.scene.medium) c.requires.fresh) (ap (λ (w : World). w.scene.turned) c.requires.fresh) (ap (λ (w : World). w.scene.pushes.outcomes) c.requires.fresh) (ap (λ (w : World). (client_face w.client).line) c.requires.fresh) (ap (λ (w : World). (server_face w.server).line) c.requires.fresh)
     (ap (λ (w : World). (client_face w.client).held) c.requires.fresh) (ap (λ (w : World). (server_face w.server).held) c.requires.fresh)
     c.in_ok-start.ensures.goes c.in_ok-turn_all.ensures.turns c.in_ok-turn_all.ensures.still c.in_ok-finish.ensures.finishes
+
+pub returns-in_err-turn_all-clause-built : goal.returns-in_err-turn_all-clause-built
+returns-in_err-turn_all-clause-built g c = λ is.
+    unbuilt_before c.in_ok-start.ensures.shelf.told (c.in_ok-start.ensures.goes.names ∙ ap (λ (w : World). w.scene.pushes.names) c.requires.fresh) (λ w. w) (c.in_err-turn_all.ensures.built (search rules))

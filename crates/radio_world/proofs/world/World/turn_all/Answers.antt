@@ -1,11 +1,11 @@
-use Rattle.std.proofs.Common.{◌≡◌, List, [], ◌∷◌, ◌++◌, replicate, take, sym, ap, subst, ◌∙◌}
+use Rattle.std.proofs.Common.{rules, ◌≡◌, List, [], ◌∷◌, ◌++◌, replicate, take, sym, ap, subst, ◌∙◌}
 use Rattle.push_script.specs.declared.word.Word.{Word}
 use Rattle.capture.specs.Air.{words_of}
 use Rattle.radio_world.specs.Worlds.{WorldTurns}
 use Rattle.radio_world.specs.OwnHosts.{client_face, server_face}
 use Rattle.radio_world.proofs.Turned.{turns_none, turns_then}
 use Rattle.radio_world.proofs.Runs.{run_more, none_beyond}
-use Rattle.radio_world.proofs.Blaming.{blames_none, blames_then, keeps_none, keeps_then}
+use Rattle.radio_world.proofs.Blaming.{blames_none, blames_then, keeps_none, keeps_then, unbuilt_before}
 use Rattle.radio_world.proofs.world.World.turn_all.Goals as goal
 
 pub loop-i-init : goal.loop-i-init
@@ -25,3 +25,8 @@ loop-i-preserved g c = (
   keeps_then c.loop-i.invariant.5 c.in_ok-turn_times.ensures.shelf,
   keeps_then c.loop-i.invariant.6 c.in_ok-turn_times.ensures.inbox,
 )
+
+pub returns-in_err-turn_times-clause-built : goal.returns-in_err-turn_times-clause-built
+returns-in_err-turn_times-clause-built g c = λ is.
+    unbuilt_before c.loop-i.invariant.5.told c.loop-i.invariant.0.names (λ w. (c.loop-i.i, c.in-Some.count, c.in-Some.word, sym c.at.ensures ∙ c.in-Some.is, w))
+    (c.in_err-turn_times.ensures.built (search rules))

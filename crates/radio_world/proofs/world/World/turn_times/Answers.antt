@@ -1,10 +1,10 @@
-use Rattle.std.proofs.Common.{◌≡◌, List, [], ◌∷◌, ◌++◌, replicate, subst}
+use Rattle.std.proofs.Common.{rules, ◌≡◌, List, [], ◌∷◌, ◌++◌, replicate, subst}
 use Rattle.push_script.specs.declared.word.Word.{Word}
 use Rattle.radio_world.specs.Worlds.{WorldTurns}
 use Rattle.radio_world.specs.OwnHosts.{client_face, server_face}
 use Rattle.radio_world.proofs.Turned.{turns_none, turns_then}
 use Rattle.radio_world.proofs.Runs.{once_more}
-use Rattle.radio_world.proofs.Blaming.{blames_none, blames_then, keeps_none, keeps_then}
+use Rattle.radio_world.proofs.Blaming.{blames_none, blames_then, keeps_none, keeps_then, unbuilt_before}
 use Rattle.radio_world.proofs.world.World.turn_times.Goals as goal
 
 pub loop-i-init : goal.loop-i-init
@@ -21,3 +21,6 @@ loop-i-preserved g c = (
   keeps_then c.loop-i.invariant.5 c.in_ok-turn.ensures.shelf,
   keeps_then c.loop-i.invariant.6 c.in_ok-turn.ensures.inbox,
 )
+
+pub returns-in_err-turn-clause-built : goal.returns-in_err-turn-clause-built
+returns-in_err-turn-clause-built g c = λ is. unbuilt_before c.loop-i.invariant.5.told c.loop-i.invariant.0.names (λ w. w) (c.in_err-turn.ensures.built (search rules))
