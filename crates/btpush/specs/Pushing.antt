@@ -17,6 +17,7 @@ use Rattle.btpush.specs.declared.status.Status.TheVariants as status
 use Rattle.btpush.specs.declared.playing.Played.{Played}
 use Rattle.btpush.specs.Gathering.{unread}
 use Rattle.btpush.specs.Plays.{Plays}
+use Rattle.radio_world.specs.Blaming.{IsNotBuilt}
 
 -- A refusal is told by this line, all of it, or after a fault a front of it.
 abbrev pub Refuses : List ℕ → Option (List ℕ) → Option (List ℕ) → Status → Type 0
@@ -59,21 +60,22 @@ IsUnread status.ReadFault = Unit {0}
 IsUnread status.NoMemory = Unit {0}
 IsUnread _ = ⊥
 
--- What becomes of a scenario whose object stands on that line of its text: `sink` and `trace` with what they then hold.
-pub data Runs (scenario : Scenario) (line : ℕ) (sink sink' trace trace' : Option (List ℕ)) (result : Status) : Type 0 where
+-- What becomes of a scenario whose object stands on that line of its text, with these objects on the shelf: `sink` and
+-- `trace` with what they then hold.
+pub data Runs (scenario : Scenario) (line : ℕ) (shelf : Option (List Object)) (sink sink' trace trace' : Option (List ℕ)) (result : Status) : Type 0 where
   -- it is played to its end and reported
-  RanToEnd : (played : Played) → Plays scenario played trace trace' → Reports scenario played sink sink' result → Runs scenario line sink sink' trace trace' result
-  -- its object is too long for a push so far, and its line is refused
-  RanLong : Refuses (refusal_line line NotBuilt) sink sink' result → Runs scenario line sink sink' trace trace' result
+  RanToEnd : (played : Played) → Plays scenario played trace trace' → Reports scenario played sink sink' result → Runs scenario line shelf sink sink' trace trace' result
+  -- its object is too long for a push so far, or a word does nothing yet, and the object's line is refused
+  RanUnbuilt : IsNotBuilt shelf scenario.names scenario.script → Refuses (refusal_line line NotBuilt) sink sink' result → Runs scenario line shelf sink sink' trace trace' result
   -- it is stopped by the trace or for want of memory, and nothing is said of it
-  RanShort : sink' ≡ sink → IsStopped result → Runs scenario line sink sink' trace trace' result
+  RanShort : sink' ≡ sink → IsStopped result → Runs scenario line shelf sink sink' trace trace' result
 
--- The form `push` on an input, of which the source then has `left`. `untouched` says that trace, shelf and inbox are as
+-- The form `push` on an input, of which the source then has `left`, with these objects on the shelf. `untouched` says that trace, shelf and inbox are as
 -- they were.
-pub data Pushes (input : List ℕ) (left sink sink' trace trace' : Option (List ℕ)) (untouched : Type 0) (result : Status) : Type 0 where
+pub data Pushes (input : List ℕ) (left : Option (List ℕ)) (shelf : Option (List Object)) (sink sink' trace trace' : Option (List ℕ)) (untouched : Type 0) (result : Status) : Type 0 where
   -- the input is not read to its end, or there is no memory for what it says
-  NotRead : (n : ℕ) → left ≡ Some (drop n input) → sink' ≡ sink → untouched → IsUnread result → Pushes input left sink sink' trace trace' untouched result
+  NotRead : (n : ℕ) → left ≡ Some (drop n input) → sink' ≡ sink → untouched → IsUnread result → Pushes input left shelf sink sink' trace trace' untouched result
   -- it is no scenario, and the first refusal is told
-  NotTaken : (line : ℕ) (refusal : ScriptRefusal) → left ≡ unread input → reading missing_features input ≡ Err (line, refusal) → Refuses (refusal_line line refusal) sink sink' result → untouched → Pushes input left sink sink' trace trace' untouched result
+  NotTaken : (line : ℕ) (refusal : ScriptRefusal) → left ≡ unread input → reading missing_features input ≡ Err (line, refusal) → Refuses (refusal_line line refusal) sink sink' result → untouched → Pushes input left shelf sink sink' trace trace' untouched result
   -- it is a scenario, which is run
-  Taken : (scenario : Scenario) → left ≡ Some [] → reading missing_features input ≡ Ok (script_of scenario) → Runs scenario (object_line input) sink sink' trace trace' result → Pushes input left sink sink' trace trace' untouched result
+  Taken : (scenario : Scenario) → left ≡ Some [] → reading missing_features input ≡ Ok (script_of scenario) → Runs scenario (object_line input) shelf sink sink' trace trace' result → Pushes input left shelf sink sink' trace trace' untouched result

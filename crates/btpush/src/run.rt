@@ -1,7 +1,7 @@
 //! The top call: what the program does, over ports.
 
-ghost use Rattle.std.specs.Prelude.{◌≡◌, ◌≢◌, true, false, [], map, string_bytes, IfSome, Some, None};
-ghost use Rattle.btpush.specs.Run.{Decodes, RefusesWords, HasCauses, HasPushCauses, HasEnded};
+ghost use Rattle.std.specs.Prelude.{◌≡◌, ◌≢◌, ◌≤◌, true, false, [], map, string_bytes, IfSome, Some, None};
+ghost use Rattle.btpush.specs.Run.{Decodes, RefusesWords, HasCauses, HasEnded};
 ghost use Rattle.btpush.specs.Pushing.{Pushes};
 ghost use Rattle.btpush.specs.Words.{form_of};
 ghost use Rattle.h4_view.specs.View.{IsAnswered};
@@ -64,18 +64,24 @@ pub fn run<S: Source, K: Sink, T: Sink, F: Shelf, B: Inbox>(
     // What the sink gains from `decode` is the view of the input, up to and with the first refusal.
     ensures decode { form_of (map string_bytes words.now.items) ≡ Some Form.Decode → IfSome (S.content source.old) (λ input. Decodes input (S.content source.new) (K.content sink.old) (K.content sink.new) result) }
     // `push` runs the scenario that the input is, or tells why it is none.
-    ensures push { form_of (map string_bytes words.now.items) ≡ Some Form.Push → IfSome (S.content source.old) (λ input. Pushes input (S.content source.new) (K.content sink.old) (K.content sink.new) (T.content trace.old) (T.content trace.new) ((trace.new ≡ trace.old) × (shelf.new ≡ shelf.old) × (inbox.new ≡ inbox.old)) result) }
+    ensures push { form_of (map string_bytes words.now.items) ≡ Some Form.Push → IfSome (S.content source.old) (λ input. Pushes input (S.content source.new) (F.content shelf.old) (K.content sink.old) (K.content sink.new) (T.content trace.old) (T.content trace.new) ((trace.new ≡ trace.old) × (shelf.new ≡ shelf.old) × (inbox.new ≡ inbox.old)) result) }
     // Other words are refused, and no others.
     ensures words { form_of (map string_bytes words.now.items) ≡ None → RefusesWords (K.content sink.old) (K.content sink.new) result }
     ensures bad_words { result ≡ Status.BadWords → form_of (map string_bytes words.now.items) ≡ None }
     // A mode runs to its end only where the input was read to its end.
     ensures finish { HasEnded result → IfSome (S.content source.new) (λ left. left ≡ []) }
     // Each fault has its cause.
-    ensures causes { form_of (map string_bytes words.now.items) ≢ Some Form.Push → HasCauses (S.faults source.old) (S.faults source.new) (K.faults sink.old) (K.faults sink.new) (T.faults trace.old) (T.faults trace.new) result }
-    ensures push_causes { HasPushCauses (S.faults source.old) (S.faults source.new) (K.faults sink.old) (K.faults sink.new) result }
+    ensures causes { HasCauses (S.faults source.old) (S.faults source.new) (K.faults sink.old) (K.faults sink.new) (T.faults trace.old) (T.faults trace.new) result }
     // A shortage of memory of a port is answered.
     ensures source_short { IsAnswered (S.shortages source.old) (S.shortages source.new) (result ≡ Status.NoMemory) }
     ensures sink_short { IsAnswered (K.shortages sink.old) (K.shortages sink.new) (result ≡ Status.NoMemory) }
+    ensures trace_short { IsAnswered (T.shortages trace.old) (T.shortages trace.new) (result ≡ Status.NoMemory) }
+    ensures shelf_short { IsAnswered (F.shortages shelf.old) (F.shortages shelf.new) (result ≡ Status.NoMemory) }
+    ensures inbox_short { IsAnswered (B.shortages inbox.old) (B.shortages inbox.new) (result ≡ Status.NoMemory) }
+    // The objects on the shelf stay, and no count of shelf and inbox falls.
+    ensures shelf_content { F.content shelf.new ≡ F.content shelf.old }
+    ensures shelf_faults { F.faults shelf.old ≤ F.faults shelf.new }
+    ensures inbox_faults { B.faults inbox.old ≤ B.faults inbox.new }
     // Only `push` touches the other ports.
     ensures trace { form_of (map string_bytes words.now.items) ≢ Some Form.Push → trace.new ≡ trace.old }
     ensures shelf { form_of (map string_bytes words.now.items) ≢ Some Form.Push → shelf.new ≡ shelf.old }
