@@ -1,8 +1,8 @@
 -- Causes of an answer that one port of several had, as causes among all of them.
-use Rattle.std.proofs.Common.{◌≡◌, ℕ, ◌<◌, ◌≤◌, ◌⊎◌, Result, Ok, Err, refl, sym, ap, arith, inl, inr}
+use Rattle.std.proofs.Common.{◌≡◌, ℕ, ◌⊎◌, Result, arith, inl, inr}
 use Rattle.std.specs.Prelude.{IsErrOf}
 use Rattle.std.proofs.lemmas.Bool.{cases_lt}
-use Rattle.bt_base.specs.Counts.{HasRisen, last_count}
+use Rattle.bt_base.specs.Counts.{HasRisen}
 use Rattle.radio_world.specs.Blaming.{BlamesTrace}
 use Rattle.radio_world.specs.declared.fault.WorldFault.{WorldFault}
 use Rattle.radio_world.specs.declared.fault.WorldFault.TheVariants.{TraceFault}

@@ -2,7 +2,7 @@
 use Rattle.std.proofs.Common.{◌≡◌, ℕ, ◌<◌, ◌≤◌, List, [], length, take, Option, Some, None, IfSome, Ok, Err, refl, sym, ap, ◌∙◌, arith, inl, inr}
 use Rattle.std.proofs.lemmas.Bool.{cases_lt, lt-ltb}
 use Rattle.std.proofs.lemmas.List.{take_all, length-take, drop_all}
-use Rattle.bt_base.specs.Objects.{Object, Contents}
+use Rattle.bt_base.specs.Objects.{Object}
 use Rattle.push_script.specs.declared.feature.Feature.{Feature}
 use Rattle.push_script.specs.declared.scenario.Scenario.{Scenario}
 use Rattle.push_script.specs.declared.refusal.ScriptRefusal.{ScriptRefusal}

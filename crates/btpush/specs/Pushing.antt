@@ -1,7 +1,7 @@
 -- The form `push`: a scenario in, its report and its capture out (this project's own).
-use Rattle.std.specs.Prelude.{ℕ, ◌≡◌, Bool, true, false, List, [], drop, Option, Some, IfSome, Ok, Err}
+use Rattle.std.specs.Prelude.{ℕ, ◌≡◌, Bool, true, false, List, [], drop, Option, Some, Ok, Err}
 use Rattle.std.specs.List.{list_all}
-use Rattle.bt_base.specs.Objects.{Object, Contents}
+use Rattle.bt_base.specs.Objects.{Object}
 use Rattle.bt_base.specs.Streams.{gained, GainedFront}
 use Rattle.push_script.specs.declared.outcome.Outcome.{Outcome}
 use Rattle.push_script.specs.declared.outcome.Outcome.TheVariants as outcomes

@@ -1,4 +1,4 @@
-use Rattle.std.proofs.Common.{refl, ◌≡◌, ◌≢◌, ℕ, List, [], ◌++◌, length, subst, sym, ◌∙◌, ap, inr, Bool, false, true, nat_eq, Result, Err, Option, Some}
+use Rattle.std.proofs.Common.{refl, ◌≡◌, ◌≢◌, ℕ, List, [], ◌++◌, length, subst, ◌∙◌, ap, inr, Bool, false, true, Result, Err, Option, Some}
 use Rattle.std.specs.Bool.{◌==◌}
 use Rattle.host_link.specs.Lines.{Line}
 use Rattle.h4_framing.specs.Packets.{Packet}
@@ -6,7 +6,7 @@ use Rattle.radio_world.specs.Hearing.{Hears, RefusesPiece}
 use Rattle.radio_world.specs.declared.host.HostFault.{HostFault}
 use Rattle.radio_world.specs.declared.host.HostFault.TheVariants.{Refused}
 use Rattle.radio_world.proofs.HandingOver.{Progress, IsUnderWay, taken, refused}
-use Rattle.radio_world.proofs.Blaming.{keeps_none, keeps_then, keeps_on, keeps_told, keeps_short}
+use Rattle.radio_world.proofs.Blaming.{keeps_then, keeps_told, keeps_short}
 use Rattle.radio_world.proofs.feeding.hand_over.Goals as goal
 
 some_left : (xs : List ℕ) (empty : Bool) → empty ≡ (length xs == 0) → empty ≡ false → xs ≢ []

@@ -1,4 +1,4 @@
-use Rattle.std.proofs.Common.{◌≡◌, ℕ, List, [], Some, length, Ok}
+use Rattle.std.proofs.Common.{◌≡◌, [], Some, length, Ok}
 use Rattle.h4_framing.specs.Packets.{Packet, spelling, IsPacket}
 use Rattle.radio_world.specs.Hearing.{acl_limit}
 use Rattle.radio_world.proofs.HandingOver.{Progress}

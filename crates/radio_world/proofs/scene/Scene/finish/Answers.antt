@@ -1,5 +1,5 @@
 use Rattle.push_script.specs.declared.outcome.Outcome.TheVariants.{ScriptEnded}
-use Rattle.std.proofs.Common.{◌++◌, ◌-◌, length, replicate, ◌≡◌, ℕ, refl, sym, ap, ◌∙◌}
+use Rattle.std.proofs.Common.{◌++◌, ◌-◌, length, replicate, ℕ, ap, ◌∙◌}
 use Rattle.radio_world.specs.Media.{Medium}
 use Rattle.radio_world.specs.Ordering.{Pushes}
 use Rattle.radio_world.specs.Scenes.{Scene}

@@ -1,5 +1,4 @@
-use Rattle.std.proofs.Common.{rules, ◌≡◌, ℕ, ◌+◌, ◌^◌, ◌<◌, true, false, Ok, ap, subst, inl, ◌∙◌}
-use Rattle.radio_air.specs.Radio.{is_quiet}
+use Rattle.std.proofs.Common.{rules, ◌≡◌, ◌+◌, ◌^◌, ◌<◌, Ok, ap, subst, inl}
 use Rattle.radio_world.specs.Scenes.{Scene}
 use Rattle.radio_world.specs.Blaming.{HasLong}
 use Rattle.radio_world.proofs.Turned.{quiet_of, turns_to_nothing, turns_to_act}

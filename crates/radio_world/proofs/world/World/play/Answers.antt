@@ -1,4 +1,4 @@
-use Rattle.std.proofs.Common.{rules, refl, ap, ◌∙◌}
+use Rattle.std.proofs.Common.{rules, ap, ◌∙◌}
 use Rattle.capture.specs.Air.{words_of}
 use Rattle.radio_world.specs.Worlds.{World}
 use Rattle.radio_world.specs.OwnHosts.{client_face, server_face}

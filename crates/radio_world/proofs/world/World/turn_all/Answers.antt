@@ -1,4 +1,4 @@
-use Rattle.std.proofs.Common.{rules, ◌≡◌, List, [], ◌∷◌, ◌++◌, replicate, take, sym, ap, subst, ◌∙◌}
+use Rattle.std.proofs.Common.{rules, List, replicate, take, sym, subst, ◌∙◌}
 use Rattle.push_script.specs.declared.word.Word.{Word}
 use Rattle.capture.specs.Air.{words_of}
 use Rattle.radio_world.specs.Worlds.{WorldTurns}

@@ -1,4 +1,4 @@
-use Rattle.std.proofs.Common.{rules, ◌≡◌, List, [], ◌∷◌, ◌++◌, replicate, subst}
+use Rattle.std.proofs.Common.{rules, List, [], ◌∷◌, replicate, subst}
 use Rattle.push_script.specs.declared.word.Word.{Word}
 use Rattle.radio_world.specs.Worlds.{WorldTurns}
 use Rattle.radio_world.specs.OwnHosts.{client_face, server_face}
