@@ -1,3 +1,4 @@
 pub mod Kept
 pub mod Taking
 pub mod Played
+pub mod Blaming

@@ -16,6 +16,7 @@ use Rattle.btpush.specs.declared.status.Status.TheVariants as status
 use Rattle.btpush.specs.declared.playing.Played.{Played}
 use Rattle.btpush.specs.Gathering.{unread}
 use Rattle.btpush.specs.Plays.{Stocked, Plays}
+use Rattle.radio_world.specs.Blaming.{IsNotBuilt}
 
 -- A refusal is told by this line, all of it, or after a fault a front of it.
 abbrev pub Refuses : List ℕ → Option (List ℕ) → Option (List ℕ) → Status → Type 0
@@ -63,12 +64,12 @@ IsUnread _ = ⊥
 pub data Runs (scenario : Scenario) (line : ℕ) (stock stock' : Stocked) (sink sink' trace trace' : Option (List ℕ)) (result : Status) : Type 0 where
   -- it is played to its end and reported
   RanToEnd : (played : Played) → Plays scenario played stock stock' trace trace' → Reports scenario played sink sink' result → Runs scenario line stock stock' sink sink' trace trace' result
-  -- its object is too long for a push so far, and its line is refused
-  RanLong : Refuses (refusal_line line NotBuilt) sink sink' result → Runs scenario line stock stock' sink sink' trace trace' result
+  -- its object is too long for a push so far, or a word does nothing yet, and the object's line is refused
+  RanUnbuilt : IsNotBuilt stock.shelf.content scenario.names scenario.script → Refuses (refusal_line line NotBuilt) sink sink' result → Runs scenario line stock stock' sink sink' trace trace' result
   -- it is stopped by the trace or for want of memory, and nothing is said of it
   RanShort : sink' ≡ sink → IsStopped result → Runs scenario line stock stock' sink sink' trace trace' result
 
--- The form `push` on an input, of which the source then has `left`. `untouched` says that trace, shelf and inbox are as
+-- The form `push` on an input, of which the source then has `left`, with these objects on the shelf. `untouched` says that trace, shelf and inbox are as
 -- they were.
 pub data Pushes (input : List ℕ) (stock stock' : Stocked) (left sink sink' trace trace' : Option (List ℕ)) (untouched : Type 0) (result : Status) : Type 0 where
   -- the input is not read to its end, or there is no memory for what it says

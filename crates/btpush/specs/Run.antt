@@ -43,14 +43,6 @@ pub record HasCauses (source source' sink sink' trace trace' : ℕ) (result : St
   pub only_write : sink < sink' → result ≡ status.WriteFault
   pub only_trace : trace < trace' → result ≡ status.WriteFault
 
--- The same of a push, whose statuses may also come from a fault of the trace.
-pub record HasPushCauses (source source' sink sink' : ℕ) (result : Status) : Type 0 where
-  pub source_stays : source ≤ source'
-  pub sink_stays : sink ≤ sink'
-  pub read : result ≡ status.ReadFault → HasRisen source source'
-  pub only_read : source < source' → result ≡ status.ReadFault
-  pub only_write : sink < sink' → result ≡ status.WriteFault
-
 -- a mode that ran to its end
 abbrev pub HasEnded : Status → Type 0
 HasEnded status.Ok = Unit {0}

@@ -1,6 +1,6 @@
 //! The form `push`: a scenario is read and run, and what came of it is written.
 
-ghost use Rattle.std.specs.Prelude.{◌≡◌, ◌≢◌, false, [], List, length, IfSome};
+ghost use Rattle.std.specs.Prelude.{◌≡◌, ◌≢◌, ◌≤◌, false, [], List, length, IfSome};
 ghost use Rattle.std.specs.List.{list_all};
 ghost use Rattle.h4_view.specs.View.{IsAnswered};
 ghost use Rattle.push_script.specs.Features.{missing_features};
@@ -8,7 +8,7 @@ ghost use Rattle.push_script.specs.Reading.{text_limit};
 ghost use Rattle.push_script.specs.Refusals.{refusal_line, object_line};
 ghost use Rattle.btpush.specs.Plays.{stocked};
 ghost use Rattle.btpush.specs.Pushing.{is_done, Refuses, Reports, Runs, Pushes};
-ghost use Rattle.btpush.specs.Run.{HasCauses, HasPushCauses, HasEnded};
+ghost use Rattle.btpush.specs.Run.{HasCauses, HasEnded};
 
 use crate::gathering::{GatherFault, gather};
 use crate::playing::{Played, play};
@@ -82,8 +82,14 @@ fn run_scenario<K: Sink, T: Sink, F: Shelf, B: Inbox>(
 ) -> Status
     requires pending { B.is_pending inbox.old ≡ false }
     ensures runs { Runs scenario.now line (stocked (F.content shelf.old) (F.faults shelf.old) (B.content inbox.old) (B.faults inbox.old) (B.shortages inbox.old)) (stocked (F.content shelf.new) (F.faults shelf.new) (B.content inbox.new) (B.faults inbox.new) (B.shortages inbox.new)) (K.content sink.old) (K.content sink.new) (T.content trace.old) (T.content trace.new) result }
-    ensures causes { HasPushCauses 0 0 (K.faults sink.old) (K.faults sink.new) result }
+    ensures causes { HasCauses 0 0 (K.faults sink.old) (K.faults sink.new) (T.faults trace.old) (T.faults trace.new) result }
     ensures sink_short { IsAnswered (K.shortages sink.old) (K.shortages sink.new) (result ≡ Status.NoMemory) }
+    ensures trace_short { IsAnswered (T.shortages trace.old) (T.shortages trace.new) (result ≡ Status.NoMemory) }
+    ensures shelf_content { F.content shelf.new ≡ F.content shelf.old }
+    ensures shelf_faults { F.faults shelf.old ≤ F.faults shelf.new }
+    ensures shelf_short { IsAnswered (F.shortages shelf.old) (F.shortages shelf.new) (result ≡ Status.NoMemory) }
+    ensures inbox_faults { B.faults inbox.old ≤ B.faults inbox.new }
+    ensures inbox_short { IsAnswered (B.shortages inbox.old) (B.shortages inbox.new) (result ≡ Status.NoMemory) }
 {
     match play(alloc, scenario, shelf, inbox, trace) {
         Ok(played) => report(alloc, scenario, &played, sink),
@@ -112,9 +118,15 @@ pub(crate) fn push<S: Source, K: Sink, T: Sink, F: Shelf, B: Inbox>(
     ensures pushes { IfSome (S.content source.old) (λ input. Pushes input (stocked (F.content shelf.old) (F.faults shelf.old) (B.content inbox.old) (B.faults inbox.old) (B.shortages inbox.old)) (stocked (F.content shelf.new) (F.faults shelf.new) (B.content inbox.new) (B.faults inbox.new) (B.shortages inbox.new)) (S.content source.new) (K.content sink.old) (K.content sink.new) (T.content trace.old) (T.content trace.new) ((trace.new ≡ trace.old) × (shelf.new ≡ shelf.old) × (inbox.new ≡ inbox.old)) result) }
     ensures known { result ≢ Status.BadWords }
     ensures finish { HasEnded result → IfSome (S.content source.new) (λ left. left ≡ []) }
-    ensures causes { HasPushCauses (S.faults source.old) (S.faults source.new) (K.faults sink.old) (K.faults sink.new) result }
+    ensures causes { HasCauses (S.faults source.old) (S.faults source.new) (K.faults sink.old) (K.faults sink.new) (T.faults trace.old) (T.faults trace.new) result }
     ensures source_short { IsAnswered (S.shortages source.old) (S.shortages source.new) (result ≡ Status.NoMemory) }
     ensures sink_short { IsAnswered (K.shortages sink.old) (K.shortages sink.new) (result ≡ Status.NoMemory) }
+    ensures trace_short { IsAnswered (T.shortages trace.old) (T.shortages trace.new) (result ≡ Status.NoMemory) }
+    ensures shelf_content { F.content shelf.new ≡ F.content shelf.old }
+    ensures shelf_faults { F.faults shelf.old ≤ F.faults shelf.new }
+    ensures shelf_short { IsAnswered (F.shortages shelf.old) (F.shortages shelf.new) (result ≡ Status.NoMemory) }
+    ensures inbox_faults { B.faults inbox.old ≤ B.faults inbox.new }
+    ensures inbox_short { IsAnswered (B.shortages inbox.old) (B.shortages inbox.new) (result ≡ Status.NoMemory) }
 {
     let text = match gather(alloc, source) {
         Ok(text) => text,

@@ -1,7 +1,7 @@
 //! The top call: what the program does, over ports.
 
-ghost use Rattle.std.specs.Prelude.{◌≡◌, ◌≢◌, true, false, [], map, string_bytes, IfSome, Some, None};
-ghost use Rattle.btpush.specs.Run.{Decodes, RefusesWords, HasCauses, HasPushCauses, HasEnded};
+ghost use Rattle.std.specs.Prelude.{◌≡◌, ◌≢◌, ◌≤◌, true, false, [], map, string_bytes, IfSome, Some, None};
+ghost use Rattle.btpush.specs.Run.{Decodes, RefusesWords, HasCauses, HasEnded};
 ghost use Rattle.btpush.specs.Plays.{stocked};
 ghost use Rattle.btpush.specs.Pushing.{Pushes};
 ghost use Rattle.btpush.specs.Words.{form_of};
@@ -72,11 +72,17 @@ pub fn run<S: Source, K: Sink, T: Sink, F: Shelf, B: Inbox>(
     // A mode runs to its end only where the input was read to its end.
     ensures finish { HasEnded result → IfSome (S.content source.new) (λ left. left ≡ []) }
     // Each fault has its cause.
-    ensures causes { form_of (map string_bytes words.now.items) ≢ Some Form.Push → HasCauses (S.faults source.old) (S.faults source.new) (K.faults sink.old) (K.faults sink.new) (T.faults trace.old) (T.faults trace.new) result }
-    ensures push_causes { HasPushCauses (S.faults source.old) (S.faults source.new) (K.faults sink.old) (K.faults sink.new) result }
+    ensures causes { HasCauses (S.faults source.old) (S.faults source.new) (K.faults sink.old) (K.faults sink.new) (T.faults trace.old) (T.faults trace.new) result }
     // A shortage of memory of a port is answered.
     ensures source_short { IsAnswered (S.shortages source.old) (S.shortages source.new) (result ≡ Status.NoMemory) }
     ensures sink_short { IsAnswered (K.shortages sink.old) (K.shortages sink.new) (result ≡ Status.NoMemory) }
+    ensures trace_short { IsAnswered (T.shortages trace.old) (T.shortages trace.new) (result ≡ Status.NoMemory) }
+    ensures shelf_short { IsAnswered (F.shortages shelf.old) (F.shortages shelf.new) (result ≡ Status.NoMemory) }
+    ensures inbox_short { IsAnswered (B.shortages inbox.old) (B.shortages inbox.new) (result ≡ Status.NoMemory) }
+    // The objects on the shelf stay, and no count of shelf and inbox falls.
+    ensures shelf_content { F.content shelf.new ≡ F.content shelf.old }
+    ensures shelf_faults { F.faults shelf.old ≤ F.faults shelf.new }
+    ensures inbox_faults { B.faults inbox.old ≤ B.faults inbox.new }
     // Only `push` touches the other ports.
     ensures trace { form_of (map string_bytes words.now.items) ≢ Some Form.Push → trace.new ≡ trace.old }
     ensures shelf { form_of (map string_bytes words.now.items) ≢ Some Form.Push → shelf.new ≡ shelf.old }

@@ -14,3 +14,4 @@ pub mod ClientHearing
 pub mod ServerHearing
 pub mod Runs
 pub mod Happening
+pub mod Blaming

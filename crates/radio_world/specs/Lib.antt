@@ -4,3 +4,4 @@ pub mod Extending
 pub mod Going
 pub mod OwnHosts
 pub mod Worlds
+pub mod Blaming

@@ -1,10 +1,11 @@
 //! All that moves between a host and its controller.
 
-ghost use Rattle.std.specs.Prelude.{◌≡◌, false, Ok, OnOk};
+ghost use Rattle.std.specs.Prelude.{◌≡◌, false, Ok, OnOk, IsErrOf};
 ghost use Rattle.radio_air.specs.Controllers.{other_side};
 ghost use Rattle.radio_air.specs.Radio.{controller};
 ghost use Rattle.radio_world.specs.Extending.{Extends};
 ghost use Rattle.world_model.specs.Moving.{IsStillOut, IsStillIn};
+ghost use Rattle.radio_world.specs.Blaming.{BlamesTrace, KeepsPort};
 
 use crate::fault::WorldFault;
 use crate::host::Host;
@@ -27,6 +28,9 @@ impl Medium {
         ensures none { OnOk result (IsStillIn side self.new) }
         ensures still { result ≡ Ok false → IsStillOut (H.face host.new port.new).line × ((controller side self.new.radio).taken ≡ 0) × (H.face host.new port.new ≡ H.face host.old port.old) × (controller (other_side side) self.new.radio ≡ controller (other_side side) self.old.radio) × (T.content trace.new ≡ T.content trace.old) }
         ensures may_hear { H.may_hear host.new port.new }
+        ensures blame { BlamesTrace (T.faults trace.old) (T.faults trace.new) (T.shortages trace.old) (T.shortages trace.new) result }
+        ensures keeps { KeepsPort (H.content port.old) (H.content port.new) (H.faults port.old) (H.faults port.new) (H.shortages port.old) (H.shortages port.new) result }
+        ensures built { IsErrOf result WorldFault.NotBuilt → ⊥ }
     {
         let out = self.move_all_out(side, host, port, trace)?;
         self.radio.offered(side)?;
@@ -46,6 +50,8 @@ impl Medium {
         ensures still { OnOk result (IsStillOut (H.face host.new port.now).line) }
         ensures idle { result ≡ Ok false → (self.new ≡ self.old) × (H.face host.new port.now ≡ H.face host.old port.now) × (T.content trace.new ≡ T.content trace.old) }
         ensures may_hear { H.may_hear host.old port.now → H.may_hear host.new port.now }
+        ensures blame { BlamesTrace (T.faults trace.old) (T.faults trace.new) (T.shortages trace.old) (T.shortages trace.new) result }
+        ensures built { IsErrOf result WorldFault.NotBuilt → ⊥ }
     {
         let mut moved = false;
         while self.move_out(side, host, port, trace)? {
@@ -67,6 +73,9 @@ impl Medium {
         ensures still { OnOk result (IsStillIn side self.new) }
         ensures idle { result ≡ Ok false → (self.new ≡ self.old) × (H.face host.new port.new ≡ H.face host.old port.old) × (T.content trace.new ≡ T.content trace.old) }
         ensures may_hear { H.may_hear host.new port.new }
+        ensures blame { BlamesTrace (T.faults trace.old) (T.faults trace.new) (T.shortages trace.old) (T.shortages trace.new) result }
+        ensures keeps { KeepsPort (H.content port.old) (H.content port.new) (H.faults port.old) (H.faults port.new) (H.shortages port.old) (H.shortages port.new) result }
+        ensures built { IsErrOf result WorldFault.NotBuilt → ⊥ }
     {
         let mut moved = false;
         while self.move_into(side, host, port, trace)? {

@@ -1,7 +1,8 @@
 //! Packets handed to a host.
 
-ghost use Rattle.std.specs.Prelude.{◌≡◌, ◌≤◌, OnOk};
+ghost use Rattle.std.specs.Prelude.{◌≡◌, ◌≤◌, OnOk, IfErr};
 ghost use Rattle.world_model.specs.Hearing.{HearsWhole};
+ghost use Rattle.radio_world.specs.Blaming.{KeepsPort};
 
 use crate::fault::WorldFault;
 use crate::host::{Host, HostFault};
@@ -18,6 +19,8 @@ pub(crate) fn hand_over<P, H: Host<P>>(
     requires may_hear { H.may_hear host.old port.old }
     ensures hears { OnOk result (HearsWhole octets.now (H.face host.old port.old) (H.face host.new port.new)) }
     ensures may_hear { H.may_hear host.new port.new }
+    ensures keeps { KeepsPort (H.content port.old) (H.content port.new) (H.faults port.old) (H.faults port.new) (H.shortages port.old) (H.shortages port.new) result }
+    ensures only { IfErr result (λ fault. fault ≡ WorldFault.NoMemory) }
 {
     let mut rest = octets;
     while !rest.is_empty() {

@@ -1,11 +1,14 @@
 //! A host as the world sees it.
 
-ghost use Rattle.std.specs.Prelude.{◌≡◌, ◌≤◌, true, length, drop, OnOk};
+ghost use Rattle.std.specs.Prelude.{◌≡◌, ◌≤◌, ◌<◌, ℕ, Bool, true, List, Option, length, drop, OnOk, IsErrOf};
+ghost use Rattle.bt_base.specs.Objects.{Object};
+ghost use Rattle.bt_host.specs.Shelves.{Stays};
 ghost use Rattle.push_script.specs.Names.{utf16_length};
 ghost use Rattle.world_model.specs.Insides.{StartsPush, idles, came_of};
 ghost use Rattle.world_model.specs.Faces.{Face, with_out};
 ghost use Rattle.radio_world.specs.Feeding.{Hears};
 ghost use Rattle.world_model.specs.Hearing.{PutsOut};
+ghost use Rattle.radio_world.specs.Blaming.{IsLong};
 
 use push_script::Outcome;
 
@@ -26,6 +29,15 @@ pub(crate) trait Host<P> {
     /// What the host needs of its port.
     ghost may_hear: { Self → P → Type 0 };
 
+    /// The objects of its port, where that is a shelf which tells them.
+    ghost content: { P → Option (List Object) };
+
+    /// How often its port has failed.
+    ghost faults: { P → ℕ };
+
+    /// How often its port has found no memory.
+    ghost shortages: { P → ℕ };
+
     /// The octets for its controller.
     fn out(&self) -> &[u8]
         ensures { (port : P) → result.now ≡ (face self.now port).line.out };
@@ -40,7 +52,9 @@ pub(crate) trait Host<P> {
     fn hear(&mut self, piece: &[u8], port: &mut P) -> Result<(), HostFault>
         requires { may_hear self.old port.old }
         ensures hears { Hears piece.now (face self.old port.old) (face self.new port.new) result }
-        ensures may_hear { may_hear self.new port.new };
+        ensures may_hear { may_hear self.new port.new }
+        ensures stays { Stays (content port.old) (content port.new) (faults port.old) (faults port.new) (shortages port.old) (shortages port.new) }
+        ensures short { shortages port.old < shortages port.new → IsErrOf result HostFault.NoMemory };
 }
 
 /// Why a push did not begin.
@@ -69,5 +83,8 @@ pub(crate) trait Pusher<P>: Host<P> {
         ensures puts { OnOk result (PutsOut (Self.face self.old port.old).line (Self.face self.new port.new).line) }
         ensures starts { OnOk result (StartsPush name.now (Self.face self.old port.old).line (Self.face self.new port.new).line (Self.face self.old port.old).inside (Self.face self.new port.new).inside) }
         ensures held { OnOk result ((Self.face self.new port.new).held ≡ (Self.face self.old port.old).held) }
-        ensures may_hear { Self.may_hear self.new port.new };
+        ensures may_hear { Self.may_hear self.new port.new }
+        ensures stays { Stays (Self.content port.old) (Self.content port.new) (Self.faults port.old) (Self.faults port.new) (Self.shortages port.old) (Self.shortages port.new) }
+        ensures short { Self.shortages port.old < Self.shortages port.new → IsErrOf result PushFault.NoMemory }
+        ensures long { IsErrOf result PushFault.TooLarge → IsLong (Self.content port.old) name.now };
 }

@@ -1,6 +1,6 @@
 //! What lies between the two hosts: the radio, and the packets that move.
 
-ghost use Rattle.std.specs.Prelude.{◌≡◌, ◌<◌, ◌≤◌, [], false, true, length, Ok, IfOk, OnOk};
+ghost use Rattle.std.specs.Prelude.{◌≡◌, ◌<◌, ◌≤◌, [], false, true, length, Ok, IfOk, OnOk, IsErrOf};
 ghost use Rattle.radio_air.specs.Radio.{controller, is_quiet};
 ghost use Rattle.world_model.specs.Acting.{Acts};
 ghost use Rattle.world_model.specs.Acting.{MakesNothing};
@@ -9,6 +9,7 @@ ghost use Rattle.world_model.specs.Media.{noted};
 ghost use Rattle.world_model.specs.Moments.{first_medium};
 ghost use Rattle.radio_world.specs.Extending.{Extends};
 ghost use Rattle.world_model.specs.Moving.{IsStillOut, IsStillIn};
+ghost use Rattle.radio_world.specs.Blaming.{BlamesTrace, KeepsPort, IsUnbuilt};
 
 use crate::fault::WorldFault;
 use crate::feeding::hand_over;
@@ -78,6 +79,8 @@ impl Medium {
         ensures still { result ≡ Ok false → IsStillOut (H.face host.old port.now).line × (self.new ≡ self.old) × (H.face host.new port.now ≡ H.face host.old port.now) × (T.content trace.new ≡ T.content trace.old) }
         ensures shorter { result ≡ Ok true → length (H.face host.new port.now).line.out < length (H.face host.old port.now).line.out }
         ensures may_hear { H.may_hear host.old port.now → H.may_hear host.new port.now }
+        ensures blame { BlamesTrace (T.faults trace.old) (T.faults trace.new) (T.shortages trace.old) (T.shortages trace.new) result }
+        ensures built { IsErrOf result WorldFault.NotBuilt → ⊥ }
     {
         let Leading::Whole(unit, n) = first(host.out(), ACL_LIMIT) else {
             return Ok(false);
@@ -118,6 +121,9 @@ impl Medium {
         ensures still { result ≡ Ok false → IsStillIn side self.old × (self.new ≡ self.old) × (H.face host.new port.new ≡ H.face host.old port.old) × (T.content trace.new ≡ T.content trace.old) }
         ensures shorter { result ≡ Ok true → length (controller side self.new.radio).owed < length (controller side self.old.radio).owed }
         ensures may_hear { H.may_hear host.new port.new }
+        ensures blame { BlamesTrace (T.faults trace.old) (T.faults trace.new) (T.shortages trace.old) (T.shortages trace.new) result }
+        ensures keeps { KeepsPort (H.content port.old) (H.content port.new) (H.faults port.old) (H.faults port.new) (H.shortages port.old) (H.shortages port.new) result }
+        ensures built { IsErrOf result WorldFault.NotBuilt → ⊥ }
     {
         let mut room = [0; LONGEST_UNIT];
         let Some(n) = self.radio.hand(side, &mut room) else {
@@ -143,6 +149,8 @@ impl Medium {
         requires quiet { is_quiet self.old.radio ≡ true }
         ensures acts { result ≡ Ok true → Acts word self.old self.new }
         ensures none { result ≡ Ok false → MakesNothing word self.old.radio × (self.new ≡ self.old) }
+        ensures traced { IsErrOf result WorldFault.TraceFault → ⊥ }
+        ensures built { IsErrOf result WorldFault.NotBuilt → IsUnbuilt word }
     {
         match word {
             Word::Pass => Ok(self.radio.pass()),

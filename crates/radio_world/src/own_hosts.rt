@@ -25,6 +25,12 @@ impl<F: Shelf> Host<F> for ClientHost {
 
     ghost may_hear = { λ host shelf. IsSupplied (F.content shelf) host };
 
+    ghost content = { F.content };
+
+    ghost faults = { F.faults };
+
+    ghost shortages = { F.shortages };
+
     fn out(&self) -> &[u8] {
         ClientHost::out(self)
     }
@@ -60,6 +66,7 @@ impl<F: Shelf> Pusher<F> for ClientHost {
 }
 
 impl<B: Inbox> Host<B> for ServerHost {
+    ghost use Rattle.std.specs.Prelude.{None};
     ghost use Rattle.obex_session.specs.Rules.{is_under_way};
     ghost use Rattle.bt_host.specs.Servers.{kept};
     ghost use Rattle.radio_world.specs.OwnHosts.{server_face};
@@ -67,6 +74,12 @@ impl<B: Inbox> Host<B> for ServerHost {
     ghost face = { λ host inbox. server_face host (kept (B.content inbox) (B.faults inbox) (B.shortages inbox)) };
 
     ghost may_hear = { λ host inbox. B.is_pending inbox ≡ is_under_way host.server.served.session.progress };
+
+    ghost content = { λ inbox. None };
+
+    ghost faults = { B.faults };
+
+    ghost shortages = { B.shortages };
 
     fn out(&self) -> &[u8] {
         ServerHost::out(self)

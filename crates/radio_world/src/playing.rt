@@ -1,12 +1,13 @@
 //! A whole script, word by word.
 
-ghost use Rattle.std.specs.Prelude.{◌≡◌, ◌≤◌, false, take, replicate, length, OnOk};
+ghost use Rattle.std.specs.Prelude.{◌≡◌, ◌≤◌, ◌⊎◌, false, take, replicate, length, OnOk, IsErrOf};
 ghost use Rattle.obex_session.specs.Rules.{is_under_way};
 ghost use Rattle.capture.specs.Air.{words_of};
 ghost use Rattle.bt_host.specs.ClientHosts.{IsSupplied};
 ghost use Rattle.bt_host.specs.Servers.{kept};
 ghost use Rattle.radio_world.specs.OwnHosts.{shelved};
 ghost use Rattle.radio_world.specs.Worlds.{new_world, WorldTurns, IsStill, Happens};
+ghost use Rattle.radio_world.specs.Blaming.{BlamesTrace, KeepsPort, KeepsCounts, HasLong, IsUnbuilt, IsNotBuilt};
 
 use crate::fault::WorldFault;
 use crate::world::World;
@@ -30,6 +31,10 @@ impl World {
         ensures still { OnOk result (IsStill self.new (shelved (F.content shelf.new) (F.faults shelf.new)) (kept (B.content inbox.new) (B.faults inbox.new) (B.shortages inbox.new))) }
         ensures supplied { IsSupplied (F.content shelf.new) self.new.client }
         ensures pending { B.is_pending inbox.new ≡ is_under_way self.new.server.server.served.session.progress }
+        ensures blame { BlamesTrace (T.faults trace.old) (T.faults trace.new) (T.shortages trace.old) (T.shortages trace.new) result }
+        ensures shelf { KeepsPort (F.content shelf.old) (F.content shelf.new) (F.faults shelf.old) (F.faults shelf.new) (F.shortages shelf.old) (F.shortages shelf.new) result }
+        ensures inbox { KeepsCounts (B.faults inbox.old) (B.faults inbox.new) (B.shortages inbox.old) (B.shortages inbox.new) result }
+        ensures built { IsErrOf result WorldFault.NotBuilt → HasLong (F.content shelf.old) self.old.scene.pushes.names ⊎ IsUnbuilt word }
     {
         for _i in 0..count {
             self.turn(word, trace, shelf, inbox)?;
@@ -52,6 +57,10 @@ impl World {
         ensures still { OnOk result (IsStill self.new (shelved (F.content shelf.new) (F.faults shelf.new)) (kept (B.content inbox.new) (B.faults inbox.new) (B.shortages inbox.new))) }
         ensures supplied { IsSupplied (F.content shelf.new) self.new.client }
         ensures pending { B.is_pending inbox.new ≡ is_under_way self.new.server.server.served.session.progress }
+        ensures blame { BlamesTrace (T.faults trace.old) (T.faults trace.new) (T.shortages trace.old) (T.shortages trace.new) result }
+        ensures shelf { KeepsPort (F.content shelf.old) (F.content shelf.new) (F.faults shelf.old) (F.faults shelf.new) (F.shortages shelf.old) (F.shortages shelf.new) result }
+        ensures inbox { KeepsCounts (B.faults inbox.old) (B.faults inbox.new) (B.shortages inbox.old) (B.shortages inbox.new) result }
+        ensures built { IsErrOf result WorldFault.NotBuilt → IsNotBuilt (F.content shelf.old) self.old.scene.pushes.names script.now }
     {
         for i in 0..script.len() {
             let Some((count, word)) = script.at(i) else {
@@ -79,6 +88,10 @@ impl World {
         requires pending { B.is_pending inbox.old ≡ false }
         ensures happens { OnOk result (Happens scenario.now self.new (shelved (F.content shelf.old) (F.faults shelf.old)) (shelved (F.content shelf.new) (F.faults shelf.new)) (kept (B.content inbox.old) (B.faults inbox.old) (B.shortages inbox.old)) (kept (B.content inbox.new) (B.faults inbox.new) (B.shortages inbox.new)) (T.content trace.old) (T.content trace.new)) }
         ensures each { OnOk result (length self.new.scene.pushes.outcomes ≡ length scenario.now.names) }
+        ensures blame { BlamesTrace (T.faults trace.old) (T.faults trace.new) (T.shortages trace.old) (T.shortages trace.new) result }
+        ensures shelf { KeepsPort (F.content shelf.old) (F.content shelf.new) (F.faults shelf.old) (F.faults shelf.new) (F.shortages shelf.old) (F.shortages shelf.new) result }
+        ensures inbox { KeepsCounts (B.faults inbox.old) (B.faults inbox.new) (B.shortages inbox.old) (B.shortages inbox.new) result }
+        ensures built { IsErrOf result WorldFault.NotBuilt → IsNotBuilt (F.content shelf.old) scenario.now.names scenario.now.script }
     {
         self.start(trace, shelf, inbox)?;
         self.turn_all(&scenario.script, trace, shelf, inbox)?;

@@ -1,6 +1,6 @@
 //! What goes on between the two hosts.
 
-ghost use Rattle.std.specs.Prelude.{◌≡◌, ◌∷◌, [], true, false, length, None, Ok, OnOk};
+ghost use Rattle.std.specs.Prelude.{◌≡◌, ◌⊎◌, ◌∷◌, [], true, false, length, None, Ok, OnOk, IsErrOf};
 ghost use Rattle.push_script.specs.declared.word.Side.TheVariants as sides;
 ghost use Rattle.world_model.specs.Insides.{idles, came_of};
 ghost use Rattle.world_model.specs.Faces.{Face};
@@ -9,6 +9,7 @@ ghost use Rattle.world_model.specs.Ordering.{next_name};
 ghost use Rattle.world_model.specs.Moments.{IsAtRest};
 ghost use Rattle.radio_world.specs.Running.{moment};
 ghost use Rattle.radio_world.specs.Going.{Begins, Ends, Goes, StaysPut, Turns, LastEnds, Finishes};
+ghost use Rattle.radio_world.specs.Blaming.{BlamesTrace, KeepsPort, HasLong, IsUnbuilt};
 
 use crate::fault::WorldFault;
 use crate::host::{Host, PushFault, Pusher};
@@ -54,6 +55,9 @@ impl Scene {
         ensures none { result ≡ Ok false → (self.new ≡ self.old) × (A.face a.new shelf.new ≡ A.face a.old shelf.old) × (T.content trace.new ≡ T.content trace.old) × (idles (A.face a.old shelf.old).inside ≡ true → next_name self.old.pushes ≡ None) }
         ensures goes { OnOk result ((b : Face) → Goes self.old self.new (A.face a.old shelf.old) (A.face a.new shelf.new) b b (T.content trace.old) (T.content trace.new)) }
         ensures may_hear { A.may_hear a.new shelf.new }
+        ensures blame { BlamesTrace (T.faults trace.old) (T.faults trace.new) (T.shortages trace.old) (T.shortages trace.new) result }
+        ensures keeps_a { KeepsPort (A.content shelf.old) (A.content shelf.new) (A.faults shelf.old) (A.faults shelf.new) (A.shortages shelf.old) (A.shortages shelf.new) result }
+        ensures built { IsErrOf result WorldFault.NotBuilt → HasLong (A.content shelf.old) self.old.pushes.names }
     {
         if !a.idle() {
             return Ok(false);
@@ -74,7 +78,9 @@ impl Scene {
     /// Ends the push that goes on, with what came of it. It needs one.
     fn end<T: Sink>(&mut self, outcome: Outcome, trace: &mut T) -> Result<(), WorldFault>
         requires { self.old.pushes.going ≡ true }
-        ensures { OnOk result (Ends outcome self.old self.new (T.content trace.old) (T.content trace.new)) }
+        ensures ends { OnOk result (Ends outcome self.old self.new (T.content trace.old) (T.content trace.new)) }
+        ensures blame { BlamesTrace (T.faults trace.old) (T.faults trace.new) (T.shortages trace.old) (T.shortages trace.new) result }
+        ensures built { IsErrOf result WorldFault.NotBuilt → ⊥ }
     {
         record(&Entry::Ended(self.pushes.begun(), outcome), trace)?;
         self.pushes.end(outcome)?;
@@ -92,6 +98,8 @@ impl Scene {
         requires none_b { IsStillIn sides.B self.old.medium }
         ensures goes { OnOk result ((b : Face) → Goes self.old self.new (A.face a.now _shelf.now) (A.face a.now _shelf.now) b b (T.content trace.old) (T.content trace.new)) }
         ensures none { result ≡ Ok false → (self.new ≡ self.old) × (T.content trace.new ≡ T.content trace.old) × (self.old.pushes.going ≡ true → idles (A.face a.now _shelf.now).inside ≡ true → came_of (A.face a.now _shelf.now).inside ≡ None) }
+        ensures blame { BlamesTrace (T.faults trace.old) (T.faults trace.new) (T.shortages trace.old) (T.shortages trace.new) result }
+        ensures built { IsErrOf result WorldFault.NotBuilt → ⊥ }
     {
         if !self.pushes.going() || !a.idle() {
             return Ok(false);
@@ -120,6 +128,10 @@ impl Scene {
         ensures idle { result ≡ Ok false → StaysPut self.old self.new (A.face a.old shelf.old) (A.face a.new shelf.new) (B.face b.new inbox.new) }
         ensures may_hear_a { A.may_hear a.new shelf.new }
         ensures may_hear_b { B.may_hear b.new inbox.new }
+        ensures blame { BlamesTrace (T.faults trace.old) (T.faults trace.new) (T.shortages trace.old) (T.shortages trace.new) result }
+        ensures keeps_a { KeepsPort (A.content shelf.old) (A.content shelf.new) (A.faults shelf.old) (A.faults shelf.new) (A.shortages shelf.old) (A.shortages shelf.new) result }
+        ensures keeps_b { KeepsPort (B.content inbox.old) (B.content inbox.new) (B.faults inbox.old) (B.faults inbox.new) (B.shortages inbox.old) (B.shortages inbox.new) result }
+        ensures built { IsErrOf result WorldFault.NotBuilt → ⊥ }
     {
         let moved_a = self.medium.exchange(Side::A, a, shelf, trace)?;
         let moved_b = self.medium.exchange(Side::B, b, inbox, trace)?;
@@ -141,6 +153,10 @@ impl Scene {
         ensures rest { result ≡ Ok false → IsAtRest (moment self.new (A.face a.new shelf.new) (B.face b.new inbox.new)) }
         ensures may_hear_a { A.may_hear a.new shelf.new }
         ensures may_hear_b { B.may_hear b.new inbox.new }
+        ensures blame { BlamesTrace (T.faults trace.old) (T.faults trace.new) (T.shortages trace.old) (T.shortages trace.new) result }
+        ensures keeps_a { KeepsPort (A.content shelf.old) (A.content shelf.new) (A.faults shelf.old) (A.faults shelf.new) (A.shortages shelf.old) (A.shortages shelf.new) result }
+        ensures keeps_b { KeepsPort (B.content inbox.old) (B.content inbox.new) (B.faults inbox.old) (B.faults inbox.new) (B.shortages inbox.old) (B.shortages inbox.new) result }
+        ensures built { IsErrOf result WorldFault.NotBuilt → HasLong (A.content shelf.old) self.old.pushes.names }
     {
         let began = self.begin(a, shelf, trace)?;
         let moved = self.exchange(a, shelf, b, inbox, trace)?;
@@ -163,6 +179,10 @@ impl Scene {
         ensures rest { OnOk result (IsAtRest (moment self.new (A.face a.new shelf.new) (B.face b.new inbox.new))) }
         ensures may_hear_a { A.may_hear a.new shelf.new }
         ensures may_hear_b { B.may_hear b.new inbox.new }
+        ensures blame { BlamesTrace (T.faults trace.old) (T.faults trace.new) (T.shortages trace.old) (T.shortages trace.new) result }
+        ensures keeps_a { KeepsPort (A.content shelf.old) (A.content shelf.new) (A.faults shelf.old) (A.faults shelf.new) (A.shortages shelf.old) (A.shortages shelf.new) result }
+        ensures keeps_b { KeepsPort (B.content inbox.old) (B.content inbox.new) (B.faults inbox.old) (B.faults inbox.new) (B.shortages inbox.old) (B.shortages inbox.new) result }
+        ensures built { IsErrOf result WorldFault.NotBuilt → HasLong (A.content shelf.old) self.old.pushes.names }
     {
         for _ in 0..MOST_ROUNDS {
             if !self.round(a, shelf, b, inbox, trace)? {
@@ -192,6 +212,10 @@ impl Scene {
         ensures rest { OnOk result (IsAtRest (moment self.new (A.face a.new shelf.new) (B.face b.new inbox.new))) }
         ensures may_hear_a { A.may_hear a.new shelf.new }
         ensures may_hear_b { B.may_hear b.new inbox.new }
+        ensures blame { BlamesTrace (T.faults trace.old) (T.faults trace.new) (T.shortages trace.old) (T.shortages trace.new) result }
+        ensures keeps_a { KeepsPort (A.content shelf.old) (A.content shelf.new) (A.faults shelf.old) (A.faults shelf.new) (A.shortages shelf.old) (A.shortages shelf.new) result }
+        ensures keeps_b { KeepsPort (B.content inbox.old) (B.content inbox.new) (B.faults inbox.old) (B.faults inbox.new) (B.shortages inbox.old) (B.shortages inbox.new) result }
+        ensures built { IsErrOf result WorldFault.NotBuilt → HasLong (A.content shelf.old) self.old.pushes.names ⊎ IsUnbuilt word }
     {
         let Some(ordinal) = self.turned.checked_add(1) else {
             return Err(WorldFault::NoMemory);
@@ -208,7 +232,9 @@ impl Scene {
 
     /// Ends the push that goes on, if one does: with what came of it, or else with the script.
     fn end_last<T: Sink>(&mut self, came: Option<Outcome>, trace: &mut T) -> Result<(), WorldFault>
-        ensures { OnOk result (LastEnds came self.old self.new (T.content trace.old) (T.content trace.new)) }
+        ensures ends { OnOk result (LastEnds came self.old self.new (T.content trace.old) (T.content trace.new)) }
+        ensures blame { BlamesTrace (T.faults trace.old) (T.faults trace.new) (T.shortages trace.old) (T.shortages trace.new) result }
+        ensures built { IsErrOf result WorldFault.NotBuilt → ⊥ }
     {
         if !self.pushes.going() {
             return Ok(());
@@ -226,6 +252,8 @@ impl Scene {
     ) -> Result<(), WorldFault>
         ensures ends { OnOk result (Finishes came self.old self.new (T.content trace.old) (T.content trace.new)) }
         ensures each { OnOk result (length self.new.pushes.outcomes ≡ length self.new.pushes.names) }
+        ensures blame { BlamesTrace (T.faults trace.old) (T.faults trace.new) (T.shortages trace.old) (T.shortages trace.new) result }
+        ensures built { IsErrOf result WorldFault.NotBuilt → ⊥ }
     {
         self.end_last(came, trace)?;
         self.pushes.close()?;

@@ -1,6 +1,6 @@
 //! The simulated world: two hosts, their controllers and the air between them.
 
-ghost use Rattle.std.specs.Prelude.{◌≡◌, ◌∷◌, [], min, length, slice_get, IfOk, OnOk};
+ghost use Rattle.std.specs.Prelude.{◌≡◌, ◌⊎◌, ◌∷◌, [], min, length, slice_get, IfOk, OnOk, IsErrOf};
 ghost use Rattle.std.specs.Option.{option_map};
 ghost use Rattle.radio_air.specs.Radio.{frames};
 ghost use Rattle.obex_session.specs.Rules.{is_under_way};
@@ -8,6 +8,7 @@ ghost use Rattle.bt_host.specs.ClientHosts.{IsSupplied};
 ghost use Rattle.bt_host.specs.Servers.{kept};
 ghost use Rattle.radio_world.specs.OwnHosts.{shelved};
 ghost use Rattle.radio_world.specs.Worlds.{new_world, WorldGoes, WorldTurns, WorldFinishes, IsStill};
+ghost use Rattle.radio_world.specs.Blaming.{BlamesTrace, KeepsPort, KeepsCounts, HasLong, IsUnbuilt};
 
 use crate::fault::WorldFault;
 use crate::medium::Medium;
@@ -119,6 +120,10 @@ impl World {
         ensures still { OnOk result (IsStill self.new (shelved (F.content shelf.new) (F.faults shelf.new)) (kept (B.content inbox.new) (B.faults inbox.new) (B.shortages inbox.new))) }
         ensures supplied { IsSupplied (F.content shelf.new) self.new.client }
         ensures pending { B.is_pending inbox.new ≡ is_under_way self.new.server.server.served.session.progress }
+        ensures blame { BlamesTrace (T.faults trace.old) (T.faults trace.new) (T.shortages trace.old) (T.shortages trace.new) result }
+        ensures shelf { KeepsPort (F.content shelf.old) (F.content shelf.new) (F.faults shelf.old) (F.faults shelf.new) (F.shortages shelf.old) (F.shortages shelf.new) result }
+        ensures inbox { KeepsCounts (B.faults inbox.old) (B.faults inbox.new) (B.shortages inbox.old) (B.shortages inbox.new) result }
+        ensures built { IsErrOf result WorldFault.NotBuilt → HasLong (F.content shelf.old) self.old.scene.pushes.names }
     {
         self.scene
             .settle(&mut self.client, shelf, &mut self.server, inbox, trace)?;
@@ -144,6 +149,10 @@ impl World {
         ensures still { OnOk result (IsStill self.new (shelved (F.content shelf.new) (F.faults shelf.new)) (kept (B.content inbox.new) (B.faults inbox.new) (B.shortages inbox.new))) }
         ensures supplied { IsSupplied (F.content shelf.new) self.new.client }
         ensures pending { B.is_pending inbox.new ≡ is_under_way self.new.server.server.served.session.progress }
+        ensures blame { BlamesTrace (T.faults trace.old) (T.faults trace.new) (T.shortages trace.old) (T.shortages trace.new) result }
+        ensures shelf { KeepsPort (F.content shelf.old) (F.content shelf.new) (F.faults shelf.old) (F.faults shelf.new) (F.shortages shelf.old) (F.shortages shelf.new) result }
+        ensures inbox { KeepsCounts (B.faults inbox.old) (B.faults inbox.new) (B.shortages inbox.old) (B.shortages inbox.new) result }
+        ensures built { IsErrOf result WorldFault.NotBuilt → HasLong (F.content shelf.old) self.old.scene.pushes.names ⊎ IsUnbuilt word }
     {
         self.scene.turn(
             word,
@@ -162,6 +171,8 @@ impl World {
         ensures finishes { OnOk result (WorldFinishes self.old self.new (T.content trace.old) (T.content trace.new)) }
         ensures each { OnOk result (length self.new.scene.pushes.outcomes ≡ length self.new.scene.pushes.names) }
         ensures hosts { (self.new.client ≡ self.old.client) × (self.new.server ≡ self.old.server) }
+        ensures blame { BlamesTrace (T.faults trace.old) (T.faults trace.new) (T.shortages trace.old) (T.shortages trace.new) result }
+        ensures built { IsErrOf result WorldFault.NotBuilt → ⊥ }
     {
         self.scene.finish(self.client.outcome(), trace)
     }

@@ -4,6 +4,8 @@ use Rattle.push_script.specs.Reading.{script_of}
 use Rattle.btpush.specs.Gathering.{reading_limit}
 use Rattle.btpush.specs.Pushing.{NotRead}
 use Rattle.btpush.proofs.Taking.{if_some, not_taken, taken, short_read}
+use Rattle.btpush.proofs.Kept.{unblamed}
+use Rattle.btpush.proofs.Blaming.{beside_trace, beside_source}
 use Rattle.btpush.proofs.pushing.push.Goals as goal
 
 pub returns-in-Err-ReadFault-clause-pushes : goal.returns-in-Err-ReadFault-clause-pushes
@@ -26,3 +28,9 @@ returns-clause-pushes g c = if_some _ (λ input h. taken input _ _ _ _ _ _ _ _ _
 
 pub returns-clause-finish : goal.returns-clause-finish
 returns-clause-finish g c ended = c.in-Ok.ensures.finish (omega (arith, short_read missing_features c.deref.result.now (script_of c.in-Ok-scenario_of.scenario) c.in-Ok-scenario_of.ensures, ap (λ (t : List ℕ). length t) c.deref.ensures.value))
+
+pub returns-in-Err-Refused-clause-causes : goal.returns-in-Err-Refused-clause-causes
+returns-in-Err-Refused-clause-causes g c = beside_source (unblamed _ _ _ c.in-Ok.ensures.blame) (beside_trace refl c.refuse.ensures.causes)
+
+pub returns-clause-causes : goal.returns-clause-causes
+returns-clause-causes g c = beside_source (unblamed _ _ _ c.in-Ok.ensures.blame) c.run_scenario.ensures.causes

@@ -1,5 +1,12 @@
 use Rattle.btpush.specs.Pushing.{RanToEnd}
+use Rattle.btpush.proofs.Blaming.{still_trace, beside_trace}
 use Rattle.btpush.proofs.pushing.run_scenario.Goals as goal
 
 pub returns-in-Ok-clause-runs : goal.returns-in-Ok-clause-runs
-returns-in-Ok-clause-runs g c = RanToEnd c.in-Ok.played c.in-Ok.ensures c.report.ensures.reports
+returns-in-Ok-clause-runs g c = RanToEnd c.in-Ok.played c.in-Ok.ensures.plays c.report.ensures.reports
+
+pub returns-in-Ok-clause-causes : goal.returns-in-Ok-clause-causes
+returns-in-Ok-clause-causes g c = beside_trace (still_trace c.in-Ok.ensures.blame (λ is. absurd cc)) c.report.ensures.causes
+
+pub returns-in-Err-NotBuilt-clause-causes : goal.returns-in-Err-NotBuilt-clause-causes
+returns-in-Err-NotBuilt-clause-causes g c = beside_trace (still_trace c.in-Err-NotBuilt.ensures.blame (λ is. let not = c.in-Err-NotBuilt.field-0-is in absurd cc)) c.refuse.ensures.causes

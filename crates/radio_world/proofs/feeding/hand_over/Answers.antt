@@ -1,4 +1,4 @@
-use Rattle.std.proofs.Common.{◌≡◌, ◌≢◌, ℕ, List, [], ◌++◌, length, subst, ◌∙◌, ap, inr, Bool, false, true, Result, Err, Some}
+use Rattle.std.proofs.Common.{refl, ◌≡◌, ◌≢◌, ℕ, List, [], ◌++◌, length, subst, ◌∙◌, ap, inr, Bool, false, true, Result, Err, Some}
 use Rattle.std.specs.Bool.{◌==◌}
 use Rattle.h4_framing.specs.Packets.{Packet}
 use Rattle.world_model.specs.Faces.{Face}
@@ -6,6 +6,7 @@ use Rattle.radio_world.specs.Feeding.{Hears, RefusesPiece}
 use Rattle.radio_world.specs.declared.host.HostFault.{HostFault}
 use Rattle.radio_world.specs.declared.host.HostFault.TheVariants.{Refused}
 use Rattle.radio_world.proofs.HandingOver.{Progress, IsUnderWay, taken, refused}
+use Rattle.radio_world.proofs.Blaming.{keeps_then, keeps_told, keeps_short}
 use Rattle.radio_world.proofs.feeding.hand_over.Goals as goal
 
 some_left : (xs : List ℕ) (empty : Bool) → empty ≡ (length xs == 0) → empty ≡ false → xs ≢ []
@@ -30,6 +31,7 @@ loop-rest-preserved g c =
           (c.loop-rest.invariant.0 packet is spelled none) (some_left c.loop-rest.rest.now c.is_empty.result c.is_empty.ensures c.loop-rest-test.true) c.split_at.ensures.by_index.0)
           c.in-Ok.ensures.hears,
       c.hear.ensures.may_hear,
+      keeps_then c.loop-rest.invariant.2 (keeps_told c.in-Ok.ensures.stays (λ lt. let no = c.in-Ok.ensures.short lt in absurd cc)),
     )
 
 pub returns-in-Err-Refused-clause-hears : goal.returns-in-Err-Refused-clause-hears
@@ -41,3 +43,12 @@ returns-in-Err-Refused-clause-hears g c = λ packet is spelled none.
     (with_rest packet c.loop-rest.rest.now c.split_at.result.0.now c.split_at.result.1.now start old
     (c.loop-rest.invariant.0 packet is spelled none) (some_left c.loop-rest.rest.now c.is_empty.result c.is_empty.ensures c.loop-rest-test.true) c.split_at.ensures.by_index.0)
     (refuses c.split_at.result.0.now old now c.hear.result c.in-Err-Refused.field-0 c.in-Err-Refused.is c.in-Err-Refused.field-0-is c.hear.ensures.hears))
+
+pub returns-in-Err-Refused-clause-keeps : goal.returns-in-Err-Refused-clause-keeps
+returns-in-Err-Refused-clause-keeps g c = keeps_then c.loop-rest.invariant.2 (keeps_told c.in-Err-Refused.ensures.stays (λ lt. let no = c.in-Err-Refused.ensures.short lt in let is = c.in-Err-Refused.field-0-is in absurd cc))
+
+pub returns-in-Err-NoMemory-clause-keeps : goal.returns-in-Err-NoMemory-clause-keeps
+returns-in-Err-NoMemory-clause-keeps g c = keeps_then c.loop-rest.invariant.2 (keeps_short c.in-Err-NoMemory.ensures.stays refl)
+
+pub returns-clause-keeps : goal.returns-clause-keeps
+returns-clause-keeps g c = c.loop-rest.invariant.2

@@ -1,7 +1,8 @@
-use Rattle.std.proofs.Common.{◌≡◌, [], Some, length}
+use Rattle.std.proofs.Common.{◌≡◌, [], Some, length, Ok}
 use Rattle.h4_framing.specs.Packets.{Packet, spelling, IsPacket}
 use Rattle.world_model.specs.Hearing.{acl_limit}
 use Rattle.radio_world.proofs.HandingOver.{Progress}
+use Rattle.radio_world.specs.Blaming.{KeepsPort}
 use Rattle.radio_world.proofs.feeding.hand_over.Given as goal
 
 abbrev pub invariant-loop-rest : goal.invariant-loop-rest
@@ -9,6 +10,7 @@ invariant-loop-rest g l =
     ((packet : Packet) → IsPacket acl_limit packet → l.octets ≡ spelling packet → (g.H.Host.face l.fn.host l.fn.port).held ≡ Some []
     → Progress packet l.rest (g.H.Host.face l.fn.host l.fn.port) (g.H.Host.face l.host l.port))
     × g.H.Host.may_hear l.host l.port
+    × KeepsPort {A = Unit {0}} (g.H.Host.content l.fn.port) (g.H.Host.content l.port) (g.H.Host.faults l.fn.port) (g.H.Host.faults l.port) (g.H.Host.shortages l.fn.port) (g.H.Host.shortages l.port) (Ok tt)
 
 abbrev pub decreases-loop-rest : goal.decreases-loop-rest
 decreases-loop-rest g l = length l.rest

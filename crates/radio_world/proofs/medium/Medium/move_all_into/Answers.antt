@@ -1,8 +1,9 @@
 use Rattle.radio_world.proofs.Exchanging.{on_none, on_one}
+use Rattle.radio_world.proofs.Blaming.{blames_none, blames_then, blames_ok, keeps_none, keeps_then, keeps_on}
 use Rattle.radio_world.proofs.medium.Medium.move_all_into.Goals as goal
 
 pub loop-moved-init : goal.loop-moved-init
-loop-moved-init g c = (on_none c.args.side c.args.self.now (g.H.Host.face c.args.host.now c.args.port.now) (g.T.Sink.content c.args.trace.now), c.requires.may_hear)
+loop-moved-init g c = (on_none c.args.side c.args.self.now (g.H.Host.face c.args.host.now c.args.port.now) (g.T.Sink.content c.args.trace.now), c.requires.may_hear, blames_none, keeps_none)
 
 pub loop-moved-preserved : goal.loop-moved-preserved
 loop-moved-preserved g c = (
@@ -11,4 +12,6 @@ loop-moved-preserved g c = (
       (g.T.Sink.content c.args.trace.now) (g.T.Sink.content c.loop-moved.trace) (g.T.Sink.content c.move_into.new.trace)
       c.loop-moved.invariant.0 c.in_ok-move_into.ensures.extends,
   c.move_into.ensures.may_hear,
+  blames_ok (blames_then c.loop-moved.invariant.2 c.in_ok-move_into.ensures.blame),
+  keeps_on (keeps_then c.loop-moved.invariant.3 c.in_ok-move_into.ensures.keeps),
 )

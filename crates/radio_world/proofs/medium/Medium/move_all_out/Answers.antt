@@ -1,8 +1,9 @@
 use Rattle.radio_world.proofs.Exchanging.{on_none, on_one}
+use Rattle.radio_world.proofs.Blaming.{blames_none, blames_then, blames_ok}
 use Rattle.radio_world.proofs.medium.Medium.move_all_out.Goals as goal
 
 pub loop-moved-init : goal.loop-moved-init
-loop-moved-init g c = (on_none c.args.side c.args.self.now (g.H.Host.face c.args.host.now c.args.port.now) (g.T.Sink.content c.args.trace.now), λ may. may)
+loop-moved-init g c = (on_none c.args.side c.args.self.now (g.H.Host.face c.args.host.now c.args.port.now) (g.T.Sink.content c.args.trace.now), λ may. may, blames_none)
 
 pub loop-moved-preserved : goal.loop-moved-preserved
 loop-moved-preserved g c = (
@@ -11,4 +12,5 @@ loop-moved-preserved g c = (
       (g.T.Sink.content c.args.trace.now) (g.T.Sink.content c.loop-moved.trace) (g.T.Sink.content c.move_out.new.trace)
       c.loop-moved.invariant.0 c.in_ok-move_out.ensures.extends,
   λ may. c.move_out.ensures.may_hear (c.loop-moved.invariant.1 may),
+  blames_ok (blames_then c.loop-moved.invariant.2 c.in_ok-move_out.ensures.blame),
 )

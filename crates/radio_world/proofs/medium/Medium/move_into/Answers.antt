@@ -12,6 +12,7 @@ use Rattle.world_model.specs.Hearing.{HearsWhole}
 use Rattle.radio_world.proofs.Bringing.{none_owed, stays_as_it_is, IsHanded, handed_first, reads_whole, reads_same, owes_less}
 use Rattle.radio_world.proofs.Extending.{extends_none}
 use Rattle.radio_world.proofs.Arrived.{into_extends}
+use Rattle.radio_world.proofs.Blaming.{blames_none, keeps_none}
 use Rattle.radio_world.proofs.medium.Medium.move_into.Goals as goal
 
 abbrev mk : Radio → ℕ → ℕ → Medium
@@ -39,6 +40,9 @@ returns-in_default g c =
       still = λ _. (subst (λ (m : Medium). (controller c.args.side m.radio).owed ≡ []) c.self.view_is none, same, refl, refl);
       shorter = λ is. absurd cc;
       may_hear = c.requires.may_hear;
+      blame = blames_none;
+      keeps = keeps_none;
+      built = λ is. absurd cc;
     }
 
 pub returns-clause-extends : goal.returns-clause-extends

@@ -10,6 +10,7 @@ use Rattle.world_model.specs.Media.{Medium, noted, in_radio}
 use Rattle.radio_world.proofs.Departed.{moved_extends}
 use Rattle.world_model.proofs.Departing.{left_shorter}
 use Rattle.radio_world.proofs.Extending.{extends_none, nothing_whole}
+use Rattle.radio_world.proofs.Blaming.{blames_none}
 use Rattle.radio_world.proofs.medium.Medium.move_out.Goals as goal
 
 pub returns-in_default : goal.returns-in_default
@@ -18,6 +19,8 @@ returns-in_default g c = record {
   still = λ _. (nothing_whole (g.H.Host.face c.args.host.now c.args.port.now).line.out c.first.result (subst (λ xs. IsLeading 1021 xs c.first.result) (c.out.ensures c.args.port.now) c.first.ensures) c.in_default.not-Whole, refl, refl, refl);
   shorter = λ is. absurd cc;
   may_hear = λ may. may;
+  blame = blames_none;
+  built = λ is. absurd cc;
 }
 
 abbrev mk : Radio → ℕ → ℕ → Medium

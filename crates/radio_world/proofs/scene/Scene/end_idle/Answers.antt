@@ -14,4 +14,4 @@ returns-clause-goes g c =
     let going : c.args.self.now.pushes.going ≡ true = search rules in
     let idle : idles (g.A.Host.face c.args.a.now c.args._shelf.now).inside ≡ true = search rules in
     let came : came_of (g.A.Host.face c.args.a.now c.args._shelf.now).inside ≡ Some c.in-Some.outcome = search rules in
-    λ b. goes_ended c.args.self.now c.end.new.self _ b c.in-Some.outcome _ _ (record { ends = c.in_ok-end.ensures; going = going; idle = idle; came = came; none_b = c.requires.none_b })
+    λ b. goes_ended c.args.self.now c.end.new.self _ b c.in-Some.outcome _ _ (record { ends = c.in_ok-end.ensures.ends; going = going; idle = idle; came = came; none_b = c.requires.none_b })

@@ -2,12 +2,12 @@ use Rattle.std.proofs.Common.{rules, ◌≡◌, true, false}
 use Rattle.radio_world.proofs.Finishing.{last_none, last_one}
 use Rattle.radio_world.proofs.scene.Scene.end_last.Goals as goal
 
-pub returns-then-not-going : goal.returns-then-not-going
-returns-then-not-going g c =
+pub returns-then-not-going-clause-ends : goal.returns-then-not-going-clause-ends
+returns-then-not-going-clause-ends g c =
     let none : c.args.self.now.pushes.going ≡ false = search rules in
     last_none c.args.came c.args.self.now (g.T.Sink.content c.args.trace.now) none
 
-pub returns : goal.returns
-returns g c =
+pub returns-clause-ends : goal.returns-clause-ends
+returns-clause-ends g c =
     let going : c.args.self.now.pushes.going ≡ true = search rules in
-    last_one c.args.came c.args.self.now c.end.new.self c.unwrap_or-outcome.result (g.T.Sink.content c.args.trace.now) (g.T.Sink.content c.end.new.trace) going c.unwrap_or-outcome.ensures c.in_ok-end.ensures
+    last_one c.args.came c.args.self.now c.end.new.self c.unwrap_or-outcome.result (g.T.Sink.content c.args.trace.now) (g.T.Sink.content c.end.new.trace) going c.unwrap_or-outcome.ensures c.in_ok-end.ensures.ends

@@ -6,7 +6,7 @@ use Rattle.radio_world.proofs.scene.Scene.finish.Goals as goal
 pub returns-clause-ends : goal.returns-clause-ends
 returns-clause-ends g c = record {
   last = c.end_last.new.self;
-  last_ends = c.in_ok-end_last.ensures;
+  last_ends = c.in_ok-end_last.ensures.ends;
   closes = record {
     medium = ap (λ (s : Scene). s.medium) c.self.view_is;
     names = c.in_ok-close.ensures.same ∙ ap (λ (s : Scene). s.pushes.names) c.self.view_is;

@@ -1,4 +1,6 @@
-use Rattle.std.proofs.Common.{rules, ◌≡◌, ◌+◌, ◌^◌, ◌<◌, Ok, ap}
+use Rattle.std.proofs.Common.{rules, ◌≡◌, ◌+◌, ◌^◌, ◌<◌, Ok, ap, subst, inl}
+use Rattle.world_model.specs.Scenes.{Scene}
+use Rattle.radio_world.specs.Blaming.{HasLong}
 use Rattle.radio_world.proofs.Turned.{turns_to_nothing, turns_to_act}
 use Rattle.radio_world.proofs.scene.Scene.turn.Goals as goal
 
@@ -15,3 +17,6 @@ returns-clause-turns g c =
     turns_to_act c.self.inside.medium c.act.new.self c.self.inside.pushes c.self.inside.turned c.in-Some.ordinal c.args.self.now c.settle.new.self c.args.word (g.A.Host.face c.args.a.now c.args.shelf.now) (g.A.Host.face c.settle.new.a c.settle.new.shelf)
     (g.B.Host.face c.args.b.now c.args.inbox.now) (g.B.Host.face c.settle.new.b c.settle.new.inbox) (g.T.Sink.content c.args.trace.now) (g.T.Sink.content c.record.new.trace) (g.T.Sink.content c.settle.new.trace)
     c.self.view_is c.requires.rest (c.in_ok-acted.ensures.acts (ap Ok c.if-not-acted.false)) next below c.in_ok-record.ensures.ok c.in_ok-settle.ensures.goes
+
+pub returns-in_err-settle-clause-built : goal.returns-in_err-settle-clause-built
+returns-in_err-settle-clause-built g c = λ is. inl (subst (λ (s : Scene). HasLong (g.A.Host.content c.args.shelf.now) s.pushes.names) c.self.view_is (c.in_err-settle.ensures.built (search rules)))

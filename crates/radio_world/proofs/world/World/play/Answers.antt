@@ -1,6 +1,9 @@
+use Rattle.std.proofs.Common.{rules, ap, ◌∙◌}
 use Rattle.bt_host.specs.Servers.{kept}
+use Rattle.radio_world.specs.Worlds.{World}
 use Rattle.radio_world.specs.OwnHosts.{shelved}
 use Rattle.radio_world.proofs.Happening.{happens}
+use Rattle.radio_world.proofs.Blaming.{unbuilt_before}
 use Rattle.radio_world.proofs.world.World.play.Goals as goal
 
 pub returns-clause-happens : goal.returns-clause-happens
@@ -12,3 +15,7 @@ returns-clause-happens g c =
     (g.T.Sink.content c.args.trace.now) (g.T.Sink.content c.start.new.trace) (g.T.Sink.content c.turn_all.new.trace) (g.T.Sink.content c.finish.new.trace)
     c.requires.fresh c.in_ok-start.ensures.goes c.in_ok-turn_all.ensures.turns c.in_ok-turn_all.ensures.still c.in_ok-finish.ensures.finishes
     c.finish.ensures.hosts.0 c.finish.ensures.hosts.1
+
+pub returns-in_err-turn_all-clause-built : goal.returns-in_err-turn_all-clause-built
+returns-in_err-turn_all-clause-built g c = λ is.
+    unbuilt_before c.in_ok-start.ensures.shelf.told (c.in_ok-start.ensures.goes.names ∙ ap (λ (w : World). w.scene.pushes.names) c.requires.fresh) (λ w. w) (c.in_err-turn_all.ensures.built (search rules))

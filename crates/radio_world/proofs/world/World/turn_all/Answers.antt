@@ -1,4 +1,4 @@
-use Rattle.std.proofs.Common.{List, replicate, take, sym, subst, ◌∙◌}
+use Rattle.std.proofs.Common.{rules, List, replicate, take, sym, subst, ◌∙◌}
 use Rattle.push_script.specs.declared.word.Word.{Word}
 use Rattle.capture.specs.Air.{words_of}
 use Rattle.bt_host.specs.Servers.{kept}
@@ -6,10 +6,11 @@ use Rattle.radio_world.specs.Worlds.{WorldTurns}
 use Rattle.radio_world.specs.OwnHosts.{shelved, client_face, server_face}
 use Rattle.radio_world.proofs.Turned.{turns_none, turns_then}
 use Rattle.radio_world.proofs.Runs.{run_more, none_beyond}
+use Rattle.radio_world.proofs.Blaming.{blames_none, blames_then, keeps_none, keeps_then, unbuilt_before}
 use Rattle.radio_world.proofs.world.World.turn_all.Goals as goal
 
 pub loop-i-init : goal.loop-i-init
-loop-i-init g c = (turns_none c.args.self.now.scene (client_face c.args.self.now.client (shelved (g.F.Shelf.content c.args.shelf.now) (g.F.Shelf.faults c.args.shelf.now))) (server_face c.args.self.now.server (kept (g.B.Inbox.content c.args.inbox.now) (g.B.Inbox.faults c.args.inbox.now) (g.B.Inbox.shortages c.args.inbox.now))) (g.T.Sink.content c.args.trace.now), c.requires.still, c.requires.supplied, c.requires.pending)
+loop-i-init g c = (turns_none c.args.self.now.scene (client_face c.args.self.now.client (shelved (g.F.Shelf.content c.args.shelf.now) (g.F.Shelf.faults c.args.shelf.now))) (server_face c.args.self.now.server (kept (g.B.Inbox.content c.args.inbox.now) (g.B.Inbox.faults c.args.inbox.now) (g.B.Inbox.shortages c.args.inbox.now))) (g.T.Sink.content c.args.trace.now), c.requires.still, c.requires.supplied, c.requires.pending, blames_none, keeps_none, keeps_none)
 
 pub unreachable-requires : goal.unreachable-requires
 unreachable-requires g c = none_beyond c.args.script.now c.loop-i.i c.len-i-end.result c.len-i-end.ensures.count c.loop-i-test.true (sym c.at.ensures ∙ c.in_default.is)
@@ -21,4 +22,12 @@ loop-i-preserved g c = (
   c.in_ok-turn_times.ensures.still,
   c.turn_times.ensures.supplied,
   c.turn_times.ensures.pending,
+  blames_then c.loop-i.invariant.4 c.in_ok-turn_times.ensures.blame,
+  keeps_then c.loop-i.invariant.5 c.in_ok-turn_times.ensures.shelf,
+  keeps_then c.loop-i.invariant.6 c.in_ok-turn_times.ensures.inbox,
 )
+
+pub returns-in_err-turn_times-clause-built : goal.returns-in_err-turn_times-clause-built
+returns-in_err-turn_times-clause-built g c = λ is.
+    unbuilt_before c.loop-i.invariant.5.told c.loop-i.invariant.0.names (λ w. (c.loop-i.i, c.in-Some.count, c.in-Some.word, sym c.at.ensures ∙ c.in-Some.is, w))
+    (c.in_err-turn_times.ensures.built (search rules))

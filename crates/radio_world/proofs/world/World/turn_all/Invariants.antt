@@ -1,10 +1,11 @@
-use Rattle.std.proofs.Common.{◌≡◌, take}
+use Rattle.std.proofs.Common.{◌≡◌, take, Ok}
 use Rattle.obex_session.specs.Rules.{is_under_way}
 use Rattle.capture.specs.Air.{words_of}
 use Rattle.bt_host.specs.ClientHosts.{IsSupplied}
 use Rattle.bt_host.specs.Servers.{kept}
 use Rattle.radio_world.specs.OwnHosts.{shelved}
 use Rattle.radio_world.specs.Worlds.{WorldTurns, IsStill}
+use Rattle.radio_world.specs.Blaming.{BlamesTrace, KeepsPort, KeepsCounts}
 use Rattle.radio_world.proofs.world.World.turn_all.Given as goal
 
 abbrev pub invariant-loop-i : goal.invariant-loop-i
@@ -13,3 +14,6 @@ invariant-loop-i g l =
     (g.T.Sink.content l.fn.trace) (g.T.Sink.content l.trace)
     × IsStill l.self (shelved (g.F.Shelf.content l.shelf) (g.F.Shelf.faults l.shelf)) (kept (g.B.Inbox.content l.inbox) (g.B.Inbox.faults l.inbox) (g.B.Inbox.shortages l.inbox)) × IsSupplied (g.F.Shelf.content l.shelf) l.self.client
     × (g.B.Inbox.is_pending l.inbox ≡ is_under_way l.self.server.server.served.session.progress)
+    × BlamesTrace {A = Unit {0}} (g.T.Sink.faults l.fn.trace) (g.T.Sink.faults l.trace) (g.T.Sink.shortages l.fn.trace) (g.T.Sink.shortages l.trace) (Ok tt)
+    × KeepsPort {A = Unit {0}} (g.F.Shelf.content l.fn.shelf) (g.F.Shelf.content l.shelf) (g.F.Shelf.faults l.fn.shelf) (g.F.Shelf.faults l.shelf) (g.F.Shelf.shortages l.fn.shelf) (g.F.Shelf.shortages l.shelf) (Ok tt)
+    × KeepsCounts {A = Unit {0}} (g.B.Inbox.faults l.fn.inbox) (g.B.Inbox.faults l.inbox) (g.B.Inbox.shortages l.fn.inbox) (g.B.Inbox.shortages l.inbox) (Ok tt)

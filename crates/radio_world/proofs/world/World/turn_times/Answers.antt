@@ -1,14 +1,15 @@
-use Rattle.std.proofs.Common.{List, [], ◌∷◌, replicate, subst}
+use Rattle.std.proofs.Common.{rules, List, [], ◌∷◌, replicate, subst}
 use Rattle.push_script.specs.declared.word.Word.{Word}
 use Rattle.bt_host.specs.Servers.{kept}
 use Rattle.radio_world.specs.Worlds.{WorldTurns}
 use Rattle.radio_world.specs.OwnHosts.{shelved, client_face, server_face}
 use Rattle.radio_world.proofs.Turned.{turns_none, turns_then}
 use Rattle.radio_world.proofs.Runs.{once_more}
+use Rattle.radio_world.proofs.Blaming.{blames_none, blames_then, keeps_none, keeps_then, unbuilt_before}
 use Rattle.radio_world.proofs.world.World.turn_times.Goals as goal
 
 pub loop-i-init : goal.loop-i-init
-loop-i-init g c = (turns_none c.args.self.now.scene (client_face c.args.self.now.client (shelved (g.F.Shelf.content c.args.shelf.now) (g.F.Shelf.faults c.args.shelf.now))) (server_face c.args.self.now.server (kept (g.B.Inbox.content c.args.inbox.now) (g.B.Inbox.faults c.args.inbox.now) (g.B.Inbox.shortages c.args.inbox.now))) (g.T.Sink.content c.args.trace.now), c.requires.still, c.requires.supplied, c.requires.pending)
+loop-i-init g c = (turns_none c.args.self.now.scene (client_face c.args.self.now.client (shelved (g.F.Shelf.content c.args.shelf.now) (g.F.Shelf.faults c.args.shelf.now))) (server_face c.args.self.now.server (kept (g.B.Inbox.content c.args.inbox.now) (g.B.Inbox.faults c.args.inbox.now) (g.B.Inbox.shortages c.args.inbox.now))) (g.T.Sink.content c.args.trace.now), c.requires.still, c.requires.supplied, c.requires.pending, blames_none, keeps_none, keeps_none)
 
 pub loop-i-preserved : goal.loop-i-preserved
 loop-i-preserved g c = (
@@ -17,4 +18,10 @@ loop-i-preserved g c = (
   c.in_ok-turn.ensures.still,
   c.turn.ensures.supplied,
   c.turn.ensures.pending,
+  blames_then c.loop-i.invariant.4 c.in_ok-turn.ensures.blame,
+  keeps_then c.loop-i.invariant.5 c.in_ok-turn.ensures.shelf,
+  keeps_then c.loop-i.invariant.6 c.in_ok-turn.ensures.inbox,
 )
+
+pub returns-in_err-turn-clause-built : goal.returns-in_err-turn-clause-built
+returns-in_err-turn-clause-built g c = λ is. unbuilt_before c.loop-i.invariant.5.told c.loop-i.invariant.0.names (λ w. w) (c.in_err-turn.ensures.built (search rules))
