@@ -2,3 +2,4 @@ pub mod Silence
 pub mod Opening
 pub mod Payloads
 pub mod Conversing
+pub mod Speaking
