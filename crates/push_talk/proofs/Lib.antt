@@ -3,3 +3,4 @@ pub mod Opening
 pub mod Payloads
 pub mod Conversing
 pub mod Speaking
+pub mod ClientTurns

@@ -1,10 +1,10 @@
 -- What is said is read as it was meant.
-use Rattle.std.proofs.Common.{◌≡◌, ℕ, zero, suc, ◌^◌, ◌<◌, ◌≤◌, List, [], ◌∷◌, ◌++◌, length, map, drop, Ok, refl, sym, ap, subst, ◌∙◌, arith}
-use Rattle.std.specs.List.{filter_map, AllByRecursion}
+use Rattle.std.proofs.Common.{◌≡◌, ℕ, zero, suc, ◌<◌, ◌≤◌, List, [], ◌∷◌, ◌++◌, length, map, drop, Ok, refl, sym, ap, subst, ◌∙◌, arith}
+use Rattle.std.specs.List.{filter_map}
 use Rattle.std.proofs.lemmas.List.{append-nil}
-use Rattle.bt_base.specs.Octets.{IsOctets, le16}
+use Rattle.bt_base.specs.Octets.{IsOctets}
 use Rattle.l2cap_signal.specs.Commands.{Command, Content, spelling, IsCommand, IsContent}
-use Rattle.l2cap_signal.specs.Reading.{Answer, answers}
+use Rattle.l2cap_signal.specs.Reading.{answers}
 use Rattle.l2cap_signal.proofs.Payloads.{written_read}
 use Rattle.l2cap_config.specs.Agreement.{only_mtu}
 use Rattle.l2cap_config.specs.Writing.{written}
@@ -13,7 +13,7 @@ use Rattle.push_script.specs.declared.word.Side.TheVariants as sides
 use Rattle.capture.specs.Talk.{Signal, accepted, said_by}
 use Rattle.bt_host.specs.Pdus.{own_endpoint, asks_connection, grants_connection, asks_configuration, grants_configuration, asks_disconnection, grants_disconnection}
 use Rattle.bt_host.specs.Clients.{commands_in}
-use Rattle.push_talk.specs.Conversing.{Saying, Says, Sends, seen, flow_at, opening, closing}
+use Rattle.push_talk.specs.Conversing.{Saying, Says, Sends, seen, flow_at}
 use Rattle.push_talk.specs.Speaking.{pdu_of, speaker, CanBeSaid, SayingsAreRead}
 
 -- ---- one command is read
@@ -67,9 +67,19 @@ can_part = can sides.B 3 (grants_disconnection own_endpoint) (omega arith) (omeg
 
 pub sayings_are_read : SayingsAreRead
 sayings_are_read = record {
-  opening_can = λ mtu_a mtu_b small_a small_b.
-      (can_ask, (can_grant, (can_configure sides.A 2 mtu_a (omega arith) (omega arith), (can_agree sides.B 2 (omega arith) (omega arith),
-      (can_configure sides.B 1 mtu_b (omega arith) (omega arith), (can_agree sides.A 1 (omega arith) (omega arith), tt))))));
+  opening_can = λ mtu_a mtu_b small_a small_b. (
+    can_ask,
+    (
+      can_grant,
+      (
+        can_configure sides.A 2 mtu_a (omega arith) (omega arith),
+        (
+          can_agree sides.B 2 (omega arith) (omega arith),
+          (can_configure sides.B 1 mtu_b (omega arith) (omega arith), (can_agree sides.A 1 (omega arith) (omega arith), tt)),
+        ),
+      ),
+    ),
+  );
   closing_can = (can_close, (can_part, tt));
   is_seen = is_seen;
   is_signal = λ by identifier content. refl;

@@ -1,3 +1,4 @@
 pub mod Conversing
 pub mod Laws
 pub mod Speaking
+pub mod ClientTurns

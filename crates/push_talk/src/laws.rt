@@ -2,6 +2,7 @@
 
 ghost use Rattle.push_talk.specs.Laws.{SilentWhileOpening, PayloadsArePackets};
 ghost use Rattle.push_talk.specs.Speaking.{SayingsAreRead};
+ghost use Rattle.push_talk.specs.ClientTurns.{ClientTurns};
 
 /// While the channel is opened no packets of OBEX are heard or spoken.
 pub fn silent_while_opening()
@@ -16,4 +17,9 @@ pub fn payloads_are_packets()
 /// What a host says, a capture and the other host read as it was meant.
 pub fn sayings_are_read()
     ensures { SayingsAreRead }
+{}
+
+/// What the course of a push makes of what it hears, turn by turn.
+pub fn client_turns()
+    ensures { ClientTurns }
 {}
