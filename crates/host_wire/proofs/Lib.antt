@@ -5,3 +5,6 @@ pub mod Completing
 pub mod Speaking
 pub mod News
 pub mod Told
+pub mod Linked
+pub mod Hearing
+pub mod Letting
