@@ -8,3 +8,7 @@ pub mod Told
 pub mod Linked
 pub mod Hearing
 pub mod Letting
+pub mod Moving
+pub mod Going
+pub mod Telling
+pub mod Stepping
