@@ -85,7 +85,7 @@ piece_keeps : (found : Option Piece) (line : Line) (put : List (List ℕ)) → p
 piece_keeps None line put = refl
 piece_keeps (Some piece) line put = joined_keeps (answer longest_pdu line.joining (starts piece.boundary) piece.octets) put
 
-link_kept : (found : Option Piece) (line : Line) → (after_piece found line).link ≡ line.link
+pub link_kept : (found : Option Piece) (line : Line) → (after_piece found line).link ≡ line.link
 link_kept None line = refl
 link_kept (Some piece) line = refl
 

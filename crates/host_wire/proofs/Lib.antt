@@ -12,3 +12,5 @@ pub mod Moving
 pub mod Going
 pub mod Telling
 pub mod Stepping
+pub mod Resting
+pub mod Linking
