@@ -9,11 +9,10 @@ use Rattle.push_script.specs.declared.word.Side.{Side}
 use Rattle.capture.specs.declared.flow.Flow.TheVariants.{Into}
 use Rattle.capture.specs.Entries.{Entry, Moved}
 use Rattle.capture.specs.Moves.{moves}
-use Rattle.capture.specs.Links.{Link, linking, link_up, after_move}
+use Rattle.capture.specs.Links.{Link, linking, link_up}
 use Rattle.host_link.specs.Lines.{Line}
 use Rattle.host_link.specs.Hearing.{heard, news_of}
-use Rattle.host_link.specs.PuttingOut.{put_out, with_pdu}
-use Rattle.host_link.specs.Stands.{into}
+use Rattle.host_link.specs.PuttingOut.{put_out}
 use Rattle.bt_host.specs.declared.steps.Step.{Step}
 use Rattle.bt_host.specs.declared.steps.Step.TheVariants.{Wait, Page, Send, BreakLink}
 use Rattle.bt_host.specs.Steps.{next_step}

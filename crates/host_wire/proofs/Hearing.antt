@@ -6,12 +6,12 @@ use Rattle.bt_base.specs.Octets.{le16}
 use Rattle.std.specs.List.{AllByRecursion}
 use Rattle.h4_framing.specs.Packets.{Packet, Event, Acl}
 use Rattle.hci_packets.specs.AclWords.{flag_of}
-use Rattle.hci_packets.specs.Events.{PlainEvent, ConnectionRequest, CommandComplete, CommandStatus, CompletedPackets, DisconnectionComplete, code_of, event_params, event_refusal}
+use Rattle.hci_packets.specs.Events.{PlainEvent, ConnectionRequest, CommandComplete, CommandStatus, CompletedPackets, DisconnectionComplete, event_params, event_refusal}
 use Rattle.acl_fragments.specs.Pieces.{Piece, starts}
 use Rattle.acl_fragments.specs.Answers.{Answer as Joined, Pdu, More, Dropped, answer}
 use Rattle.push_script.specs.declared.word.Side.{Side}
 use Rattle.capture.specs.Links.{Link, LinkNews, Linking, NoNews, Answered, LinkEnded, longer, link_news, after_news, after_move}
-use Rattle.host_link.specs.EventReading.{event_at, event_in}
+use Rattle.host_link.specs.EventReading.{event_at}
 use Rattle.host_link.specs.Returning.{returned_by}
 use Rattle.host_link.specs.Hearing.{PlainNews, Nothing, event_news, complete_fault, command_fault, after_complete, after_status, heard, news_of, disconnection_news, joined_news, piece_on, after_piece, piece_news}
 use Rattle.host_link.specs.Lines.{Line, longest_pdu}

@@ -1,5 +1,5 @@
 -- A host lets things wait to be put out.
-use Rattle.std.proofs.Common.{◌≡◌, ℕ, List, [], ◌∷◌, ◌++◌, length, Option, Some, None, refl, sym, ap, subst, ◌∙◌, append_assoc}
+use Rattle.std.proofs.Common.{◌≡◌, ℕ, List, [], ◌∷◌, ◌++◌, Option, Some, None, refl, sym, ap, subst, ◌∙◌, append_assoc}
 use Rattle.std.specs.Prelude.{option_to_list}
 use Rattle.std.proofs.lemmas.List.{append-nil}
 use Rattle.h4_framing.specs.Packets.{Packet}
@@ -7,10 +7,8 @@ use Rattle.hci_packets.specs.declared.acl.Boundary.TheVariants.{First}
 use Rattle.acl_fragments.specs.Pieces.{Piece}
 use Rattle.acl_fragments.specs.Cuts.{cut}
 use Rattle.acl_fragments.specs.Laws.{all_cut}
-use Rattle.push_script.specs.declared.word.Side.{Side}
 use Rattle.capture.specs.declared.flow.Flow.TheVariants.{Out}
-use Rattle.capture.specs.Entries.{Entry}
-use Rattle.capture.specs.Links.{Link, link_up}
+use Rattle.capture.specs.Links.{Link}
 use Rattle.capture.specs.Pdus.{pieces}
 use Rattle.host_link.specs.Lines.{Line}
 use Rattle.host_link.specs.PuttingOut.{connecting, ending, with_pdu}
@@ -18,7 +16,7 @@ use Rattle.bt_host.specs.declared.steps.Step.{Step}
 use Rattle.bt_host.specs.declared.steps.Step.TheVariants.{Wait, Page, Send, BreakLink}
 use Rattle.bt_host.specs.Clients.{peer_address, after_step}
 use Rattle.bt_host.specs.Servers.{with_response}
-use Rattle.host_wire.specs.Wiring.{pieces_on, IsOnLink, Wired, Wires}
+use Rattle.host_wire.specs.Wiring.{pieces_on, Wired}
 use Rattle.host_wire.specs.Sending.{sent_by, on_link}
 use Rattle.host_wire.proofs.Told.{Held, held_flow}
 
@@ -42,7 +40,7 @@ wired_pdu (Some link) (Some handle) line said put pdu wired =
       joining = wired.joining;
     }
 
-link_with : (own : Option ℕ) (pdu : List ℕ) (line : Line) → (with_pdu own pdu line).link ≡ line.link
+pub link_with : (own : Option ℕ) (pdu : List ℕ) (line : Line) → (with_pdu own pdu line).link ≡ line.link
 link_with None pdu line = refl
 link_with (Some handle) pdu line = refl
 
@@ -77,7 +75,7 @@ held_response up said put (Some pdu) line held = held_pdu up said put pdu line h
 
 -- ---- the link stays
 
-ending_link : (own : Option ℕ) (line : Line) → (ending own line).link ≡ line.link
+pub ending_link : (own : Option ℕ) (line : Line) → (ending own line).link ≡ line.link
 ending_link None line = refl
 ending_link (Some handle) line = refl
 

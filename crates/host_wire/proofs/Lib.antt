@@ -14,3 +14,4 @@ pub mod Telling
 pub mod Stepping
 pub mod Resting
 pub mod Linking
+pub mod LinkTold

@@ -1,20 +1,18 @@
 -- A host is told of a link, and of its end.
-use Rattle.std.proofs.Common.{◌≡◌, ℕ, ◌+◌, ◌%◌, ◌<◌, ◌≤◌, List, [], ◌∷◌, ◌++◌, Bool, true, false, cond, eqb, Option, Some, None, option_map, refl, sym, ap, subst, ◌∙◌, arith, eq-eqb, ne_eqb}
-use Rattle.std.specs.Prelude.{is_none}
-use Rattle.std.specs.Option.{option_or}
+use Rattle.std.proofs.Common.{◌≡◌, ℕ, ◌%◌, ◌<◌, List, [], ◌∷◌, Bool, true, false, cond, eqb, Option, Some, None, refl, sym, ap, subst, ◌∙◌, arith, eq-eqb, ne_eqb}
 use Rattle.std.specs.List.{cons_option, AllByRecursion}
 use Rattle.h4_framing.specs.Packets.{Packet, Command, Acl, Sync, Event}
 use Rattle.hci_packets.specs.declared.acl.Boundary.{Boundary}
-use Rattle.capture.specs.PieceHeads.{is_no_piece, boundary_of, piece_head}
+use Rattle.capture.specs.PieceHeads.{is_no_piece, boundary_of}
 use Rattle.capture.specs.Moves.{Move}
-use Rattle.capture.specs.Links.{Link, Linking, Answered, LinkEnded, longer, gone_on, made, after_news}
+use Rattle.capture.specs.Links.{Link, Linking, Answered, LinkEnded, after_news}
 use Rattle.capture.specs.Pdus.{piece_with, piece_of}
 use Rattle.host_link.specs.CommandFlows.{is_number}
 use Rattle.host_link.specs.Hearing.{PlainNews, Nothing, LinkUp, LinkFailed, LinkDown, Pdu, makes_link, after_connection, after_disconnection, disconnection_news}
 use Rattle.host_link.specs.Lines.{Line}
 use Rattle.world_model.specs.Hosts.{IsWithin}
 use Rattle.world_model.proofs.Telling.{new_link, IsUp, let_go}
-use Rattle.host_wire.specs.Wiring.{pieces_on, IsSilent, Wired}
+use Rattle.host_wire.specs.Wiring.{pieces_on, Wired}
 use Rattle.host_wire.specs.Sending.{put_heard}
 use Rattle.host_wire.proofs.Told.{Held}
 

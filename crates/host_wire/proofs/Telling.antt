@@ -1,5 +1,5 @@
 -- A packet arrives at a host, which goes on; and a push begins.
-use Rattle.std.proofs.Common.{◌≡◌, ℕ, List, [], ◌∷◌, ◌++◌, Some, refl, sym, ap, subst, ◌∙◌}
+use Rattle.std.proofs.Common.{◌≡◌, ℕ, List, [], ◌∷◌, ◌++◌, sym, subst}
 use Rattle.h4_framing.specs.Packets.{Packet}
 use Rattle.push_script.specs.declared.word.Side.{Side}
 use Rattle.capture.specs.declared.flow.Flow.TheVariants.{Into}
