@@ -2,3 +2,8 @@ pub mod Silence
 pub mod Opening
 pub mod Payloads
 pub mod Conversing
+pub mod Speaking
+pub mod ClientTurns
+pub mod ServerTurns
+pub mod Serving
+pub mod HostTurns
