@@ -2,3 +2,4 @@ pub mod Kept
 pub mod Taking
 pub mod Played
 pub mod Blaming
+pub mod Gained

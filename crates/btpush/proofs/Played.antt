@@ -1,6 +1,8 @@
 -- What a world that was played comes to.
-use Rattle.std.proofs.Common.{◌≡◌, ℕ, List, length, Option, sym, ap, ◌∙◌}
-use Rattle.std.specs.Prelude.{min}
+use Rattle.std.proofs.Common.{◌≡◌, ℕ, List, length, Bool, false, Option, sym, ap, ◌∙◌}
+use Rattle.std.specs.Prelude.{min, is_some, IfSome}
+use Rattle.capture.specs.Air.{words_of}
+use Rattle.btpush.proofs.Gained.{play_gains}
 use Rattle.push_script.specs.declared.scenario.Scenario.{Scenario}
 use Rattle.world_model.specs.Faces.{Face}
 use Rattle.radio_world.specs.Worlds.{World, Happens}
@@ -19,8 +21,8 @@ pub record Tells (world : World) (played : Played) : Type 0 where
   pub credits_b : played.peaks.credits_b ≡ 0
 
 pub plays_of : (scenario : Scenario) (world : World) (played : Played) (stock stock' : Stocked) (trace trace' : Option (List ℕ)) → Tells world played → length world.scene.pushes.outcomes ≡ length scenario.names
-    → Happens scenario world stock.shelf stock'.shelf stock.inbox stock'.inbox trace trace' → Plays scenario played stock stock' trace trace'
-plays_of scenario world played stock stock' trace trace' tells each happens = record {
+    → (pending : Bool) → pending ≡ false → IfSome stock.inbox.content (λ held. is_some held.pending ≡ pending) → Happens scenario world stock.shelf stock'.shelf stock.inbox stock'.inbox trace trace' → Plays scenario played stock stock' trace trace'
+plays_of scenario world played stock stock' trace trace' tells each pending none told happens = record {
   entries = happens.entries;
   entries_are = happens.entries_are;
   written = happens.written;
@@ -46,4 +48,6 @@ plays_of scenario world played stock stock' trace trace' tells each happens = re
     stored = tells.stored;
     outcomes = tells.outcomes ∙ happens.ends.outcomes;
   };
+  gained = play_gains scenario.acl_length scenario.acl_count scenario.settings.mtu scenario.settings.obex scenario.names stock.shelf stock.inbox stock'.inbox (words_of scenario.script) happens.last happens.entries
+      world.server.server.served played.kept pending none told happens.plays (ap (λ (f : Face). f.inside) (sym happens.ends.server)) tells.stored;
 }

@@ -1,5 +1,5 @@
 -- What a run of a scenario comes to (this project's own).
-use Rattle.std.specs.Prelude.{ℕ, ◌++◌, replicate, ◌≡◌, ◌-◌, min, List, length, Option}
+use Rattle.std.specs.Prelude.{ℕ, ◌++◌, replicate, ◌≡◌, ◌-◌, ◌^◌, min, List, length, Option, Some, None, IfSome}
 use Rattle.std.specs.List.{AllByRecursion, filter_map}
 use Rattle.bt_base.specs.Objects.{Object, Contents}
 use Rattle.bt_base.specs.Streams.{gained}
@@ -38,11 +38,22 @@ pub record EndsWith (names : List (List ℕ)) (played : Played) (last : Moment) 
   pub stored : played.kept ≡ served.stored
   pub outcomes : played.outcomes.items ≡ last.scene.pushes.outcomes ++ replicate (length names - length last.scene.pushes.outcomes) ScriptEnded
 
+-- Behind what an inbox held stand the objects that it gained, where it tells what it holds; so many were kept, to the
+-- greatest number of 32 bits.
+pub record IsGained (before : Contents) (kept : ℕ) (after : Contents) : Type 0 where
+  pub gain : List Object
+  pub stored : after.stored ≡ before.stored ++ gain
+  pub counted : kept ≡ min (length gain) (2 ^ 32 - 1)
+
+abbrev pub Gains : (before : Option Contents) → (kept : ℕ) → (after : Option Contents) → Type 0
+Gains None kept after = Unit {0}
+Gains (Some before) kept after = IfSome after (IsGained before kept)
+
 -- A scenario was played, and the trace gained the capture of what happened: the air obeyed the words of the script,
 -- both hosts kept within the buffers of their controllers at each moment, and the peaks are those of the capture. No
 -- frame of an enhanced channel and no credit is there yet. Each object has its outcome, which is the one that the end of its
 -- push states, or the end of the script where it did not begin. All that happened is what may happen in a world from its
--- first moment on, and ends as it says.
+-- first moment on, and ends as it says. Behind what the inbox held stand the objects that it gained, as many as are reported.
 pub record Plays (scenario : Scenario) (played : Played) (stock stock' : Stocked) (trace trace' : Option (List ℕ)) : Type 0 where
   pub entries : List Entry
   pub entries_are : AllByRecursion IsEntry entries
@@ -62,3 +73,4 @@ pub record Plays (scenario : Scenario) (played : Played) (stock stock' : Stocked
   pub last : Moment
   pub happened : world.Plays (words_of scenario.script) (beginning scenario stock.shelf stock.inbox) last entries
   pub ends : EndsWith scenario.names played last stock'
+  pub gained : Gains stock.inbox.content played.kept stock'.inbox.content
