@@ -144,7 +144,7 @@ none_there : (link : Option ℕ) → is_none link ≡ true → link ≡ None
 none_there None is = refl
 none_there (Some handle) is = absurd cc
 
-both_ways : (serves : Bool) → serves ≡ true → serves ≡ false → ⊥
+pub both_ways : (serves : Bool) → serves ≡ true → serves ≡ false → ⊥
 both_ways serves is isnt = let never : true ≡ false = sym is ∙ isnt in absurd cc
 
 accepting : (n : ℕ) (captured : Bool) (said : List Packet) (line : Line) (address : List ℕ) (kind : ℕ) → may_accept kind line ≡ true → AsksOf n captured said line

@@ -21,3 +21,4 @@ pub mod AskingHeard
 pub mod Roles
 pub mod Busy
 pub mod Course
+pub mod Asked
