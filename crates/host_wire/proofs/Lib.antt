@@ -22,3 +22,5 @@ pub mod Roles
 pub mod Busy
 pub mod Course
 pub mod Asked
+pub mod Known
+pub mod Knowing
