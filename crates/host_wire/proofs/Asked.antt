@@ -1,25 +1,22 @@
 -- Hosts that go on, and the connections that they ask for.
-use Rattle.std.proofs.Common.{◌≡◌, ℕ, ◌+◌, ◌≤◌, List, [], ◌∷◌, ◌++◌, length, Bool, true, false, Option, Some, None, refl, sym, ap, subst, ◌∙◌, arith}
+use Rattle.std.proofs.Common.{◌≡◌, ℕ, ◌≤◌, List, [], ◌∷◌, ◌++◌, length, Bool, true, false, Option, Some, None, refl, sym, ap, subst, ◌∙◌, arith}
 use Rattle.std.proofs.Common.{inl, inr}
 use Rattle.std.proofs.lemmas.Bool.{cases_lt}
 use Rattle.std.specs.Prelude.{nat_lt}
-use Rattle.std.specs.List.{AllByRecursion}
 use Rattle.bt_base.specs.Objects.{Object}
 use Rattle.h4_framing.specs.Packets.{Packet}
 use Rattle.push_script.specs.declared.word.Side.{Side}
 use Rattle.capture.specs.declared.flow.Flow.TheVariants.{Into}
 use Rattle.capture.specs.Entries.{Entry, Moved}
 use Rattle.capture.specs.Moves.{moves}
-use Rattle.capture.specs.Links.{Linking, linking, after_move}
+use Rattle.capture.specs.Links.{Linking, linking}
 use Rattle.host_link.specs.declared.host_command.HostCommand.TheVariants.{CreateConnection}
 use Rattle.host_link.specs.HostCommands.{asks}
 use Rattle.host_link.specs.CommandFlows.{Flow}
 use Rattle.host_link.specs.Hearing.{PlainNews, Nothing, is_server, heard, news_of}
 use Rattle.host_link.specs.Lines.{Line}
 use Rattle.host_link.specs.PuttingOut.{put_out, connecting}
-use Rattle.host_link.specs.Stands.{into}
-use Rattle.bt_host.specs.declared.stages.Stage.{Stage}
-use Rattle.bt_host.specs.declared.stages.Stage.TheVariants.{Idle, ToPage, Paging}
+use Rattle.bt_host.specs.declared.stages.Stage.TheVariants.{Idle, Paging}
 use Rattle.bt_host.specs.declared.steps.Step.{Step}
 use Rattle.bt_host.specs.Courses.{Course, at, begun}
 use Rattle.bt_host.specs.Steps.{next_step}
@@ -33,13 +30,12 @@ use Rattle.bt_host.proofs.OutLaws.{heard_out}
 use Rattle.radio_air.specs.Controllers.{Answer, packet_of}
 use Rattle.radio_air.specs.Radio.{Radio, controller, is_together}
 use Rattle.radio_air.specs.Showing.{Shows, IsOwed}
-use Rattle.world_model.specs.Hosts.{HostStands}
 use Rattle.world_model.proofs.Lists.{chosen}
 use Rattle.world_model.proofs.Hearing.{tells_of}
 use Rattle.world_model.proofs.Letting.{connecting_stands}
 use Rattle.host_wire.proofs.Asking.{bit, tally_push, AsksOf}
 use Rattle.host_wire.proofs.AskingOut.{Asking, AskingOn, out_asks}
-use Rattle.host_wire.proofs.AskingHeard.{AsksNext, asks_heard, both_ways}
+use Rattle.host_wire.proofs.AskingHeard.{asks_heard, both_ways}
 use Rattle.host_wire.proofs.Busy.{busy, pages, step_quiet}
 use Rattle.host_wire.proofs.Course.{IsCourse, step_course, asks_step, asks_response, tells_link, link_asked}
 use Rattle.host_wire.proofs.Going.{out_step, step_stands, out_response, response_stands, peer_is}
@@ -160,9 +156,10 @@ none_linked (Some handle) never = absurd (never handle refl)
 
 -- an idle client asks for nothing, and knows of no link
 idle_none : (n : ℕ) (link : Option ℕ) (course : Course) → course.stage ≡ Idle → IsCourse n link course → (n ≡ 0) × (link ≡ None)
-idle_none n link course idle is =
-    (elim (cases_lt 0 n) [ inl some ↦ (let never : Idle ≡ Paging = sym idle ∙ is.paging some in absurd cc) | inr none ↦ omega (arith, none) ],
-    none_linked link (λ handle known. let never : false ≡ true = ap busy (sym idle) ∙ is.linked handle known in absurd cc))
+idle_none n link course idle is = (
+  elim (cases_lt 0 n) [ inl some ↦ (let never : Idle ≡ Paging = sym idle ∙ is.paging some in absurd cc) | inr none ↦ omega (arith, none) ],
+  none_linked link (λ handle known. let never : false ≡ true = ap busy (sym idle) ∙ is.linked handle known in absurd cc),
+)
 
 begun_first : (side : Side) (count : ℕ) (past : List Entry) (n : ℕ) (name : List ℕ) (size : Option ℕ) (given : Option (List ℕ)) (line : Line) (course : Course) → is_server line.role ≡ false → course.stage ≡ Idle
     → client.IsSendable (next_step given (begun name size course)).0 → ClientAsks side count past n line course

@@ -4,7 +4,7 @@ use Rattle.std.specs.Prelude.{◌||◌}
 use Rattle.std.specs.List.{AllByRecursion}
 use Rattle.h4_framing.specs.Packets.{Packet, Command, Acl, Sync, Event}
 use Rattle.capture.specs.Moves.{Move}
-use Rattle.capture.specs.Links.{Linking, LinkNews, Asked, NoNews, is_asked, link_news, after_news, after_move, no_links}
+use Rattle.capture.specs.Links.{Linking, Asked, NoNews, is_asked, link_news, after_news, after_move, no_links}
 use Rattle.host_link.specs.declared.role.Role.{Role}
 use Rattle.host_link.specs.declared.host_command.HostCommand.{HostCommand}
 use Rattle.host_link.specs.declared.host_command.HostCommand.TheVariants.{CreateConnection}

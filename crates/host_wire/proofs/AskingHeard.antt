@@ -1,5 +1,5 @@
 -- A host that asks for a connection hears what its controller owes it.
-use Rattle.std.proofs.Common.{◌≡◌, ℕ, ◌+◌, ◌*◌, ◌<◌, ◌≤◌, List, [], ◌∷◌, ◌++◌, length, Bool, true, false, cond, Option, Some, None, option_map, refl, sym, ap, subst, ◌∙◌, arith}
+use Rattle.std.proofs.Common.{◌≡◌, ℕ, ◌+◌, ◌*◌, ◌≤◌, List, [], ◌∷◌, ◌++◌, length, Bool, true, false, cond, Option, Some, None, refl, sym, ap, subst, ◌∙◌, arith}
 use Rattle.std.specs.Prelude.{◌&&◌, ◌==◌, not, is_none, nat_lt, slice_index, drop, take}
 use Rattle.std.specs.List.{list_any, AllByRecursion}
 use Rattle.byteorder.specs.Endian.{little_number}
@@ -10,7 +10,7 @@ use Rattle.hci_packets.specs.Events.{PlainEvent, ConnectionRequest, CommandCompl
 use Rattle.acl_fragments.specs.Pieces.{Piece}
 use Rattle.push_script.specs.declared.word.Side.{Side}
 use Rattle.capture.specs.Moves.{Move}
-use Rattle.capture.specs.Links.{Link, LinkNews, Linking, NoNews, Answered, LinkEnded, longer, gone_on, link_news, after_news, after_move}
+use Rattle.capture.specs.Links.{Link, LinkNews, Linking, NoNews, LinkEnded, link_news, after_news, after_move}
 use Rattle.host_link.specs.declared.news.ControllerFault.{ControllerFault}
 use Rattle.host_link.specs.declared.returned.Returned.{Returned as Return}
 use Rattle.host_link.specs.declared.returned.Returned.TheVariants.{Refused, Unlisted, Status, Buffers}
@@ -28,9 +28,9 @@ use Rattle.radio_air.specs.Showing.{IsOwed}
 use Rattle.world_model.proofs.Lists.{all_both, chosen}
 use Rattle.world_model.proofs.Reading.{heard_by, link_made_again, link_gone_again, returned_news, stated_news, called_news, given_back_news, link_made_news, link_gone_news}
 use Rattle.world_model.proofs.Telling.{let_go}
-use Rattle.world_model.proofs.Hearing.{Tells, owed_below, none_up}
+use Rattle.world_model.proofs.Hearing.{Tells, owed_below}
 use Rattle.host_wire.proofs.Hearing.{gone_news}
-use Rattle.host_wire.proofs.Asking.{bit, tally, tally_push, is_ask, IsNoConnect, Asks, AsksOf}
+use Rattle.host_wire.proofs.Asking.{bit, tally, tally_push, IsNoConnect, Asks, AsksOf}
 
 -- how many connections are asked for then; a client that still asks was asking before, and is told nothing
 pub record AsksNext (n : ℕ) (captured : Bool) (said : List Packet) (role_serves : Bool) (news : PlainNews) (new : Line) : Type 0 where

@@ -1,5 +1,5 @@
 -- A host that asks for a connection puts out what may go out.
-use Rattle.std.proofs.Common.{◌≡◌, ℕ, zero, suc, List, [], ◌∷◌, ◌++◌, Bool, true, false, Option, Some, None, refl, sym, ap, subst, ◌∙◌}
+use Rattle.std.proofs.Common.{◌≡◌, ℕ, zero, suc, List, [], ◌∷◌, ◌++◌, Bool, Option, Some, None, refl, subst}
 use Rattle.std.specs.Prelude.{◌&&◌}
 use Rattle.std.specs.List.{AllByRecursion}
 use Rattle.std.proofs.lemmas.Bool.{ltb-true}
@@ -20,7 +20,7 @@ use Rattle.world_model.specs.Hosts.{IsShort, links_told, HostStands}
 use Rattle.world_model.proofs.Lists.{all_both, chosen}
 use Rattle.world_model.proofs.Saying.{piece_is_packet, out_said}
 use Rattle.world_model.proofs.Commanding.{command_is_packet, first_addressed, next_waits}
-use Rattle.world_model.proofs.Putting.{is_last, piece_stands, pieces_stand, command_stands, puts_out}
+use Rattle.world_model.proofs.Putting.{is_last, piece_stands, pieces_stand, command_stands}
 use Rattle.host_wire.proofs.Putting.{both_right}
 use Rattle.host_wire.proofs.Asking.{AsksOf, asks_said, asks_command}
 

@@ -1,7 +1,7 @@
 -- The stages of a push that has its link.
-use Rattle.std.proofs.Common.{◌≡◌, ℕ, ◌≤◌, Bool, true, false, cond, List, [], ◌∷◌, fold, Option, Some, None, Result, Ok, Err, refl, sym, ap, subst, ◌∙◌}
+use Rattle.std.proofs.Common.{◌≡◌, ℕ, Bool, true, false, List, [], ◌∷◌, Option, Some, None, Result, Ok, Err, refl}
 use Rattle.std.specs.Prelude.{◌==◌, drop}
-use Rattle.l2cap_signal.specs.Commands.{Command, Content, reject, connection_request, connection_response, configuration_request, configuration_response, disconnection_request, disconnection_response, echo_request, echo_response, information_request, information_response}
+use Rattle.l2cap_signal.specs.Commands.{Command, Content, connection_response, configuration_request, configuration_response, disconnection_response}
 use Rattle.l2cap_config.specs.declared.wish.Agreed.{Agreed}
 use Rattle.obex_headers.specs.declared.fault.ObexRefusal.{ObexRefusal}
 use Rattle.obex_headers.specs.declared.packet.Phase.TheVariants.{Response, ConnectResponse}
@@ -12,11 +12,11 @@ use Rattle.bt_host.specs.declared.stages.Stage.{Stage}
 use Rattle.bt_host.specs.declared.stages.Stage.TheVariants.{Idle, ToPage, Paging, Linked, Connecting, Connected, Configuring, Greeting, Greeted, Putting, ToPart, Parting, ToClose, Closing, ToLeave, Leaving}
 use Rattle.bt_host.specs.declared.stages.PeerRequest.TheVariants.{Awaited, Heard, Accepted}
 use Rattle.bt_host.specs.declared.steps.Step.{Step}
-use Rattle.bt_host.specs.declared.steps.Step.TheVariants.{Wait, Page, Send, BreakLink}
+use Rattle.bt_host.specs.declared.steps.Step.TheVariants.{Page}
 use Rattle.bt_host.specs.Courses.{Course, at, caused}
 use Rattle.bt_host.specs.Pdus.{own_endpoint}
 use Rattle.bt_host.specs.Events as events
-use Rattle.bt_host.specs.Steps.{step_at, next_step}
+use Rattle.bt_host.specs.Steps.{step_at}
 use Rattle.bt_host.specs.Clients.{commands_in, after_commands, after_pdu}
 use Rattle.world_model.proofs.Lists.{chosen}
 

@@ -1,32 +1,30 @@
 -- The course of a client's push beside the connections that it asks for.
-use Rattle.std.proofs.Common.{◌≡◌, ℕ, ◌+◌, ◌≤◌, List, [], ◌∷◌, ◌++◌, length, Bool, true, false, cond, Option, Some, None, refl, sym, ap, subst, ◌∙◌, arith}
-use Rattle.std.specs.Prelude.{◌==◌, is_none, is_some, nat_lt}
-use Rattle.std.specs.List.{AllByRecursion}
-use Rattle.h4_framing.specs.Packets.{Packet, Command, Acl, Sync, Event, spellings}
+use Rattle.std.proofs.Common.{◌≡◌, ℕ, ◌≤◌, List, [], ◌∷◌, ◌++◌, length, Bool, true, false, cond, Option, Some, None, refl, sym, subst, ◌∙◌, arith}
+use Rattle.std.specs.Prelude.{nat_lt}
+use Rattle.h4_framing.specs.Packets.{Packet, Command, Acl, Sync, Event}
 use Rattle.hci_packets.specs.Events.{PlainEvent, ConnectionComplete, ConnectionRequest, DisconnectionComplete, CommandComplete, CommandStatus, CompletedPackets, Other}
 use Rattle.acl_fragments.specs.Pieces.{Piece, starts}
 use Rattle.acl_fragments.specs.Answers.{Answer as Joined, Pdu as Whole, More, Dropped, answer}
-use Rattle.host_link.specs.declared.host_command.HostCommand.{HostCommand}
-use Rattle.host_link.specs.declared.host_command.HostCommand.TheVariants.{CreateConnection, Disconnect}
+use Rattle.host_link.specs.declared.host_command.HostCommand.TheVariants.{Disconnect}
 use Rattle.host_link.specs.HostCommands.{asks}
-use Rattle.host_link.specs.CommandFlows.{Flow, with_command}
+use Rattle.host_link.specs.CommandFlows.{Flow}
 use Rattle.host_link.specs.EventReading.{event_in}
-use Rattle.host_link.specs.Hearing.{PlainNews, Nothing, LinkUp, LinkFailed, LinkDown, Pdu, is_server, ends_link, piece_on, piece_news, joined_news, event_news, news_of}
+use Rattle.host_link.specs.Hearing.{PlainNews, Nothing, LinkUp, LinkFailed, LinkDown, Pdu, ends_link, piece_on, piece_news, joined_news, event_news, news_of}
 use Rattle.host_link.specs.Lines.{Line, longest_pdu}
 use Rattle.host_link.specs.PuttingOut.{ending, with_pdu}
 use Rattle.bt_host.specs.declared.stages.Stage.{Stage}
-use Rattle.bt_host.specs.declared.stages.Stage.TheVariants.{Idle, ToPage, Paging, Linked}
+use Rattle.bt_host.specs.declared.stages.Stage.TheVariants.{Paging}
 use Rattle.bt_host.specs.declared.steps.Step.{Step}
 use Rattle.bt_host.specs.declared.steps.Step.TheVariants.{Wait, Page, Send, BreakLink}
-use Rattle.bt_host.specs.Courses.{Course, ended}
-use Rattle.bt_host.specs.Events.{is_idle, after_link_up, after_link_failed, after_link_down}
+use Rattle.bt_host.specs.Courses.{Course}
+use Rattle.bt_host.specs.Events.{is_idle, after_link_up}
 use Rattle.bt_host.specs.Steps.{step_at, next_step}
-use Rattle.bt_host.specs.Clients.{after_news, after_step, peer_address}
+use Rattle.bt_host.specs.Clients.{after_news, after_step}
 use Rattle.bt_host.specs.Servers.{with_response}
 use Rattle.world_model.proofs.Lists.{all_both, chosen}
 use Rattle.host_wire.specs.WireLaws.{IsLinkedBy}
-use Rattle.host_wire.proofs.Asking.{bit, tally, tally_push, IsNoConnect, Asks, AsksOf}
-use Rattle.host_wire.proofs.Busy.{busy, pages, pdu_busy, step_busy, IsNoPage, step_quiet, busy_is_ready}
+use Rattle.host_wire.proofs.Asking.{tally_push, IsNoConnect, AsksOf}
+use Rattle.host_wire.proofs.Busy.{busy, pages, pdu_busy, step_busy, IsNoPage, busy_is_ready}
 
 -- a client that asks for a connection is paging, and one that has a link is busy
 pub record IsCourse (n : ℕ) (link : Option ℕ) (course : Course) : Type 0 where

@@ -1,28 +1,21 @@
 -- Whatever happens from the beginning on, a host knows of the link that its capture has.
-use Rattle.std.proofs.Common.{◌≡◌, ℕ, ◌≤◌, List, [], ◌∷◌, ◌++◌, Bool, true, false, Option, Some, None, option_map, refl, sym, ap, subst, ◌∙◌}
-use Rattle.std.specs.Prelude.{◌||◌}
+use Rattle.std.proofs.Common.{◌≡◌, ℕ, ◌≤◌, List, [], ◌∷◌, ◌++◌, Bool, true, false, Option, None, refl, sym, ap, subst, ◌∙◌}
 use Rattle.std.specs.List.{AllByRecursion}
-use Rattle.std.proofs.lemmas.List.{append-nil, append_cancel_left}
+use Rattle.std.proofs.lemmas.List.{append_cancel_left}
 use Rattle.h4_framing.specs.Packets.{Packet, spelling, spellings, IsPacket}
 use Rattle.push_script.specs.declared.word.Side.{Side}
-use Rattle.push_script.specs.declared.word.Side.TheVariants as sides
-use Rattle.capture.specs.declared.flow.Flow.TheVariants.{Out, Into}
-use Rattle.capture.specs.Entries.{Entry, Moved, Begun}
-use Rattle.capture.specs.Moves.{Move, moves, move_of}
-use Rattle.capture.specs.Links.{Link, Linking, longer, linking, after_move}
-use Rattle.capture.specs.Laws.{led_on}
-use Rattle.capture.proofs.FurtherLaws.{entry_links-more}
+use Rattle.capture.specs.declared.flow.Flow.TheVariants.{Into}
+use Rattle.capture.specs.Entries.{Entry, Moved}
+use Rattle.capture.specs.Moves.{moves}
+use Rattle.capture.specs.Links.{Link, Linking, linking, after_move}
 use Rattle.host_link.specs.Hearing.{is_server, heard, news_of}
 use Rattle.host_link.specs.Lines.{Line}
-use Rattle.host_link.specs.Stands.{into, out_of}
-use Rattle.bt_host.specs.declared.stages.Stage.{Stage}
-use Rattle.bt_host.specs.declared.stages.Stage.TheVariants.{Idle}
-use Rattle.bt_host.specs.Events.{is_idle}
+use Rattle.host_link.specs.Stands.{out_of}
 use Rattle.bt_host.specs.Clients.{after_news, told}
 use Rattle.radio_air.specs.Controllers.{Answer, packet_of}
 use Rattle.radio_air.specs.Radio.{Radio, controller, is_together}
 use Rattle.radio_air.specs.Showing.{Shows, IsOwed}
-use Rattle.world_model.specs.Faces.{Face, with_out}
+use Rattle.world_model.specs.Faces.{Face}
 use Rattle.world_model.specs.Hosts.{HostStands, OwesHonestly}
 use Rattle.world_model.specs.Hearing.{acl_limit, HearsBehind}
 use Rattle.world_model.specs.Insides.{Inside, Pushing, Serving, Tells, client, server}
@@ -31,15 +24,15 @@ use Rattle.world_model.proofs.Hearing.{tells_of}
 use Rattle.world_model.proofs.HostSteps.{stands_hearing}
 use Rattle.world_model.proofs.Longer.{goes_out}
 use Rattle.host_wire.specs.Sending.{line_hearing}
-use Rattle.host_wire.proofs.Asking.{AsksOf, is_ask, moved_asks, asks_moved}
+use Rattle.host_wire.proofs.Asking.{AsksOf, moved_asks, asks_moved}
 use Rattle.host_wire.proofs.AskingOut.{Asking, AskingOn, again_asks}
-use Rattle.host_wire.proofs.Asked.{HeardAsking, asking_heard, told_one, ClientAsks, client_asks, server_asks}
+use Rattle.host_wire.proofs.Asked.{HeardAsking, asking_heard, told_one, client_asks, server_asks}
 use Rattle.host_wire.proofs.Course.{IsCourse, tells_link, news_course}
-use Rattle.host_wire.proofs.Known.{IsKnown, known_longer, KnownThen, known_heard}
+use Rattle.host_wire.proofs.Known.{IsKnown, known_longer, known_heard}
 use Rattle.host_wire.proofs.Linking.{packet_linked}
 use Rattle.host_wire.proofs.LinkTold.{puts_link, again_link}
 use Rattle.host_wire.proofs.Moving.{known_moved}
-use Rattle.host_wire.proofs.Roles.{behind_role, heard_role, again_role}
+use Rattle.host_wire.proofs.Roles.{behind_role, again_role}
 
 -- ---- what a host keeps
 
@@ -108,9 +101,11 @@ heard_behind : (side : Side) (past : List Entry) (radio : Radio) (packet : Packe
     → AskingOn side radio.count past n (line_hearing packet old new hears) × Heard side past radio packet n (line_hearing packet old new hears)
 heard_behind side past radio packet answer rest n old new hears owed is shows honest stands asking up =
     let line : Line = line_hearing packet old new hears in
-    let before : AskingOn side radio.count past n line = again_asks side radio.count past n hears.times old.line (stands, asking) in
-    (before, subst (λ (p : Packet). Heard side past radio p n line) (sym is)
-    (heard_answer side past radio answer rest n line owed shows honest before (subst (IsKnown (linking (moves side past)).up) (sym (again_link hears.times old.line)) up)))
+    let before : AskingOn side radio.count past n line = again_asks side radio.count past n hears.times old.line (stands, asking) in (
+      before,
+      subst (λ (p : Packet). Heard side past radio p n line) (sym is)
+          (heard_answer side past radio answer rest n line owed shows honest before (subst (IsKnown (linking (moves side past)).up) (sym (again_link hears.times old.line)) up)),
+    )
 
 client_tells : (side : Side) (past : List Entry) (radio : Radio) (packet : Packet) (n : ℕ) (line : Line) (old new : Inside) (line' : Line) → Tells packet line line' old new → is_server line.role ≡ false → (1 ≤ n → line.link ≡ None)
     → (tells_link (news_of packet line) ≡ true → 1 ≤ n) → OfCourse n line.link old → (h : Heard side past radio packet n line)

@@ -24,3 +24,4 @@ pub mod Course
 pub mod Asked
 pub mod Known
 pub mod Knowing
+pub mod KnowingRuns

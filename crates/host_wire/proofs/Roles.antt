@@ -1,5 +1,5 @@
 -- A host keeps its role.
-use Rattle.std.proofs.Common.{◌≡◌, ℕ, zero, suc, List, [], ◌∷◌, fold, Bool, true, false, Option, Some, None, refl, sym, ap, subst, ◌∙◌}
+use Rattle.std.proofs.Common.{◌≡◌, ℕ, zero, suc, List, [], ◌∷◌, fold, Option, Some, None, refl, ap, ◌∙◌}
 use Rattle.std.specs.Prelude.{◌&&◌, is_none}
 use Rattle.h4_framing.specs.Packets.{Packet, Command, Acl, Sync, Event}
 use Rattle.hci_packets.specs.Events.{PlainEvent, ConnectionComplete, ConnectionRequest, DisconnectionComplete, CommandComplete, CommandStatus, CompletedPackets, Other}
@@ -11,7 +11,7 @@ use Rattle.host_link.specs.declared.host_command.HostCommand.{HostCommand}
 use Rattle.host_link.specs.CommandFlows.{next_command, awaits, answered, stated}
 use Rattle.host_link.specs.EventReading.{event_in}
 use Rattle.host_link.specs.Returning.{returned_by}
-use Rattle.host_link.specs.Hearing.{with_flow, learn, after_answer, after_other, after_complete, complete_fault, command_fault, after_status, makes_link, may_accept, ends_link, piece_on, after_piece, after_event, event_fault, heard, unless_fault}
+use Rattle.host_link.specs.Hearing.{with_flow, after_answer, after_other, makes_link, may_accept, ends_link, piece_on, after_piece, after_event, event_fault, heard, unless_fault}
 use Rattle.host_link.specs.Lines.{Line}
 use Rattle.host_link.specs.PuttingOut.{has_room, has_buffer, with_piece, with_pieces, put_pieces_on, put_pieces, with_next, put_out, ending, with_pdu}
 use Rattle.world_model.specs.Faces.{Face}
