@@ -1,2 +1,4 @@
 pub mod Reaching
 pub mod Ways
+pub mod Pacing
+pub mod Viewing

@@ -45,13 +45,12 @@ on_way n said waiting = number_of (has_opcode n) said + number_of (λ command. o
 
 -- a host that stays as it is but for what is on its way: so many more Create Connection and Accept Connection Request
 pub record Kin (pages accepts : ℕ) (said said' : List Packet) (old new : Line) : Type 0 where
-  pub link : new.link ≡ old.link
   pub role : new.role ≡ old.role
   pub asks : on_way 0x0405 said' new.commands.waiting ≡ on_way 0x0405 said old.commands.waiting + pages
   pub takes : on_way 0x0409 said' new.commands.waiting ≡ on_way 0x0409 said old.commands.waiting + accepts
 
 pub kin_same : (said : List Packet) (line : Line) → Kin 0 0 said said line line
-kin_same said line = record { link = refl; role = refl; asks = omega arith; takes = omega arith }
+kin_same said line = record { role = refl; asks = omega arith; takes = omega arith }
 
 pub kin_then : (p q p' q' : ℕ) (r s t : List Packet) (a b c : Line) → Kin p q r s a b → Kin p' q' s t b c → Kin (p + p') (q + q') r t a c
 kin_then p q p' q' r s t a b c first second =
@@ -59,11 +58,10 @@ kin_then p q p' q' r s t a b c first second =
     let takes = first.takes in
     let more_asks = second.asks in
     let more_takes = second.takes in
-    record { link = second.link ∙ first.link; role = second.role ∙ first.role; asks = omega (arith, asks, more_asks); takes = omega (arith, takes, more_takes) }
+    record { role = second.role ∙ first.role; asks = omega (arith, asks, more_asks); takes = omega (arith, takes, more_takes) }
 
 piece_kin : (said : List Packet) (line : Line) (handle : ℕ) (piece : Piece) (rest : List Piece) → Kin 0 0 said (said ++ piece_packet handle piece ∷ []) line (with_piece handle piece rest line)
 piece_kin said line handle piece rest = record {
-  link = refl;
   role = refl;
   asks = let more = number_of-append (has_opcode 0x0405) said (piece_packet handle piece ∷ []) in omega (arith, more);
   takes = let more = number_of-append (has_opcode 0x0409) said (piece_packet handle piece ∷ []) in omega (arith, more);
@@ -79,7 +77,6 @@ first_moves n said (first ∷ rest) command is =
 
 command_kin : (said : List Packet) (line : Line) (command : HostCommand) → first_of line.commands.waiting ≡ Some command → Kin 0 0 said (said ++ command_packet command ∷ []) line (with_next (Some command) line)
 command_kin said line command first = record {
-  link = refl;
   role = refl;
   asks = first_moves 0x0405 said line.commands.waiting command first;
   takes = first_moves 0x0409 said line.commands.waiting command first;
@@ -90,7 +87,6 @@ with_more command flow = record flow { waiting = flow.waiting ++ command ∷ [] 
 
 more_kin : (command : HostCommand) (said : List Packet) (line : Line) → Kin (cond (opcode command == 0x0405) 1 0) (cond (opcode command == 0x0409) 1 0) said said line (with_flow (with_more command line.commands) line)
 more_kin command said line = record {
-  link = refl;
   role = refl;
   asks = let all = number_of-append (λ command. opcode command == 0x0405) line.commands.waiting (command ∷ []) in omega (arith, all);
   takes = let all = number_of-append (λ command. opcode command == 0x0409) line.commands.waiting (command ∷ []) in omega (arith, all);
@@ -105,6 +101,7 @@ pub record HostAt (moved : Linking) (count : ℕ) (said : List Packet) (line : L
 pub record Next (moved : Linking) (count pages accepts : ℕ) (said : List Packet) (old new : Line) : Type 0 where
   pub said' : List Packet
   pub host : HostAt moved count said' new
+  pub link : new.link ≡ old.link
   pub kin : Kin pages accepts said said' old new
 
 -- a command waits behind the others; all of what it counts for, where few do
@@ -118,10 +115,10 @@ pub record Waits (command : HostCommand) (moved : Linking) (count : ℕ) (said :
 
 module _ (moved : Linking) (count : ℕ) where
   pub next_same : (said : List Packet) (line : Line) (host : HostAt moved count said line) → Next moved count 0 0 said line line
-  next_same said line host = record { said' = said; host = host; kin = kin_same said line }
+  next_same said line host = record { said' = said; host = host; link = refl; kin = kin_same said line }
 
   pub next_then : (p q p' q' : ℕ) (said : List Packet) (a b c : Line) (first : Next moved count p q said a b) → Next moved count p' q' first.said' b c → Next moved count (p + p') (q + q') said a c
-  next_then p q p' q' said a b c first second = record { said' = second.said'; host = second.host; kin = kin_then p q p' q' said first.said' second.said' a b c first.kin second.kin }
+  next_then p q p' q' said a b c first second = record { said' = second.said'; host = second.host; link = second.link ∙ first.link; kin = kin_then p q p' q' said first.said' second.said' a b c first.kin second.kin }
 
   -- ---- putting out
 
@@ -130,6 +127,7 @@ module _ (moved : Linking) (count : ℕ) where
   piece_next said line handle piece rest link room pieces host = record {
     said' = said ++ piece_packet handle piece ∷ [];
     host = record { own = after_move host.own (out_of (piece_packet handle piece)); keeps = keeps_piece moved host.own count said line handle piece rest link room pieces host.keeps };
+    link = refl;
     kin = piece_kin said line handle piece rest;
   }
 
@@ -155,6 +153,7 @@ module _ (moved : Linking) (count : ℕ) where
       record {
         said' = said ++ command_packet command ∷ [];
         host = record { own = after_move host.own (out_of (command_packet command)); keeps = keeps_command moved host.own count said line command addressed host.keeps };
+        link = refl;
         kin = command_kin said line command first;
       }
 
@@ -192,6 +191,7 @@ module _ (moved : Linking) (count : ℕ) where
               (record {
                 said' = said;
                 host = record { own = host.own; keeps = keeps_flow moved host.own count said (with_more command line.commands) line (all_both IsAddressed line.commands.waiting (command ∷ []) host.keeps.bounded.commands (is, tt)) host.keeps };
+                link = refl;
                 kin = more_kin command said line;
               });
         }
@@ -215,5 +215,6 @@ module _ (moved : Linking) (count : ℕ) where
       keeps = keeps_pieces moved host.own count said (line.pieces ++ cut line.size First pdu) line
           (all_both IsShort line.pieces (cut line.size First pdu) host.keeps.bounded.pieces (cut_short (length pdu) line.size First pdu host.keeps.bounded.sound.short is)) host.keeps;
     };
-    kin = record { link = refl; role = refl; asks = omega arith; takes = omega arith };
+    link = refl;
+    kin = record { role = refl; asks = omega arith; takes = omega arith };
   }
