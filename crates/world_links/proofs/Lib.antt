@@ -2,3 +2,4 @@ pub mod Reaching
 pub mod Ways
 pub mod Pacing
 pub mod Viewing
+pub mod Listening
