@@ -3,3 +3,4 @@ pub mod Ways
 pub mod Pacing
 pub mod Viewing
 pub mod Listening
+pub mod Advancing
