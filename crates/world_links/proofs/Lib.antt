@@ -4,3 +4,4 @@ pub mod Pacing
 pub mod Viewing
 pub mod Listening
 pub mod Advancing
+pub mod Keeping
