@@ -190,7 +190,7 @@ none_creates Due creates now order requested stands = absurd stands
 none_creates Calling creates now order requested stands = let one = ap calling_count requested in let below = order.below_a in omega (arith, one, stands, below)
 none_creates Onward creates now order requested stands = stands
 
-up_not : (up : Bool) → up ≡ false → up ≡ true → ⊥
+pub up_not : (up : Bool) → up ≡ false → up ≡ true → ⊥
 up_not up down there = cc
 
 pub pace_made : (far : Reach) (creates accepts before : ℕ) (now : View) → Order now → now.phase ≡ Requested → Pace far creates (1 + accepts) before now → Pace far creates accepts before (made now)

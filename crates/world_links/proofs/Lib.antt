@@ -5,3 +5,8 @@ pub mod Viewing
 pub mod Listening
 pub mod Advancing
 pub mod Keeping
+pub mod Handing
+pub mod Splitting
+pub mod Serving
+pub mod Asking
+pub mod Upholding

@@ -154,6 +154,14 @@ module _ (P : View → Type 0) where
       (λ is. subst P (ap (λ (n : ℕ). record (made (view radio)) { called = n }) (sym (none_called radio.b.owed (LinkMade (radio.number + 1)) refl))) (makes (requested_is radio.phase is)))
       stays
 
+  -- Accept Connection Request, where host b was asked
+  pub accepts_where : (radio : Radio) → radio.phase ≡ Requested → P (made (view radio)) → P (view (after_accepting sides.B (owes sides.B (Stated 0x0409 ∷ []) radio)))
+  accepts_where radio is makes =
+      let stated : Radio = owes sides.B (Stated 0x0409 ∷ []) radio in
+      let there : is_requested radio.phase ≡ true = ap is_requested is in
+      subst (λ (test : Bool). P (view (cond test (joined stated) stated))) (sym there)
+      (subst P (ap (λ (n : ℕ). record (made (view radio)) { called = n }) (sym (none_called stated.b.owed (LinkMade (radio.number + 1)) refl ∙ none_called radio.b.owed (Stated 0x0409) refl))) makes)
+
   pub parts : (for_a for_b : ℕ) (radio : Radio) → P (broken (view radio)) → P (view (parted for_a for_b radio))
   parts for_a for_b radio p =
       subst P (ap (λ (n : ℕ). record (broken (view radio)) { called = n }) (sym (none_called radio.b.owed (LinkGone radio.number for_b) refl))) p
