@@ -10,3 +10,4 @@ pub mod Splitting
 pub mod Serving
 pub mod Asking
 pub mod Upholding
+pub mod Departing
