@@ -47,12 +47,12 @@ pub asked_on : (side : Side) (past : List Entry) (entry : Entry) → (linking (m
 asked_on side past entry = ap (λ (known : Linking). known.asked) (entry_links-more side past entry)
 
 -- the first packet that was put out has moved
-record Moves (known : Linking) (count : ℕ) (said : List Packet) (packet : Packet) (left : List ℕ) (line : Line) : Type 0 where
-  rest : List Packet
-  said_is : said ≡ packet ∷ rest
-  host : HostAt (after_move known (out_of packet)) count rest (record line { out = left })
+pub record Moves (known : Linking) (count : ℕ) (said : List Packet) (packet : Packet) (left : List ℕ) (line : Line) : Type 0 where
+  pub rest : List Packet
+  pub said_is : said ≡ packet ∷ rest
+  pub host : HostAt (after_move known (out_of packet)) count rest (record line { out = left })
 
-moves_first : (known : Linking) (count : ℕ) (said : List Packet) (packet : Packet) (left : List ℕ) (line : Line) → IsPacket 1021 packet → line.out ≡ spelling packet ++ left
+pub moves_first : (known : Linking) (count : ℕ) (said : List Packet) (packet : Packet) (left : List ℕ) (line : Line) → IsPacket 1021 packet → line.out ≡ spelling packet ++ left
     → HostAt known count said line → Moves known count said packet left line
 moves_first known count said packet left line is first host =
     let sent = first_is said packet line.out left host.keeps.runs.each is host.keeps.out first in
@@ -66,7 +66,7 @@ moves_first known count said packet left line is first host =
     }
 
 -- so many are on their way then
-way_less : (n way : ℕ) (said : List Packet) (packet : Packet) (rest : List Packet) (waiting : List HostCommand) → said ≡ packet ∷ rest → on_way n said waiting ≡ way → way ≡ bit n packet + on_way n rest waiting
+pub way_less : (n way : ℕ) (said : List Packet) (packet : Packet) (rest : List Packet) (waiting : List HostCommand) → said ≡ packet ∷ rest → on_way n said waiting ≡ way → way ≡ bit n packet + on_way n rest waiting
 way_less n way said packet rest waiting is count =
     let all : on_way n said waiting ≡ on_way n (packet ∷ rest) waiting = ap (λ (packets : List Packet). on_way n packets waiting) is in omega (arith, all, count)
 
@@ -78,7 +78,7 @@ far_calls Due creates now some stands = absurd stands
 far_calls Calling creates now some stands = refl
 far_calls Onward creates now some stands = absurd (omega (arith, some, stands))
 
-bit_one : (n : ℕ) (packet : Packet) → has_opcode n packet ≡ true → bit n packet ≡ 1
+pub bit_one : (n : ℕ) (packet : Packet) → has_opcode n packet ≡ true → bit n packet ≡ 1
 bit_one n packet is = ap (λ (test : Bool). cond test 1 0) is
 
 module _ (going asked_b : Bool) (far : Reach) (creates accepts before : ℕ) where

@@ -11,3 +11,4 @@ pub mod Serving
 pub mod Asking
 pub mod Upholding
 pub mod Departing
+pub mod Leaving
