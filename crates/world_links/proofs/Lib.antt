@@ -12,3 +12,4 @@ pub mod Asking
 pub mod Upholding
 pub mod Departing
 pub mod Leaving
+pub mod Arriving
