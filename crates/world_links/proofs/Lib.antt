@@ -13,3 +13,5 @@ pub mod Upholding
 pub mod Departing
 pub mod Leaving
 pub mod Arriving
+pub mod Coming
+pub mod Hearing

@@ -2,6 +2,8 @@ use Rattle.world_links.proofs.Handing.{quiet_a}
 use Rattle.world_links.proofs.Splitting.{IsSplit}
 use Rattle.world_links.proofs.Serving.{serves}
 use Rattle.world_links.proofs.Asking.{asked_heard}
+use Rattle.world_links.proofs.Coming.{arrives_a}
+use Rattle.world_links.proofs.Hearing.{arrives_b}
 use Rattle.world_links.proofs.Arriving.{led}
 use Rattle.world_links.proofs.Leaving.{departs_b}
 use Rattle.world_links.proofs.Departing.{departs_a}
