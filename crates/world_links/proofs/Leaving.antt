@@ -34,14 +34,14 @@ requested_of Together some = absurd (omega (arith, some))
 not_apart : (phase : Phase) → phase ≡ Requested → phase ≡ Apart → ⊥
 not_apart phase asked apart = cc
 
-rests_apart : (far : Reach) (creates : ℕ) (now : View) → far ≡ AtRest → FarStands far creates now → now.phase ≡ Apart
+pub rests_apart : (far : Reach) (creates : ℕ) (now : View) → far ≡ AtRest → FarStands far creates now → now.phase ≡ Apart
 rests_apart AtRest creates now rests stands = stands.1
 rests_apart Due creates now rests stands = absurd stands
 rests_apart Calling creates now rests stands = absurd cc
 rests_apart Onward creates now rests stands = absurd cc
 
 module _ (going : Bool) (far : Reach) (creates accepts before : ℕ) where
-  as_before : (asked asked' : Bool) (now next : View) (more : ℕ) → next.told_b ≡ now.told_b → next.number ≡ now.number → next.up_b ≡ now.up_b → (asked' ≡ true → asked ≡ true) → Beside going asked far creates more before now
+  pub as_before : (asked asked' : Bool) (now next : View) (more : ℕ) → next.told_b ≡ now.told_b → next.number ≡ now.number → next.up_b ≡ now.up_b → (asked' ≡ true → asked ≡ true) → Beside going asked far creates more before now
       → Pace far creates accepts before next → Beside going asked' far creates accepts before next
   as_before asked asked' now next more told number up same beside pace = record {
     pace = pace;

@@ -15,3 +15,6 @@ pub mod Leaving
 pub mod Arriving
 pub mod Coming
 pub mod Hearing
+pub mod Opening
+pub mod Going
+pub mod Running

@@ -179,7 +179,7 @@ up_goes Closing course is = record { reach_is = ap reach is; clean = λ clean. c
 up_goes ToLeave course is = record { reach_is = ap reach is; clean = λ clean. clean }
 up_goes Leaving course is = record { reach_is = ap reach is; clean = λ clean. clean }
 
-idle_rests : (stage : Stage) → events.is_idle stage ≡ true → reach stage ≡ AtRest
+pub idle_rests : (stage : Stage) → events.is_idle stage ≡ true → reach stage ≡ AtRest
 idle_rests Idle is = refl
 idle_rests ToPage is = absurd cc
 idle_rests Paging is = absurd cc
