@@ -109,7 +109,7 @@ calls_then Due creates now answer rest made unlinked owed stands = absurd stands
 calls_then Calling creates now answer rest made unlinked owed stands = refl
 calls_then Onward creates now answer rest made unlinked owed stands = absurd cc
 
-onward_of : (far : Reach) → true ≡ is_onward far → far ≡ Onward
+pub onward_of : (far : Reach) → true ≡ is_onward far → far ≡ Onward
 onward_of AtRest linked = absurd cc
 onward_of Due linked = absurd cc
 onward_of Calling linked = absurd cc

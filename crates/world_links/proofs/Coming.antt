@@ -37,13 +37,13 @@ use Rattle.world_links.proofs.Departing.{host_on, asked_on}
 use Rattle.world_links.proofs.Arriving.{hears_host, owed_first, low_of, Led, led, goes_same, client_accepts}
 
 -- a client that hears stays a client
-record ToldClient (packet : Packet) (line line' : Line) (course : Course) (shelf : Shelved) (inside' : Inside) : Type 0 where
-  course' : Course
-  shelf' : Shelved
-  is : inside' ≡ Pushing course' shelf'
-  hears : Hears shelf.content shelf.faults shelf'.faults packet (client line course) (client line' course')
+pub record ToldClient (packet : Packet) (line line' : Line) (course : Course) (shelf : Shelved) (inside' : Inside) : Type 0 where
+  pub course' : Course
+  pub shelf' : Shelved
+  pub is : inside' ≡ Pushing course' shelf'
+  pub hears : Hears shelf.content shelf.faults shelf'.faults packet (client line course) (client line' course')
 
-tells_client : (packet : Packet) (line line' : Line) (course : Course) (shelf : Shelved) (inside' : Inside) → Tells packet line line' (Pushing course shelf) inside' → ToldClient packet line line' course shelf inside'
+pub tells_client : (packet : Packet) (line line' : Line) (course : Course) (shelf : Shelved) (inside' : Inside) → Tells packet line line' (Pushing course shelf) inside' → ToldClient packet line line' course shelf inside'
 tells_client packet line line' course shelf (Pushing course' shelf') tells = record { course' = course'; shelf' = shelf'; is = refl; hears = tells.0 }
 tells_client packet line line' course shelf (Serving served inbox) tells = absurd tells
 

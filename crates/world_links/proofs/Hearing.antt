@@ -38,13 +38,13 @@ use Rattle.world_links.proofs.Departing.{host_on, asked_on}
 use Rattle.world_links.proofs.Arriving.{hears_host, owed_first, low_of}
 
 -- a server that hears stays a server
-record ToldServer (packet : Packet) (line line' : Line) (served : Served) (inbox : Kept) (inside' : Inside) : Type 0 where
-  served' : Served
-  inbox' : Kept
-  is : inside' ≡ Serving served' inbox'
-  hears : server.Hears inbox inbox' packet (serving line served) (serving line' served')
+pub record ToldServer (packet : Packet) (line line' : Line) (served : Served) (inbox : Kept) (inside' : Inside) : Type 0 where
+  pub served' : Served
+  pub inbox' : Kept
+  pub is : inside' ≡ Serving served' inbox'
+  pub hears : server.Hears inbox inbox' packet (serving line served) (serving line' served')
 
-tells_server : (packet : Packet) (line line' : Line) (served : Served) (inbox : Kept) (inside' : Inside) → Tells packet line line' (Serving served inbox) inside' → ToldServer packet line line' served inbox inside'
+pub tells_server : (packet : Packet) (line line' : Line) (served : Served) (inbox : Kept) (inside' : Inside) → Tells packet line line' (Serving served inbox) inside' → ToldServer packet line line' served inbox inside'
 tells_server packet line line' served inbox (Serving served' inbox') tells = record { served' = served'; inbox' = inbox'; is = refl; hears = tells }
 tells_server packet line line' served inbox (Pushing course shelf) tells = absurd tells
 

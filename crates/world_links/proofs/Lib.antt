@@ -18,3 +18,15 @@ pub mod Hearing
 pub mod Opening
 pub mod Going
 pub mod Running
+pub mod Tidying
+pub mod Neatly
+pub mod Trimming
+pub mod Answering
+pub mod Readying
+pub mod Rowing
+pub mod Owning
+pub mod Steadying
+pub mod Attending
+pub mod Both
+pub mod Alike
+pub mod Resting

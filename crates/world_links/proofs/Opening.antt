@@ -33,13 +33,13 @@ use Rattle.world_links.proofs.Leaving.{rests_apart}
 -- ---- a push begins
 
 -- a client that begins to push stays a client
-record BeginsClient (name : List ℕ) (line line' : Line) (course : Course) (shelf : Shelved) (inside' : Inside) : Type 0 where
-  course' : Course
-  shelf' : Shelved
-  is : inside' ≡ Pushing course' shelf'
-  pushes : PushesOn shelf.content shelf.faults shelf'.faults name (client line course) (client line' course')
+pub record BeginsClient (name : List ℕ) (line line' : Line) (course : Course) (shelf : Shelved) (inside' : Inside) : Type 0 where
+  pub course' : Course
+  pub shelf' : Shelved
+  pub is : inside' ≡ Pushing course' shelf'
+  pub pushes : PushesOn shelf.content shelf.faults shelf'.faults name (client line course) (client line' course')
 
-begins_client : (name : List ℕ) (line line' : Line) (course : Course) (shelf : Shelved) (inside' : Inside) → StartsPush name line line' (Pushing course shelf) inside' → BeginsClient name line line' course shelf inside'
+pub begins_client : (name : List ℕ) (line line' : Line) (course : Course) (shelf : Shelved) (inside' : Inside) → StartsPush name line line' (Pushing course shelf) inside' → BeginsClient name line line' course shelf inside'
 begins_client name line line' course shelf (Pushing course' shelf') starts = record { course' = course'; shelf' = shelf'; is = refl; pushes = starts.0 }
 begins_client name line line' course shelf (Serving served inbox) starts = absurd starts
 

@@ -48,7 +48,7 @@ upholds_on past (Miss word) old new does holds upholds = misses past word old ne
 
 -- ---- at first
 
-fresh_host : (count : ℕ) (role : Role) → HostAt no_links count [] (fresh role)
+pub fresh_host : (count : ℕ) (role : Role) → HostAt no_links count [] (fresh role)
 fresh_host count role = record {
   own = no_links;
   keeps = record {
@@ -129,14 +129,13 @@ pub record Stood (past : List Entry) (moment : Moment) : Type 0 where
   pub holds : Holds past moment
   pub upholds : Upholds past moment
 
-pub stood : (size count mtu obex : ℕ) (names : List (List ℕ)) (shelf : Shelved) (inbox : Kept) (happenings : List Happening) (moment : Moment) → IsBeginning size count names
-    → Runs happenings (first_moment size count mtu obex names shelf inbox) moment → Stood (all_entries happenings) moment
-stood size count mtu obex names shelf inbox happenings moment is runs =
-    kept_along Stood
-    (λ past happening old new does before. record { holds = holds_on past happening old new does before.holds; upholds = upholds_on past happening old new does before.holds before.upholds })
-    happenings [] (first_moment size count mtu obex names shelf inbox) moment runs
-    (record { holds = first_holds size count mtu obex names shelf inbox is; upholds = first_upholds size count mtu obex names shelf inbox })
+pub stood_on : (past : List Entry) (happening : Happening) (old new : Moment) → Does happening old new → Stood past old → Stood (past ++ entries_of happening) new
+stood_on past happening old new does before = record { holds = holds_on past happening old new does before.holds; upholds = upholds_on past happening old new does before.holds before.upholds }
+
+pub first_stood : (size count mtu obex : ℕ) (names : List (List ℕ)) (shelf : Shelved) (inbox : Kept) → IsBeginning size count names → Stood [] (first_moment size count mtu obex names shelf inbox)
+first_stood size count mtu obex names shelf inbox is = record { holds = first_holds size count mtu obex names shelf inbox is; upholds = first_upholds size count mtu obex names shelf inbox }
 
 pub links_of_runs : LinksOfRuns
 links_of_runs size count mtu obex names shelf inbox happenings moment is runs =
-    let there = stood size count mtu obex names shelf inbox happenings moment is runs in facts_of (all_entries happenings) moment there.holds.shows there.upholds
+    let there = kept_along Stood stood_on happenings [] (first_moment size count mtu obex names shelf inbox) moment runs (first_stood size count mtu obex names shelf inbox is) in
+    facts_of (all_entries happenings) moment there.holds.shows there.upholds

@@ -60,7 +60,7 @@ kin_then p q p' q' r s t a b c first second =
     let more_takes = second.takes in
     record { role = second.role ∙ first.role; asks = omega (arith, asks, more_asks); takes = omega (arith, takes, more_takes) }
 
-piece_kin : (said : List Packet) (line : Line) (handle : ℕ) (piece : Piece) (rest : List Piece) → Kin 0 0 said (said ++ piece_packet handle piece ∷ []) line (with_piece handle piece rest line)
+pub piece_kin : (said : List Packet) (line : Line) (handle : ℕ) (piece : Piece) (rest : List Piece) → Kin 0 0 said (said ++ piece_packet handle piece ∷ []) line (with_piece handle piece rest line)
 piece_kin said line handle piece rest = record {
   role = refl;
   asks = let more = number_of-append (has_opcode 0x0405) said (piece_packet handle piece ∷ []) in omega (arith, more);
@@ -75,7 +75,7 @@ first_moves n said (first ∷ rest) command is =
     let more = number_of-append (has_opcode n) said (command_packet command ∷ []) in
     subst (λ (c : HostCommand). on_way n (said ++ command_packet command ∷ []) rest ≡ on_way n said (c ∷ rest) + 0) (sym same) (omega (arith, more))
 
-command_kin : (said : List Packet) (line : Line) (command : HostCommand) → first_of line.commands.waiting ≡ Some command → Kin 0 0 said (said ++ command_packet command ∷ []) line (with_next (Some command) line)
+pub command_kin : (said : List Packet) (line : Line) (command : HostCommand) → first_of line.commands.waiting ≡ Some command → Kin 0 0 said (said ++ command_packet command ∷ []) line (with_next (Some command) line)
 command_kin said line command first = record {
   role = refl;
   asks = first_moves 0x0405 said line.commands.waiting command first;
@@ -114,6 +114,29 @@ pub record Waits (command : HostCommand) (moved : Linking) (count : ℕ) (said :
   pub next : Next moved count pages accepts said line (with_flow (with_command command line.commands) line)
 
 module _ (moved : Linking) (count : ℕ) where
+  pub piece_host : (said : List Packet) (line : Line) (handle : ℕ) (piece : Piece) (rest : List Piece) → line.link ≡ Some handle → packets_of line.ledger.held < line.ledger.total → line.pieces ≡ piece ∷ rest
+      → HostAt moved count said line → HostAt moved count (said ++ piece_packet handle piece ∷ []) (with_piece handle piece rest line)
+  piece_host said line handle piece rest link room pieces host = record { own = after_move host.own (out_of (piece_packet handle piece)); keeps = keeps_piece moved host.own count said line handle piece rest link room pieces host.keeps }
+
+  pub command_host : (said : List Packet) (line : Line) (command : HostCommand) → next_command line.commands ≡ Some command → HostAt moved count said line
+      → HostAt moved count (said ++ command_packet command ∷ []) (with_next (Some command) line)
+  command_host said line command is host =
+      let addressed = first_addressed line.commands.waiting command (next_waits _ line.commands.waiting command is) host.keeps.bounded.commands in
+      record { own = after_move host.own (out_of (command_packet command)); keeps = keeps_command moved host.own count said line command addressed host.keeps }
+
+  pub flow_host : (command : HostCommand) (said : List Packet) (line : Line) → IsAddressed command → HostAt moved count said line → HostAt moved count said (with_flow (with_more command line.commands) line)
+  flow_host command said line is host = record {
+    own = host.own;
+    keeps = keeps_flow moved host.own count said (with_more command line.commands) line (all_both IsAddressed line.commands.waiting (command ∷ []) host.keeps.bounded.commands (is, tt)) host.keeps;
+  }
+
+  pub send_host : (handle : ℕ) (pdu : List ℕ) (said : List Packet) (line : Line) → IsOctets pdu → HostAt moved count said line → HostAt moved count said (with_pdu (Some handle) pdu line)
+  send_host handle pdu said line is host = record {
+    own = host.own;
+    keeps = keeps_pieces moved host.own count said (line.pieces ++ cut line.size First pdu) line
+        (all_both IsShort line.pieces (cut line.size First pdu) host.keeps.bounded.pieces (cut_short (length pdu) line.size First pdu host.keeps.bounded.sound.short is)) host.keeps;
+  }
+
   pub next_same : (said : List Packet) (line : Line) (host : HostAt moved count said line) → Next moved count 0 0 said line line
   next_same said line host = record { said' = said; host = host; link = refl; kin = kin_same said line }
 
@@ -126,7 +149,7 @@ module _ (moved : Linking) (count : ℕ) where
       → HostAt moved count said line → Next moved count 0 0 said line (with_piece handle piece rest line)
   piece_next said line handle piece rest link room pieces host = record {
     said' = said ++ piece_packet handle piece ∷ [];
-    host = record { own = after_move host.own (out_of (piece_packet handle piece)); keeps = keeps_piece moved host.own count said line handle piece rest link room pieces host.keeps };
+    host = piece_host said line handle piece rest link room pieces host;
     link = refl;
     kin = piece_kin said line handle piece rest;
   }
@@ -149,10 +172,9 @@ module _ (moved : Linking) (count : ℕ) where
   command_next None said line is host = next_same said line host
   command_next (Some command) said line is host =
       let first = next_waits _ line.commands.waiting command is in
-      let addressed = first_addressed line.commands.waiting command first host.keeps.bounded.commands in
       record {
         said' = said ++ command_packet command ∷ [];
-        host = record { own = after_move host.own (out_of (command_packet command)); keeps = keeps_command moved host.own count said line command addressed host.keeps };
+        host = command_host said line command is host;
         link = refl;
         kin = command_kin said line command first;
       }
@@ -190,7 +212,7 @@ module _ (moved : Linking) (count : ℕ) where
               (sym (ap (λ (test : Bool). cond test (with_more command line.commands) line.commands) room_left))
               (record {
                 said' = said;
-                host = record { own = host.own; keeps = keeps_flow moved host.own count said (with_more command line.commands) line (all_both IsAddressed line.commands.waiting (command ∷ []) host.keeps.bounded.commands (is, tt)) host.keeps };
+                host = flow_host command said line is host;
                 link = refl;
                 kin = more_kin command said line;
               });
@@ -210,11 +232,7 @@ module _ (moved : Linking) (count : ℕ) where
   sends_next None pdu said line is host = next_same said line host
   sends_next (Some handle) pdu said line is host = record {
     said' = said;
-    host = record {
-      own = host.own;
-      keeps = keeps_pieces moved host.own count said (line.pieces ++ cut line.size First pdu) line
-          (all_both IsShort line.pieces (cut line.size First pdu) host.keeps.bounded.pieces (cut_short (length pdu) line.size First pdu host.keeps.bounded.sound.short is)) host.keeps;
-    };
+    host = send_host handle pdu said line is host;
     link = refl;
     kin = record { role = refl; asks = omega arith; takes = omega arith };
   }

@@ -85,3 +85,8 @@ LinksOfRuns = (size count mtu obex : ℕ) (names : List (List ℕ)) (shelf : She
 abbrev pub RestsOfRuns : Type 0
 RestsOfRuns = (size count mtu obex : ℕ) (names : List (List ℕ)) (shelf : Shelved) (inbox : Kept) (happenings : List Happening) (moment : Moment) → IsBeginning size count names
     → Runs happenings (first_moment size count mtu obex names shelf inbox) moment → LinkedAtRest (all_entries happenings) moment
+
+-- where nothing is left to be moved, neither host has anything left to do
+abbrev pub HostsDone : Type 0
+HostsDone = (size count mtu obex : ℕ) (names : List (List ℕ)) (shelf : Shelved) (inbox : Kept) (happenings : List Happening) (moment : Moment) → IsBeginning size count names
+    → Runs happenings (first_moment size count mtu obex names shelf inbox) moment → IsAtRest moment → IsDone moment.a.line × IsDone moment.b.line
