@@ -1,5 +1,6 @@
 -- A client goes on: what its steps let wait, and how far they lead its push.
 use Rattle.std.proofs.Common.{rules, ◌≡◌, ℕ, ◌+◌, ◌<◌, ◌≤◌, List, [], ◌∷◌, length, Bool, true, false, cond, Option, Some, None, refl, sym, ap, subst, ◌∙◌, arith}
+use Rattle.std.specs.Prelude.{is_some}
 use Rattle.bt_base.specs.Objects.{Object}
 use Rattle.h4_framing.specs.Packets.{Packet}
 use Rattle.capture.specs.Links.{Linking}
@@ -98,6 +99,7 @@ pub record Advances (moved : Linking) (count : ℕ) (said : List Packet) (old ne
   pub next : Next moved count pages 0 said old.line new.line
   pub far : Advance (reach old.course.stage) (length old.line.commands.waiting) pages (reach new.course.stage)
   pub clean : Clean old.course.outcome → Clean new.course.outcome
+  pub kept : is_some old.course.outcome ≡ true → is_some new.course.outcome ≡ true
 
 module _ (moved : Linking) (count : ℕ) (content : Option (List Object)) (faults faults' : ℕ) where
   steps_next : (said : List Packet) (old new : Client) → StepsOn content faults faults' old new → HostAt moved count said old.line → Advances moved count said old new
@@ -109,6 +111,7 @@ module _ (moved : Linking) (count : ℕ) (content : Option (List Object)) (fault
         next = did.next;
         far = advance (reach old.course.stage) (next_step steps.given old.course).0 _ (length old.line.commands.waiting) did.pages goes.goes did.few did.all;
         clean = goes.clean;
+        kept = goes.kept;
       })
 
   pub advances : (said : List Packet) (old new : Client) → GoesOn content faults faults' old new → HostAt moved count said old.line → Advances moved count said old new
@@ -123,4 +126,5 @@ module _ (moved : Linking) (count : ℕ) (content : Option (List Object)) (fault
             (next_then moved count (first.pages + second.pages) 0 0 0 said old.line goes.behind.line (put_out goes.behind.line) both puts);
         far = advance_then (reach old.course.stage) (reach goes.between.course.stage) (reach goes.behind.course.stage) (length old.line.commands.waiting) (length goes.between.line.commands.waiting) first.pages second.pages first.far second.far;
         clean = λ clean. second.clean (first.clean clean);
+        kept = λ some. second.kept (first.kept some);
       })

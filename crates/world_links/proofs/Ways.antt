@@ -48,9 +48,10 @@ pub record Kin (pages accepts : ℕ) (said said' : List Packet) (old new : Line)
   pub role : new.role ≡ old.role
   pub asks : on_way 0x0405 said' new.commands.waiting ≡ on_way 0x0405 said old.commands.waiting + pages
   pub takes : on_way 0x0409 said' new.commands.waiting ≡ on_way 0x0409 said old.commands.waiting + accepts
+  pub scans : on_way 0x0C1A said old.commands.waiting ≤ on_way 0x0C1A said' new.commands.waiting
 
 pub kin_same : (said : List Packet) (line : Line) → Kin 0 0 said said line line
-kin_same said line = record { role = refl; asks = omega arith; takes = omega arith }
+kin_same said line = record { role = refl; asks = omega arith; takes = omega arith; scans = omega arith }
 
 pub kin_then : (p q p' q' : ℕ) (r s t : List Packet) (a b c : Line) → Kin p q r s a b → Kin p' q' s t b c → Kin (p + p') (q + q') r t a c
 kin_then p q p' q' r s t a b c first second =
@@ -58,13 +59,14 @@ kin_then p q p' q' r s t a b c first second =
     let takes = first.takes in
     let more_asks = second.asks in
     let more_takes = second.takes in
-    record { role = second.role ∙ first.role; asks = omega (arith, asks, more_asks); takes = omega (arith, takes, more_takes) }
+    record { role = second.role ∙ first.role; asks = omega (arith, asks, more_asks); takes = omega (arith, takes, more_takes); scans = let before = first.scans in let then = second.scans in omega (arith, before, then) }
 
 pub piece_kin : (said : List Packet) (line : Line) (handle : ℕ) (piece : Piece) (rest : List Piece) → Kin 0 0 said (said ++ piece_packet handle piece ∷ []) line (with_piece handle piece rest line)
 piece_kin said line handle piece rest = record {
   role = refl;
   asks = let more = number_of-append (has_opcode 0x0405) said (piece_packet handle piece ∷ []) in omega (arith, more);
   takes = let more = number_of-append (has_opcode 0x0409) said (piece_packet handle piece ∷ []) in omega (arith, more);
+  scans = let more = number_of-append (has_opcode 0x0C1A) said (piece_packet handle piece ∷ []) in omega (arith, more);
 }
 
 first_moves : (n : ℕ) (said : List Packet) (waiting : List HostCommand) (command : HostCommand) → first_of waiting ≡ Some command
@@ -80,6 +82,7 @@ command_kin said line command first = record {
   role = refl;
   asks = first_moves 0x0405 said line.commands.waiting command first;
   takes = first_moves 0x0409 said line.commands.waiting command first;
+  scans = let same = first_moves 0x0C1A said line.commands.waiting command first in omega (arith, same);
 }
 
 abbrev pub with_more : HostCommand → Flow → Flow
@@ -90,6 +93,7 @@ more_kin command said line = record {
   role = refl;
   asks = let all = number_of-append (λ command. opcode command == 0x0405) line.commands.waiting (command ∷ []) in omega (arith, all);
   takes = let all = number_of-append (λ command. opcode command == 0x0409) line.commands.waiting (command ∷ []) in omega (arith, all);
+  scans = let all = number_of-append (λ command. opcode command == 0x0C1A) line.commands.waiting (command ∷ []) in omega (arith, all);
 }
 
 -- a host after what moved led the links of the capture there, with these packets still to move
@@ -234,5 +238,5 @@ module _ (moved : Linking) (count : ℕ) where
     said' = said;
     host = send_host handle pdu said line is host;
     link = refl;
-    kin = record { role = refl; asks = omega arith; takes = omega arith };
+    kin = record { role = refl; asks = omega arith; takes = omega arith; scans = omega arith };
   }
