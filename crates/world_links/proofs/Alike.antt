@@ -1,10 +1,8 @@
 -- Both hosts stay steady when a packet comes into one, and when a push begins.
-use Rattle.std.proofs.Common.{◌≡◌, ℕ, ◌+◌, ◌<◌, ◌≤◌, List, [], ◌∷◌, ◌++◌, Bool, true, false, cond, Option, Some, None, refl, sym, ap, subst, ◌∙◌, arith, inl, inr, ◌⊎◌}
-use Rattle.std.proofs.lemmas.Bool.{cases_Bool}
+use Rattle.std.proofs.Common.{◌≡◌, ℕ, ◌+◌, ◌<◌, List, [], ◌∷◌, ◌++◌, Bool, true, false, Option, Some, None, refl, sym, ap, subst, ◌∙◌, arith, inl, inr, ◌⊎◌}
 use Rattle.std.specs.Prelude.{is_some}
 use Rattle.std.specs.List.{AllByRecursion}
 use Rattle.h4_framing.specs.Packets.{Packet}
-use Rattle.push_script.specs.declared.word.Side.{Side}
 use Rattle.push_script.specs.declared.word.Side.TheVariants as sides
 use Rattle.capture.specs.declared.flow.Flow.TheVariants.{Into}
 use Rattle.capture.specs.Entries.{Entry, Moved, Begun}
@@ -16,33 +14,31 @@ use Rattle.host_link.specs.PuttingOut.{put_out}
 use Rattle.host_link.specs.Hearing.{heard}
 use Rattle.host_link.specs.Stands.{into}
 use Rattle.bt_host.specs.Courses.{Course}
-use Rattle.bt_host.specs.Clients.{Client, GoesOn, told, putting_out}
+use Rattle.bt_host.specs.Clients.{Client, GoesOn, told}
 use Rattle.bt_host.specs.Servers as servers
-use Rattle.radio_air.specs.Controllers.{Answer, Controller, packet_of, after_handing}
-use Rattle.radio_air.specs.Radio.{Radio, Phase, Apart, Paging, Requested, Together, controller, after_answer}
+use Rattle.radio_air.specs.Controllers.{Answer, Controller, packet_of}
+use Rattle.radio_air.specs.Radio.{Radio, Phase, Apart, Paging, Requested, Together, after_answer}
 use Rattle.radio_air.specs.Showing.{Shows, ShowsUp}
-use Rattle.radio_air.proofs.Sizing.{sizes-stay}
 use Rattle.world_model.specs.Faces.{Face}
 use Rattle.world_model.specs.Hearing.{put_out_again, HearsBehind}
 use Rattle.world_model.specs.Hosts.{links_told, OwesHonestly}
 use Rattle.world_model.specs.Insides.{Inside, Shelved, Pushing, Serving, Tells, client, server as serving}
 use Rattle.world_links.proofs.Reaching.{Reach, AtRest, Due, Calling, Onward, reach}
-use Rattle.world_links.proofs.Ways.{number_of, on_way, HostAt, Next, puts_next, puts_again}
+use Rattle.world_links.proofs.Ways.{on_way, HostAt, puts_next, puts_again}
 use Rattle.world_links.proofs.Pacing.{View, view}
 use Rattle.world_links.proofs.Keeping.{calling_count, requested_count, Order, order_of, FarStands, Pace, up_not}
-use Rattle.world_links.proofs.Upholding.{is_onward, ClientStands, ServerStands, Beside, none_up}
+use Rattle.world_links.proofs.Upholding.{is_onward, ClientStands, ServerStands}
 use Rattle.world_links.proofs.Arriving.{onward_of}
-use Rattle.world_links.proofs.Coming.{ToldClient, tells_client}
-use Rattle.world_links.proofs.Hearing.{ToldServer, tells_server}
-use Rattle.world_links.proofs.Tidying.{is_asking, is_acl, codes_owed, Tidy}
-use Rattle.world_links.proofs.Trimming.{IsCalm, hosts_said, trim_of}
+use Rattle.world_links.proofs.Coming.{tells_client}
+use Rattle.world_links.proofs.Hearing.{tells_server}
+use Rattle.world_links.proofs.Tidying.{codes_owed}
+use Rattle.world_links.proofs.Trimming.{IsCalm, trim_of}
 use Rattle.world_links.proofs.Answering.{Proper, told_behind}
-use Rattle.world_links.proofs.Owning.{backs}
 use Rattle.world_links.proofs.Neatly.{Done}
 use Rattle.world_links.proofs.Readying.{Ready, client_ready, server_ready, ready_done}
 use Rattle.world_links.proofs.Steadying.{Steady}
-use Rattle.world_links.proofs.Attending.{link_none, asks_none, calm_before, handed_owed, handed_told, Heard, steady_heard}
-use Rattle.world_links.proofs.Both.{steady_on, counted, BothSteady}
+use Rattle.world_links.proofs.Attending.{link_none, asks_none, calm_before, handed_owed, handed_told, steady_heard}
+use Rattle.world_links.proofs.Both.{steady_on, BothSteady}
 
 -- ---- what a host keeps to once it has put out what it may
 
@@ -88,14 +84,14 @@ client_steady past count far creates now one said content faults faults' old new
     subst (λ (c : Client). Steady known count one c.line) (sym goes.new_is) (done_steady known count one goes.behind.line (put_out goes.behind.line) (ready_done known count (codes_owed one.owed) said goes.behind.line then calm) proper told)
 
 -- no Create Connection is on its way where a link is new to host a
-none_created : (far : Reach) (creates : ℕ) (now : View) → now.told_a < now.number → FarStands far creates now → creates ≡ 0
+pub none_created : (far : Reach) (creates : ℕ) (now : View) → now.told_a < now.number → FarStands far creates now → creates ≡ 0
 none_created AtRest creates now new stands = stands.0
 none_created Due creates now new stands = absurd stands
 none_created Calling creates now new stands = omega (arith, new, stands)
 none_created Onward creates now new stands = stands
 
 -- host a knows of no link, or has not asked for one
-unlinked_or : (asked : Bool) (far : Reach) (line behind : Line) → behind.link ≡ line.link → is_some line.link ≡ is_onward far → (asked ≡ true → far ≡ Calling) → (behind.link ≡ None) ⊎ (asked ≡ false)
+pub unlinked_or : (asked : Bool) (far : Reach) (line behind : Line) → behind.link ≡ line.link → is_some line.link ≡ is_onward far → (asked ≡ true → far ≡ Calling) → (behind.link ≡ None) ⊎ (asked ≡ false)
 unlinked_or false far line behind same linked calls = inr refl
 unlinked_or true far line behind same linked calls = inl (same ∙ none_linked line.link (linked ∙ ap is_onward (calls refl)))
   where
@@ -119,13 +115,13 @@ both_arrives_a past radio answer rest course shelf old face b far' creates creat
     let line : Line = put_out_again hears.times old.line in
     let told' : links_told known' ≡ next.a.told = shows'.a.told in
     let behind : links_told (after_move known (into packet)) ≡ told_behind answer (links_told known) =
-        ap links_told (sym led) ∙ (told' ∙ (handed_told radio.a answer rest owed ∙ ap (told_behind answer) (sym both.a.told))) in
+    ap links_told (sym led) ∙ (told' ∙ (handed_told radio.a answer rest owed ∙ ap (told_behind answer) (sym both.a.told))) in
     let again = puts_again known radio.count hears.times a.said old.line a.host in
     let asks = a.creates_are in
     let takes = a.no_accepts in
     let then = steady_heard sides.A past radio answer rest owed shows honest hears.times old.line both.a behind
-        (λ new said host. asks_none known radio.count hears.times said a.said old.line a.host host (let none = none_created (reach course.stage) creates (view radio) new pace.far_is in omega (arith, none, asks, takes)))
-        (λ up. unlinked_or known.asked (reach course.stage) old.line line again.link a.linked a.asked) in
+    (λ new said host. asks_none known radio.count hears.times said a.said old.line a.host host (let none = none_created (reach course.stage) creates (view radio) new pace.far_is in omega (arith, none, asks, takes)))
+    (λ up. unlinked_or known.asked (reach course.stage) old.line line again.link a.linked a.asked) in
     let tells = tells_client packet line face.line course shelf face.inside (subst (λ (i : Inside). Tells packet line face.line i face.inside) inside hears.tells) in
     let owed_rest : next.a.owed ≡ rest = handed_owed radio.a answer rest owed in
     let ready = subst (λ (k : Linking). Ready k radio.count (codes_owed rest) then.said (heard packet line)) (sym led) then.ready in
@@ -151,7 +147,7 @@ requested_calls Requested = inr refl
 requested_calls Together = inl refl
 
 -- no Accept Connection Request is on its way where a link is new to host b
-none_accepted : (far : Reach) (creates accepts before : ℕ) (now : View) → Order now → now.told_b < now.number → Pace far creates accepts before now → accepts ≡ 0
+pub none_accepted : (far : Reach) (creates accepts before : ℕ) (now : View) → Order now → now.told_b < now.number → Pace far creates accepts before now → accepts ≡ 0
 none_accepted far creates accepts before now order new pace = elim (requested_calls now.phase) [
   | inl none ↦ let calls = pace.calls in omega (arith, calls, none)
   | inr one ↦ absurd (let all = order.calling_b one in omega (arith, all, new))
@@ -178,7 +174,7 @@ server_calm past radio far creates accepts before line b shows pace handle there
     let takes = b.accepts_are in
     omega (arith, none, asks, takes)
 
-false_or : (asked : Bool) → (asked ≡ true → ⊥) → asked ≡ false
+pub false_or : (asked : Bool) → (asked ≡ true → ⊥) → asked ≡ false
 false_or true not = absurd (not refl)
 false_or false not = refl
 
@@ -199,13 +195,13 @@ both_arrives_b past radio answer rest served inbox old face a far far' creates c
     let line : Line = put_out_again hears.times old.line in
     let told' : links_told known' ≡ next.b.told = shows'.b.told in
     let behind : links_told (after_move known (into packet)) ≡ told_behind answer (links_told known) =
-        ap links_told (sym led) ∙ (told' ∙ (handed_told radio.b answer rest owed ∙ ap (told_behind answer) (sym both.b.told))) in
+    ap links_told (sym led) ∙ (told' ∙ (handed_told radio.b answer rest owed ∙ ap (told_behind answer) (sym both.b.told))) in
     let order = order_of radio shows.order in
     let asks = b.no_creates in
     let takes = b.accepts_are in
     let then = steady_heard sides.B past radio answer rest owed shows honest hears.times old.line both.b behind
-        (λ new said host. asks_none known radio.count hears.times said b.said old.line b.host host (let none = none_accepted far creates accepts before (view radio) order new pace in omega (arith, none, asks, takes)))
-        (λ up. inr (false_or known.asked (λ asked. absurd (let new = asking asked in let all = pace.last_b up in omega (arith, new, all))))) in
+    (λ new said host. asks_none known radio.count hears.times said b.said old.line b.host host (let none = none_accepted far creates accepts before (view radio) order new pace in omega (arith, none, asks, takes)))
+    (λ up. inr (false_or known.asked (λ asked. absurd (let new = asking asked in let all = pace.last_b up in omega (arith, new, all))))) in
     let tells = tells_server packet line face.line served inbox face.inside (subst (λ (i : Inside). Tells packet line face.line i face.inside) inside hears.tells) in
     let owed_rest : next.b.owed ≡ rest = handed_owed radio.b answer rest owed in
     let ready = subst (λ (k : Linking). Ready k radio.count (codes_owed rest) then.said (heard packet line)) (sym led) then.ready in

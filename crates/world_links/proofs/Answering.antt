@@ -1,5 +1,5 @@
 -- A host hears an answer that its controller owes it, and stays tidy.
-use Rattle.std.proofs.Common.{◌≡◌, ℕ, ◌+◌, ◌<◌, ◌≤◌, ◌^◌, List, [], ◌∷◌, ◌++◌, length, drop, Bool, true, false, cond, Option, Some, None, refl, sym, ap, subst, ◌∙◌, arith, inl, inr, ◌⊎◌}
+use Rattle.std.proofs.Common.{◌≡◌, ℕ, ◌<◌, ◌≤◌, ◌^◌, List, [], ◌∷◌, length, drop, Bool, true, false, cond, Option, Some, None, refl, sym, ap, subst, ◌∙◌, arith, inl, inr, ◌⊎◌}
 use Rattle.std.specs.Prelude.{◌||◌, nat_lt, is_none}
 use Rattle.std.specs.List.{AllByRecursion}
 use Rattle.byteorder.specs.Endian.{little_number}
@@ -23,7 +23,6 @@ use Rattle.world_model.proofs.Lists.{chosen}
 use Rattle.world_model.proofs.Reading.{heard_by, returned_again, link_made_again, link_gone_again}
 use Rattle.world_model.proofs.Answering.{returns_good, complete_right, status_right, unless_none}
 use Rattle.world_links.proofs.Ways.{number_of}
-use Rattle.world_links.proofs.Listening.{is_made, is_gone}
 use Rattle.world_links.proofs.Asking.{asked_behind, IsLow}
 use Rattle.world_links.proofs.Tidying.{is_asking, is_acl, IsOn, codes_owed}
 use Rattle.world_links.proofs.Trimming.{Trim, trim_waits, is_answer, trim_complete, trim_status}
@@ -120,13 +119,27 @@ trim_request asked told owed said from line six trim =
 
 trim_completed : (asked : Bool) (told : ℕ) (owed : List ℕ) (said : List Packet) (entries : List ℕ) (line : Line) → Trim asked told owed said line → Trim asked told owed said (after_completed entries line)
 trim_completed asked told owed said entries line trim = record {
-  behind = trim.behind; gone = trim.gone; on = trim.on; asked_is = trim.asked_is; one = trim.one; ours = trim.ours; whole = trim.whole; codes = trim.codes;
+  behind = trim.behind;
+  gone = trim.gone;
+  on = trim.on;
+  asked_is = trim.asked_is;
+  one = trim.one;
+  ours = trim.ours;
+  whole = trim.whole;
+  codes = trim.codes;
 }
 
 trim_piece : (asked : Bool) (told : ℕ) (owed : List ℕ) (said : List Packet) (piece : Option Piece) (line : Line) → Trim asked told owed said line → Trim asked told owed said (after_piece piece line)
 trim_piece asked told owed said None line trim = trim
 trim_piece asked told owed said (Some piece) line trim = record {
-  behind = trim.behind; gone = trim.gone; on = trim.on; asked_is = trim.asked_is; one = trim.one; ours = trim.ours; whole = trim.whole; codes = trim.codes;
+  behind = trim.behind;
+  gone = trim.gone;
+  on = trim.on;
+  asked_is = trim.asked_is;
+  one = trim.one;
+  ours = trim.ours;
+  whole = trim.whole;
+  codes = trim.codes;
 }
 
 read_or_not : (P : Line → Type 0) (test : Bool) (event : PlainEvent) (line : Line) → P line → P (heard_by (Some event) line) → P (heard_by (cond test (Some event) None) line)
@@ -141,7 +154,7 @@ module _ (size count : ℕ) (size_low : 27 ≤ size) (size_high : size ≤ 1021)
   hears_trim side (Returned code params) rest honest proper low fits trim =
       let good = returns_good size count code params (omega (arith, size_high)) (omega (arith, count_high)) honest in
       let is = returned_again side code params line honest.0 ∙ unless_none (complete_fault code (returned_by code params) line) (after_complete 1 code (returned_by code params) line) line
-          (complete_right size count code (returned_by code params) line size_low count_low good) in
+      (complete_right size count code (returned_by code params) line size_low count_low good) in
       subst (Trim asked told (codes_owed rest) said) (sym is) (trim_complete asked told (codes_owed rest) said code (returned_by code params) line proper trim)
   hears_trim side (Stated code) rest honest proper low fits trim =
       let read : ℕ = little_number 2 (le16 code) in

@@ -1,13 +1,11 @@
 -- A host that hears stays steady: what it asks for, and when.
-use Rattle.std.proofs.Common.{◌≡◌, ℕ, ◌+◌, ◌<◌, ◌≤◌, List, [], ◌∷◌, ◌++◌, Bool, true, false, cond, Option, Some, None, option_map, refl, sym, ap, subst, ◌∙◌, arith, inl, inr, ◌⊎◌}
+use Rattle.std.proofs.Common.{◌≡◌, ℕ, ◌+◌, ◌<◌, ◌≤◌, List, ◌∷◌, Bool, true, false, Option, Some, None, option_map, refl, sym, ap, subst, ◌∙◌, arith, ◌⊎◌}
 use Rattle.std.specs.Prelude.{is_some}
 use Rattle.std.specs.List.{AllByRecursion}
 use Rattle.h4_framing.specs.Packets.{Packet}
 use Rattle.push_script.specs.declared.word.Side.{Side}
-use Rattle.push_script.specs.declared.word.Side.TheVariants as sides
-use Rattle.capture.specs.declared.flow.Flow.TheVariants.{Into}
-use Rattle.capture.specs.Entries.{Entry, Moved}
-use Rattle.capture.specs.Moves.{Move, moves}
+use Rattle.capture.specs.Entries.{Entry}
+use Rattle.capture.specs.Moves.{moves}
 use Rattle.capture.specs.Links.{Link, Linking, after_move, linking}
 use Rattle.host_link.specs.Lines.{Line}
 use Rattle.host_link.specs.PuttingOut.{put_out}
@@ -15,20 +13,21 @@ use Rattle.host_link.specs.Hearing.{heard}
 use Rattle.host_link.specs.Stands.{into}
 use Rattle.radio_air.specs.Controllers.{Answer, Returned, Stated, Called, LinkMade, LinkGone, GivenBack, Carried, Controller, packet_of, after_handing, after_telling, after_first}
 use Rattle.radio_air.specs.Radio.{Radio, controller, is_together}
-use Rattle.radio_air.specs.Showing.{Shows, ShowsUp, IsOwed}
+use Rattle.radio_air.specs.Showing.{Shows, IsOwed}
 use Rattle.world_model.specs.Hosts.{RunsAhead, links_told, IsHonest, OwesHonestly}
 use Rattle.world_model.specs.Hearing.{put_out_again}
 use Rattle.world_model.proofs.Honest.{of_side}
 use Rattle.world_model.proofs.Hearing.{Tells, tells_of}
-use Rattle.world_links.proofs.Ways.{number_of, on_way, HostAt, Next, puts_next, puts_again}
+use Rattle.world_links.proofs.Ways.{number_of, on_way, HostAt, puts_next, puts_again}
 use Rattle.world_links.proofs.Keeping.{owed_below}
 use Rattle.world_links.proofs.Asking.{asked_behind, asked_heard, IsLow}
 use Rattle.world_links.proofs.Arriving.{hears_host, owed_first, low_of}
 use Rattle.world_links.proofs.Upholding.{none_up}
-use Rattle.world_links.proofs.Tidying.{is_asking, codes_owed, Tidy, asking_few}
+use Rattle.world_links.proofs.Tidying.{is_asking, codes_owed, asking_few}
 use Rattle.world_links.proofs.Trimming.{Trim, trim_of, IsCalm, hosts_said}
-use Rattle.world_links.proofs.Answering.{Proper, Fits, told_behind, hears_trim}
-use Rattle.world_links.proofs.Neatly.{Neat, neat_again}
+use Rattle.world_links.proofs.Listening.{is_made}
+use Rattle.world_links.proofs.Answering.{Proper, Fits, told_behind, hears_trim, hears_link}
+use Rattle.world_links.proofs.Neatly.{neat_again}
 use Rattle.world_links.proofs.Readying.{Ready}
 use Rattle.world_links.proofs.Steadying.{Steady}
 
@@ -112,6 +111,18 @@ fits_of one number together (LinkGone handle reason) rest known count said line 
 fits_of one number together (GivenBack handle n) rest known count said line tells owed host comes goes = tt
 fits_of one number together (Carried handle piece) rest known count said line tells owed host comes goes = tt
 
+-- a link that is made is known to its host
+link_by : (size count : ℕ) (size_low : 27 ≤ size) (size_high : size ≤ 1021) (count_low : 1 ≤ count) (count_high : count ≤ 64) (asked : Bool) (told : ℕ) (said : List Packet) (line : Line) (side : Side) (answer : Answer) (codes : List ℕ)
+    → is_made answer ≡ true → IsLow answer → Fits answer asked said line → Trim asked told codes said line → is_some (heard (packet_of side answer) line).link ≡ true
+link_by size count size_low size_high count_low count_high asked told said line side (Returned code params) codes made low fits trim = absurd cc
+link_by size count size_low size_high count_low count_high asked told said line side (Stated code) codes made low fits trim = absurd cc
+link_by size count size_low size_high count_low count_high asked told said line side Called codes made low fits trim = absurd cc
+link_by size count size_low size_high count_low count_high asked told said line side (LinkMade handle) codes made low fits trim =
+    ap is_some (hears_link size count size_low size_high count_low count_high asked told said line side handle codes low fits trim)
+link_by size count size_low size_high count_low count_high asked told said line side (LinkGone handle reason) codes made low fits trim = absurd cc
+link_by size count size_low size_high count_low count_high asked told said line side (GivenBack handle n) codes made low fits trim = absurd cc
+link_by size count size_low size_high count_low count_high asked told said line side (Carried handle piece) codes made low fits trim = absurd cc
+
 -- a host that is about to go on behind what it heard
 pub record Heard (known : Linking) (count : ℕ) (owed : List ℕ) (line : Line) : Type 0 where
   pub said : List Packet
@@ -144,3 +155,18 @@ module _ (side : Side) (past : List Entry) (radio : Radio) (answer : Answer) (re
               (subst (λ (n : ℕ). Trim (asked_behind answer known.asked) n (codes_owed rest) neat.said (heard (packet_of side answer) behind)) (sym told) heard_trim);
         };
       }
+
+  pub steady_link : (times : ℕ) (line : Line) (steady : Steady (linking (moves side past)) radio.count (controller side radio) line) → is_made answer ≡ true
+      → ((controller side radio).told < radio.number → (said : List Packet) → HostAt (linking (moves side past)) radio.count said (put_out_again times line) → number_of is_asking said ≡ 0)
+      → ((controller side radio).up ≡ true → ((put_out_again times line).link ≡ None) ⊎ ((linking (moves side past)).asked ≡ false))
+      → is_some (heard (packet_of side answer) (put_out_again times line)).link ≡ true
+  steady_link times line steady made comes goes =
+      let known : Linking = linking (moves side past) in
+      let one : Controller = controller side radio in
+      let behind : Line = put_out_again times line in
+      let neat = neat_again known radio.count (codes_owed one.owed) times steady.said line steady.host steady.tidy in
+      let owes = owed_first side past radio answer rest owed shows in
+      let low = low_of one.told one.up answer rest radio.number (is_together radio.phase) shows.order.handles owes in
+      let fits = fits_of one radio.number (is_together radio.phase) answer rest known radio.count neat.said behind (tells_of side past radio shows) owes neat.host (λ new. comes new neat.said neat.host) goes in
+      link_by radio.size radio.count honest.size_low honest.size_high honest.count_low honest.count_high known.asked (links_told known) neat.said behind side answer (codes_owed one.owed) made low fits
+      (trim_of known (codes_owed one.owed) neat.said behind neat.tidy)

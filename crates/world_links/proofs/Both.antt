@@ -1,8 +1,5 @@
 -- Both hosts stay steady when a packet moves out of one.
-use Rattle.std.proofs.Common.{◌≡◌, ℕ, ◌+◌, ◌<◌, ◌≤◌, List, [], ◌∷◌, ◌++◌, map, Bool, true, false, cond, Option, Some, None, refl, sym, ap, subst, ◌∙◌, arith, inl, inr, ◌⊎◌}
-use Rattle.std.proofs.lemmas.Bool.{cases_Bool}
-use Rattle.std.proofs.lemmas.List.{append-nil}
-use Rattle.std.specs.Prelude.{is_some}
+use Rattle.std.proofs.Common.{◌≡◌, ℕ, List, [], ◌∷◌, ◌++◌, map, Bool, true, false, cond, Option, Some, None, refl, sym, ap, subst, inl, inr}
 use Rattle.std.specs.List.{AllByRecursion}
 use Rattle.h4_framing.specs.Packets.{Packet}
 use Rattle.push_script.specs.declared.word.Side.{Side}
@@ -11,7 +8,7 @@ use Rattle.push_script.specs.declared.word.Way.{Way}
 use Rattle.push_script.specs.declared.word.Way.TheVariants.{Ab, Ba}
 use Rattle.push_script.specs.declared.word.Word.{Word}
 use Rattle.acl_fragments.specs.Pieces.{Piece}
-use Rattle.capture.specs.declared.flow.Flow.TheVariants.{Out, Into}
+use Rattle.capture.specs.declared.flow.Flow.TheVariants.{Out}
 use Rattle.capture.specs.Entries.{Entry, Moved}
 use Rattle.capture.specs.Moves.{move_of, moves}
 use Rattle.capture.specs.Links.{Linking, after_move, linking}
@@ -20,19 +17,16 @@ use Rattle.capture.specs.Frames.{frame_pieces, way_served}
 use Rattle.capture.proofs.FurtherLaws.{entry_links-more}
 use Rattle.host_link.specs.Lines.{Line}
 use Rattle.host_link.specs.Stands.{out_of}
-use Rattle.radio_air.specs.Controllers.{Answer, Returned, Stated, Called, LinkMade, LinkGone, GivenBack, Carried, Controller, owing, after_giving_back, other_side}
-use Rattle.radio_air.specs.Radio.{Radio, controller, after_packet, after_offer, parted, is_together, delivered_first, frames, served_next, passed, dropped}
-use Rattle.radio_air.proofs.Sizing.{sizes-stay}
+use Rattle.radio_air.specs.Controllers.{Carried, Controller, owing}
+use Rattle.radio_air.specs.Radio.{Radio, after_packet, after_offer, parted, is_together, delivered_first, frames, served_next}
 use Rattle.world_model.specs.Acting.{Makes}
-use Rattle.world_model.specs.Faces.{Face}
 use Rattle.world_model.specs.Moments.{Moment}
 use Rattle.world_model.specs.Happenings.{Departs}
 use Rattle.world_model.proofs.Departing.{moved_sizes}
-use Rattle.world_links.proofs.Ways.{HostAt}
 use Rattle.world_links.proofs.Tidying.{Ours, codes_owed, Tidy}
-use Rattle.world_links.proofs.Departing.{Moves, moves_first}
+use Rattle.world_links.proofs.Departing.{moves_first}
 use Rattle.world_links.proofs.Answering.{Proper}
-use Rattle.world_links.proofs.Owning.{Grown, grown_same, grown_owing, grown_giving, gone_grown, Took, TookBeside, packet_beside}
+use Rattle.world_links.proofs.Owning.{Grown, grown_same, grown_owing, grown_giving, gone_grown, packet_beside}
 use Rattle.world_links.proofs.Steadying.{Steady, steady_grown, steady_moved}
 
 -- both hosts, each beside its controller
@@ -56,7 +50,7 @@ both_beside past entry radio a b none_a none_b both = record {
 
 -- ---- a packet moves out of a host
 
-first_ours : (known : Linking) (owed : List ℕ) (said : List Packet) (packet : Packet) (rest : List Packet) (line : Line) → said ≡ packet ∷ rest → Tidy known owed said line → Ours packet
+pub first_ours : (known : Linking) (owed : List ℕ) (said : List Packet) (packet : Packet) (rest : List Packet) (line : Line) → said ≡ packet ∷ rest → Tidy known owed said line → Ours packet
 first_ours known owed said packet rest line is tidy = (subst (λ (packets : List Packet). AllByRecursion Ours packets) is tidy.ours).0
 
 pub both_departs_a : (past : List Entry) (packet : Packet) (old new : Moment) (step : Departs sides.A packet old new) → BothSteady past old.scene.medium.radio old.a.line old.b.line

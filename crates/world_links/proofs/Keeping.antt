@@ -1,12 +1,11 @@
 -- How far a push is, beside how far the radio is: what stands between them, and that it stays so.
-use Rattle.std.proofs.Common.{◌≡◌, ℕ, ◌+◌, ◌<◌, ◌≤◌, List, [], ◌∷◌, Bool, true, false, cond, Some, None, refl, sym, ap, subst, ◌∙◌, arith}
-use Rattle.std.specs.Prelude.{◌||◌, max}
+use Rattle.std.proofs.Common.{◌≡◌, ℕ, ◌+◌, ◌≤◌, List, [], ◌∷◌, Bool, true, false, refl, sym, ap, arith}
+use Rattle.std.specs.Prelude.{◌||◌}
 use Rattle.radio_air.specs.Controllers.{Answer, Returned, Stated, Called, LinkMade, LinkGone, GivenBack, Carried}
 use Rattle.radio_air.specs.Radio.{Radio, Phase, Apart, Paging, Requested, Together, is_paging, is_requested, is_together}
 use Rattle.radio_air.specs.Showing.{IsOwed, IsOrdered}
 use Rattle.world_links.proofs.Reaching.{Reach, AtRest, Due, Calling, Onward}
-use Rattle.world_links.proofs.Ways.{number_of}
-use Rattle.world_links.proofs.Pacing.{View, view, is_called, paged, requested, made, broken, IsClear}
+use Rattle.world_links.proofs.Pacing.{View, view, paged, requested, made, broken, IsClear}
 
 -- ---- what the radio keeps to by itself
 
@@ -51,7 +50,7 @@ owed_parted told (LinkGone handle reason ∷ rest) number together all owed = ab
 owed_parted told (GivenBack handle count ∷ rest) number together all owed = owed_parted told rest number together all owed.2
 owed_parted told (Carried handle piece ∷ rest) number together all owed = absurd (let up = owed.0 in cc)
 
-calls_of : (phase : Phase) → calling_count phase ≡ 1 → is_paging phase || is_requested phase ≡ true
+pub calls_of : (phase : Phase) → calling_count phase ≡ 1 → is_paging phase || is_requested phase ≡ true
 calls_of Apart one = absurd (omega (arith, one))
 calls_of Paging one = refl
 calls_of Requested one = refl

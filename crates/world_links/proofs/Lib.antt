@@ -30,3 +30,15 @@ pub mod Attending
 pub mod Both
 pub mod Alike
 pub mod Resting
+pub mod Exacting
+pub mod Scanning
+pub mod Queueing
+pub mod Telling
+pub mod Parting
+pub mod Landing
+pub mod Arrived
+pub mod Called
+pub mod Answered
+pub mod Began
+pub mod Linked
+pub mod Settled

@@ -1,8 +1,8 @@
 -- What a host hears, and what becomes of its link and of what is on its way.
-use Rattle.std.proofs.Common.{◌≡◌, ℕ, ◌+◌, ◌≤◌, List, [], ◌∷◌, ◌++◌, Bool, true, false, cond, eqb, Option, Some, None, refl, sym, ap, subst, ◌∙◌, arith, inl, inr, ◌⊎◌}
+use Rattle.std.proofs.Common.{◌≡◌, ℕ, ◌≤◌, List, [], ◌∷◌, ◌++◌, Bool, true, false, cond, Option, Some, None, refl, sym, ap, subst, arith, inl, inr, ◌⊎◌}
 use Rattle.std.specs.Prelude.{◌==◌, ◌&&◌, is_some, is_none, nat_lt, length, drop}
 use Rattle.h4_framing.specs.Packets.{Packet}
-use Rattle.hci_packets.specs.Events.{PlainEvent, ConnectionComplete, ConnectionRequest, DisconnectionComplete, CommandComplete, CommandStatus, CompletedPackets, code_of, event_params, event_refusal}
+use Rattle.hci_packets.specs.Events.{PlainEvent, ConnectionComplete, ConnectionRequest, DisconnectionComplete, code_of, event_params, event_refusal}
 use Rattle.acl_fragments.specs.Pieces.{Piece}
 use Rattle.acl_fragments.specs.Answers as joined
 use Rattle.push_script.specs.declared.word.Side.{Side}
@@ -10,15 +10,14 @@ use Rattle.push_script.specs.declared.word.Side.TheVariants as sides
 use Rattle.host_link.specs.declared.news.ControllerFault.{ControllerFault}
 use Rattle.host_link.specs.declared.returned.Returned.{Returned as Return}
 use Rattle.host_link.specs.declared.returned.Returned.TheVariants.{Refused, Unlisted, Status, Buffers}
-use Rattle.host_link.specs.declared.host_command.HostCommand.{HostCommand}
 use Rattle.host_link.specs.declared.host_command.HostCommand.TheVariants.{AcceptConnection}
 use Rattle.host_link.specs.HostCommands.{opcode}
 use Rattle.host_link.specs.CommandFlows.{Flow, awaits, stated, answered, with_command, is_number}
-use Rattle.host_link.specs.Hearing.{PlainNews, Nothing, LinkUp, LinkFailed, LinkDown, Pdu, with_flow, learn, after_answer, after_other, after_complete, after_status, after_connection, connection_news, is_server, may_accept, after_request, ends_link, after_disconnection, disconnection_news, after_completed, piece_on, after_piece, joined_news, piece_news, after_event, event_news, event_fault, unless_fault, heard, news_of}
+use Rattle.host_link.specs.Hearing.{PlainNews, Nothing, LinkUp, LinkDown, Pdu, with_flow, learn, after_answer, after_other, after_complete, after_status, after_connection, connection_news, is_server, may_accept, after_request, after_disconnection, disconnection_news, after_completed, piece_on, after_piece, joined_news, piece_news, after_event, event_news, event_fault, unless_fault, heard, news_of}
 use Rattle.acl_credits.specs.Ledgers.{without}
 use Rattle.host_link.specs.EventReading.{event_at}
 use Rattle.host_link.specs.Lines.{Line}
-use Rattle.radio_air.specs.Controllers.{Answer, Returned, Stated, Called, LinkMade, LinkGone, GivenBack, Carried, address, other_side, event_of, packet_of}
+use Rattle.radio_air.specs.Controllers.{Answer, Returned, Stated, Called, LinkMade, LinkGone, GivenBack, Carried, event_of, packet_of}
 use Rattle.world_model.proofs.Lists.{chosen}
 use Rattle.world_model.proofs.Reading.{heard_by}
 use Rattle.world_links.proofs.Ways.{number_of, number_of-append, Kin, kin_same}

@@ -1,5 +1,5 @@
 -- A host that puts out what it may stays tidy; and where a command waits then though none is awaited, data are on their way.
-use Rattle.std.proofs.Common.{◌≡◌, ℕ, zero, suc, ◌+◌, ◌<◌, ◌≤◌, List, [], ◌∷◌, ◌++◌, length, Bool, true, false, cond, Option, Some, None, refl, sym, ap, subst, ◌∙◌, arith, inl, inr, ◌⊎◌, lt-ltb}
+use Rattle.std.proofs.Common.{◌≡◌, ℕ, zero, suc, ◌≤◌, List, [], ◌∷◌, ◌++◌, length, Bool, true, false, cond, Option, Some, None, refl, sym, ap, subst, ◌∙◌, arith, inl, inr, ◌⊎◌, lt-ltb}
 use Rattle.std.proofs.lemmas.Bool.{ltb-true, cases_Bool}
 use Rattle.std.specs.Prelude.{◌&&◌, nat_lt, is_none, option_to_list}
 use Rattle.std.specs.List.{AllByRecursion}
@@ -8,7 +8,7 @@ use Rattle.acl_fragments.specs.Pieces.{Piece}
 use Rattle.acl_credits.specs.Ledgers.{packets_of}
 use Rattle.capture.specs.Links.{Linking}
 use Rattle.host_link.specs.declared.host_command.HostCommand.{HostCommand}
-use Rattle.host_link.specs.HostCommands.{opcode, command_packet}
+use Rattle.host_link.specs.HostCommands.{command_packet}
 use Rattle.host_link.specs.CommandFlows.{Flow, next_command, first_of}
 use Rattle.host_link.specs.Lines.{Line}
 use Rattle.host_link.specs.PuttingOut.{has_room, has_buffer, piece_packet, with_piece, with_pieces, put_pieces_on, put_pieces, with_next, put_command, put_out}
@@ -41,8 +41,8 @@ module _ (known : Linking) (count : ℕ) (owed : List ℕ) where
   neat_pieces start handle (piece ∷ rest) said line link same is host tidy =
       chosen (Neat known count owed start) (has_room line && has_buffer line) (with_pieces handle rest (with_piece handle piece rest line)) line
       (λ may. let room = ltb-true (packets_of line.ledger.held) line.ledger.total (both_right (has_room line) (has_buffer line) may) in
-          neat_pieces start handle rest (said ++ piece_packet handle piece ∷ []) (with_piece handle piece rest line) link same refl
-          (piece_host known count said line handle piece rest link room is host) (tidy_piece known count owed said line handle piece rest link host tidy))
+      neat_pieces start handle rest (said ++ piece_packet handle piece ∷ []) (with_piece handle piece rest line) link same refl
+      (piece_host known count said line handle piece rest link room is host) (tidy_piece known count owed said line handle piece rest link host tidy))
       (record { said = said; host = host; tidy = tidy; link = same })
 
   neat_on : (start : Line) (link : Option ℕ) (said : List Packet) (line : Line) → line.link ≡ link → line.link ≡ start.link → HostAt known count said line → Tidy known owed said line → Neat known count owed start (put_pieces_on link line)
@@ -56,6 +56,7 @@ module _ (known : Linking) (count : ℕ) (owed : List ℕ) where
       next_is : (awaited : Option ℕ) (number : ℕ) (first : Option HostCommand) → awaited ≡ None → number ≡ 1 → cond (is_none awaited && nat_lt 0 number) first None ≡ first
       next_is None number first free one = ap (λ (n : ℕ). cond (nat_lt 0 n) first None) one
       next_is (Some code) number first free one = absurd cc
+
       waits_none : (waiting : List HostCommand) → first_of waiting ≡ None → waiting ≡ []
       waits_none [] none = refl
       waits_none (command ∷ rest) none = absurd cc

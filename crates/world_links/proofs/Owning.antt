@@ -1,5 +1,5 @@
 -- What a controller owes its host, and what it took, by what happens.
-use Rattle.std.proofs.Common.{◌≡◌, ℕ, zero, suc, ◌+◌, ◌%◌, ◌<◌, ◌≤◌, List, [], ◌∷◌, ◌++◌, map, Bool, true, false, cond, Option, Some, None, refl, sym, ap, subst, ◌∙◌, arith, eq-eqb, le-leb, lt-ltb, inl, inr}
+use Rattle.std.proofs.Common.{◌≡◌, ℕ, zero, suc, ◌+◌, ◌%◌, ◌≤◌, List, [], ◌∷◌, ◌++◌, Bool, true, false, cond, Option, Some, None, refl, sym, ap, subst, ◌∙◌, arith, eq-eqb, le-leb, lt-ltb, inl, inr}
 use Rattle.std.proofs.lemmas.Bool.{cases_Bool}
 use Rattle.std.specs.Prelude.{◌==◌, ◌&&◌, nat_lt, nat_le, slice_index}
 use Rattle.std.specs.List.{AllByRecursion}
@@ -7,11 +7,11 @@ use Rattle.h4_framing.specs.Packets.{Packet, Command, Acl, Sync, Event}
 use Rattle.acl_fragments.specs.Pieces.{Piece}
 use Rattle.push_script.specs.declared.word.Side.{Side}
 use Rattle.push_script.specs.declared.word.Side.TheVariants as sides
-use Rattle.radio_air.specs.Controllers.{Answer, Returned, Stated, Called, LinkMade, LinkGone, GivenBack, Carried, Controller, owing, gives_back, after_giving_back, other_side}
-use Rattle.radio_air.specs.Radio.{Radio, controller, with_controller, owes, scanning, knows_link, piece_from, after_piece, frames_by, after_taking, with_frames, after_acl, after_packet}
+use Rattle.radio_air.specs.Controllers.{Answer, Called, LinkMade, LinkGone, GivenBack, Controller, owing, gives_back, after_giving_back, other_side}
+use Rattle.radio_air.specs.Radio.{Radio, controller, owes, scanning, knows_link, piece_from, after_piece, frames_by, after_taking, with_frames, after_acl, after_packet}
 use Rattle.world_model.proofs.Lists.{chosen, all_both}
 use Rattle.world_links.proofs.Ways.{number_of, number_of-append}
-use Rattle.world_links.proofs.Tidying.{one_if, is_acl, IsOn, IsAnswered, Ours, codes_said, codes_owed, codes_owed-append}
+use Rattle.world_links.proofs.Tidying.{one_if, is_acl, IsOn, Ours, codes_said, codes_owed, codes_owed-append}
 use Rattle.world_links.proofs.Answering.{Proper}
 use Rattle.world_links.proofs.Rowing.{Closed, Answers, commanded}
 

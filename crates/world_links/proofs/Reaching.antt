@@ -1,5 +1,5 @@
 -- How far a push is with its link, by its stage: what peer and steps change of it.
-use Rattle.std.proofs.Common.{rules, ◌≡◌, ℕ, Bool, true, false, List, [], ◌∷◌, fold, drop, Option, Some, None, Result, Ok, Err, refl, sym, ap, ◌∙◌}
+use Rattle.std.proofs.Common.{rules, ◌≡◌, ℕ, Bool, true, false, List, [], ◌∷◌, drop, Option, Some, None, Result, Ok, Err, refl, sym, ap, ◌∙◌}
 use Rattle.std.specs.Prelude.{◌==◌, is_some, if◌then◌else◌, ◌≢◌}
 use Rattle.std.specs.Option.{option_or}
 use Rattle.push_script.specs.declared.outcome.Outcome.{Outcome}
@@ -8,13 +8,13 @@ use Rattle.l2cap_signal.specs.Commands.{Command, Content, reject, connection_req
 use Rattle.l2cap_config.specs.declared.wish.Agreed.{Agreed}
 use Rattle.obex_headers.specs.declared.fault.ObexRefusal.{ObexRefusal}
 use Rattle.obex_headers.specs.declared.packet.Phase.TheVariants.{Response, ConnectResponse}
-use Rattle.obex_headers.specs.Packets.{PlainPacket, maximum_of}
+use Rattle.obex_headers.specs.Packets.{PlainPacket}
 use Rattle.obex_headers.specs.Reading.{packet_in}
 use Rattle.bt_host.specs.declared.stages.Stage.{Stage}
 use Rattle.bt_host.specs.declared.stages.Stage.TheVariants.{Idle, ToPage, Paging, Linked, Connecting, Connected, Configuring, Greeting, Greeted, Putting, ToPart, Parting, ToClose, Closing, ToLeave, Leaving}
 use Rattle.bt_host.specs.declared.stages.PeerRequest.TheVariants.{Awaited, Heard, Accepted}
 use Rattle.bt_host.specs.declared.steps.Step.{Step}
-use Rattle.bt_host.specs.declared.steps.Step.TheVariants.{Wait, Page, Send, BreakLink}
+use Rattle.bt_host.specs.declared.steps.Step.TheVariants.{Wait, Page, BreakLink}
 use Rattle.bt_host.specs.Pdus.{own_endpoint}
 use Rattle.bt_host.specs.Courses.{Course, at, caused, ended}
 use Rattle.bt_host.specs.Events as events
@@ -298,11 +298,3 @@ step_leaves ToClose given course is = refl
 step_leaves Closing given course is = ap is_leaving is
 step_leaves ToLeave given course is = (refl, refl)
 step_leaves Leaving given course is = ap is_leaving is
-
-pub quiet_leaves : (news : PlainNews) (course : Course) → reach_after news AtRest ≡ AtRest → (news ≡ LinkUp → ⊥) → ((reason : ℕ) → news ≡ LinkDown reason → ⊥) → ((status : ℕ) → news ≡ LinkFailed status → ⊥)
-    → is_leaving (after_news news course).stage ≡ is_leaving course.stage
-quiet_leaves Nothing course same up down failed = refl
-quiet_leaves LinkUp course same up down failed = absurd (up refl)
-quiet_leaves (LinkFailed status) course same up down failed = absurd (failed status refl)
-quiet_leaves (LinkDown reason) course same up down failed = absurd (down reason refl)
-quiet_leaves (Pdu channel octets) course same up down failed = (pdu_stays channel octets course).leaves_is

@@ -1,5 +1,5 @@
 -- A host that goes on, before and behind it puts out what it may.
-use Rattle.std.proofs.Common.{rules, ◌≡◌, ℕ, ◌+◌, ◌<◌, ◌≤◌, List, [], ◌∷◌, ◌++◌, length, Bool, true, false, cond, Option, Some, None, refl, sym, ap, subst, ◌∙◌, arith}
+use Rattle.std.proofs.Common.{rules, ◌≡◌, ℕ, List, length, Option, Some, None, refl, sym, subst, arith}
 use Rattle.std.specs.Prelude.{nat_lt}
 use Rattle.bt_base.specs.Octets.{IsOctets}
 use Rattle.bt_base.specs.Objects.{Object}
@@ -22,7 +22,6 @@ use Rattle.world_model.specs.Hosts.{links_told, IsAddress, IsAddressed}
 use Rattle.world_model.proofs.Lists.{chosen}
 use Rattle.world_model.proofs.Putting.{is_last}
 use Rattle.world_links.proofs.Ways.{HostAt, with_more, flow_host, send_host}
-use Rattle.world_links.proofs.Tidying.{Tidy}
 use Rattle.world_links.proofs.Trimming.{Trim, trim_waits, IsCalm, tidy_of}
 use Rattle.world_links.proofs.Neatly.{Done, done_putting}
 

@@ -1,15 +1,13 @@
--- Both hosts are steady in each run, and have nothing left to do at rest.
-use Rattle.std.proofs.Common.{◌≡◌, ℕ, ◌+◌, ◌<◌, ◌≤◌, List, [], ◌∷◌, ◌++◌, Bool, true, false, cond, Option, Some, None, refl, sym, ap, subst, ◌∙◌, arith, inl, inr, ◌⊎◌}
+-- Both hosts stay steady whatever happens, and have nothing left to do at rest.
+use Rattle.std.proofs.Common.{◌≡◌, ℕ, ◌+◌, List, [], ◌∷◌, ◌++◌, Option, Some, None, refl, sym, ap, subst, ◌∙◌, arith, inl, inr}
 use Rattle.std.proofs.lemmas.List.{append-nil}
 use Rattle.std.specs.Prelude.{option_to_list}
 use Rattle.std.specs.List.{AllByRecursion}
-use Rattle.h4_framing.specs.Packets.{Packet, spelling, spellings, IsPacket}
-use Rattle.push_script.specs.declared.word.Side.{Side}
+use Rattle.h4_framing.specs.Packets.{Packet, spellings, IsPacket}
 use Rattle.push_script.specs.declared.word.Side.TheVariants as sides
 use Rattle.capture.specs.declared.flow.Flow.TheVariants.{Out, Into}
 use Rattle.capture.specs.Entries.{Entry, Moved, Begun, Ended, Acted}
-use Rattle.capture.specs.Moves.{moves}
-use Rattle.capture.specs.Links.{Linking, no_links, linking}
+use Rattle.capture.specs.Links.{Linking, no_links}
 use Rattle.host_link.specs.declared.role.Role.{Role}
 use Rattle.host_link.specs.declared.role.Role.TheVariants.{Client, Server}
 use Rattle.host_link.specs.HostCommands.{start_commands, IsWhole}
@@ -17,24 +15,22 @@ use Rattle.host_link.specs.Lines.{Line, fresh}
 use Rattle.host_link.specs.PuttingOut.{put_out}
 use Rattle.bt_host.specs.Servers.{Kept}
 use Rattle.radio_air.specs.Controllers.{Controller, packet_of, new_controller}
-use Rattle.radio_air.specs.Radio.{Radio, new_radio, after_answer}
-use Rattle.radio_air.specs.Showing.{Shows}
+use Rattle.radio_air.specs.Radio.{Radio, after_answer}
 use Rattle.world_model.specs.Moving.{HasNoPacket}
 use Rattle.world_model.specs.Hearing.{HearsBehind}
 use Rattle.world_model.specs.Insides.{Inside, Shelved, StartsPush, client}
-use Rattle.world_model.specs.Moments.{Moment, IsAtRest, first_moment, with_face, with_medium, with_pushes}
-use Rattle.world_model.specs.Happenings.{Happening, Departure, Arrival, GivingBack, Opening, Closing, Deed, Miss, Does, Runs, entries_of, all_entries, Departs, Arrives, Opens}
+use Rattle.world_model.specs.Moments.{Moment, first_moment, with_face, with_medium, with_pushes}
+use Rattle.world_model.specs.Happenings.{Happening, Departure, Arrival, GivingBack, Opening, Closing, Deed, Miss, Does, entries_of, Arrives, Opens}
 use Rattle.world_model.specs.Holding.{Holds}
-use Rattle.world_model.proofs.Holding.{kept_along}
-use Rattle.world_links.specs.LinkFacts.{IsDone, IsBeginning, HostsDone}
-use Rattle.world_links.proofs.Reaching.{Reach, reach}
-use Rattle.world_links.proofs.Ways.{number_of, HostAt}
+use Rattle.world_links.specs.LinkFacts.{IsDone}
+use Rattle.world_links.proofs.Reaching.{reach}
+use Rattle.world_links.proofs.Ways.{number_of}
 use Rattle.world_links.proofs.Pacing.{view}
 use Rattle.world_links.proofs.Upholding.{Upholds}
-use Rattle.world_links.proofs.Opening.{BeginsClient, begins_client}
+use Rattle.world_links.proofs.Opening.{begins_client}
 use Rattle.world_links.proofs.Tidying.{is_acl, codes_said, codes_owed, Tidy}
 use Rattle.world_links.proofs.Owning.{is_back, backs}
-use Rattle.world_links.proofs.Running.{fresh_host, Stood, stood_on, first_stood}
+use Rattle.world_links.proofs.Running.{fresh_host}
 use Rattle.world_model.specs.Media.{Medium, in_radio}
 use Rattle.world_model.specs.Ordering.{one_begun}
 use Rattle.world_links.proofs.Neatly.{done_putting}
@@ -88,7 +84,7 @@ steady_opens past push old new step upholds holds' upholds' steady =
     let holds_made : Holds past' made = subst (Holds past') step.new_is holds' in
     let upholds_made : Upholds past' made = subst (Upholds past') step.new_is upholds' in
     let starts = begins_client step.name old.a.line step.face.line upholds.course upholds.shelf step.face.inside
-        (subst (λ (i : Inside). StartsPush step.name old.a.line step.face.line i step.face.inside) upholds.inside_a step.starts) in
+    (subst (λ (i : Inside). StartsPush step.name old.a.line step.face.line i step.face.inside) upholds.inside_a step.starts) in
     subst (IsSteady past') (sym step.new_is)
     (both_opens past push radio old.a.line old.b.line upholds.shelf.content upholds.shelf.faults starts.shelf'.faults (client old.a.line starts.pushes.course) (client step.face.line starts.course')
     (reach upholds_made.course.stage) upholds_made.creates (view radio) refl starts.pushes.goes holds_made.shows upholds_made.a upholds_made.beside.pace.far_is steady)
@@ -149,7 +145,7 @@ first_steady size count mtu obex names shelf inbox = record { a = first_steady_a
 
 -- ---- at rest
 
-no_said : (said : List Packet) → AllByRecursion (IsPacket 1021) said → HasNoPacket (spellings said) → said ≡ []
+pub no_said : (said : List Packet) → AllByRecursion (IsPacket 1021) said → HasNoPacket (spellings said) → said ≡ []
 no_said [] each none = refl
 no_said (packet ∷ rest) each none = absurd (none packet (spellings rest) each.0 refl)
 
@@ -159,7 +155,7 @@ steady_done known count one line steady still none given =
     let out = steady.host.keeps.out in
     let empty : steady.said ≡ [] = no_said steady.said steady.host.keeps.runs.each (subst HasNoPacket out still) in
     let codes : [] ≡ option_to_list line.commands.awaited =
-        sym (ap (λ (packets : List Packet). codes_said packets) empty) ∙ (sym (ap (λ answers. codes_owed answers ++ codes_said steady.said) none) ∙ steady.tidy.codes) in
+    sym (ap (λ (packets : List Packet). codes_said packets) empty) ∙ (sym (ap (λ answers. codes_owed answers ++ codes_said steady.said) none) ∙ steady.tidy.codes) in
     let free : line.commands.awaited ≡ None = none_awaited line.commands.awaited codes in
     let zero_acl : number_of is_acl steady.said ≡ 0 = ap (number_of is_acl) empty in
     let zero_back : backs one ≡ one.taken + 0 = ap (λ answers. one.taken + number_of is_back answers) none in
@@ -175,25 +171,3 @@ steady_done known count one line steady still none given =
     none_awaited : (awaited : Option ℕ) → [] ≡ option_to_list awaited → awaited ≡ None
     none_awaited None is = refl
     none_awaited (Some code) is = absurd cc
-
--- ---- along each run
-
-pub record Rests (past : List Entry) (moment : Moment) : Type 0 where
-  pub stood : Stood past moment
-  pub steady : IsSteady past moment
-
-pub rests : (size count mtu obex : ℕ) (names : List (List ℕ)) (shelf : Shelved) (inbox : Kept) (happenings : List Happening) (moment : Moment) → IsBeginning size count names
-    → Runs happenings (first_moment size count mtu obex names shelf inbox) moment → Rests (all_entries happenings) moment
-rests size count mtu obex names shelf inbox happenings moment is runs =
-    kept_along Rests
-    (λ past happening old new does before.
-        let next = stood_on past happening old new does before.stood in
-        record { stood = next; steady = steady_each past happening old new does before.stood.holds before.stood.upholds next.holds next.upholds before.steady })
-    happenings [] (first_moment size count mtu obex names shelf inbox) moment runs
-    (record { stood = first_stood size count mtu obex names shelf inbox is; steady = first_steady size count mtu obex names shelf inbox })
-
-pub hosts_done : HostsDone
-hosts_done size count mtu obex names shelf inbox happenings moment is runs rest =
-    let there = rests size count mtu obex names shelf inbox happenings moment is runs in
-    (steady_done _ _ moment.scene.medium.radio.a moment.a.line there.steady.a rest.settled.still_a rest.settled.none_a rest.returned_a,
-        steady_done _ _ moment.scene.medium.radio.b moment.b.line there.steady.b rest.settled.still_b rest.settled.none_b rest.returned_b)

@@ -1,16 +1,15 @@
 -- What a command of a host does to what both controllers owe.
-use Rattle.std.proofs.Common.{◌≡◌, ℕ, ◌+◌, ◌%◌, ◌<◌, ◌≤◌, ◌^◌, List, [], ◌∷◌, ◌++◌, map, Bool, true, false, cond, eqb, Option, Some, None, refl, sym, ap, subst, ◌∙◌, arith, eq-eqb, inl, inr, ◌⊎◌}
+use Rattle.std.proofs.Common.{◌≡◌, ℕ, List, [], ◌∷◌, ◌++◌, Bool, true, false, cond, Option, None, refl, sym, subst, arith, inl, inr}
 use Rattle.std.proofs.lemmas.Bool.{eqb-true, cases_Bool}
-use Rattle.std.specs.Prelude.{◌==◌, ◌&&◌, ◌||◌, nat_lt, nat_le, is_none, slice_index}
-use Rattle.std.specs.List.{AllByRecursion}
+use Rattle.std.specs.Prelude.{◌==◌, ◌&&◌, ◌||◌, is_none, slice_index}
 use Rattle.byteorder.specs.Endian.{little_number}
 use Rattle.bt_base.specs.Octets.{le16}
 use Rattle.hci_packets.specs.declared.refusal.HciRefusal.{HciRefusal}
 use Rattle.hci_packets.specs.Commands.{command_refusal}
 use Rattle.push_script.specs.declared.word.Side.{Side}
 use Rattle.push_script.specs.declared.word.Side.TheVariants as sides
-use Rattle.radio_air.specs.Controllers.{Answer, Returned, Stated, Called, LinkMade, LinkGone, GivenBack, Carried, Controller, address, owing}
-use Rattle.radio_air.specs.Radio.{Radio, Phase, Apart, Paging, Requested, Together, owes, may_page, is_reached, after_reaching, after_paging, is_requested, joined, after_accepting, parted, parted_by, knows_link, after_disconnecting, scanning, after_row, after_command}
+use Rattle.radio_air.specs.Controllers.{Answer, Returned, Stated, Called, address, owing}
+use Rattle.radio_air.specs.Radio.{Radio, Paging, Requested, owes, may_page, is_reached, after_reaching, after_paging, is_requested, joined, after_accepting, parted, parted_by, knows_link, after_disconnecting, scanning, after_row, after_command}
 use Rattle.world_model.proofs.Lists.{chosen}
 use Rattle.world_links.proofs.Tidying.{codes_owed, is_listed}
 use Rattle.world_links.proofs.Answering.{Proper}
@@ -69,7 +68,7 @@ module _ (P : Radio → Type 0) (closed : Closed P) where
       subst (λ (c : ℕ). ((answer : Answer) → Answers c answer → P (owes side (answer ∷ []) radio)) → P (after_row side c params radio)) (sym is)
       (λ says. accepting side (owes side (Stated 0x0409 ∷ []) radio) (says (Stated 0x0409) (record { codes = refl; proper = (refl, omega arith) }))) says
 
-  row_scan : (side : Side) (code : ℕ) (params : List ℕ) (radio : Radio) → code ≡ 0x0C1A → ((answer : Answer) → Answers code answer → P (owes side (answer ∷ []) (scanning side (slice_index params 0) radio))) → P (after_row side code params radio)
+  pub row_scan : (side : Side) (code : ℕ) (params : List ℕ) (radio : Radio) → code ≡ 0x0C1A → ((answer : Answer) → Answers code answer → P (owes side (answer ∷ []) (scanning side (slice_index params 0) radio))) → P (after_row side code params radio)
   row_scan side code params radio is says =
       subst (λ (c : ℕ). ((answer : Answer) → Answers c answer → P (owes side (answer ∷ []) (scanning side (slice_index params 0) radio))) → P (after_row side c params radio)) (sym is)
       (λ says. reaching (owes side (Returned 0x0C1A (0 ∷ []) ∷ []) (scanning side (slice_index params 0) radio)) (says (Returned 0x0C1A (0 ∷ [])) (record { codes = refl; proper = refl }))) says

@@ -1,31 +1,25 @@
 -- What is true of a world and its links holds at first, and along each run.
-use Rattle.std.proofs.Common.{◌≡◌, ℕ, ◌+◌, ◌≤◌, min, List, [], ◌∷◌, ◌++◌, Bool, true, false, Option, Some, None, refl, sym, ap, subst, ◌∙◌, arith}
+use Rattle.std.proofs.Common.{ℕ, List, [], ◌++◌, refl, ap, arith}
 use Rattle.std.specs.Prelude.{is_some}
-use Rattle.push_script.specs.declared.word.Side.{Side}
 use Rattle.push_script.specs.declared.word.Side.TheVariants as sides
 use Rattle.capture.specs.Entries.{Entry}
 use Rattle.capture.specs.Links.{no_links}
 use Rattle.host_link.specs.declared.role.Role.{Role}
 use Rattle.host_link.specs.declared.role.Role.TheVariants.{Client, Server}
 use Rattle.host_link.specs.Lines.{fresh}
-use Rattle.host_link.specs.PuttingOut.{put_out, started}
 use Rattle.bt_host.specs.Servers.{Kept}
 use Rattle.bt_host.specs.Courses.{resting}
-use Rattle.radio_air.specs.Radio.{new_radio}
 use Rattle.world_model.specs.Insides.{Shelved}
-use Rattle.world_model.specs.Hosts.{OwesHonestly}
-use Rattle.world_model.specs.Moments.{Moment, first_moment, first_client, first_server}
-use Rattle.world_model.specs.Happenings.{Happening, Departure, Arrival, GivingBack, Opening, Closing, Deed, Miss, Does, Runs, entries_of, all_entries}
+use Rattle.world_model.specs.Moments.{Moment, first_moment}
+use Rattle.world_model.specs.Happenings.{Happening, Departure, Arrival, GivingBack, Opening, Closing, Deed, Miss, Does, entries_of, all_entries}
 use Rattle.world_model.specs.Holding.{Holds}
 use Rattle.world_model.proofs.Letting.{start_addressed}
-use Rattle.world_model.proofs.Standing.{Keeps}
 use Rattle.world_model.proofs.Beginning.{stands_started, shows_nothing, honest_at_first}
 use Rattle.world_model.proofs.Holding.{holds_on, kept_along}
 use Rattle.world_links.specs.LinkFacts.{IsBeginning, LinksOfRuns}
-use Rattle.world_links.proofs.Reaching.{Reach, AtRest, reach}
-use Rattle.world_links.proofs.Ways.{on_way, HostAt, Next, puts_next}
+use Rattle.world_links.proofs.Ways.{HostAt, puts_next}
 use Rattle.world_links.proofs.Splitting.{split_first}
-use Rattle.world_links.proofs.Upholding.{ClientStands, ServerStands, Beside, Upholds, facts_of}
+use Rattle.world_links.proofs.Upholding.{Upholds, facts_of}
 use Rattle.world_links.proofs.Departing.{departs_a}
 use Rattle.world_links.proofs.Leaving.{departs_b}
 use Rattle.world_links.proofs.Coming.{arrives_a}

@@ -1,5 +1,5 @@
 -- What each host keeps to beside its controller, when what it put out moves.
-use Rattle.std.proofs.Common.{◌≡◌, ℕ, zero, suc, ◌+◌, ◌<◌, ◌≤◌, List, [], ◌∷◌, ◌++◌, Bool, true, false, cond, Option, Some, None, refl, sym, ap, subst, ◌∙◌, arith, inl, inr, ◌⊎◌, append_assoc, lt-ltb}
+use Rattle.std.proofs.Common.{◌≡◌, ℕ, ◌+◌, ◌≤◌, List, [], ◌∷◌, ◌++◌, Bool, true, false, cond, Option, None, refl, sym, ap, subst, ◌∙◌, arith, inl, inr, ◌⊎◌, append_assoc, lt-ltb}
 use Rattle.std.specs.Prelude.{◌==◌, ◌&&◌, ◌||◌, nat_lt, is_none, option_to_list}
 use Rattle.std.specs.List.{AllByRecursion}
 use Rattle.std.proofs.lemmas.Bool.{cases_Bool}
@@ -10,14 +10,13 @@ use Rattle.capture.specs.Moves.{Move}
 use Rattle.capture.specs.Links.{Linking, Asked, NoNews, after_news, after_move}
 use Rattle.host_link.specs.Lines.{Line}
 use Rattle.host_link.specs.Stands.{out_of}
-use Rattle.radio_air.specs.Controllers.{Answer, Controller}
+use Rattle.radio_air.specs.Controllers.{Controller}
 use Rattle.world_model.specs.Hosts.{links_told}
 use Rattle.world_model.proofs.Longer.{goes_out}
-use Rattle.world_links.proofs.Ways.{number_of, has_opcode, on_way, HostAt}
+use Rattle.world_links.proofs.Ways.{number_of, HostAt}
 use Rattle.world_links.proofs.Tidying.{one_if, is_asking, is_acl, NoneBehind, IsOn, Ours, codes_said, codes_owed, Tidy}
 use Rattle.world_links.proofs.Answering.{Proper}
-use Rattle.world_links.proofs.Asking.{asked_out}
-use Rattle.world_links.proofs.Owning.{is_back, backs, Grown, Took, more_or}
+use Rattle.world_links.proofs.Owning.{backs, Grown, Took, more_or}
 use Rattle.world_links.proofs.Departing.{Moves}
 
 -- a tidy host beside its controller: where it lets a command wait without need, data are still to be given back

@@ -1,6 +1,6 @@
 -- What a host that puts things out keeps tidy: its packets of data are on its last link, at most one command is under
 -- way, and nothing waits without need.
-use Rattle.std.proofs.Common.{◌≡◌, ℕ, zero, suc, ◌+◌, ◌%◌, ◌<◌, ◌≤◌, List, [], ◌∷◌, ◌++◌, length, drop, Bool, true, false, cond, eqb, Option, Some, None, refl, sym, ap, subst, ◌∙◌, arith, inl, inr, ◌⊎◌, append_assoc, lt-ltb}
+use Rattle.std.proofs.Common.{◌≡◌, ℕ, ◌+◌, ◌%◌, ◌≤◌, List, [], ◌∷◌, ◌++◌, length, Bool, true, false, cond, Option, Some, None, refl, sym, ap, subst, ◌∙◌, arith, lt-ltb}
 use Rattle.std.specs.Prelude.{◌==◌, ◌&&◌, ◌||◌, nat_lt, is_none, is_some, slice_index, option_to_list}
 use Rattle.std.specs.List.{AllByRecursion}
 use Rattle.h4_framing.specs.Packets.{Packet, Command, Acl, Sync, Event}
@@ -12,7 +12,7 @@ use Rattle.capture.specs.Links.{Link, Linking}
 use Rattle.host_link.specs.declared.host_command.HostCommand.{HostCommand}
 use Rattle.host_link.specs.declared.host_command.HostCommand.TheVariants.{Reset, ReadBufferSize, ReadBdAddr, WriteScanEnable, CreateConnection, AcceptConnection, Disconnect}
 use Rattle.host_link.specs.HostCommands.{opcode, command_of, command_packet, asks, IsWhole}
-use Rattle.host_link.specs.CommandFlows.{Flow, next_command, first_of}
+use Rattle.host_link.specs.CommandFlows.{next_command, first_of}
 use Rattle.host_link.specs.Lines.{Line}
 use Rattle.host_link.specs.PuttingOut.{piece_packet, with_piece, with_next}
 use Rattle.radio_air.specs.Controllers.{Answer, Returned, Stated, Called, LinkMade, LinkGone, GivenBack, Carried}
@@ -141,13 +141,14 @@ none_acl command = refl
 
 behind_push : (said : List Packet) (packet : Packet) → is_acl packet ≡ false → NoneBehind said → NoneBehind (said ++ packet ∷ [])
 behind_push [] packet other behind = (λ asking. refl, tt)
-behind_push (first ∷ said) packet other behind =
-    (λ asking.
-        let none = behind.0 asking in
-        let all = number_of-append is_acl said (packet ∷ []) in
-        let bit : one_if (is_acl packet) ≡ 0 = ap one_if other in
-        omega (arith, none, all, bit),
-        behind_push said packet other behind.1)
+behind_push (first ∷ said) packet other behind = (
+  λ asking.
+      let none = behind.0 asking in
+      let all = number_of-append is_acl said (packet ∷ []) in
+      let bit : one_if (is_acl packet) ≡ 0 = ap one_if other in
+      omega (arith, none, all, bit),
+  behind_push said packet other behind.1,
+)
 
 or_false : (b : Bool) → b || false ≡ b
 or_false true = refl

@@ -1,25 +1,20 @@
 -- A host that hears, or lets things wait, stays tidy.
-use Rattle.std.proofs.Common.{◌≡◌, ℕ, ◌+◌, ◌<◌, ◌≤◌, ◌^◌, List, [], ◌∷◌, ◌++◌, length, Bool, true, false, cond, eqb, Option, Some, None, refl, sym, ap, subst, ◌∙◌, arith, inl, inr, ◌⊎◌, eq-eqb}
+use Rattle.std.proofs.Common.{◌≡◌, ℕ, ◌+◌, List, [], ◌∷◌, ◌++◌, length, Bool, true, false, cond, Option, Some, None, refl, sym, ap, subst, ◌∙◌, eq-eqb}
 use Rattle.std.proofs.lemmas.List.{append_cancel_left}
 use Rattle.std.specs.Prelude.{◌&&◌, ◌||◌, not, nat_lt, is_none, option_to_list}
 use Rattle.std.specs.List.{AllByRecursion}
-use Rattle.byteorder.specs.Endian.{little_number}
-use Rattle.bt_base.specs.Octets.{IsOctets, le16}
-use Rattle.bt_base.proofs.OctetLemmas.{le16-number}
 use Rattle.h4_framing.specs.Packets.{Packet, spelling, spellings, IsPacket}
-use Rattle.capture.specs.Links.{Link, Linking}
+use Rattle.capture.specs.Links.{Linking}
 use Rattle.host_link.specs.declared.returned.Returned.{Returned as Return}
 use Rattle.host_link.specs.declared.returned.Returned.TheVariants.{Refused, Unlisted, Status, Buffers}
 use Rattle.host_link.specs.declared.host_command.HostCommand.{HostCommand}
-use Rattle.host_link.specs.declared.host_command.HostCommand.TheVariants.{AcceptConnection, Disconnect}
 use Rattle.host_link.specs.HostCommands.{IsWhole}
-use Rattle.host_link.specs.Returning.{returned_by, completes}
+use Rattle.host_link.specs.Returning.{completes}
 use Rattle.host_link.specs.CommandFlows.{Flow, with_command, is_number, awaits, stated, answered}
 use Rattle.host_link.specs.Hearing.{with_flow, learn, after_answer, after_other, after_complete, after_status}
 use Rattle.host_link.specs.Lines.{Line}
 use Rattle.world_model.specs.Hosts.{links_told}
 use Rattle.world_model.proofs.Lists.{chosen, all_both}
-use Rattle.world_model.proofs.Putting.{is_last}
 use Rattle.world_model.proofs.Departing.{first_is}
 use Rattle.world_links.proofs.Ways.{number_of, on_way, HostAt, with_more}
 use Rattle.world_links.proofs.Tidying.{is_asking, is_acl, NoneBehind, IsOn, Ours, codes_said, Tidy}
@@ -54,7 +49,14 @@ pub record Trim (asked : Bool) (told : ℕ) (owed : List ℕ) (said : List Packe
 
 pub trim_of : (known : Linking) (owed : List ℕ) (said : List Packet) (line : Line) → Tidy known owed said line → Trim known.asked (links_told known) owed said line
 trim_of known owed said line tidy = record {
-  behind = tidy.behind; gone = tidy.gone; on = tidy.on; asked_is = tidy.asked_is; one = tidy.one; ours = tidy.ours; whole = tidy.whole; codes = tidy.codes;
+  behind = tidy.behind;
+  gone = tidy.gone;
+  on = tidy.on;
+  asked_is = tidy.asked_is;
+  one = tidy.one;
+  ours = tidy.ours;
+  whole = tidy.whole;
+  codes = tidy.codes;
 }
 
 abbrev pub IsCalm : List Packet → Line → Type 0
@@ -62,7 +64,15 @@ IsCalm said line = (handle : ℕ) → line.link ≡ Some handle → on_way 0x040
 
 pub tidy_of : (known : Linking) (owed : List ℕ) (said : List Packet) (line : Line) → Trim known.asked (links_told known) owed said line → IsCalm said line → Tidy known owed said line
 tidy_of known owed said line trim calm = record {
-  behind = trim.behind; gone = trim.gone; on = trim.on; asked_is = trim.asked_is; one = trim.one; ours = trim.ours; whole = trim.whole; codes = trim.codes; calm = calm;
+  behind = trim.behind;
+  gone = trim.gone;
+  on = trim.on;
+  asked_is = trim.asked_is;
+  one = trim.one;
+  ours = trim.ours;
+  whole = trim.whole;
+  codes = trim.codes;
+  calm = calm;
 }
 
 module _ (asked : Bool) (told : ℕ) (owed : List ℕ) (said : List Packet) where
@@ -71,7 +81,12 @@ module _ (asked : Bool) (told : ℕ) (owed : List ℕ) (said : List Packet) wher
   trim_waits command line whole trim =
       chosen (λ (flow : Flow). Trim asked told owed said (with_flow flow line)) (nat_lt (length line.commands.waiting) 8) (with_more command line.commands) line.commands
       (λ room. record {
-        behind = trim.behind; gone = trim.gone; on = trim.on; asked_is = trim.asked_is; one = trim.one; ours = trim.ours;
+        behind = trim.behind;
+        gone = trim.gone;
+        on = trim.on;
+        asked_is = trim.asked_is;
+        one = trim.one;
+        ours = trim.ours;
         whole = all_both IsWhole line.commands.waiting (command ∷ []) trim.whole (whole, tt);
         codes = trim.codes;
       })
@@ -95,7 +110,13 @@ is_answer _ = false
 module _ (asked : Bool) (told : ℕ) (more : List ℕ) (said : List Packet) where
   trim_answered : (code : ℕ) (line : Line) → Trim asked told (code ∷ more) said line → Trim asked told more said (with_flow (answered 1 line.commands) line)
   trim_answered code line trim = record {
-    behind = trim.behind; gone = trim.gone; on = trim.on; asked_is = trim.asked_is; one = refl; ours = trim.ours; whole = trim.whole;
+    behind = trim.behind;
+    gone = trim.gone;
+    on = trim.on;
+    asked_is = trim.asked_is;
+    one = refl;
+    ours = trim.ours;
+    whole = trim.whole;
     codes = (awaited_one code (more ++ codes_said said) line.commands.awaited trim.codes).1;
   }
 

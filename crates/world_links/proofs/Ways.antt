@@ -1,5 +1,5 @@
 -- What is on its way from a host to its controller, and what stays of a host that puts out what it may.
-use Rattle.std.proofs.Common.{◌≡◌, ℕ, zero, suc, ◌+◌, ◌<◌, ◌≤◌, List, [], ◌∷◌, ◌++◌, length, drop, Bool, true, false, cond, eqb, Option, Some, None, refl, sym, ap, subst, ◌∙◌, arith, lt-ltb, inl, inr}
+use Rattle.std.proofs.Common.{◌≡◌, ℕ, zero, suc, ◌+◌, ◌<◌, ◌≤◌, List, [], ◌∷◌, ◌++◌, length, drop, Bool, false, cond, Option, Some, None, refl, sym, ap, subst, ◌∙◌, arith, lt-ltb, inl, inr}
 use Rattle.std.proofs.lemmas.Bool.{ltb-true, cases_Bool}
 use Rattle.std.specs.Prelude.{◌==◌, ◌&&◌, nat_lt}
 use Rattle.bt_base.specs.Octets.{IsOctets}
@@ -164,8 +164,8 @@ module _ (moved : Linking) (count : ℕ) where
   pieces_next handle (piece ∷ rest) said line link is host =
       chosen (Next moved count 0 0 said line) (has_room line && has_buffer line) (with_pieces handle rest (with_piece handle piece rest line)) line
       (λ may. let first = piece_next said line handle piece rest link (ltb-true (packets_of line.ledger.held) line.ledger.total (both_right (has_room line) (has_buffer line) may)) is host in
-          next_then 0 0 0 0 said line (with_piece handle piece rest line) (with_pieces handle rest (with_piece handle piece rest line)) first
-          (pieces_next handle rest first.said' (with_piece handle piece rest line) link refl first.host))
+      next_then 0 0 0 0 said line (with_piece handle piece rest line) (with_pieces handle rest (with_piece handle piece rest line)) first
+      (pieces_next handle rest first.said' (with_piece handle piece rest line) link refl first.host))
       (next_same said line host)
 
   on_link_next : (link : Option ℕ) (said : List Packet) (line : Line) → line.link ≡ link → HostAt moved count said line → Next moved count 0 0 said line (put_pieces_on link line)

@@ -1,5 +1,5 @@
 -- What is true of the links of a world in each run from the beginning (this project's own).
-use Rattle.std.specs.Prelude.{ℕ, ◌≡◌, ◌≢◌, ◌≤◌, true, false, List, [], ◌∷◌, ◌++◌, length, fold, Option, Some, None, is_some}
+use Rattle.std.specs.Prelude.{ℕ, ◌≡◌, ◌≢◌, ◌≤◌, true, false, List, [], ◌∷◌, ◌++◌, length, fold, Some, None, is_some}
 use Rattle.push_script.specs.declared.word.Side.{Side}
 use Rattle.push_script.specs.declared.word.Side.TheVariants as sides
 use Rattle.push_script.specs.declared.outcome.Outcome.{Outcome}
@@ -85,8 +85,3 @@ LinksOfRuns = (size count mtu obex : ℕ) (names : List (List ℕ)) (shelf : She
 abbrev pub RestsOfRuns : Type 0
 RestsOfRuns = (size count mtu obex : ℕ) (names : List (List ℕ)) (shelf : Shelved) (inbox : Kept) (happenings : List Happening) (moment : Moment) → IsBeginning size count names
     → Runs happenings (first_moment size count mtu obex names shelf inbox) moment → LinkedAtRest (all_entries happenings) moment
-
--- where nothing is left to be moved, neither host has anything left to do
-abbrev pub HostsDone : Type 0
-HostsDone = (size count mtu obex : ℕ) (names : List (List ℕ)) (shelf : Shelved) (inbox : Kept) (happenings : List Happening) (moment : Moment) → IsBeginning size count names
-    → Runs happenings (first_moment size count mtu obex names shelf inbox) moment → IsAtRest moment → IsDone moment.a.line × IsDone moment.b.line
