@@ -23,13 +23,14 @@ use Rattle.world_model.specs.Hosts.{OwesHonestly}
 use Rattle.world_model.specs.Insides.{Inside, Tells, server as serving}
 use Rattle.world_model.specs.Media.{in_radio}
 use Rattle.world_model.specs.Moments.{Moment, with_face, with_medium}
+use Rattle.world_model.proofs.Hearing.{none_up}
 use Rattle.world_links.proofs.Reaching.{reach, is_leaving}
 use Rattle.world_links.proofs.Ways.{number_of, on_way, HostAt, puts_again}
 use Rattle.world_links.proofs.Pacing.{View, view, is_called}
 use Rattle.world_links.proofs.Viewing.{told_b, with_called, view_told_b}
 use Rattle.world_links.proofs.Listening.{listens}
 use Rattle.world_links.proofs.Keeping.{calling_count, requested_count, order_of}
-use Rattle.world_links.proofs.Upholding.{Upholds, none_up}
+use Rattle.world_links.proofs.Upholding.{Upholds}
 use Rattle.world_links.proofs.Departing.{host_on}
 use Rattle.world_links.proofs.Arriving.{hears_host, owed_first}
 use Rattle.world_links.proofs.Hearing.{tells_server}

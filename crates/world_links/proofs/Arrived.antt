@@ -24,13 +24,13 @@ use Rattle.world_model.specs.Hosts.{OwesHonestly}
 use Rattle.world_model.specs.Insides.{Inside, Tells, client}
 use Rattle.world_model.specs.Media.{in_radio}
 use Rattle.world_model.specs.Moments.{Moment, with_face, with_medium}
+use Rattle.world_model.proofs.Hearing.{owed_below}
 use Rattle.world_links.proofs.Reaching.{Reach, Calling, reach, is_leaving}
 use Rattle.world_links.proofs.Ways.{number_of, on_way, puts_again}
 use Rattle.world_links.proofs.Pacing.{View, view, is_called}
 use Rattle.world_links.proofs.Viewing.{told_a, view_told_a}
 use Rattle.world_links.proofs.Listening.{is_made, listens}
 use Rattle.world_links.proofs.Advancing.{advances}
-use Rattle.world_links.proofs.Keeping.{owed_below}
 use Rattle.world_links.proofs.Handing.{OwesA}
 use Rattle.world_links.proofs.Upholding.{is_onward, Upholds}
 use Rattle.world_links.proofs.Departing.{host_on}

@@ -19,13 +19,14 @@ use Rattle.radio_air.proofs.Entering.{owed-of}
 use Rattle.world_model.specs.Hosts.{IsHonest, OwesHonestly}
 use Rattle.world_model.proofs.Honest.{of_side}
 use Rattle.world_model.proofs.Hearing.{tells_of, hears}
+use Rattle.world_model.proofs.Hearing.{owed_below}
 use Rattle.world_links.proofs.Reaching.{Reach, AtRest, Due, Calling, Onward, reach_up, reach_after}
 use Rattle.world_links.proofs.Ways.{HostAt}
 use Rattle.world_links.proofs.Pacing.{View}
 use Rattle.world_links.proofs.Viewing.{told_a}
 use Rattle.world_links.proofs.Listening.{IsQuiet, is_made, Turns}
 use Rattle.world_links.proofs.Advancing.{Advance}
-use Rattle.world_links.proofs.Keeping.{Order, owed_below, FarStands, Pace}
+use Rattle.world_links.proofs.Keeping.{Order, FarStands, Pace}
 use Rattle.world_links.proofs.Handing.{OwesA, quiet_a, up_a, down_a}
 use Rattle.world_links.proofs.Asking.{asked_behind, IsLow}
 use Rattle.world_links.proofs.Upholding.{is_onward}

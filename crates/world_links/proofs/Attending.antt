@@ -18,11 +18,10 @@ use Rattle.world_model.specs.Hosts.{RunsAhead, links_told, IsHonest, OwesHonestl
 use Rattle.world_model.specs.Hearing.{put_out_again}
 use Rattle.world_model.proofs.Honest.{of_side}
 use Rattle.world_model.proofs.Hearing.{Tells, tells_of}
+use Rattle.world_model.proofs.Hearing.{owed_below, none_up}
 use Rattle.world_links.proofs.Ways.{number_of, on_way, HostAt, puts_next, puts_again}
-use Rattle.world_links.proofs.Keeping.{owed_below}
 use Rattle.world_links.proofs.Asking.{asked_behind, asked_heard, IsLow}
 use Rattle.world_links.proofs.Arriving.{hears_host, owed_first, low_of}
-use Rattle.world_links.proofs.Upholding.{none_up}
 use Rattle.world_links.proofs.Tidying.{is_asking, codes_owed, asking_few}
 use Rattle.world_links.proofs.Trimming.{Trim, trim_of, IsCalm, hosts_said}
 use Rattle.world_links.proofs.Listening.{is_made}

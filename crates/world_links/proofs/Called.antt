@@ -16,12 +16,13 @@ use Rattle.bt_host.specs.Channels.{sent}
 use Rattle.bt_host.specs.Servers as servers
 use Rattle.radio_air.specs.Controllers.{Answer, Returned, Stated, Called, LinkMade, LinkGone, GivenBack, Carried, Controller, address, packet_of, after_handing, after_telling, after_first}
 use Rattle.radio_air.specs.Radio.{is_together}
+use Rattle.world_model.proofs.Hearing.{owed_below}
 use Rattle.world_links.proofs.Reaching.{Reach}
 use Rattle.world_links.proofs.Ways.{number_of, number_of-append, on_way}
 use Rattle.world_links.proofs.Pacing.{View, is_called}
 use Rattle.world_links.proofs.Viewing.{told_b, with_called}
 use Rattle.world_links.proofs.Listening.{is_made, is_gone, Turns}
-use Rattle.world_links.proofs.Keeping.{owed_below, up_not}
+use Rattle.world_links.proofs.Keeping.{up_not}
 use Rattle.world_links.proofs.Handing.{OwesB}
 use Rattle.world_links.proofs.Tidying.{one_if}
 use Rattle.world_links.proofs.Exacting.{Exact}

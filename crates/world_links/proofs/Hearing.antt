@@ -21,13 +21,14 @@ use Rattle.world_model.specs.Hosts.{OwesHonestly}
 use Rattle.world_model.specs.Insides.{Inside, Pushing, Serving, Tells, server as serving}
 use Rattle.world_model.specs.Moments.{Moment}
 use Rattle.world_model.specs.Happenings.{Arrives}
+use Rattle.world_model.proofs.Hearing.{owed_below}
 use Rattle.world_links.proofs.Reaching.{Reach, reach}
 use Rattle.world_links.proofs.Ways.{number_of, HostAt, puts_again}
 use Rattle.world_links.proofs.Pacing.{View, view, is_called}
 use Rattle.world_links.proofs.Viewing.{told_b, with_called, view_told_b}
 use Rattle.world_links.proofs.Listening.{listens}
 use Rattle.world_links.proofs.Serving.{serves}
-use Rattle.world_links.proofs.Keeping.{Order, order_of, owed_below}
+use Rattle.world_links.proofs.Keeping.{Order, order_of}
 use Rattle.world_links.proofs.Handing.{OwesB, hears_b}
 use Rattle.world_links.proofs.Splitting.{split_moved}
 use Rattle.world_links.proofs.Asking.{asked_heard, asked_behind}

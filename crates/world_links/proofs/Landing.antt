@@ -8,13 +8,14 @@ use Rattle.bt_host.specs.Courses.{Course}
 use Rattle.bt_host.specs.Clients.{after_news}
 use Rattle.radio_air.specs.Controllers.{Answer, Returned, Stated, Called, LinkMade, LinkGone, GivenBack, Carried}
 use Rattle.radio_air.specs.Radio.{is_together}
+use Rattle.world_model.proofs.Hearing.{owed_below}
 use Rattle.world_links.proofs.Reaching.{Reach, AtRest, Due, Calling, Onward, reach, is_leaving, reach_up, reach_after, news_goes, down_out, pdu_stays}
 use Rattle.world_links.proofs.Ways.{number_of}
 use Rattle.world_links.proofs.Pacing.{View, IsClear}
 use Rattle.world_links.proofs.Viewing.{told_a}
 use Rattle.world_links.proofs.Listening.{IsQuiet, is_made, Turns}
 use Rattle.world_links.proofs.Advancing.{Advance}
-use Rattle.world_links.proofs.Keeping.{calling_count, requested_count, owed_below, FarStands, up_not}
+use Rattle.world_links.proofs.Keeping.{calling_count, requested_count, FarStands, up_not}
 use Rattle.world_links.proofs.Handing.{OwesA}
 use Rattle.world_links.proofs.Upholding.{is_onward}
 use Rattle.world_links.proofs.Arriving.{onward_of, quiet_reach, calls_then}

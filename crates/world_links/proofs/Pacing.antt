@@ -9,6 +9,7 @@ use Rattle.push_script.specs.declared.word.Side.TheVariants as sides
 use Rattle.radio_air.specs.Controllers.{Answer, Returned, Stated, Called, LinkMade, LinkGone, owing}
 use Rattle.radio_air.specs.Radio.{Radio, Phase, Apart, Paging, Requested, Together, is_apart, is_paging, is_requested, is_together, owes, may_page, is_reached, after_reaching, after_paging, joined, after_accepting, parted, parted_by, knows_link, after_disconnecting, scanning, returned, after_row, after_command}
 use Rattle.world_model.proofs.Lists.{chosen}
+use Rattle.world_model.proofs.Putting.{both_right}
 use Rattle.world_links.proofs.Ways.{number_of, number_of-append}
 
 abbrev pub is_called : Answer → Bool
@@ -64,10 +65,6 @@ pub record IsClear (now : View) : Type 0 where
 pub both_left : (a b : Bool) → a && b ≡ true → a ≡ true
 both_left true b both = refl
 both_left false b both = absurd cc
-
-pub both_right : (a b : Bool) → a && b ≡ true → b ≡ true
-both_right true b both = both
-both_right false b both = absurd cc
 
 not_true : (a : Bool) → not a ≡ true → a ≡ false
 not_true true is = absurd cc
