@@ -3,3 +3,4 @@ pub mod Taking
 pub mod Played
 pub mod Blaming
 pub mod Gained
+pub mod Ordered

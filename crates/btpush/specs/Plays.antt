@@ -1,12 +1,12 @@
 -- What a run of a scenario comes to (this project's own).
 use Rattle.std.specs.Prelude.{ℕ, ◌++◌, replicate, ◌≡◌, ◌-◌, ◌^◌, min, List, length, Option, Some, None, IfSome}
-use Rattle.std.specs.List.{AllByRecursion, filter_map}
+use Rattle.std.specs.List.{AllByRecursion}
 use Rattle.bt_base.specs.Objects.{Object, Contents}
 use Rattle.bt_base.specs.Streams.{gained}
 use Rattle.push_script.specs.declared.outcome.Outcome.TheVariants.{ScriptEnded}
 use Rattle.push_script.specs.declared.scenario.Scenario.{Scenario}
 use Rattle.push_script.specs.declared.word.Side.TheVariants as sides
-use Rattle.capture.specs.Pushes.{outcome_of}
+use Rattle.capture.specs.Pushes.{InTurn}
 use Rattle.capture.specs.Entries.{Entry, IsEntry, capture_octets}
 use Rattle.capture.specs.Air.{Obeys, words_of}
 use Rattle.capture.specs.Buffers.{KeepsWithin}
@@ -51,8 +51,8 @@ Gains (Some before) kept after = IfSome after (IsGained before kept)
 
 -- A scenario was played, and the trace gained the capture of what happened: the air obeyed the words of the script,
 -- both hosts kept within the buffers of their controllers at each moment, and the peaks are those of the capture. No
--- frame of an enhanced channel and no credit is there yet. Each object has its outcome, which is the one that the end of its
--- push states, or the end of the script where it did not begin. All that happened is what may happen in a world from its
+-- frame of an enhanced channel and no credit is there yet. Each object has its outcome, and the pushes are in turn: each
+-- has its begin, its link and its end, which states its outcome. All that happened is what may happen in a world from its
 -- first moment on, and ends as it says. Behind what the inbox held stand the objects that it gained, as many as are reported.
 pub record Plays (scenario : Scenario) (played : Played) (stock stock' : Stocked) (trace trace' : Option (List ℕ)) : Type 0 where
   pub entries : List Entry
@@ -68,8 +68,7 @@ pub record Plays (scenario : Scenario) (played : Played) (stock stock' : Stocked
   pub credits_a : played.peaks.credits_a ≡ 0
   pub credits_b : played.peaks.credits_b ≡ 0
   pub outcomes : length played.outcomes.items ≡ length scenario.names
-  pub not_begun : ℕ
-  pub outcomes_are : played.outcomes.items ≡ filter_map outcome_of entries ++ replicate not_begun ScriptEnded
+  pub in_turn : InTurn played.outcomes.items entries
   pub last : Moment
   pub happened : world.Plays (words_of scenario.script) (beginning scenario stock.shelf stock.inbox) last entries
   pub ends : EndsWith scenario.names played last stock'

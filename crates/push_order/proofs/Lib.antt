@@ -10,3 +10,4 @@ pub mod Turning
 pub mod Ending
 pub mod Following
 pub mod Finishing
+pub mod InTurn

@@ -1,15 +1,15 @@
 //! Laws of the order of pushes.
 
-ghost use Rattle.push_order.specs.InOrder.{FirstBegins, NeverEmpty, OrderFromLinks, BeginFromLinks};
+ghost use Rattle.push_order.specs.InOrder.{FirstBegins, NeverEmpty, PushesInTurn, PlaysBegin};
 
-/// Where links keep to pushes, pushes are in turn in the capture of each play.
+/// Pushes are in turn in the capture of each play.
 pub fn pushes_are_in_turn()
-    ensures { OrderFromLinks }
+    ensures { PushesInTurn }
 {}
 
-/// Where links keep to pushes, each play with an object begins the first push.
+/// Each play with an object begins the first push.
 pub fn plays_begin_a_push()
-    ensures { BeginFromLinks }
+    ensures { PlaysBegin }
 {}
 
 /// A capture whose pushes are in turn, and of which an outcome is told, begins its first push.
