@@ -16,7 +16,7 @@ returns-clause-plays g c =
       credits_a = search rules;
       credits_b = search rules;
     } in
-    plays_of c.args.scenario.now c.play.new.self _ _ _ _ _ tells c.in_ok-play.ensures.each (record { size_low = c.args.scenario.now.acl_length_low; size_high = c.args.scenario.now.acl_length_high; count_low = c.args.scenario.now.acl_count_low; count_high = c.args.scenario.now.acl_count_high; few = c.len.ensures.few }) (g.B.Inbox.is_pending c.args.inbox.now) c.requires.pending (g.met.B.Inbox.told c.args.inbox.now) c.in_ok-play.ensures.happens
+    plays_of c.args.scenario.now c.play.new.self _ _ _ _ _ tells c.in_ok-play.ensures.each (record { size_low = c.args.scenario.now.acl_length_low; size_high = c.args.scenario.now.acl_length_high; count_low = c.args.scenario.now.acl_count_low; count_high = c.args.scenario.now.acl_count_high; few = c.len-few.ensures.few }) (g.B.Inbox.is_pending c.args.inbox.now) c.requires.pending (g.met.B.Inbox.told c.args.inbox.now) c.in_ok-play.ensures.happens
 
 pub returns-in_err-play-clause-blame : goal.returns-in_err-play-clause-blame
 returns-in_err-play-clause-blame g c =
