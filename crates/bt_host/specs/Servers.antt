@@ -7,6 +7,7 @@ use Rattle.l2cap_signal.specs.Commands.{Command}
 use Rattle.capture.specs.Moves.{Move}
 use Rattle.obex_session.specs.declared.server.Reply.TheVariants.{Respond}
 use Rattle.obex_session.specs.Past.{Serving}
+use Rattle.obex_session.specs.Rules.{is_under_way}
 use Rattle.obex_session.specs.Serving as session
 use Rattle.host_link.specs.Lines.{Line}
 use Rattle.host_link.specs.Hearing.{PlainNews, Nothing, LinkUp, LinkFailed, LinkDown, Pdu, heard, news_of, fault_of}
@@ -50,6 +51,8 @@ pub record LeavesSession (channel : Channel) (old : Served) (inbox inbox' : Kept
 pub record LetsGo (channel : Channel) (old : Served) (inbox inbox' : Kept) (new : Served) (response : Option (List ℕ)) : Type 0 where
   pub served_is : new ≡ record old { channel = channel; session = new.session }
   pub session_goes : session.LetsGo old.session new.session inbox.content inbox'.content
+  -- where none is under way, the inbox is as it was
+  pub rests : is_under_way old.session.progress ≡ false → inbox' ≡ inbox
   pub faults_stay : inbox.faults ≤ inbox'.faults
   pub shortages_same : inbox'.shortages ≡ inbox.shortages
   pub no_response : response ≡ None

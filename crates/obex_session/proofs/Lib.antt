@@ -1,3 +1,4 @@
+pub mod AskLaws
 pub mod PutLaws
 pub mod PacketLaws
 pub mod RuleLaws

@@ -15,7 +15,9 @@ use Rattle.obex_session.specs.declared.ruling.Progress.{Progress}
 use Rattle.obex_session.specs.declared.ruling.Progress.TheVariants.{Unnamed, Named, Filled}
 use Rattle.obex_session.specs.declared.ruling.Verdict.{Verdict}
 use Rattle.obex_session.specs.declared.ruling.Verdict.TheVariants.{Open, Whole, Ended}
+use Rattle.obex_session.specs.Asks.{asks_header, asks_headers}
 use Rattle.obex_session.specs.Rules.{at_parts, at_header, after_headers, then_at, noted_parts, noted, contents_after, Heeds}
+use Rattle.obex_session.proofs.AskLaws.{none_left, first_asks_none}
 
 -- ---- what is noted leaves the stored objects as they are
 
@@ -76,6 +78,7 @@ pub record StandsAt (first : Progress) (headers : List PlainHeader) (before : Op
   pub left_is : left ≡ headers_octets rest
   pub verdict_is : after_headers first headers ≡ after_headers progress rest
   pub content_is : (verdict : Verdict) → option_map (contents_after verdict (noted headers)) before ≡ option_map (contents_after verdict (noted rest)) now
+  pub unasked : asks_headers first headers ≡ false → (asks_headers progress rest ≡ false) × (now ≡ before)
 
 -- the first header that was left is given
 abbrev pub GivesFirst : List ℕ → PlainHeader → List ℕ → Type 0
@@ -87,6 +90,7 @@ pub record IsMadeOf (left : List ℕ) (header : PlainHeader) (new : List ℕ) (p
   pub first : GivesFirst left header new
   pub given_is : given ≡ at_header progress header
   pub content_is : now' ≡ option_map (contents_after (at_header progress header) (noted (header ∷ []))) now
+  pub unasked : asks_header progress header ≡ false → now' ≡ now
 
 nothing_left : (header : PlainHeader) (new : List ℕ) → [] ≡ header_octets header ++ new → ⊥
 nothing_left header new e = cc
@@ -96,9 +100,10 @@ nothing_left header new e = cc
 goes_on_with : (first : Progress) (headers : List PlainHeader) (before now now' : Option Contents) (left new : List ℕ) (progress next : Progress) (header : PlainHeader) (rest : List PlainHeader)
     → AllByRecursion IsHeader rest → left ≡ headers_octets rest → after_headers first headers ≡ after_headers progress rest
     → ((verdict : Verdict) → option_map (contents_after verdict (noted headers)) before ≡ option_map (contents_after verdict (noted rest)) now)
+    → (asks_headers first headers ≡ false → (asks_headers progress rest ≡ false) × (now ≡ before))
     → IsMadeOf left header new progress (Open next) now now' → StandsAt first headers before new next now'
-goes_on_with first headers before now now' left new progress next header [] sound left_is verdict_is content_is made = absurd (nothing_left header new (sym left_is ∙ made.stood))
-goes_on_with first headers before now now' left new progress next header (h ∷ back) sound left_is verdict_is content_is made =
+goes_on_with first headers before now now' left new progress next header [] sound left_is verdict_is content_is unasked made = absurd (nothing_left header new (sym left_is ∙ made.stood))
+goes_on_with first headers before now now' left new progress next header (h ∷ back) sound left_is verdict_is content_is unasked made =
     let same = made.first h (headers_octets back) sound.0 left_is in
     let opens : at_header progress h ≡ Open next = ap (at_header progress) (sym same.0) ∙ sym made.given_is in
     let noted_is : option_map (noted (h ∷ [])) now ≡ now' =
@@ -109,12 +114,31 @@ goes_on_with first headers before now now' left new progress next header (h ∷ 
       left_is = same.1;
       verdict_is = verdict_is ∙ ap (λ (v : Verdict). then_at v (λ n. after_headers n back)) opens;
       content_is = λ verdict. content_is verdict ∙ all-cons verdict h back now ∙ ap (option_map (contents_after verdict (noted back))) noted_is;
+      unasked = λ none.
+          let still = unasked none in
+          (none_left progress next h back opens still.0, made.unasked (ap (asks_header progress) same.0 ∙ first_asks_none progress h back still.0) ∙ still.1);
     }
 
 pub goes_on : (first : Progress) (headers : List PlainHeader) (before now now' : Option Contents) (left new : List ℕ) (progress next : Progress) (header : PlainHeader)
     → StandsAt first headers before left progress now → IsMadeOf left header new progress (Open next) now now' → StandsAt first headers before new next now'
 goes_on first headers before now now' left new progress next header at made =
-    goes_on_with first headers before now now' left new progress next header at.rest at.sound at.left_is at.verdict_is at.content_is made
+    goes_on_with first headers before now now' left new progress next header at.rest at.sound at.left_is at.verdict_is at.content_is at.unasked made
+
+-- ---- nothing is asked by the headers
+
+unasked_with : (first : Progress) (headers : List PlainHeader) (before now : Option Contents) (left new : List ℕ) (progress : Progress) (header : PlainHeader) (rest : List PlainHeader)
+    → AllByRecursion IsHeader rest → left ≡ headers_octets rest → (asks_headers progress rest ≡ false) × (now ≡ before) → left ≡ header_octets header ++ new → GivesFirst left header new
+    → (asks_header progress header ≡ false) × (now ≡ before)
+unasked_with first headers before now left new progress header [] sound left_is still stood gives = absurd (nothing_left header new (sym left_is ∙ stood))
+unasked_with first headers before now left new progress header (h ∷ back) sound left_is still stood gives =
+    (ap (asks_header progress) (gives h (headers_octets back) sound.0 left_is).0 ∙ first_asks_none progress h back still.0, still.1)
+
+-- nor by the one that was given
+pub given_unasked : (first : Progress) (headers : List PlainHeader) (before now : Option Contents) (left new : List ℕ) (progress : Progress) (header : PlainHeader)
+    → StandsAt first headers before left progress now → left ≡ header_octets header ++ new → GivesFirst left header new → asks_headers first headers ≡ false
+    → (asks_header progress header ≡ false) × (now ≡ before)
+given_unasked first headers before now left new progress header at stood gives none =
+    unasked_with first headers before now left new progress header at.rest at.sound at.left_is (at.unasked none) stood gives
 
 -- ---- a rule is broken
 

@@ -1,5 +1,5 @@
 -- What a session does with a packet, from what was heard and what was answered.
-use Rattle.std.proofs.Common.{◌≡◌, ℕ, List, ◌++◌, length, drop, Option, Some, None, Result, refl, sym, ap, subst, ◌∙◌}
+use Rattle.std.proofs.Common.{false, ◌≡◌, ℕ, List, ◌++◌, length, drop, Option, Some, None, Result, refl, sym, ap, subst, ◌∙◌}
 use Rattle.bt_base.specs.Counts.{HasCause}
 use Rattle.bt_base.specs.Objects.{Contents}
 use Rattle.bt_base.specs.declared.ports.PortFault.{PortFault}
@@ -11,6 +11,7 @@ use Rattle.obex_session.specs.declared.ruling.Verdict.{Verdict}
 use Rattle.obex_session.specs.declared.server.Reply.{Reply}
 use Rattle.obex_session.specs.declared.server.Reply.TheVariants.{Respond, NoMemory}
 use Rattle.obex_session.specs.Responses.{response_octets}
+use Rattle.obex_session.specs.Asks.{asks_inbox, IsUnasked}
 use Rattle.obex_session.specs.Rules.{verdict_on, headers_read, progress_after, response_to, noted, Heeds}
 use Rattle.obex_session.specs.Past.{Serving}
 use Rattle.obex_session.specs.Serving.{Answers, Hears}
@@ -26,6 +27,7 @@ pub record IsHeard (maximum : ℕ) (progress ruled : Progress) (session : Servin
   pub next_is : ruled ≡ progress_after outcome
   pub cause : HasCause faults faults' shortages shortages' outcome
   pub heeded : Heeds (verdict_on maximum progress packet) (noted (headers_read (packet_in Request maximum packet))) content content' outcome
+  pub unasked : asks_inbox maximum progress packet ≡ false → IsUnasked content content' faults faults' shortages shortages' outcome
 
 hears : (maximum : ℕ) (progress ruled : Progress) (session : Serving) (packet : List ℕ) (content content' : Option Contents) (faults faults' shortages shortages' : ℕ) (room room' : List ℕ) (answer : Reply) (outcome : Result Verdict PortFault)
     → IsHeard maximum progress ruled session packet content content' faults faults' shortages shortages' outcome → Answers packet maximum (response_to outcome) room room' answer
@@ -39,6 +41,7 @@ hears maximum progress ruled session packet content content' faults faults' shor
       heeded = heard.heeded;
       session_is = refl;
       answered = answered;
+      unasked = heard.unasked;
       history = λ before past stands. stands_on before past here content content' packet outcome stands heard.heeded;
     }))
 

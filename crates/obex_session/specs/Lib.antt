@@ -1,5 +1,6 @@
 pub mod Responses
 pub mod Rules
+pub mod Asks
 pub mod Past
 pub mod Serving
 pub mod Laws

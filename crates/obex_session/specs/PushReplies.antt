@@ -33,10 +33,18 @@ pub record Leaves (change : Contents → Contents) (session session' : Serving) 
   pub response_is : response ≡ wanted
 
 -- success (A0); or a call of the inbox failed, which D0 says, and then no object is pending there
-abbrev pub Replies : (fields : List ℕ) (change : Contents → Contents) (session session' : Serving) (content content' : Option Contents) (faults faults' : ℕ) (response : List ℕ) → Type 0
-Replies fields change session session' content content' faults faults' response =
-    Leaves change session session' content content' response (packet_octets (bare 0xA0 fields))
-    ⊎ (HasRisen faults faults' × Leaves aborted session session' content content' response (packet_octets (bare 0xD0 fields)))
+abbrev pub Replies : (change : Contents → Contents) (session session' : Serving) (content content' : Option Contents) (faults faults' : ℕ) (response : List ℕ) → Type 0
+Replies change session session' content content' faults faults' response =
+    Leaves change session session' content content' response (packet_octets (bare 0xA0 []))
+    ⊎ (HasRisen faults faults' × Leaves aborted session session' content content' response (packet_octets (bare 0xD0 [])))
+
+-- success (A0) with these fields, in any case: nothing is asked of the inbox, which is as it was, and the session rests as before
+pub record Agrees (fields : List ℕ) (session session' : Serving) (content content' : Option Contents) (faults faults' shortages shortages' : ℕ) (response : List ℕ) : Type 0 where
+  pub session_same : session' ≡ session
+  pub content_same : content' ≡ content
+  pub faults_same : faults' ≡ faults
+  pub shortages_same : shortages' ≡ shortages
+  pub response_is : response ≡ packet_octets (bare 0xA0 fields)
 
 -- an object more is stored
 abbrev pub storing : Object → Contents → Contents
@@ -45,12 +53,14 @@ storing object contents = record { stored = contents.stored ++ object ∷ []; pe
 pub record AnswersPush : Type 0 where
   -- CONNECT
   pub connect : (extra : List ℕ) (session session' : Serving) (content content' : Option Contents) (faults faults' : ℕ) (response : List ℕ)
-      → Exchange (bare 0x80 extra) session session' content content' faults faults' response → Replies (connect_fields session.maximum) aborted session session' content content' faults faults' response
+      → (exchange : Exchange (bare 0x80 extra) session session' content content' faults faults' response)
+      → Agrees (connect_fields session.maximum) session session' content content' faults faults' exchange.shortages exchange.shortages' response
   -- the final PUT of a whole object
   pub put : (units octets : List ℕ) (session session' : Serving) (content content' : Option Contents) (faults faults' : ℕ) (response : List ℕ)
       → AllByRecursion (λ unit. unit < 2 ^ 16) units → length units ≤ 255 → length octets ≤ 16777215
       → Exchange (put_packet true (head_of units (length octets)) octets) session session' content content' faults faults' response
-      → Replies [] (storing (record { name = units; octets = octets })) session session' content content' faults faults' response
+      → Replies (storing (record { name = units; octets = octets })) session session' content content' faults faults' response
   -- DISCONNECT
   pub disconnect : (session session' : Serving) (content content' : Option Contents) (faults faults' : ℕ) (response : List ℕ)
-      → Exchange (bare 0x81 []) session session' content content' faults faults' response → Replies [] aborted session session' content content' faults faults' response
+      → (exchange : Exchange (bare 0x81 []) session session' content content' faults faults' response)
+      → Agrees [] session session' content content' faults faults' exchange.shortages exchange.shortages' response

@@ -1,5 +1,5 @@
 -- What the calls of a server's session do (this project's own).
-use Rattle.std.specs.Prelude.{◌≡◌, ℕ, ◌<◌, ◌++◌, ◌≤◌, [], ◌∷◌, List, length, drop, Option, Some, None, Result, IsTrue, is_err}
+use Rattle.std.specs.Prelude.{false, ◌≡◌, ℕ, ◌<◌, ◌++◌, ◌≤◌, [], ◌∷◌, List, length, drop, Option, Some, None, Result, IsTrue, is_err}
 use Rattle.std.specs.Option.{option_map}
 use Rattle.bt_base.specs.Counts.{HasCause, HasRisen}
 use Rattle.bt_base.specs.Objects.{Object, Contents, aborted}
@@ -13,6 +13,7 @@ use Rattle.obex_session.specs.declared.ruling.Verdict.{Verdict}
 use Rattle.obex_session.specs.declared.server.Reply.{Reply}
 use Rattle.obex_session.specs.declared.server.Reply.TheVariants as reply
 use Rattle.obex_session.specs.Responses.{response_octets}
+use Rattle.obex_session.specs.Asks.{asks_inbox, IsUnasked}
 use Rattle.obex_session.specs.Rules.{verdict_on, headers_read, progress_after, response_to, noted, Heeds}
 use Rattle.obex_session.specs.Past.{Heard, Serving, StandsFor, stored_by}
 
@@ -30,6 +31,8 @@ pub record Hears (session session' : Serving) (packet : List ℕ) (content conte
   pub heeded : Heeds (verdict_on session.maximum session.progress packet) (noted (headers_read (packet_in Request session.maximum packet))) content content' outcome
   pub session_is : session' ≡ record session { progress = progress_after outcome }
   pub answered : Answers packet session.maximum (response_to outcome) room room' answer
+  -- where it asks nothing of the inbox, nothing fails, and the inbox is as it was
+  pub unasked : asks_inbox session.maximum session.progress packet ≡ false → IsUnasked content content' faults faults' shortages shortages' outcome
   pub history : (before : List Object) (past : List Heard) → StandsFor before past session content → StandsFor before (past ++ (packet, is_err outcome) ∷ []) session' content'
 
 -- the link of a session went down: no object is under way, and the session is as a new one

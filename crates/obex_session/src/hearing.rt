@@ -5,6 +5,7 @@ ghost use Rattle.bt_base.specs.Counts.{HasCause};
 ghost use Rattle.bt_base.specs.Objects.{stepped, aborted};
 ghost use Rattle.obex_headers.specs.Reading.{packet_in};
 ghost use Rattle.obex_headers.specs.declared.packet.Phase.TheVariants.{Request};
+ghost use Rattle.obex_session.specs.Asks.{asks_inbox, IsUnasked};
 ghost use Rattle.obex_session.specs.Rules.{is_under_way, is_pending_after, other_response, verdict_on, headers_read, noted, Heeds};
 ghost use Rattle.obex_session.specs.declared.ruling.Verdict.TheVariants.{Ended};
 
@@ -26,6 +27,7 @@ pub(crate) fn end<B: Inbox>(
     ensures content { B.content inbox.new ≡ stepped result aborted (B.content inbox.old) }
     ensures pending { B.is_pending inbox.new ≡ false }
     ensures cause { HasCause (B.faults inbox.old) (B.faults inbox.new) (B.shortages inbox.old) (B.shortages inbox.new) result }
+    ensures unasked { is_under_way progress ≡ false → IsUnasked (B.content inbox.old) (B.content inbox.new) (B.faults inbox.old) (B.faults inbox.new) (B.shortages inbox.old) (B.shortages inbox.new) result }
 {
     if progress.is_under_way() {
         inbox.abort()?;
@@ -61,6 +63,7 @@ pub(crate) fn hear<B: Inbox>(
     ensures rules { Heeds (verdict_on maximum progress packet.now) (noted (headers_read (packet_in Request maximum packet.now))) (B.content inbox.old) (B.content inbox.new) result }
     ensures pending { B.is_pending inbox.new ≡ is_pending_after result }
     ensures cause { HasCause (B.faults inbox.old) (B.faults inbox.new) (B.shortages inbox.old) (B.shortages inbox.new) result }
+    ensures unasked { asks_inbox maximum progress packet.now ≡ false → IsUnasked (B.content inbox.old) (B.content inbox.new) (B.faults inbox.old) (B.faults inbox.new) (B.shortages inbox.old) (B.shortages inbox.new) result }
 {
     let Ok(request) = packet_of(packet, Phase::Request, maximum) else {
         return end(progress, ResponseCode::BadRequest, inbox);

@@ -25,8 +25,8 @@ pub fn success_says_what_is_stored()
     ensures { StoresAsAnswered }
 {}
 
-/// A session that rests answers the packets of a push with success and stores its object, unless a
-/// call of the inbox failed.
+/// A session that rests answers the packets of a push with success and stores its object. Only the
+/// PUT asks the inbox for something, and is answered otherwise where a call of it failed.
 pub fn push_is_answered()
     ensures { AnswersPush }
 {}

@@ -5,6 +5,7 @@ ghost use Rattle.std.specs.List.{AllByRecursion};
 ghost use Rattle.bt_base.specs.Counts.{HasCause};
 ghost use Rattle.bt_base.specs.Objects.{stepped, begun, appended};
 ghost use Rattle.obex_headers.specs.Packets.{PlainHeader, IsHeader, IsText, units_of, headers_octets, plain_header, PlainPacket, Shows};
+ghost use Rattle.obex_session.specs.Asks.{asks_at, asks_header, asks_headers, asks_put, IsUnasked};
 ghost use Rattle.obex_session.specs.Rules.{is_under_way, is_pending_after, at_name, at_body, at_header, after_headers, at_put, finished, contents_after, noted, Heeds};
 
 use crate::codes::{BODY, END_OF_BODY, FINAL_PUT, NAME};
@@ -28,6 +29,7 @@ fn on_name<B: Inbox>(progress: Progress, text: &[u8], inbox: &mut B) -> Result<V
     ensures content { B.content inbox.new ≡ stepped result (contents_after (at_name progress (units_of text.now)) (begun (units_of text.now))) (B.content inbox.old) }
     ensures pending { B.is_pending inbox.new ≡ is_pending_after result }
     ensures cause { HasCause (B.faults inbox.old) (B.faults inbox.new) (B.shortages inbox.old) (B.shortages inbox.new) result }
+    ensures unasked { asks_at progress (at_name progress (units_of text.now)) ≡ false → IsUnasked (B.content inbox.old) (B.content inbox.new) (B.faults inbox.old) (B.faults inbox.new) (B.shortages inbox.old) (B.shortages inbox.new) result }
 {
     if progress.is_under_way() {
         return end(progress, ResponseCode::BadRequest, inbox);
@@ -47,6 +49,7 @@ fn on_body<B: Inbox>(progress: Progress, octets: &[u8], inbox: &mut B) -> Result
     ensures content { B.content inbox.new ≡ stepped result (contents_after (at_body progress octets.now) (appended octets.now)) (B.content inbox.old) }
     ensures pending { B.is_pending inbox.new ≡ is_pending_after result }
     ensures cause { HasCause (B.faults inbox.old) (B.faults inbox.new) (B.shortages inbox.old) (B.shortages inbox.new) result }
+    ensures unasked { asks_at progress (at_body progress octets.now) ≡ false → IsUnasked (B.content inbox.old) (B.content inbox.new) (B.faults inbox.old) (B.faults inbox.new) (B.shortages inbox.old) (B.shortages inbox.new) result }
 {
     let before = match progress {
         Progress::Unnamed => return end(progress, ResponseCode::BadRequest, inbox),
@@ -73,6 +76,7 @@ fn on_header<B: Inbox>(
     ensures content { B.content inbox.new ≡ stepped result (contents_after (at_header progress (plain_header header.now)) (noted (plain_header header.now ∷ []))) (B.content inbox.old) }
     ensures pending { B.is_pending inbox.new ≡ is_pending_after result }
     ensures cause { HasCause (B.faults inbox.old) (B.faults inbox.new) (B.shortages inbox.old) (B.shortages inbox.new) result }
+    ensures unasked { asks_header progress (plain_header header.now) ≡ false → IsUnasked (B.content inbox.old) (B.content inbox.new) (B.faults inbox.old) (B.faults inbox.new) (B.shortages inbox.old) (B.shortages inbox.new) result }
 {
     match header.value {
         HeaderValue::Text(text) if header.id == NAME => on_name(progress, text, inbox),
@@ -94,6 +98,8 @@ fn on_headers<B: Inbox>(
         Heeds (after_headers progress headers) (noted headers) (B.content inbox.old) (B.content inbox.new) result }
     ensures pending { B.is_pending inbox.new ≡ is_pending_after result }
     ensures cause { HasCause (B.faults inbox.old) (B.faults inbox.new) (B.shortages inbox.old) (B.shortages inbox.new) result }
+    ensures unasked { (headers : List PlainHeader) → AllByRecursion IsHeader headers → request.now.headers.now ≡ headers_octets headers →
+        asks_headers progress headers ≡ false → IsUnasked (B.content inbox.old) (B.content inbox.new) (B.faults inbox.old) (B.faults inbox.new) (B.shortages inbox.old) (B.shortages inbox.new) result }
 {
     let mut left = headers_of(request);
     let mut progress = progress;
@@ -113,6 +119,7 @@ fn finish<B: Inbox>(progress: Progress, inbox: &mut B) -> Result<Verdict, PortFa
     ensures content { B.content inbox.new ≡ stepped result (contents_after (finished progress) (noted [])) (B.content inbox.old) }
     ensures pending { B.is_pending inbox.new ≡ false }
     ensures cause { HasCause (B.faults inbox.old) (B.faults inbox.new) (B.shortages inbox.old) (B.shortages inbox.new) result }
+    ensures unasked { is_under_way progress ≡ false → IsUnasked (B.content inbox.old) (B.content inbox.new) (B.faults inbox.old) (B.faults inbox.new) (B.shortages inbox.old) (B.shortages inbox.new) result }
 {
     match progress {
         Progress::Unnamed | Progress::Named => end(progress, ResponseCode::BadRequest, inbox),
@@ -134,6 +141,8 @@ pub(crate) fn on_put<B: Inbox>(
         Heeds (at_put progress packet) (noted packet.headers) (B.content inbox.old) (B.content inbox.new) result }
     ensures pending { B.is_pending inbox.new ≡ is_pending_after result }
     ensures cause { HasCause (B.faults inbox.old) (B.faults inbox.new) (B.shortages inbox.old) (B.shortages inbox.new) result }
+    ensures unasked { (packet : PlainPacket) → AllByRecursion IsHeader packet.headers → Shows request.now packet →
+        asks_put progress packet ≡ false → IsUnasked (B.content inbox.old) (B.content inbox.new) (B.faults inbox.old) (B.faults inbox.new) (B.shortages inbox.old) (B.shortages inbox.new) result }
 {
     match on_headers(progress, request, inbox)? {
         Verdict::Open(next) if request.code == FINAL_PUT => finish(next, inbox),

@@ -1,8 +1,9 @@
 //! The session of a server.
 
-ghost use Rattle.std.specs.Prelude.{◌≡◌, ◌≤◌, [], List, Option, None, length, IfSome};
+ghost use Rattle.std.specs.Prelude.{false, ◌≡◌, ◌≤◌, [], List, Option, None, length, IfSome};
 ghost use Rattle.bt_base.specs.Objects.{Object, Contents};
 ghost use Rattle.obex_session.specs.declared.ruling.Progress.TheVariants.{Unnamed};
+ghost use Rattle.obex_session.specs.Asks.{IsUnasked};
 ghost use Rattle.obex_session.specs.Past.{StandsFor};
 ghost use Rattle.obex_session.specs.Rules.{is_under_way};
 ghost use Rattle.obex_session.specs.Serving.{Hears, LetsGo, CountsShortages};
@@ -71,6 +72,10 @@ impl ServerSession {
     /// memory. The response to what begins with 80 has version 1.0, no flags and the session's
     /// maximum.
     ///
+    /// The inbox is asked only to note a Name and a body that break no rule, to store an object that
+    /// is whole, and to drop one that is under way. A packet that asks none of this leaves it as it
+    /// was, and is answered neither D0 nor `NoMemory`.
+    ///
     /// It needs at least 7 octets of room, and an inbox whose pending object is the session's own.
     pub fn on_packet<B: Inbox>(&mut self, packet: &[u8], inbox: &mut B, into: &mut [u8]) -> Reply
         requires room { 7 ≤ length into.old }
@@ -86,14 +91,16 @@ impl ServerSession {
         Reply::Respond(respond(packet, self.maximum, code, into))
     }
 
-    /// Notes that the link went down: an object under way is dropped. `NoMemory` is answered where
-    /// the inbox found no memory; where it failed otherwise, that is passed over.
+    /// Notes that the link went down: an object under way is dropped; where there is none, the inbox
+    /// is not called. `NoMemory` is answered where the inbox found no memory; where it failed
+    /// otherwise, that is passed over.
     ///
     /// It needs an inbox whose pending object is the session's own.
     pub fn link_down<B: Inbox>(&mut self, inbox: &mut B) -> Result<(), NoMemory>
         requires pending { B.is_pending inbox.old ≡ is_under_way self.old.progress }
         ensures lets_go { LetsGo self.old self.new (B.content inbox.old) (B.content inbox.new) }
         ensures pending { B.is_pending inbox.new ≡ is_under_way self.new.progress }
+        ensures unasked { is_under_way self.old.progress ≡ false → IsUnasked (B.content inbox.old) (B.content inbox.new) (B.faults inbox.old) (B.faults inbox.new) (B.shortages inbox.old) (B.shortages inbox.new) result }
         ensures counts { CountsShortages (B.faults inbox.old) (B.faults inbox.new) (B.shortages inbox.old) (B.shortages inbox.new) result }
     {
         let ended = end(self.progress, ResponseCode::Success, inbox);

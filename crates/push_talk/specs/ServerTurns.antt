@@ -16,7 +16,7 @@ use Rattle.bt_host.specs.Clients.{commands_in}
 use Rattle.bt_host.specs.Servers.{Served, Kept, after_commands, LeavesSession, LetsGo, HearsPacket, Notes, one_stored}
 use Rattle.push_talk.specs.Conversing.{Saying, Says, Sends}
 use Rattle.push_talk.specs.Speaking.{pdu_of, told}
-use Rattle.push_talk.specs.ClientTurns.{answers_packet, greeting, unwelcome, response}
+use Rattle.push_talk.specs.ClientTurns.{answers_packet, greeting, response}
 
 -- ---- the channel
 
@@ -94,15 +94,21 @@ abbrev pub Answers : (change : Contents → Contents) (success failure : PlainPa
 Answers change success failure stored old new inbox inbox' response =
     Replies change success stored old new inbox inbox' response ⊎ (HasRisen inbox.faults inbox'.faults × Replies aborted failure old.stored old new inbox inbox' response)
 
+-- success, in any case: nothing is asked of the inbox, and all is as before
+pub record Agrees (reply : PlainPacket) (old new : Served) (inbox inbox' : Kept) (response : Option (List ℕ)) : Type 0 where
+  pub served_same : new ≡ old
+  pub inbox_same : inbox' ≡ inbox
+  pub responds : response ≡ Some (pdu_of (answers_packet reply))
+
 pub record PushIsServed : Type 0 where
   -- CONNECT: the own maximum is stated
   pub connects : (maximum : ℕ) (old new : Served) (inbox inbox' : Kept) (response : Option (List ℕ)) → 255 ≤ maximum → maximum < 2 ^ 16 → IsReady old → 7 ≤ old.session.maximum
       → HearsPacket (packet_octets (connect_packet maximum)) old inbox inbox' new response
-      → Answers aborted (greeting old.session.maximum) (unwelcome 0xD0 old.session.maximum) old.stored old new inbox inbox' response
+      → Agrees (greeting old.session.maximum) old new inbox inbox' response
   -- the PUT: the object is stored
   pub puts : (name octets : List ℕ) (old new : Served) (inbox inbox' : Kept) (reply : Option (List ℕ)) → IsUtf8 name → length (utf16 name) ≤ 100 → length octets ≤ 200 → IsReady old → 416 ≤ old.session.maximum
       → HearsPacket (packet_octets (put_packet (utf16 name) octets)) old inbox inbox' new reply
       → Answers (storing (record { name = utf16 name; octets = octets })) (response 0xA0) (response 0xD0) (one_stored true old.stored) old new inbox inbox' reply
   -- DISCONNECT
   pub disconnects : (old new : Served) (inbox inbox' : Kept) (reply : Option (List ℕ)) → IsReady old → 3 ≤ old.session.maximum
-      → HearsPacket (packet_octets disconnect_packet) old inbox inbox' new reply → Answers aborted (response 0xA0) (response 0xD0) old.stored old new inbox inbox' reply
+      → HearsPacket (packet_octets disconnect_packet) old inbox inbox' new reply → Agrees (response 0xA0) old new inbox inbox' reply

@@ -36,8 +36,8 @@ pub fn session_turns()
     ensures { SessionTurns }
 {}
 
-/// A session that rests answers the packets of a push, and stores its object, unless a call of the
-/// inbox failed.
+/// A session that rests answers CONNECT and DISCONNECT with success in any case, and the inbox stays
+/// as it was. It stores the object of the PUT, unless a call of the inbox failed.
 pub fn push_is_served()
     ensures { PushIsServed }
 {}
