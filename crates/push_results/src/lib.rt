@@ -1,0 +1,4 @@
+//! What comes of the pushes of a play.
+#![tactic(auto)]
+
+pub mod laws;
