@@ -5,3 +5,4 @@ pub mod Going
 pub mod OwnHosts
 pub mod Worlds
 pub mod Blaming
+pub mod Breaking
