@@ -17,3 +17,5 @@ pub mod Happening
 pub mod Blaming
 pub mod Breaking
 pub mod Stopping
+pub mod Due
+pub mod Unfinished

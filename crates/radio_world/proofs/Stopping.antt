@@ -34,7 +34,7 @@ due_longer words more (Begun push) last is = is
 due_longer words more (Ended push outcome) last is = is
 due_longer words more (Acted ordinal word) last is = (is.0 ++ more, ap (λ xs. xs ++ more) is.1, is.2, is.3, is.4, is.5, is.6)
 
-due_any : (words more : List Word) (due : Option Entry) (last : Moment) → IfSome due (λ entry. IsDue words entry last) → IfSome due (λ entry. IsDue (words ++ more) entry last)
+pub due_any : (words more : List Word) (due : Option Entry) (last : Moment) → IfSome due (λ entry. IsDue words entry last) → IfSome due (λ entry. IsDue (words ++ more) entry last)
 due_any words more None last is = tt
 due_any words more (Some entry) last is = due_longer words more entry last is
 

@@ -6,3 +6,4 @@ pub mod OwnHosts
 pub mod Worlds
 pub mod Blaming
 pub mod Breaking
+pub mod Unfinished
