@@ -2,3 +2,5 @@ pub mod Kept
 pub mod Taking
 pub mod Played
 pub mod Blaming
+pub mod Fronts
+pub mod Short
