@@ -16,7 +16,10 @@ use Rattle.btpush.specs.declared.status.Status.TheVariants as status
 use Rattle.btpush.specs.declared.playing.Played.{Played}
 use Rattle.btpush.specs.Gathering.{unread}
 use Rattle.btpush.specs.Plays.{Stocked, Plays}
+use Rattle.btpush.specs.Short.{PlaysShort}
 use Rattle.radio_world.specs.Blaming.{IsNotBuilt}
+use Rattle.radio_world.specs.declared.fault.WorldFault.{WorldFault}
+use Rattle.radio_world.specs.declared.fault.WorldFault.TheVariants as world
 
 -- A refusal is told by this line, all of it, or after a fault a front of it.
 abbrev pub Refuses : List ℕ → Option (List ℕ) → Option (List ℕ) → Status → Type 0
@@ -48,10 +51,10 @@ Reports scenario played old new status.InputRefused = ⊥
 Reports scenario played old new status.ReadFault = ⊥
 
 -- the trace failed, or memory was wanting
-abbrev pub IsStopped : Status → Type 0
-IsStopped status.WriteFault = Unit {0}
-IsStopped status.NoMemory = Unit {0}
-IsStopped _ = ⊥
+abbrev pub IsStopped : WorldFault → Status → Type 0
+IsStopped world.TraceFault status.WriteFault = Unit {0}
+IsStopped world.NoMemory status.NoMemory = Unit {0}
+IsStopped _ _ = ⊥
 
 -- the source failed, or memory was wanting
 abbrev pub IsUnread : Status → Type 0
@@ -65,9 +68,9 @@ pub data Runs (scenario : Scenario) (line : ℕ) (stock stock' : Stocked) (sink 
   -- it is played to its end and reported
   RanToEnd : (played : Played) → Plays scenario played stock stock' trace trace' → Reports scenario played sink sink' result → Runs scenario line stock stock' sink sink' trace trace' result
   -- its object is too long for a push so far, or a word does nothing yet, and the object's line is refused
-  RanUnbuilt : IsNotBuilt stock.shelf.content scenario.names scenario.script → Refuses (refusal_line line NotBuilt) sink sink' result → Runs scenario line stock stock' sink sink' trace trace' result
-  -- it is stopped by the trace or for want of memory, and nothing is said of it
-  RanShort : sink' ≡ sink → IsStopped result → Runs scenario line stock stock' sink sink' trace trace' result
+  RanUnbuilt : IsNotBuilt stock.shelf.content scenario.names scenario.script → PlaysShort world.NotBuilt scenario stock stock' trace trace' → Refuses (refusal_line line NotBuilt) sink sink' result → Runs scenario line stock stock' sink sink' trace trace' result
+  -- it is stopped by the trace or for want of memory, and no report is told
+  RanShort : (fault : WorldFault) → IsStopped fault result → PlaysShort fault scenario stock stock' trace trace' → sink' ≡ sink → Runs scenario line stock stock' sink sink' trace trace' result
 
 -- The form `push` on an input, of which the source then has `left`, with these objects on the shelf. `untouched` says that trace, shelf and inbox are as
 -- they were.
