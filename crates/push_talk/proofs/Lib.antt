@@ -2,3 +2,5 @@ pub mod Silence
 pub mod Opening
 pub mod Payloads
 pub mod Conversing
+pub mod Speaking
+pub mod ClientTurns

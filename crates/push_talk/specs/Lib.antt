@@ -1,2 +1,4 @@
 pub mod Conversing
 pub mod Laws
+pub mod Speaking
+pub mod ClientTurns

@@ -1,6 +1,8 @@
 //! Laws of the conversation of a push, for every front of it.
 
 ghost use Rattle.push_talk.specs.Laws.{SilentWhileOpening, PayloadsArePackets};
+ghost use Rattle.push_talk.specs.Speaking.{SayingsAreRead};
+ghost use Rattle.push_talk.specs.ClientTurns.{ClientTurns};
 
 /// While the channel is opened no packets of OBEX are heard or spoken.
 pub fn silent_while_opening()
@@ -10,4 +12,14 @@ pub fn silent_while_opening()
 /// Then each payload is a packet.
 pub fn payloads_are_packets()
     ensures { PayloadsArePackets }
+{}
+
+/// What a host says, a capture and the other host read as it was meant.
+pub fn sayings_are_read()
+    ensures { SayingsAreRead }
+{}
+
+/// What the course of a push makes of what it hears, turn by turn.
+pub fn client_turns()
+    ensures { ClientTurns }
 {}
