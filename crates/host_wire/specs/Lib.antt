@@ -1,0 +1,4 @@
+pub mod Wiring
+pub mod Sending
+pub mod Spoken
+pub mod WireLaws
