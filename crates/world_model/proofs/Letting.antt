@@ -48,7 +48,7 @@ ending_stands side count past (Some handle) line h =
 
 -- ---- a PDU
 
-cut_short : (count size : ℕ) (boundary : Boundary) (octets : List ℕ) → size ≤ 1021 → IsOctets octets → AllByRecursion IsShort (first_pieces count size boundary octets)
+pub cut_short : (count size : ℕ) (boundary : Boundary) (octets : List ℕ) → size ≤ 1021 → IsOctets octets → AllByRecursion IsShort (first_pieces count size boundary octets)
 cut_short zero size boundary octets short is = tt
 cut_short (suc count) size boundary [] short is = tt
 cut_short (suc count) size boundary (x ∷ xs) short is =
@@ -64,7 +64,7 @@ pdu_stands side count past (Some handle) line pdu is h =
 
 -- ---- a host that is made
 
-start_addressed : (role : Role) → AllByRecursion IsAddressed (start_commands role)
+pub start_addressed : (role : Role) → AllByRecursion IsAddressed (start_commands role)
 start_addressed Client = (tt, (tt, (tt, tt)))
 start_addressed Server = (tt, (tt, (tt, (tt, tt))))
 

@@ -48,7 +48,7 @@ is_last told handle (Some other) (Some mine) link said own is ahead numbered =
 quiet_some : (own : Option Link) (mine : Link) (handle : ℕ) → own ≡ Some mine → own ≡ None → ⊥
 quiet_some own mine handle some none = cc
 
-keeps_piece : (moved own : Linking) (count : ℕ) (said : List Packet) (line : Line) (handle : ℕ) (piece : Piece) (rest : List Piece)
+pub keeps_piece : (moved own : Linking) (count : ℕ) (said : List Packet) (line : Line) (handle : ℕ) (piece : Piece) (rest : List Piece)
     → line.link ≡ Some handle → packets_of line.ledger.held < line.ledger.total → line.pieces ≡ piece ∷ rest
     → Keeps moved own count said line → Keeps moved (after_move own (out_of (piece_packet handle piece))) count (said ++ piece_packet handle piece ∷ []) (with_piece handle piece rest line)
 keeps_piece moved own count said line handle piece rest link room pieces keeps =
@@ -76,7 +76,7 @@ piece_stands side count past line handle piece rest link room pieces h =
 
 -- ---- all pieces that may go out
 
-both_right : (a b : Bool) → a && b ≡ true → b ≡ true
+pub both_right : (a b : Bool) → a && b ≡ true → b ≡ true
 both_right true b both = both
 both_right false b both = absurd cc
 
