@@ -17,7 +17,7 @@ use Rattle.bt_host.proofs.Names.{name_units}
 
 -- ---- both packets are read
 
-connect_is : (maximum : ℕ) → 255 ≤ maximum → maximum < 2 ^ 16 → IsPacket Request (connect_packet maximum)
+pub connect_is : (maximum : ℕ) → 255 ≤ maximum → maximum < 2 ^ 16 → IsPacket Request (connect_packet maximum)
 connect_is maximum low high = record {
   fields = record { code_fits = omega arith; len = refl; version = λ _. refl; maximum = λ _. subst (λ (n : ℕ). 255 ≤ n) (sym (be16-number maximum [] high)) low };
   headers = tt;
@@ -40,7 +40,7 @@ put_len units octets =
 pub put_has_size : PutHasSize
 put_has_size units octets = length-packet (put_packet units octets) ∙ put_len units octets
 
-put_is : (units octets : List ℕ) → length units ≤ 100 → length octets ≤ 200 → IsPacket Request (put_packet units octets)
+pub put_is : (units octets : List ℕ) → length units ≤ 100 → length octets ≤ 200 → IsPacket Request (put_packet units octets)
 put_is units octets few small =
     let title = length_title units in
     record {

@@ -8,3 +8,4 @@ pub mod PutPacketLaws
 pub mod NameLaws
 pub mod WritingLaws
 pub mod StoringLaws
+pub mod ReplyLaws

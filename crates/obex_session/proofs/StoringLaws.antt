@@ -263,10 +263,10 @@ not_ever : (b : Bool) → b ≡ false → (b && true) ≡ false
 not_ever true e = absurd cc
 not_ever false e = refl
 
-taken_front : (front rest octets : List ℕ) (count : ℕ) → count ≡ length front → octets ≡ front ++ rest → take count octets ≡ front
+pub taken_front : (front rest octets : List ℕ) (count : ℕ) → count ≡ length front → octets ≡ front ++ rest → take count octets ≡ front
 taken_front front rest octets count same is = ap (λ n. take n octets) same ∙ ap (take (length front)) is ∙ take-append_seam front rest
 
-same_count : (count n : ℕ) → Respond count ≡ Respond n → count ≡ n
+pub same_count : (count n : ℕ) → Respond count ≡ Respond n → count ≡ n
 same_count count n e = cc
 
 -- nothing is stored

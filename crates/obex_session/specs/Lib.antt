@@ -6,3 +6,4 @@ pub mod Laws
 pub mod Asking
 pub mod PutPackets
 pub mod NextPut
+pub mod PushReplies

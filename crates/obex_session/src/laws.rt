@@ -2,6 +2,7 @@
 //! calls tie these to the same definitions.
 
 ghost use Rattle.obex_session.specs.Laws.{NoRuleFails, StoresAsAnswered, StoresWhatIsSpelled};
+ghost use Rattle.obex_session.specs.PushReplies.{AnswersPush};
 ghost use Rattle.obex_session.specs.PutPackets.{SpellsWhatIsPut};
 
 /// Where the inbox never failed, the objects that the packets spell were stored.
@@ -22,4 +23,10 @@ pub fn put_is_spelled()
 /// An object is stored exactly where success answers a final PUT.
 pub fn success_says_what_is_stored()
     ensures { StoresAsAnswered }
+{}
+
+/// A session that rests answers the packets of a push with success and stores its object, unless a
+/// call of the inbox failed.
+pub fn push_is_answered()
+    ensures { AnswersPush }
 {}

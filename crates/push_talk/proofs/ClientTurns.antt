@@ -1,10 +1,10 @@
 -- The turns of a client.
 use Rattle.std.proofs.Common.{◌≡◌, ℕ, ◌^◌, ◌<◌, ◌≤◌, Bool, true, false, List, [], length, Option, Some, None, Result, Ok, refl, sym, ap, subst, ◌∙◌, arith}
-use Rattle.std.specs.Prelude.{IsSomeAnd, nat_lt, if◌then◌else◌}
+use Rattle.std.specs.Prelude.{IsSomeAnd, nat_lt, ◌==◌, if◌then◌else◌}
 use Rattle.std.proofs.lemmas.Bool.{le-ltb}
 use Rattle.bt_base.proofs.OctetLemmas.{be16-number}
 use Rattle.push_script.specs.declared.word.Side.TheVariants as sides
-use Rattle.push_script.specs.declared.outcome.Outcome.TheVariants.{PeerFault, ShelfFault}
+use Rattle.push_script.specs.declared.outcome.Outcome.TheVariants.{PeerFault, ShelfFault, Refused}
 use Rattle.l2cap_signal.specs.Commands.{Command, Content}
 use Rattle.l2cap_config.specs.declared.wish.Agreed.{Agreed}
 use Rattle.l2cap_config.specs.Agreement.{only_mtu}
@@ -17,20 +17,20 @@ use Rattle.obex_headers.specs.Reading.{packet_in}
 use Rattle.obex_headers.proofs.PacketLaws.{packet_again}
 use Rattle.host_link.specs.Hearing.{PlainNews, LinkUp}
 use Rattle.bt_host.specs.declared.stages.Stage.{Stage}
-use Rattle.bt_host.specs.declared.stages.Stage.TheVariants.{Connecting, Configuring, Greeting, Greeted, Putting, Parting, Closing, ToLeave}
+use Rattle.bt_host.specs.declared.stages.Stage.TheVariants.{Connecting, Configuring, Greeting, Greeted, Putting, Parting, ToClose, Closing, ToLeave, Leaving}
 use Rattle.bt_host.specs.declared.stages.PeerRequest.TheVariants.{Awaited}
 use Rattle.bt_host.specs.declared.stages.PeerRequest.TheVariants as request
-use Rattle.bt_host.specs.declared.steps.Step.TheVariants.{Wait, Send}
+use Rattle.bt_host.specs.declared.steps.Step.TheVariants.{Wait, Send, BreakLink}
 use Rattle.bt_host.specs.Pdus.{own_endpoint, command_pdu, grants_connection, asks_configuration, grants_configuration, asks_disconnection, grants_disconnection}
 use Rattle.bt_host.specs.Pushing.{utf16, put_size, connect_packet, disconnect_packet, put_packet, packet_pdu}
 use Rattle.bt_host.specs.Courses.{Course, at, caused, ended}
-use Rattle.bt_host.specs.Events.{loss, agreement, room, disconnects, after_request, after_connect_response, after_put_response, after_disconnect_response, after_signal, answered_outcome}
+use Rattle.bt_host.specs.Events.{loss, agreement, room, disconnects, after_request, after_greeting, after_connect_response, after_put_response, after_disconnect_response, after_signal, answered_outcome}
 use Rattle.bt_host.specs.Clients.{after_commands}
 use Rattle.bt_host.specs.Steps.{next_step}
 use Rattle.bt_host.proofs.Agreeing.{requests_are_accepted}
 use Rattle.push_talk.specs.Conversing.{Says}
 use Rattle.push_talk.specs.Speaking.{told, CanBeSaid}
-use Rattle.push_talk.specs.ClientTurns.{Turn, turned, turn, greeting, response, answers_packet, IsFair, puts, ClientTurns}
+use Rattle.push_talk.specs.ClientTurns.{Turn, turned, turn, greeting, unwelcome, response, answers_packet, IsFair, puts, ClientTurns}
 use Rattle.push_talk.proofs.Speaking.{command_is, can_grant, can_configure, can_agree, can_part}
 
 -- a turn of a course, where it stands at a stage
@@ -75,9 +75,9 @@ closes_so given then_given course peer =
 pub read_so : (phase : Phase) (maximum : ℕ) (packet : PlainPacket) → IsPacket phase packet → length (packet_octets packet) ≤ maximum → packet_in phase maximum (packet_octets packet) ≡ Ok packet
 read_so phase maximum packet sound within = packet_again phase maximum (packet_octets packet) packet (record { sound = sound; within = within; spelling = refl })
 
-is_greeting : (maximum : ℕ) → 255 ≤ maximum → maximum < 2 ^ 16 → IsPacket ConnectResponse (greeting maximum)
-is_greeting maximum low high = record {
-  fields = record { code_fits = omega arith; len = refl; version = λ _. refl; maximum = λ _. subst (λ (n : ℕ). 255 ≤ n) (sym (be16-number maximum [] high)) low };
+is_welcome : (code maximum : ℕ) → code < 256 → 255 ≤ maximum → maximum < 2 ^ 16 → IsPacket ConnectResponse (unwelcome code maximum)
+is_welcome code maximum small low high = record {
+  fields = record { code_fits = small; len = refl; version = λ _. refl; maximum = λ _. subst (λ (n : ℕ). 255 ≤ n) (sym (be16-number maximum [] high)) low };
   headers = tt;
   len = omega arith;
 }
@@ -105,12 +105,29 @@ greets : (given then_given : Option (List ℕ)) (course : Course) (maximum : ℕ
 greets given then_given course maximum here fair mtu low high =
     ap (placed given then_given (told (answers_packet (greeting maximum))) course) here
     ∙ ap (λ (read : Result PlainPacket ObexRefusal). steps given then_given (after_connect_response read (at Greeting course)))
-    (read_so ConnectResponse course.maximum (greeting maximum) (is_greeting maximum (omega arith) high) (omega (arith, fair.maximum)))
+    (read_so ConnectResponse course.maximum (greeting maximum) (is_welcome 0xA0 maximum (omega arith) (omega arith) high) (omega (arith, fair.maximum)))
     ∙ ap (λ (small : Bool). steps given then_given (if small then at ToLeave (caused (PeerFault 5 5) course) else at Greeted course))
     (has_room course (maximum_of (greeting maximum).extra) fair mtu (subst (λ (n : ℕ). 416 ≤ n) (sym (be16-number maximum [] high)) low))
     ∙ put_so given then_given course fair.peer
 
 -- ---- responses
+
+is_refused : (given then_given : Option (List ℕ)) (course : Course) (code maximum : ℕ) → course.stage ≡ Greeting → course.peer ≡ own_endpoint → 7 ≤ course.maximum → 255 ≤ maximum → maximum < 2 ^ 16
+    → code < 256 → (code == 0xA0) ≡ false
+    → turn given then_given (told (answers_packet (unwelcome code maximum))) course ≡ record { first = Send (command_pdu 3 (asks_disconnection own_endpoint)); second = Wait; course = at Closing (caused (Refused code) course) }
+is_refused given then_given course code maximum here peer within low high small other =
+    ap (placed given then_given (told (answers_packet (unwelcome code maximum))) course) here
+    ∙ ap (λ (read : Result PlainPacket ObexRefusal). steps given then_given (after_connect_response read (at Greeting course)))
+    (read_so ConnectResponse course.maximum (unwelcome code maximum) (is_welcome code maximum small low high) within)
+    ∙ ap (λ (success : Bool). steps given then_given (if success then after_greeting (maximum_of (unwelcome code maximum).extra) (at Greeting course) else at ToClose (caused (Refused code) course))) other
+    ∙ ap (λ (end : ℕ). record { first = Send (command_pdu 3 (asks_disconnection end)); second = Wait; course = at Closing (caused (Refused code) course) }) peer
+
+breaks : (given then_given : Option (List ℕ)) (course : Course) (code : ℕ) → course.stage ≡ Parting → 3 ≤ course.maximum → code < 256 → (code == 0xA0) ≡ false
+    → turn given then_given (told (answers_packet (response code))) course ≡ record { first = BreakLink; second = Wait; course = at Leaving course }
+breaks given then_given course code here within small other =
+    ap (placed given then_given (told (answers_packet (response code))) course) here
+    ∙ ap (λ (read : Result PlainPacket ObexRefusal). steps given then_given (after_disconnect_response read (at Parting course))) (read_so Response course.maximum (response code) (is_response code small) within)
+    ∙ ap (λ (success : Bool). steps given then_given (at (if success then ToClose else ToLeave) course)) other
 
 ends : (given then_given : Option (List ℕ)) (course : Course) (code : ℕ) → course.stage ≡ Putting → course.peer ≡ own_endpoint → 3 ≤ course.maximum → code < 256
     → turn given then_given (told (answers_packet (response code))) course ≡ record { first = Send (packet_pdu own_endpoint disconnect_packet); second = Wait; course = at Parting (caused (answered_outcome code) course) }
@@ -135,8 +152,10 @@ client_turns = record {
       signalled given then_given 1 (asks_configuration own_endpoint mtu) course (Configuring true Awaited) (can_configure sides.B 1 mtu (omega arith) (omega arith)) here
       ∙ agreed_so given then_given course mtu (agreement course.mtu (written (only_mtu mtu))) (requests_are_accepted course.mtu mtu low high) peer;
   greets = greets;
+  is_refused = is_refused;
   ends = ends;
   parts = parts;
+  breaks = breaks;
   closes = λ given then_given course here peer. signalled given then_given 3 (grants_disconnection own_endpoint) course Closing can_part here ∙ closes_so given then_given course peer;
   loses = λ given then_given course reason busy. ap (λ (idle : Bool). steps given then_given (if idle then course else ended (loss reason) course)) busy;
 }

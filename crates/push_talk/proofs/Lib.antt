@@ -4,3 +4,5 @@ pub mod Payloads
 pub mod Conversing
 pub mod Speaking
 pub mod ClientTurns
+pub mod ServerTurns
+pub mod Serving

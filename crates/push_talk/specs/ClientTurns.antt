@@ -1,9 +1,9 @@
 -- What the course of a push makes of what it hears, and its two next steps.
-use Rattle.std.specs.Prelude.{ℕ, ◌^◌, ◌≡◌, ◌<◌, ◌≤◌, true, false, List, [], ◌∷◌, length, Option, Some, None}
+use Rattle.std.specs.Prelude.{ℕ, ◌^◌, ◌≡◌, ◌<◌, ◌≤◌, ◌==◌, Bool, true, false, List, [], ◌∷◌, length, Option, Some, None}
 use Rattle.std.specs.Option.{option_or}
 use Rattle.bt_base.specs.Octets.{be16}
 use Rattle.push_script.specs.declared.word.Side.TheVariants as sides
-use Rattle.push_script.specs.declared.outcome.Outcome.TheVariants.{ShelfFault}
+use Rattle.push_script.specs.declared.outcome.Outcome.TheVariants.{ShelfFault, Refused}
 use Rattle.obex_headers.specs.Packets.{PlainPacket, bare, packet_octets}
 use Rattle.host_link.specs.Hearing.{PlainNews, LinkUp, LinkDown}
 use Rattle.bt_host.specs.declared.stages.Stage.TheVariants.{Idle, Paging, Connecting, Configuring, Greeting, Putting, Parting, Closing, Leaving}
@@ -44,9 +44,12 @@ says_packet packet = Sends sides.A (packet_octets packet)
 abbrev pub answers_packet : PlainPacket → Saying
 answers_packet packet = Sends sides.B (packet_octets packet)
 
--- success (A0) for CONNECT, with version 1.0, no flags and the own maximum
+-- the response to CONNECT with that code, version 1.0, no flags and the own maximum; A0 is success
+abbrev pub unwelcome : ℕ → ℕ → PlainPacket
+unwelcome code maximum = bare code (0x10 ∷ 0x00 ∷ be16 maximum)
+
 abbrev pub greeting : ℕ → PlainPacket
-greeting maximum = bare 0xA0 (0x10 ∷ 0x00 ∷ be16 maximum)
+greeting maximum = unwelcome 0xA0 maximum
 
 -- a response without fields or headers
 abbrev pub response : ℕ → PlainPacket
@@ -89,13 +92,20 @@ pub record ClientTurns : Type 0 where
   -- CONNECT succeeded: the object is put
   pub greets : (given then_given : Option (List ℕ)) (course : Course) (maximum : ℕ) → course.stage ≡ Greeting → IsFair course → 416 ≤ course.peer_mtu → 416 ≤ maximum → maximum < 2 ^ 16
       → turn given then_given (told (answers_packet (greeting maximum))) course ≡ puts given course
+  -- CONNECT was refused, which fixes the outcome: the channel is to be closed
+  pub is_refused : (given then_given : Option (List ℕ)) (course : Course) (code maximum : ℕ) → course.stage ≡ Greeting → course.peer ≡ own_endpoint → 7 ≤ course.maximum → 255 ≤ maximum → maximum < 2 ^ 16
+      → code < 256 → (code == 0xA0) ≡ false
+      → turn given then_given (told (answers_packet (unwelcome code maximum))) course ≡ saying (Says sides.A 3 (asks_disconnection own_endpoint)) (at Closing (caused (Refused code) course))
   -- the PUT is answered, which fixes the outcome: DISCONNECT goes out
   pub ends : (given then_given : Option (List ℕ)) (course : Course) (code : ℕ) → course.stage ≡ Putting → course.peer ≡ own_endpoint → 3 ≤ course.maximum → code < 256
       → turn given then_given (told (answers_packet (response code))) course ≡ saying (says_packet disconnect_packet) (at Parting (caused (answered_outcome code) course))
   -- that succeeded: the channel is to be closed
   pub parts : (given then_given : Option (List ℕ)) (course : Course) → course.stage ≡ Parting → course.peer ≡ own_endpoint → 3 ≤ course.maximum
       → turn given then_given (told (answers_packet (response 0xA0))) course ≡ saying (Says sides.A 3 (asks_disconnection own_endpoint)) (at Closing course)
-  -- it is closed: the link is to be broken
+  -- it was refused: the link is to be broken at once
+  pub breaks : (given then_given : Option (List ℕ)) (course : Course) (code : ℕ) → course.stage ≡ Parting → 3 ≤ course.maximum → code < 256 → (code == 0xA0) ≡ false
+      → turn given then_given (told (answers_packet (response code))) course ≡ record { first = BreakLink; second = Wait; course = at Leaving course }
+  -- the channel is closed: the link is to be broken
   pub closes : (given then_given : Option (List ℕ)) (course : Course) → course.stage ≡ Closing → course.peer ≡ own_endpoint
       → turn given then_given (told (Says sides.B 3 (grants_disconnection own_endpoint))) course ≡ record { first = BreakLink; second = Wait; course = at Leaving course }
   -- wherever it stands, a link that is down ends the push

@@ -2,3 +2,4 @@ pub mod Conversing
 pub mod Laws
 pub mod Speaking
 pub mod ClientTurns
+pub mod ServerTurns

@@ -3,6 +3,7 @@
 ghost use Rattle.push_talk.specs.Laws.{SilentWhileOpening, PayloadsArePackets};
 ghost use Rattle.push_talk.specs.Speaking.{SayingsAreRead};
 ghost use Rattle.push_talk.specs.ClientTurns.{ClientTurns};
+ghost use Rattle.push_talk.specs.ServerTurns.{ChannelTurns, SessionTurns, PushIsServed};
 
 /// While the channel is opened no packets of OBEX are heard or spoken.
 pub fn silent_while_opening()
@@ -22,4 +23,20 @@ pub fn sayings_are_read()
 /// What the course of a push makes of what it hears, turn by turn.
 pub fn client_turns()
     ensures { ClientTurns }
+{}
+
+/// What a server's channel makes of what it hears, turn by turn.
+pub fn channel_turns()
+    ensures { ChannelTurns }
+{}
+
+/// What becomes of its session then.
+pub fn session_turns()
+    ensures { SessionTurns }
+{}
+
+/// A session that rests answers the packets of a push, and stores its object, unless a call of the
+/// inbox failed.
+pub fn push_is_served()
+    ensures { PushIsServed }
 {}
