@@ -63,7 +63,7 @@ tells_of sides.B past radio shows = record {
 }
 
 -- what is owed leads to the links that there were
-owed_below : (told : ℕ) (up : Bool) (answers : List Answer) (number : ℕ) (together : Bool) → IsOwed told up answers number together → told ≤ number
+pub owed_below : (told : ℕ) (up : Bool) (answers : List Answer) (number : ℕ) (together : Bool) → IsOwed told up answers number together → told ≤ number
 owed_below told up [] number together owed = omega (arith, owed.0)
 owed_below told up (Returned opcode params ∷ rest) number together owed = owed_below told up rest number together owed
 owed_below told up (Stated opcode ∷ rest) number together owed = owed_below told up rest number together owed
@@ -76,7 +76,7 @@ owed_below told up (Carried handle piece ∷ rest) number together owed = owed_b
 
 -- ---- the link that is up, as the host was told
 
-none_up : (up : Option Link) (one : Controller) → one.up ≡ false → ShowsUp up one → up ≡ None
+pub none_up : (up : Option Link) (one : Controller) → one.up ≡ false → ShowsUp up one → up ≡ None
 none_up None one down shows = refl
 none_up (Some link) one down shows = let there = shows.0 in absurd cc
 
@@ -85,7 +85,7 @@ told_next known told handle none is next =
     let none_there : length (option_to_list known.up) ≡ 0 = ap (λ (up : Option Link). length (option_to_list up)) none in
     omega arith
 
-one_up : (handle : ℕ) (up : Option Link) (one : Controller) → one.up ≡ true → handle ≡ one.told → ShowsUp up one → IsUp handle up
+pub one_up : (handle : ℕ) (up : Option Link) (one : Controller) → one.up ≡ true → handle ≡ one.told → ShowsUp up one → IsUp handle up
 one_up handle None one there is shows = absurd cc
 one_up handle (Some link) one there is shows = shows.1 ∙ sym is
 
