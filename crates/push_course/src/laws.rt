@@ -1,0 +1,1 @@
+//! Laws of the conversations of a world, for every run from the beginning.
