@@ -30,7 +30,7 @@ use Rattle.bt_host.specs.Steps.{next_step}
 use Rattle.bt_host.proofs.Agreeing.{requests_are_accepted}
 use Rattle.push_talk.specs.Conversing.{Says}
 use Rattle.push_talk.specs.Speaking.{told, CanBeSaid}
-use Rattle.push_talk.specs.ClientTurns.{Turn, turned, turn, greeting, unwelcome, response, answers_packet, IsFair, puts, ClientTurns}
+use Rattle.push_talk.specs.ClientTurns.{Turn, turned, turn, greeting, unwelcome, response, answers_packet, IsWithinBounds, puts, ClientTurns}
 use Rattle.push_talk.proofs.Speaking.{command_is, can_grant, can_configure, can_agree, can_part}
 
 -- a turn of a course, where it stands at a stage
@@ -97,18 +97,18 @@ put_so (Some octets) then_given course peer =
 put_so None then_given course peer =
     ap (λ (end : ℕ). record { first = Send (packet_pdu end disconnect_packet); second = Wait; course = at Parting (caused ShelfFault course) }) peer
 
-has_room : (course : Course) (maximum : ℕ) → IsFair course → 416 ≤ course.peer_mtu → 416 ≤ maximum → nat_lt (room maximum course) (put_size (utf16 course.name) course.size) ≡ false
-has_room course maximum fair mtu low = le-ltb (room maximum course) (put_size (utf16 course.name) course.size) (omega (arith, fair.maximum, fair.name, fair.size))
+has_room : (course : Course) (maximum : ℕ) → IsWithinBounds course → 416 ≤ course.peer_mtu → 416 ≤ maximum → nat_lt (room maximum course) (put_size (utf16 course.name) course.size) ≡ false
+has_room course maximum bounds mtu low = le-ltb (room maximum course) (put_size (utf16 course.name) course.size) (omega (arith, bounds.maximum, bounds.name, bounds.size))
 
-greets : (given then_given : Option (List ℕ)) (course : Course) (maximum : ℕ) → course.stage ≡ Greeting → IsFair course → 416 ≤ course.peer_mtu → 416 ≤ maximum → maximum < 2 ^ 16
+greets : (given then_given : Option (List ℕ)) (course : Course) (maximum : ℕ) → course.stage ≡ Greeting → IsWithinBounds course → 416 ≤ course.peer_mtu → 416 ≤ maximum → maximum < 2 ^ 16
     → turn given then_given (told (answers_packet (greeting maximum))) course ≡ puts given course
-greets given then_given course maximum here fair mtu low high =
+greets given then_given course maximum here bounds mtu low high =
     ap (placed given then_given (told (answers_packet (greeting maximum))) course) here
     ∙ ap (λ (read : Result PlainPacket ObexRefusal). steps given then_given (after_connect_response read (at Greeting course)))
-    (read_so ConnectResponse course.maximum (greeting maximum) (is_welcome 0xA0 maximum (omega arith) (omega arith) high) (omega (arith, fair.maximum)))
+    (read_so ConnectResponse course.maximum (greeting maximum) (is_welcome 0xA0 maximum (omega arith) (omega arith) high) (omega (arith, bounds.maximum)))
     ∙ ap (λ (small : Bool). steps given then_given (if small then at ToLeave (caused (PeerFault 5 5) course) else at Greeted course))
-    (has_room course (maximum_of (greeting maximum).extra) fair mtu (subst (λ (n : ℕ). 416 ≤ n) (sym (be16-number maximum [] high)) low))
-    ∙ put_so given then_given course fair.peer
+    (has_room course (maximum_of (greeting maximum).extra) bounds mtu (subst (λ (n : ℕ). 416 ≤ n) (sym (be16-number maximum [] high)) low))
+    ∙ put_so given then_given course bounds.peer
 
 -- ---- responses
 

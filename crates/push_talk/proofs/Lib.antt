@@ -6,3 +6,4 @@ pub mod Speaking
 pub mod ClientTurns
 pub mod ServerTurns
 pub mod Serving
+pub mod HostTurns

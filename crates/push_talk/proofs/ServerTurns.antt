@@ -1,5 +1,5 @@
 -- The turns of a server's channel, and what becomes of its session then.
-use Rattle.std.proofs.Common.{◌≡◌, ℕ, ◌^◌, ◌<◌, ◌≤◌, Bool, true, false, List, [], Option, Some, None, refl, ap, subst, ◌∙◌, arith}
+use Rattle.std.proofs.Common.{◌≡◌, ℕ, ◌^◌, ◌<◌, ◌≤◌, Bool, true, false, List, Option, Some, None, refl, ap, ◌∙◌, arith}
 use Rattle.std.specs.Prelude.{IsSomeAnd, if◌then◌else◌}
 use Rattle.push_script.specs.declared.word.Side.TheVariants as sides
 use Rattle.l2cap_signal.specs.Commands.{Command, Content}
@@ -10,7 +10,7 @@ use Rattle.bt_host.specs.declared.channel_stages.ChannelStage.{ChannelStage}
 use Rattle.bt_host.specs.declared.channel_stages.ChannelStage.TheVariants.{Free, Asked, Taken, Heard, Configuring, Open, Parting, Closed}
 use Rattle.bt_host.specs.Pdus.{own_endpoint, command_pdu, asks_connection, asks_configuration, grants_configuration, asks_disconnection, grants_disconnection}
 use Rattle.bt_host.specs.Events.{agreement}
-use Rattle.bt_host.specs.Channels.{Channel, at, parts, is_accepted, hears, after_request, after_signal}
+use Rattle.bt_host.specs.Channels.{Channel, at, parts, is_accepted, hears, after_request, after_signal, sent, sent_at}
 use Rattle.bt_host.specs.Servers.{WhereTrue, after_commands}
 use Rattle.bt_host.proofs.Agreeing.{requests_are_accepted}
 use Rattle.push_talk.specs.Conversing.{Says}
@@ -59,6 +59,10 @@ channel_turns = record {
       ∙ ap (λ (end : ℕ). record { first = Some (command_pdu 2 (grants_configuration end)); second = Some (command_pdu 1 (asks_configuration end channel.mtu)); channel = at Configuring channel }) peer;
   opens = λ channel here. ap steps (opened channel here);
   hears = hears_so;
+  rests = λ channel here.
+      let none : sent channel ≡ (None, channel) = ap (λ (stage : ChannelStage). sent_at stage channel) here in
+      ap (λ (one : Option (List ℕ) × Channel). record { first = one.0; second = (sent one.1).0; channel = (sent one.1).1 }) none
+      ∙ ap (λ (two : Option (List ℕ) × Channel). record { first = None; second = two.0; channel = two.1 }) none;
   closes = λ channel here peer. ap steps (parting channel here peer) ∙ ap (λ (end : ℕ). record { first = Some (command_pdu 3 (grants_disconnection end)); second = None; channel = at Closed channel }) peer;
 }
 

@@ -1,6 +1,5 @@
 -- The session of a server through a push.
-use Rattle.std.proofs.Common.{◌≡◌, ℕ, ◌^◌, ◌<◌, ◌≤◌, true, false, List, [], length, take, Option, Some, None, refl, ap, ◌∙◌, arith, inl, inr}
-use Rattle.bt_base.specs.Counts.{HasRisen}
+use Rattle.std.proofs.Common.{◌≡◌, ℕ, ◌≤◌, true, false, List, [], length, take, Option, Some, refl, ap, ◌∙◌, arith, inl, inr}
 use Rattle.bt_base.specs.Objects.{Contents, aborted}
 use Rattle.obex_headers.specs.declared.packet.Phase.TheVariants.{Request}
 use Rattle.obex_headers.specs.Packets.{PlainPacket, IsPacket, bare, packet_octets}

@@ -1,5 +1,5 @@
 -- What the course of a push makes of what it hears, and its two next steps.
-use Rattle.std.specs.Prelude.{ℕ, ◌^◌, ◌≡◌, ◌<◌, ◌≤◌, ◌==◌, Bool, true, false, List, [], ◌∷◌, length, Option, Some, None}
+use Rattle.std.specs.Prelude.{ℕ, ◌^◌, ◌≡◌, ◌<◌, ◌≤◌, ◌==◌, true, false, List, [], ◌∷◌, length, Option, Some, None}
 use Rattle.std.specs.Option.{option_or}
 use Rattle.bt_base.specs.Octets.{be16}
 use Rattle.push_script.specs.declared.word.Side.TheVariants as sides
@@ -57,7 +57,7 @@ response code = bare code []
 
 -- ---- a course whose PUT fits whatever a scenario allows: the peer's end is named, and the lengths are within bounds
 
-pub record IsFair (course : Course) : Type 0 where
+pub record IsWithinBounds (course : Course) : Type 0 where
   pub peer : course.peer ≡ own_endpoint
   pub maximum : 416 ≤ course.maximum
   pub name : length (utf16 course.name) ≤ 100
@@ -90,7 +90,7 @@ pub record ClientTurns : Type 0 where
         course = record course { stage = Greeting; peer_mtu = mtu };
       }
   -- CONNECT succeeded: the object is put
-  pub greets : (given then_given : Option (List ℕ)) (course : Course) (maximum : ℕ) → course.stage ≡ Greeting → IsFair course → 416 ≤ course.peer_mtu → 416 ≤ maximum → maximum < 2 ^ 16
+  pub greets : (given then_given : Option (List ℕ)) (course : Course) (maximum : ℕ) → course.stage ≡ Greeting → IsWithinBounds course → 416 ≤ course.peer_mtu → 416 ≤ maximum → maximum < 2 ^ 16
       → turn given then_given (told (answers_packet (greeting maximum))) course ≡ puts given course
   -- CONNECT was refused, which fixes the outcome: the channel is to be closed
   pub is_refused : (given then_given : Option (List ℕ)) (course : Course) (code maximum : ℕ) → course.stage ≡ Greeting → course.peer ≡ own_endpoint → 7 ≤ course.maximum → 255 ≤ maximum → maximum < 2 ^ 16

@@ -3,3 +3,4 @@ pub mod Laws
 pub mod Speaking
 pub mod ClientTurns
 pub mod ServerTurns
+pub mod HostTurns

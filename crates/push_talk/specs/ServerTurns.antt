@@ -1,5 +1,5 @@
 -- What a server makes of what it hears: its channel, turn by turn, and its session.
-use Rattle.std.specs.Prelude.{ℕ, ◌^◌, ◌≡◌, ◌<◌, ◌≤◌, ◌⊎◌, Bool, true, false, List, [], length, drop, Option, Some, None}
+use Rattle.std.specs.Prelude.{ℕ, ◌^◌, ◌≡◌, ◌<◌, ◌≤◌, ◌⊎◌, Bool, true, false, List, length, drop, Option, Some, None}
 use Rattle.std.specs.Option.{option_map}
 use Rattle.std.specs.Str.{IsUtf8}
 use Rattle.bt_base.specs.Counts.{HasRisen}
@@ -40,18 +40,20 @@ pub record ChannelTurns : Type 0 where
   -- the channel is asked for: it is granted
   pub grants : (channel : Channel) → channel.stage ≡ Free
       → turn (Says sides.A 1 asks_connection) channel
-          ≡ record { first = Some (pdu_of (Says sides.B 1 (grants_connection own_endpoint))); second = None; channel = record channel { stage = Taken; peer = own_endpoint } }
+      ≡ record { first = Some (pdu_of (Says sides.B 1 (grants_connection own_endpoint))); second = None; channel = record channel { stage = Taken; peer = own_endpoint } }
   -- its configuration is asked for: that is granted, and the own one is asked for
   pub configures : (channel : Channel) (mtu : ℕ) → channel.stage ≡ Taken → channel.peer ≡ own_endpoint → 48 ≤ mtu → mtu < 2 ^ 16
       → turn (Says sides.A 2 (asks_configuration own_endpoint mtu)) channel
-          ≡ record {
-            first = Some (pdu_of (Says sides.B 2 (grants_configuration own_endpoint)));
-            second = Some (pdu_of (Says sides.B 1 (asks_configuration own_endpoint channel.mtu)));
-            channel = at Configuring channel;
-          }
+      ≡ record {
+        first = Some (pdu_of (Says sides.B 2 (grants_configuration own_endpoint)));
+        second = Some (pdu_of (Says sides.B 1 (asks_configuration own_endpoint channel.mtu)));
+        channel = at Configuring channel;
+      }
   -- that is granted: the channel is open, and hears payloads
   pub opens : (channel : Channel) → channel.stage ≡ Configuring → turn (Says sides.A 1 (grants_configuration own_endpoint)) channel ≡ record { first = None; second = None; channel = at Open channel }
   pub hears : (channel : Channel) → channel.stage ≡ Open → hears own_endpoint channel ≡ true
+  -- it has nothing to say of its own then
+  pub rests : (channel : Channel) → channel.stage ≡ Open → steps channel ≡ record { first = None; second = None; channel = channel }
   -- it is to be closed: that is granted, and it is closed
   pub closes : (channel : Channel) → channel.stage ≡ Open → channel.peer ≡ own_endpoint
       → turn (Says sides.A 3 (asks_disconnection own_endpoint)) channel ≡ record { first = Some (pdu_of (Says sides.B 3 (grants_disconnection own_endpoint))); second = None; channel = at Closed channel }

@@ -1,8 +1,9 @@
-//! Laws of the conversation of a push, for every front of it.
+//! Laws of the conversation of a push: what a capture reads off it, and what each host does in it.
 
 ghost use Rattle.push_talk.specs.Laws.{SilentWhileOpening, PayloadsArePackets};
 ghost use Rattle.push_talk.specs.Speaking.{SayingsAreRead};
 ghost use Rattle.push_talk.specs.ClientTurns.{ClientTurns};
+ghost use Rattle.push_talk.specs.HostTurns.{HostsTakeTurns};
 ghost use Rattle.push_talk.specs.ServerTurns.{ChannelTurns, SessionTurns, PushIsServed};
 
 /// While the channel is opened no packets of OBEX are heard or spoken.
@@ -39,4 +40,10 @@ pub fn session_turns()
 /// inbox failed.
 pub fn push_is_served()
     ensures { PushIsServed }
+{}
+
+/// A host that hears a packet takes the turn of its course or of its channel, and what is said in it
+/// waits on its line behind what waited there.
+pub fn hosts_take_turns()
+    ensures { HostsTakeTurns }
 {}

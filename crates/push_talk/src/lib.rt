@@ -1,4 +1,4 @@
-//! What a capture reads off the conversation of a push.
+//! The conversation of a push: what a capture reads off it, and what each host does at each point.
 #![tactic(auto)]
 
 pub mod laws;
