@@ -1,1 +1,5 @@
 pub mod Owning
+pub mod Deciding
+pub mod Tails
+pub mod ClientPlaces
+pub mod ClientMoves
