@@ -86,6 +86,10 @@ is_asked news course all = elim (asks_shelf (after_news news course).stage (afte
 
 -- ---- what a client makes of it
 
+-- the news of a PDU
+abbrev pub pdu_news : List ℕ → PlainNews
+pdu_news pdu = Pdu (channel_of pdu) pdu
+
 module _ (mtu maximum : ℕ) where
   -- it was one saying, the same in all conversations that may be; what is said then, and where the client stands behind it
   pub record ClientMoves (decided : Decisions) (place : ClientPlace) (pdu : List ℕ) (taken : Turn) : Type 0 where
@@ -105,10 +109,6 @@ module _ (mtu maximum : ℕ) where
     pub sends : sent_by taken.first ++ sent_by taken.second ≡ own sides.A mine
     pub stands : ClientStands mtu maximum place' decided' taken.course
     pub able : IsAble mtu maximum taken.course
-
-  -- the news of a PDU
-  abbrev pub pdu_news : List ℕ → PlainNews
-  pdu_news pdu = Pdu (channel_of pdu) pdu
 
   module _ (turns : ClientTurns) (capable : IsCapable mtu maximum) (given then_given : Option (List ℕ)) (course : Course) (able : IsAble mtu maximum course) (decided : Decisions) (fair : IsFair decided) where
     abbrev Moves : ClientPlace → List ℕ → Type 0

@@ -3,3 +3,5 @@ pub mod Deciding
 pub mod Tails
 pub mod ClientPlaces
 pub mod ClientMoves
+pub mod ServerPlaces
+pub mod ServerMoves
