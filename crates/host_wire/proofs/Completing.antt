@@ -1,7 +1,7 @@
 -- PDUs that are cut come back as the pieces are joined one after the other.
-use Rattle.std.proofs.Common.{◌≡◌, ℕ, zero, suc, ◌+◌, ◌≤◌, ◌<◌, List, [], ◌∷◌, ◌++◌, length, take, drop, Bool, true, false, cond, eqb, ltb, refl, sym, ap, subst, ◌∙◌, append_assoc, length-append, inl, inr, arith, le-ltb, eq-eqb, ne_eqb}
+use Rattle.std.proofs.Common.{◌≡◌, ℕ, zero, suc, ◌+◌, ◌≤◌, ◌<◌, List, [], ◌∷◌, ◌++◌, length, take, drop, Bool, true, false, cond, eqb, refl, sym, ap, ◌∙◌, append_assoc, length-append, inl, inr, arith, le-ltb, ne_eqb}
 use Rattle.std.proofs.lemmas.Bool.{cases_Bool, cases_lt, eqb-true, eqb-false}
-use Rattle.std.proofs.lemmas.List.{append-nil, take-append-drop, length-take, take_all, drop_all, nil_from_length}
+use Rattle.std.proofs.lemmas.List.{append-nil, take-append-drop, length-take, nil_from_length}
 use Rattle.std.specs.List.{AllByRecursion}
 use Rattle.byteorder.specs.Numbers.{little_from-append}
 use Rattle.byteorder.specs.Endian.{little_number}

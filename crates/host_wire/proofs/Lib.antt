@@ -5,3 +5,13 @@ pub mod Completing
 pub mod Speaking
 pub mod News
 pub mod Told
+pub mod Linked
+pub mod Hearing
+pub mod Letting
+pub mod Moving
+pub mod Going
+pub mod Telling
+pub mod Stepping
+pub mod Resting
+pub mod Linking
+pub mod LinkTold

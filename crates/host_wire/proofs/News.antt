@@ -1,21 +1,17 @@
 -- What a host is told, by the capture; and the link that it knows of.
-use Rattle.std.proofs.Common.{◌≡◌, ℕ, List, [], ◌∷◌, Bool, true, false, cond, Option, Some, None, refl, sym, ap, subst, ◌∙◌}
-use Rattle.std.specs.Prelude.{is_some}
+use Rattle.std.proofs.Common.{◌≡◌, ℕ, List, Option, Some, None, refl, sym, ap, subst, ◌∙◌}
 use Rattle.h4_framing.specs.Packets.{Packet, Acl}
 use Rattle.acl_fragments.specs.Pieces.{Piece, starts, channel_of}
 use Rattle.acl_fragments.specs.Answers.{Answer, Pdu, More, Dropped, answer, open_after}
 use Rattle.acl_fragments.proofs.Given.{answered_is_given}
-use Rattle.push_script.specs.declared.word.Side.{Side}
 use Rattle.capture.specs.declared.flow.Flow.TheVariants.{Into}
-use Rattle.capture.specs.Entries.{Entry}
-use Rattle.capture.specs.Moves.{Move}
 use Rattle.capture.specs.Links.{Link, link_up}
-use Rattle.capture.specs.Pdus.{pdu_limit, piece_of, pieces, whole_of, completed_by, completed}
+use Rattle.capture.specs.Pdus.{piece_of, pieces, whole_of, completed_by, completed}
 use Rattle.host_link.specs.Hearing.{PlainNews, joined_news, piece_on, piece_news, news_of}
 use Rattle.host_link.specs.Hearing as host
 use Rattle.host_link.specs.Lines.{Line, longest_pdu}
 use Rattle.host_link.specs.Stands.{into}
-use Rattle.host_wire.specs.Wiring.{Wired, Wires}
+use Rattle.host_wire.specs.Wiring.{Wired}
 use Rattle.host_wire.specs.Spoken.{news_by}
 use Rattle.host_wire.specs.WireLaws.{HeardNews, LinkIsKnown}
 

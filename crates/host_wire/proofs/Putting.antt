@@ -24,9 +24,8 @@ use Rattle.world_model.specs.Hosts.{IsShort, links_told, HostStands}
 use Rattle.world_model.proofs.Lists.{all_both, chosen}
 use Rattle.world_model.proofs.Saying.{piece_is_packet, out_said}
 use Rattle.world_model.proofs.Commanding.{command_is_packet, first_addressed, next_waits}
-use Rattle.world_model.proofs.Putting.{is_last, piece_stands, pieces_stand, command_stands, puts_out}
-use Rattle.world_model.proofs.Arriving.{again}
-use Rattle.host_wire.specs.Wiring.{pieces_on, IsSilent, IsOnLink, Wired, Wires}
+use Rattle.world_model.proofs.Putting.{is_last, piece_stands, pieces_stand, command_stands}
+use Rattle.host_wire.specs.Wiring.{pieces_on, IsSilent, Wired, Wires}
 use Rattle.host_wire.proofs.Carried.{piece_carried, pieces_push, none_pushed, command_carries_none}
 
 -- a host as the capture has it, with its wires

@@ -1,7 +1,7 @@
 -- What a host put out is spelled by one list of packets.
-use Rattle.std.proofs.Common.{◌≡◌, ℕ, List, [], ◌∷◌, ◌++◌, refl, sym, ap, subst, ◌∙◌}
+use Rattle.std.proofs.Common.{◌≡◌, List, [], ◌∷◌, refl, sym, ap, ◌∙◌}
 use Rattle.std.specs.List.{AllByRecursion}
-use Rattle.h4_framing.specs.Packets.{Packet, spelling, spellings, IsPacket}
+use Rattle.h4_framing.specs.Packets.{Packet, spellings, IsPacket}
 use Rattle.h4_framing.proofs.SpellingLemmas.{one_spelling}
 use Rattle.world_model.proofs.Departing.{first_is}
 

@@ -1,7 +1,7 @@
 -- What went out of a host is the front of what it let wait.
-use Rattle.std.proofs.Common.{◌≡◌, ℕ, ◌≤◌, List, [], ◌∷◌, ◌++◌, map, filter, Bool, true, false, cond, Option, Some, None, refl, sym, ap, subst, ◌∙◌, append_assoc}
+use Rattle.std.proofs.Common.{◌≡◌, ℕ, ◌≤◌, List, [], ◌∷◌, ◌++◌, map, filter, true, false, cond, Option, Some, None, refl, sym, ap, ◌∙◌}
 use Rattle.std.specs.List.{cons_option, AllByRecursion}
-use Rattle.std.proofs.lemmas.List.{append-nil, map-append}
+use Rattle.std.proofs.lemmas.List.{append-nil}
 use Rattle.std.proofs.lemmas.List.Elements.{filter_map-append}
 use Rattle.h4_framing.specs.Packets.{Packet}
 use Rattle.acl_fragments.specs.Pieces.{Piece, starts}
@@ -17,7 +17,7 @@ use Rattle.capture.specs.Links.{Link}
 use Rattle.capture.specs.Pdus as pdu
 use Rattle.capture.specs.Pdus.{pdu_limit, same_flow, piece_of, piece_in, pieces, whole_of, completed_by, completed}
 use Rattle.host_link.specs.Lines.{Line}
-use Rattle.host_wire.specs.Wiring.{pieces_on, IsOnLink, Wired}
+use Rattle.host_wire.specs.Wiring.{pieces_on, Wired}
 use Rattle.host_wire.specs.Spoken.{said_on, IsFront}
 use Rattle.host_wire.specs.WireLaws.{IsFrame}
 use Rattle.host_wire.proofs.Completing.{given, gives, frames_whole}
@@ -95,10 +95,11 @@ abbrev pub Says : Link → List Piece → List (List ℕ) → Type 0
 Says link waiting put = IsFront (said_on link) put × (waiting ≡ [] → said_on link ≡ put)
 
 says_front : (link : Link) (waiting : List Piece) (put : List (List ℕ)) → said_on link ++ each_after (gives out_limit) (pieces Out link.handle link.moves) waiting ≡ put → Says link waiting put
-says_front link waiting put whole =
-    ((each_after (gives out_limit) (pieces Out link.handle link.moves) waiting, sym whole),
-    λ none.
-    sym (append-nil (said_on link)) ∙ (ap (λ (ps : List Piece). said_on link ++ each_after (gives out_limit) (pieces Out link.handle link.moves) ps) (sym none) ∙ whole))
+says_front link waiting put whole = (
+  (each_after (gives out_limit) (pieces Out link.handle link.moves) waiting, sym whole),
+  λ none.
+      sym (append-nil (said_on link)) ∙ (ap (λ (ps : List Piece). said_on link ++ each_after (gives out_limit) (pieces Out link.handle link.moves) ps) (sym none) ∙ whole),
+)
 
 on_link_says : (link : Link) (size : ℕ) (waiting : List Piece) (put : List (List ℕ)) → 27 ≤ size → AllByRecursion IsFrame put → pieces Out link.handle link.moves ++ waiting ≡ all_cut size First put → Says link waiting put
 on_link_says link size waiting put big each sent =

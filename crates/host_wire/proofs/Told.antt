@@ -1,11 +1,9 @@
 -- What a host does when it hears an event, where no link comes or goes.
-use Rattle.std.proofs.Common.{◌≡◌, ℕ, List, [], ◌∷◌, ◌++◌, Bool, true, false, cond, Option, Some, None, option_map, refl, sym, ap, ◌∙◌}
+use Rattle.std.proofs.Common.{◌≡◌, ℕ, List, [], ◌∷◌, ◌++◌, true, Option, Some, None, option_map, refl, sym, ap, ◌∙◌}
 use Rattle.std.specs.Prelude.{◌&&◌, not, is_none}
-use Rattle.std.specs.List.{cons_option}
 use Rattle.std.proofs.lemmas.List.{append-nil}
 use Rattle.std.proofs.lemmas.List.Elements.{filter_map-append}
 use Rattle.h4_framing.specs.Packets.{Packet}
-use Rattle.hci_packets.specs.Events.{PlainEvent}
 use Rattle.hci_packets.specs.declared.acl.Boundary.TheVariants.{First}
 use Rattle.acl_credits.specs.Ledgers.{Account}
 use Rattle.acl_fragments.specs.Pieces.{Piece, starts}
@@ -26,7 +24,7 @@ use Rattle.host_link.specs.Lines.{Line, longest_pdu}
 use Rattle.host_link.specs.Stands.{into}
 use Rattle.world_model.proofs.Lists.{chosen}
 use Rattle.world_model.proofs.Longer.{pieces-none, pieces-one}
-use Rattle.host_wire.specs.Wiring.{pieces_on, IsSilent, IsOnLink, Wired}
+use Rattle.host_wire.specs.Wiring.{pieces_on, IsSilent, Wired}
 
 -- a host that knows of the link that it says
 abbrev pub Held : Option Link → List Packet → List (List ℕ) → Line → Type 0
