@@ -5,3 +5,4 @@ pub mod ClientPlaces
 pub mod ClientMoves
 pub mod ServerPlaces
 pub mod ServerMoves
+pub mod Moving
