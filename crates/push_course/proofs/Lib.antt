@@ -6,3 +6,4 @@ pub mod ClientMoves
 pub mod ServerPlaces
 pub mod ServerMoves
 pub mod Moving
+pub mod Halves
