@@ -7,3 +7,5 @@ pub mod ServerPlaces
 pub mod ServerMoves
 pub mod Moving
 pub mod Halves
+pub mod Lengths
+pub mod Meeting
