@@ -24,6 +24,7 @@ use Rattle.push_talk.specs.ClientTurns.{Turn, turned, turn, saying, puts, IsWith
 use Rattle.push_course.specs.Conversations.{Conversation, code_of}
 use Rattle.push_course.proofs.Owning.{own, IsBy, IsNext}
 use Rattle.push_course.proofs.Deciding.{Delivery, Decisions, Agrees, IsFair, IsFairGiven, IsFairDelivery, filled, filled_agrees, told_none}
+use Rattle.push_course.proofs.Sizes.{turn_size}
 use Rattle.push_course.proofs.Tails.{parted, from_parting, putting_tail, greeted, from_putting}
 use Rattle.push_course.proofs.ClientPlaces.{ClientPlace, Asking, Agreeing, BeingAsked, BeingGreeted, Delivering, TakingLeave, BeingClosed, Done, IsCapable, IsAble, client_tail, ClientStands}
 
@@ -75,6 +76,10 @@ asks_shelf stages.Leaving course = inr (λ given given'. refl)
 abbrev puts_something : Stage → Bool
 puts_something stages.Putting = true
 puts_something _ = false
+
+puts_size : (given : Option (List ℕ)) (course : Course) → (puts given course).course.size ≡ course.size
+puts_size (Some octets) course = refl
+puts_size None course = refl
 
 is_asked : (news : PlainNews) (course : Course) → ((given then_given : Option (List ℕ)) → turn given then_given news course ≡ puts given course) → (after_news news course).stage ≡ stages.Greeted
 is_asked news course all = elim (asks_shelf (after_news news course).stage (after_news news course)) [
@@ -272,13 +277,15 @@ module _ (mtu maximum : ℕ) where
         greets refl (refl, peer) (still_able _ refl refl refl refl)
 
     greeted_by : (b : Bool) (pdu : List ℕ) → ClientStands mtu maximum BeingGreeted decided course → ((c : Conversation) → Agrees decided c → c.greets ≡ b)
-        → pdu ≡ pdu_of (answers_packet (unwelcome (code_of b) maximum)) → ((after_news (pdu_news pdu) course).stage ≡ stages.Greeted → IsFairGiven given) → Moves BeingGreeted pdu
+        → pdu ≡ pdu_of (answers_packet (unwelcome (code_of b) maximum)) → ((after_news (pdu_news pdu) course).stage ≡ stages.Greeted → (after_news (pdu_news pdu) course).size ≡ course.size → IsFairGiven given) → Moves BeingGreeted pdu
     greeted_by true pdu (stage, peer, peer_mtu, free) greets is shelf =
         let one : Saying = answers_packet (unwelcome 0xA0 maximum) in
         let within : IsWithinBounds course = record { peer = peer; maximum = let low = capable.low in let same = able.maximum_is in omega (arith, low, same); name = able.few; size = able.small } in
         let mtu_low : 416 ≤ course.peer_mtu = let low = capable.mtu_low in omega (arith, low, peer_mtu) in
         let all : (g g' : Option (List ℕ)) → turn g g' (told one) course ≡ puts g course = λ g g'. turns.greets g g' course maximum stage within mtu_low capable.low capable.high in
-        let small : IsFairGiven given = shelf (subst (λ p. (after_news (pdu_news p) course).stage ≡ stages.Greeted) (sym is) (is_asked (told one) course all)) in
+        let sized : (after_news (told one) course).size ≡ course.size = sym (turn_size given then_given (told one) course) ∙ (ap (λ (t : Turn). t.course.size) (all given then_given) ∙ puts_size given course) in
+        let small : IsFairGiven given =
+        shelf (subst (λ p. (after_news (pdu_news p) course).stage ≡ stages.Greeted) (sym is) (is_asked (told one) course all)) (subst (λ p. (after_news (pdu_news p) course).size ≡ course.size) (sym is) sized) in
         by_saying BeingGreeted pdu one _ is (all given then_given) (by_given given refl small (stage, peer, peer_mtu, free) greets)
     greeted_by false pdu (stage, peer, peer_mtu, free) greets is shelf =
         let one : Saying = answers_packet (unwelcome 0xD0 maximum) in
@@ -288,14 +295,14 @@ module _ (mtu maximum : ℕ) where
         (λ c agrees. ap (λ b. answers_packet (unwelcome (code_of b) maximum) ∷ greeted b c) (greets c agrees))
         refl (refl, peer) (still_able _ refl refl refl refl))
 
-    being_greeted : (pdu : List ℕ) → ClientStands mtu maximum BeingGreeted decided course → IsNextAlways BeingGreeted pdu → ((after_news (pdu_news pdu) course).stage ≡ stages.Greeted → IsFairGiven given) → Moves BeingGreeted pdu
+    being_greeted : (pdu : List ℕ) → ClientStands mtu maximum BeingGreeted decided course → IsNextAlways BeingGreeted pdu → ((after_news (pdu_news pdu) course).stage ≡ stages.Greeted → (after_news (pdu_news pdu) course).size ≡ course.size → IsFairGiven given) → Moves BeingGreeted pdu
     being_greeted pdu stands next shelf =
         let is : (c : Conversation) → Agrees decided c → pdu ≡ pdu_of (answers_packet (unwelcome (code_of c.greets) maximum)) = λ c agrees. next_is _ _ pdu (next c agrees) in
         greeted_by some.greets pdu stands (λ c agrees. welcome_is maximum c.greets some.greets (sym (is c agrees) ∙ is some agreed)) (is some agreed) shelf
 
     -- ---- wherever it stands
 
-    pub client_moves : (place : ClientPlace) (pdu : List ℕ) → ClientStands mtu maximum place decided course → IsNextAlways place pdu → ((after_news (pdu_news pdu) course).stage ≡ stages.Greeted → IsFairGiven given)
+    pub client_moves : (place : ClientPlace) (pdu : List ℕ) → ClientStands mtu maximum place decided course → IsNextAlways place pdu → ((after_news (pdu_news pdu) course).stage ≡ stages.Greeted → (after_news (pdu_news pdu) course).size ≡ course.size → IsFairGiven given)
         → Moves place pdu
     client_moves Asking pdu stands next shelf = asking pdu stands next
     client_moves Agreeing pdu stands next shelf = agreeing pdu stands next

@@ -9,3 +9,5 @@ pub mod Moving
 pub mod Halves
 pub mod Lengths
 pub mod Meeting
+pub mod Sizes
+pub mod Turning
