@@ -11,3 +11,4 @@ pub mod Lengths
 pub mod Meeting
 pub mod Sizes
 pub mod Turning
+pub mod HalfSteps
