@@ -12,3 +12,4 @@ pub mod Meeting
 pub mod Sizes
 pub mod Turning
 pub mod HalfSteps
+pub mod Courses
