@@ -13,3 +13,5 @@ pub mod Sizes
 pub mod Turning
 pub mod HalfSteps
 pub mod Courses
+pub mod Next
+pub mod Departing
