@@ -23,10 +23,10 @@ wants_link : (wants : List Want) (line : Line) → (fold after_want line wants).
 wants_link [] line = refl
 wants_link (want ∷ wants) line = wants_link wants (after_want line want) ∙ want_link want line
 
-puts_link : (old new : Line) → PutsOut old new → new.link ≡ old.link
+pub puts_link : (old new : Line) → PutsOut old new → new.link ≡ old.link
 puts_link old new puts = ap (λ (line : Line). line.link) puts.goes ∙ (put_link (fold after_want old puts.wants) ∙ wants_link puts.wants old)
 
-again_link : (times : ℕ) (line : Line) → (put_out_again times line).link ≡ line.link
+pub again_link : (times : ℕ) (line : Line) → (put_out_again times line).link ≡ line.link
 again_link zero line = refl
 again_link (suc times) line = put_link (put_out_again times line) ∙ again_link times line
 

@@ -15,3 +15,4 @@ pub mod HalfSteps
 pub mod Courses
 pub mod Next
 pub mod Departing
+pub mod Meets

@@ -128,7 +128,7 @@ pub record IsAnswerOn (answer : Answer) (known : Linking) : Type 0 where
   pub there : (handle reason : ℕ) → answer ≡ LinkGone handle reason → IsUp handle known.up
 
 abbrev pub Led : Answer → Move → Linking → Linking → Type 0
-Led answer move old new = GoesOn move old new ⊎ ((Begins old new × (is_made answer ≡ true)) ⊎ (Ends old new × (is_gone answer ≡ true)))
+Led answer move old new = (GoesOn move old new × (is_made answer ≡ false) × (is_gone answer ≡ false)) ⊎ ((Begins old new × (is_made answer ≡ true)) ⊎ (Ends old new × (is_gone answer ≡ true)))
 
 goes_by : (move : Move) (known : Linking) → link_news move ≡ NoNews → GoesOn move known (after_move known move)
 goes_by move known none = subst (λ news. GoesOn move known (after_news move known news)) (sym none) (record { past_same = refl; up_is = refl })
@@ -148,9 +148,9 @@ ends_by move handle past asked (Some link) is =
     (record { link = link; up = refl; past_is = refl; down = refl })
 
 pub led : (side : Side) (answer : Answer) (known : Linking) → IsAnswerOn answer known → Led answer (into (packet_of side answer)) known (after_move known (into (packet_of side answer)))
-led side (Returned code params) known is = inl (goes_by (into (packet_of side (Returned code params))) known (returned_news side code params))
-led side (Stated code) known is = inl (goes_by (into (packet_of side (Stated code))) known (stated_news side code))
-led side Called known is = inl (goes_by (into (packet_of side Called)) known (called_news side))
+led side (Returned code params) known is = inl (goes_by (into (packet_of side (Returned code params))) known (returned_news side code params), refl, refl)
+led side (Stated code) known is = inl (goes_by (into (packet_of side (Stated code))) known (stated_news side code), refl, refl)
+led side Called known is = inl (goes_by (into (packet_of side Called)) known (called_news side), refl, refl)
 led side (LinkMade handle) known is =
     let asked = is.asked refl in
     inr (inl (
@@ -164,5 +164,5 @@ led side (LinkGone handle reason) known is =
           (ends_by (into (packet_of side (LinkGone handle reason))) handle known.past known.asked known.up (is.there handle reason refl)),
       refl,
     ))
-led side (GivenBack handle count) known is = inl (goes_by (into (packet_of side (GivenBack handle count))) known (given_back_news side handle count))
-led side (Carried handle piece) known is = inl (record { past_same = refl; up_is = refl })
+led side (GivenBack handle count) known is = inl (goes_by (into (packet_of side (GivenBack handle count))) known (given_back_news side handle count), refl, refl)
+led side (Carried handle piece) known is = inl (record { past_same = refl; up_is = refl }, refl, refl)
