@@ -16,3 +16,4 @@ pub mod Courses
 pub mod Next
 pub mod Departing
 pub mod Meets
+pub mod Coming
