@@ -47,7 +47,7 @@ some_up : (up : Option Link) (move : Move) → is_some (option_map (longer move)
 some_up None move some = absurd cc
 some_up (Some link) move some = refl
 
-none_some : (link : Option ℕ) → link ≡ None → is_some link ≡ true → ⊥
+pub none_some : (link : Option ℕ) → link ≡ None → is_some link ≡ true → ⊥
 none_some None is some = cc
 none_some (Some handle) is some = cc
 

@@ -17,3 +17,4 @@ pub mod Next
 pub mod Departing
 pub mod Meets
 pub mod Coming
+pub mod ClientComing
