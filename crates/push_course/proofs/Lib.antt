@@ -18,3 +18,4 @@ pub mod Departing
 pub mod Meets
 pub mod Coming
 pub mod ClientComing
+pub mod ClientTakes
