@@ -19,3 +19,5 @@ pub mod Meets
 pub mod Coming
 pub mod ClientComing
 pub mod ClientTakes
+pub mod ArrivingA
+pub mod ArrivedA
