@@ -21,3 +21,4 @@ pub mod ClientComing
 pub mod ClientTakes
 pub mod ArrivingA
 pub mod ArrivedA
+pub mod AllOut
