@@ -119,7 +119,7 @@ moved_up known link up = ap (λ (u : Option Link). numbered pdus (with_last know
 
 -- ---- what the capture says of a host is a front of what it let wait
 
-filter_both : (found : List Pdu) → filter_map (octets_in Out) found ≡ map (λ (pdu : Pdu). pdu.octets) (filter (λ (pdu : Pdu). same_flow Out pdu.flow) found)
+pub filter_both : (found : List Pdu) → filter_map (octets_in Out) found ≡ map (λ (pdu : Pdu). pdu.octets) (filter (λ (pdu : Pdu). same_flow Out pdu.flow) found)
 filter_both [] = refl
 filter_both (pdu ∷ found) = by_flow (same_flow Out pdu.flow) pdu found (filter_both found)
   where

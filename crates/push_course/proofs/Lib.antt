@@ -22,3 +22,5 @@ pub mod ClientTakes
 pub mod ArrivingA
 pub mod ArrivedA
 pub mod AllOut
+pub mod ServerComing
+pub mod ServerTakes
