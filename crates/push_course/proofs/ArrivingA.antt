@@ -72,7 +72,7 @@ pub linked_so : (past : List Entry) (moment : Moment) (course : Course) (shelf :
 linked_so past moment course shelf upholds inside =
     upholds.a.linked ∙ ap (λ (c : Course). is_onward (reach c.stage)) (course_same upholds.course course upholds.shelf shelf moment.a.inside upholds.inside_a inside)
 
-some_there : (move : _) (up : Option Link) (found : Pdu) → given_last (completes move) up ≡ found ∷ [] → is_some up ≡ true
+pub some_there : (move : _) (up : Option Link) (found : Pdu) → given_last (completes move) up ≡ found ∷ [] → is_some up ≡ true
 some_there move None found is = absurd cc
 some_there move (Some link) found is = refl
 

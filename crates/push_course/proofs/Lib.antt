@@ -24,3 +24,4 @@ pub mod ArrivedA
 pub mod AllOut
 pub mod ServerComing
 pub mod ServerTakes
+pub mod ArrivingB

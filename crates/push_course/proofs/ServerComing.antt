@@ -80,12 +80,12 @@ module _ (mtu maximum : ℕ) (packet : Packet) (known known' : Linking) (link li
         with_half (count_on (into packet) known known' goes) converses
         (half_other sides.B (all mtu maximum) ServerPlace (server_tail mtu maximum) known known' converses.decided n (into packet) link link' put put' (StandsSo served converses.decided) (StandsSo served' converses.decided) goes apart converses.half_b)
 
-    pub server_still : link' ≡ link → put' ≡ put → served' ≡ served → given_last (completes (into packet)) known.up ≡ [] → Before → After
+    pub server_still : link' ≡ link → put' ≡ put → served'.channel ≡ served.channel → given_last (completes (into packet)) known.up ≡ [] → Before → After
     server_still same_link same_put same_served none converses = elim (is_last n (count_of known)) [
       | inl last ↦
           with_half (count_on (into packet) known known' goes) converses
           (half_still sides.B (all mtu maximum) ServerPlace (server_tail mtu maximum) known known' converses.decided n (into packet) link link' put put' (StandsSo served converses.decided) (StandsSo served' converses.decided) goes last none same_link same_put
-          (λ place so. subst (λ k. StandsSo k converses.decided place) (sym same_served) so) converses.half_b)
+          (λ place so. subst (λ channel. ServerStands mtu maximum place converses.decided channel) (sym same_served) so) converses.half_b)
       | inr apart ↦ server_other apart converses
     ]
 
