@@ -25,3 +25,5 @@ pub mod AllOut
 pub mod ServerComing
 pub mod ServerTakes
 pub mod ArrivingB
+pub mod ArrivedB
+pub mod Beginning
