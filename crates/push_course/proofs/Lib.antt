@@ -27,3 +27,5 @@ pub mod ServerTakes
 pub mod ArrivingB
 pub mod ArrivedB
 pub mod Beginning
+pub mod Running
+pub mod LinksConverse
