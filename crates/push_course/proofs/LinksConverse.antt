@@ -1,5 +1,5 @@
 -- What the two hosts say to each other on each link is a front of one conversation.
-use Rattle.std.proofs.Common.{◌≡◌, ℕ, suc, min, List, [], ◌∷◌, ◌++◌, length, take, map, Some, sym, ap, subst, ◌∙◌}
+use Rattle.std.proofs.Common.{◌≡◌, ℕ, suc, min, List, ◌++◌, length, take, map, Some, sym, ap, subst, ◌∙◌}
 use Rattle.std.specs.Prelude.{slice_get}
 use Rattle.std.specs.List.{flat_map, AllByRecursion}
 use Rattle.std.proofs.Math.Seq.{take-append_seam}
@@ -7,22 +7,22 @@ use Rattle.push_script.specs.declared.word.Side.{Side}
 use Rattle.push_script.specs.declared.word.Side.TheVariants as sides
 use Rattle.capture.specs.Entries.{Entry}
 use Rattle.capture.specs.Links.{Link, links}
-use Rattle.capture.specs.Pdus.{Pdu, pdus}
+use Rattle.capture.specs.Pdus.{pdus}
 use Rattle.capture.specs.Talk.{said_by}
 use Rattle.world_model.specs.Happenings.{all_entries}
 use Rattle.link_pipe.proofs.Numbers.{at-get}
 use Rattle.push_talk.specs.Conversing.{Saying, seen_all}
 use Rattle.push_talk.specs.Speaking.{CanBeSaid}
 use Rattle.push_talk.proofs.Speaking.{sayings_are_read}
-use Rattle.push_course.specs.Conversations.{Conversation, sayings, HasComeIn, Converse, LinksConverse}
+use Rattle.push_course.specs.Conversations.{Conversation, sayings, HasComeIn, LinksConverse}
 use Rattle.push_course.proofs.Owning.{pdu_at, talk_seen}
 use Rattle.push_course.proofs.Deciding.{Decisions, Agrees, IsFair, filled, filled_agrees}
 use Rattle.push_course.proofs.Tails.{whole_is}
 use Rattle.push_course.proofs.Lengths.{some_can, front_can}
 use Rattle.push_course.proofs.ClientPlaces.{IsCapable}
 use Rattle.push_course.proofs.Moving.{moved, known_of}
-use Rattle.push_course.proofs.Courses.{all, Stands}
-use Rattle.push_course.proofs.Running.{Stood, stood, capable_in}
+use Rattle.push_course.proofs.Courses.{all}
+use Rattle.push_course.proofs.Running.{stood, capable_in}
 
 module _ (mtu maximum : ℕ) (capable : IsCapable mtu maximum) (decided : Decisions) (fair : IsFair decided) where
   come_in : (side : Side) (past : List Entry) (n : ℕ) (done : List Saying) → moved (known_of side past) (suc n) ≡ map (pdu_at side) done → ((c : Conversation) → Agrees decided c → (rest : List Saying) × (all mtu maximum c ≡ done ++ rest))
