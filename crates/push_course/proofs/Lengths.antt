@@ -60,8 +60,11 @@ module _ (read : SayingsAreRead) (mtu maximum : ℕ) (capable : IsCapable mtu ma
   fair_or None decided is fair = subst (λ (p : Option Delivery). IsFairDelivery (delivery_of (filled (record decided { put = p })))) (sym is) (record { text = no_text; few = (let same = units_are_counted [] no_text in omega (arith, same)); small = tt })
   fair_or (Some delivery) decided is fair = subst (λ (p : Option Delivery). IsFairDelivery (delivery_of (filled (record decided { put = p })))) (sym is) (fair delivery is)
 
+  pub some_fair : (decided : Decisions) → IsFair decided → IsFairDelivery (delivery_of (filled decided))
+  some_fair decided fair = fair_or decided.put decided refl fair
+
   pub some_can : (decided : Decisions) → IsFair decided → Can (from_connecting mtu maximum (filled decided))
-  some_can decided fair = sayings_can (filled decided) (fair_or decided.put decided refl fair)
+  some_can decided fair = sayings_can (filled decided) (some_fair decided fair)
 
 -- ---- those that stand in front
 
