@@ -14,7 +14,7 @@ pub returns-in-Err-NotBuilt-clause-causes : goal.returns-in-Err-NotBuilt-clause-
 returns-in-Err-NotBuilt-clause-causes g c = beside_trace (still_trace c.in-Err-NotBuilt.ensures.blame (λ is. let not = c.in-Err-NotBuilt.field-0-is in absurd cc)) c.refuse.ensures.causes
 
 pub returns-in-Err-TraceFault-clause-runs : goal.returns-in-Err-TraceFault-clause-runs
-returns-in-Err-TraceFault-clause-runs g c = RanShort world.TraceFault tt (rw c.in-Err-TraceFault.field-0-is at c.in-Err-TraceFault.ensures.broken) refl
+returns-in-Err-TraceFault-clause-runs g c = RanShort world.TraceFault tt (λ is. (rw c.in-Err-TraceFault.field-0-is at c.in-Err-TraceFault.ensures.blame.failed) refl) (rw c.in-Err-TraceFault.field-0-is at c.in-Err-TraceFault.ensures.broken) refl
 
 pub returns-in-Err-NoMemory-clause-runs : goal.returns-in-Err-NoMemory-clause-runs
-returns-in-Err-NoMemory-clause-runs g c = RanShort world.NoMemory tt (rw c.in-Err-NoMemory.field-0-is at c.in-Err-NoMemory.ensures.broken) refl
+returns-in-Err-NoMemory-clause-runs g c = RanShort world.NoMemory tt (λ is. absurd cc) (rw c.in-Err-NoMemory.field-0-is at c.in-Err-NoMemory.ensures.broken) refl
