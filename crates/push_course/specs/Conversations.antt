@@ -5,6 +5,9 @@ use Rattle.std.specs.Str.{IsUtf8}
 use Rattle.bt_base.specs.Octets.{be16}
 use Rattle.obex_headers.specs.Packets.{PlainPacket, bare, packet_octets}
 use Rattle.push_script.specs.Names.{IsName}
+use Rattle.push_script.specs.declared.outcome.Outcome.{Outcome}
+use Rattle.push_script.specs.declared.outcome.Outcome.TheVariants.{Refused, ShelfFault}
+use Rattle.bt_host.specs.Events.{answered_outcome}
 use Rattle.push_script.specs.declared.word.Side.{Side}
 use Rattle.push_script.specs.declared.word.Side.TheVariants as sides
 use Rattle.capture.specs.Entries.{Entry}
@@ -62,6 +65,15 @@ is_closed conversation = not conversation.greets || conversation.parts
 abbrev pub sayings : (mtu maximum : ℕ) → Conversation → List Saying
 sayings mtu maximum conversation =
     opening mtu mtu ++ (map sends (payloads maximum conversation) ++ (if is_closed conversation then closing else []))
+
+-- what comes of a push by it
+abbrev pub outcome_by : (greets : Bool) → (given : Option (List ℕ)) → (stores : Bool) → Outcome
+outcome_by false given stores = Refused (code_of false)
+outcome_by true None stores = ShelfFault
+outcome_by true (Some octets) stores = answered_outcome (code_of stores)
+
+abbrev pub outcome_of : Conversation → Outcome
+outcome_of conversation = outcome_by conversation.greets conversation.given conversation.stores
 
 -- the host of a side has come so far in it on that link: all that it said and heard is what stands in front
 abbrev pub HasComeIn : Side → List Saying → Link → Type 0
