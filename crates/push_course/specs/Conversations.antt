@@ -1,5 +1,5 @@
 -- What the two hosts of a push say to each other on its link, as one conversation (this project's own).
-use Rattle.std.specs.Prelude.{ℕ, ◌^◌, ◌≡◌, ◌<◌, ◌≤◌, ◌||◌, not, Bool, true, false, min, take, List, [], ◌∷◌, ◌++◌, map, length, Option, Some, None, slice_get, IfSome, if◌then◌else◌}
+use Rattle.std.specs.Prelude.{ℕ, ◌+◌, ◌^◌, ◌≡◌, ◌⊎◌, is_some, ◌<◌, ◌≤◌, ◌||◌, not, Bool, true, false, min, take, List, [], ◌∷◌, ◌++◌, map, length, Option, Some, None, slice_get, IfSome, if◌then◌else◌}
 use Rattle.std.specs.List.{AllByRecursion}
 use Rattle.std.specs.Str.{IsUtf8}
 use Rattle.bt_base.specs.Octets.{be16}
@@ -15,7 +15,7 @@ use Rattle.capture.specs.Links.{Link, links}
 use Rattle.capture.specs.Talk.{talk}
 use Rattle.bt_host.specs.Pushing.{utf16, connect_packet, disconnect_packet, put_packet}
 use Rattle.bt_host.specs.Servers.{Kept}
-use Rattle.world_model.specs.Insides.{Shelved}
+use Rattle.world_model.specs.Insides.{Shelved, came_of}
 use Rattle.world_model.specs.Moments.{Moment, first_moment}
 use Rattle.world_model.specs.Happenings.{Happening, Runs, all_entries}
 use Rattle.push_talk.specs.Conversing.{Saying, seen_all, Sent, opening, sends, closing}
@@ -111,3 +111,17 @@ LinksConverse =
     (size count mtu obex : ℕ) (names : List (List ℕ)) (shelf : Shelved) (inbox : Kept) → IsSetting size count mtu obex names
     → (happenings : List Happening) (moment : Moment) → Runs happenings (first_moment size count mtu obex names shelf inbox) moment
     → (n : ℕ) → Converse (sayings mtu (min obex mtu)) (all_entries happenings) n
+
+-- On the last link of host a its push came to nothing yet, or to what the conversation there makes of it.
+pub record ComesSo (all : Conversation → List Saying) (past : List Entry) (moment : Moment) : Type 0 where
+  pub n : ℕ
+  pub last : length (links sides.A past) ≡ n + 1
+  pub converse : Converse all past n
+  pub came : (came_of moment.a.inside ≡ None) ⊎ (came_of moment.a.inside ≡ Some (outcome_of converse.conversation))
+
+-- So it is while host a knows of its link.
+abbrev pub OutcomesAreSaid : Type 0
+OutcomesAreSaid =
+    (size count mtu obex : ℕ) (names : List (List ℕ)) (shelf : Shelved) (inbox : Kept) → IsSetting size count mtu obex names
+    → (happenings : List Happening) (moment : Moment) → Runs happenings (first_moment size count mtu obex names shelf inbox) moment
+    → is_some moment.a.line.link ≡ true → ComesSo (sayings mtu (min obex mtu)) (all_entries happenings) moment
