@@ -58,16 +58,16 @@ wires_heard side past radio line answer rest put owed shows stands wires =
 
 -- ---- a client goes on
 
-peer_is : IsAddress peer_address
+pub peer_is : IsAddress peer_address
 peer_is = (refl, IsOctets-cons 0x0B (0 ∷ 0 ∷ 0 ∷ 0 ∷ 0 ∷ []) (omega arith) (IsOctets-zeros 5))
 
-out_step : (step : Step) (line : Line) → (after_step step line).out ≡ line.out
+pub out_step : (step : Step) (line : Line) → (after_step step line).out ≡ line.out
 out_step Wait line = refl
 out_step Page line = refl
 out_step (Send pdu) line = pdu_out line.link pdu line
 out_step BreakLink line = ending_out line.link line
 
-step_stands : (side : Side) (count : ℕ) (past : List Entry) (step : Step) (line : Line) → client.IsSendable step → HostStands side count past line → HostStands side count past (after_step step line)
+pub step_stands : (side : Side) (count : ℕ) (past : List Entry) (step : Step) (line : Line) → client.IsSendable step → HostStands side count past line → HostStands side count past (after_step step line)
 step_stands side count past Wait line sendable stands = stands
 step_stands side count past Page line sendable stands = connecting_stands side count past line stands peer_address peer_is
 step_stands side count past (Send pdu) line sendable stands = pdu_stands side count past line.link line pdu sendable.0 stands
@@ -108,11 +108,11 @@ client_goes side count past put content faults faults' old new goes both =
 
 -- ---- a server goes on
 
-out_response : (response : Option (List ℕ)) (line : Line) → (with_response response line).out ≡ line.out
+pub out_response : (response : Option (List ℕ)) (line : Line) → (with_response response line).out ≡ line.out
 out_response None line = refl
 out_response (Some pdu) line = pdu_out line.link pdu line
 
-response_stands : (side : Side) (count : ℕ) (past : List Entry) (response : Option (List ℕ)) (line : Line) → server.IsSendable response → HostStands side count past line → HostStands side count past (with_response response line)
+pub response_stands : (side : Side) (count : ℕ) (past : List Entry) (response : Option (List ℕ)) (line : Line) → server.IsSendable response → HostStands side count past line → HostStands side count past (with_response response line)
 response_stands side count past None line sendable stands = stands
 response_stands side count past (Some pdu) line sendable stands = pdu_stands side count past line.link line pdu sendable.0 stands
 

@@ -113,7 +113,7 @@ read_gone : (fits : Bool) (read handle : ℕ) → cond fits (LinkEnded read) NoN
 read_gone true read handle is = (refl, cc)
 read_gone false read handle is = absurd cc
 
-gone_news : (side : Side) (handle reason : ℕ) (line : Line) → handle ≤ 0x0EFF → news_of (packet_of side (LinkGone handle reason)) line ≡ disconnection_news 0 handle reason line
+pub gone_news : (side : Side) (handle reason : ℕ) (line : Line) → handle ≤ 0x0EFF → news_of (packet_of side (LinkGone handle reason)) line ≡ disconnection_news 0 handle reason line
 gone_news side handle reason line low =
     let read : ℕ = little_number 2 (le16 handle ++ reason ∷ []) in
     let params : List ℕ = event_params (event_of side (LinkGone handle reason)) in

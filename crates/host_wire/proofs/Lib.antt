@@ -15,3 +15,13 @@ pub mod Stepping
 pub mod Resting
 pub mod Linking
 pub mod LinkTold
+pub mod Asking
+pub mod AskingOut
+pub mod AskingHeard
+pub mod Roles
+pub mod Busy
+pub mod Course
+pub mod Asked
+pub mod Known
+pub mod Knowing
+pub mod KnowingRuns

@@ -79,7 +79,7 @@ link_made_held moved move line said put news handle asked none silent held =
 
 -- ---- the end of a link
 
-up_gone : (up : Option Link) (moved : Linking) (move : Move) (handle : ℕ) → moved.up ≡ up → IsUp handle up → (after_news move moved (LinkEnded handle)).up ≡ None
+pub up_gone : (up : Option Link) (moved : Linking) (move : Move) (handle : ℕ) → moved.up ≡ up → IsUp handle up → (after_news move moved (LinkEnded handle)).up ≡ None
 up_gone None moved move handle is_up is = absurd is
 up_gone (Some link) moved move handle is_up is = rw (is_up, eq-eqb link.handle handle is) refl
 

@@ -29,9 +29,12 @@ pub up_beside : (side : Side) (past : List Entry) (entry : Entry) → move_of si
 up_beside side past entry none =
     ap (λ (known : Linking). known.up) (entry_links-more side past entry ∙ ap (λ (move : Option Move). led_on move (linking (moves side past))) none)
 
+pub known_moved : (side : Side) (past : List Entry) (flow : Flow) (packet : Packet) → linking (moves side (past ++ Moved side flow packet ∷ [])) ≡ after_move (linking (moves side past)) (record { flow = flow; packet = packet })
+known_moved side past flow packet =
+    entry_links-more side past (Moved side flow packet) ∙ ap (λ (move : Option Move). led_on move (linking (moves side past))) (own_move side flow packet)
+
 pub up_moved : (side : Side) (past : List Entry) (flow : Flow) (packet : Packet) → link_up side (past ++ Moved side flow packet ∷ []) ≡ (after_move (linking (moves side past)) (record { flow = flow; packet = packet })).up
-up_moved side past flow packet =
-    ap (λ (known : Linking). known.up) (entry_links-more side past (Moved side flow packet) ∙ ap (λ (move : Option Move). led_on move (linking (moves side past))) (own_move side flow packet))
+up_moved side past flow packet = ap (λ (known : Linking). known.up) (known_moved side past flow packet)
 
 -- ---- an entry that is no packet of the host
 

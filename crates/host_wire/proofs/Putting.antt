@@ -63,7 +63,7 @@ wires_piece side count past put line handle piece rest link pieces_are h wires =
       wired = wired_piece (link_up side past) line.link line wires.said put handle piece rest link last.low pieces_are wires.wired;
     }
 
-both_right : (a b : Bool) → a && b ≡ true → b ≡ true
+pub both_right : (a b : Bool) → a && b ≡ true → b ≡ true
 both_right true b both = both
 both_right false b both = absurd cc
 

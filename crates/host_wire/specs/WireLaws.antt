@@ -17,7 +17,7 @@ use Rattle.bt_host.specs.Settling.{has_piece}
 use Rattle.world_model.specs.Insides.{Shelved}
 use Rattle.world_model.specs.Hearing.{put_out_again}
 use Rattle.world_model.specs.Moments.{Moment, face_at, first_moment, IsAtRest}
-use Rattle.world_model.specs.Happenings.{Happening, Does, Arrives, entries_of}
+use Rattle.world_model.specs.Happenings.{Happening, Does, Arrives, Runs, entries_of, all_entries}
 use Rattle.world_model.specs.Holding.{Holds}
 use Rattle.host_wire.specs.Wiring.{pieces_on, Wires}
 use Rattle.host_wire.specs.Sending.{line_hearing, put_on}
@@ -74,6 +74,12 @@ LinkIsTold = (side : Side) (packet : Packet) (old new : Moment) (arrives : Arriv
 abbrev pub LinkIsKnown : Type 0
 LinkIsKnown = (side : Side) (past : List Entry) (line : Line) (put : List (List ℕ)) → Wires side past line put
     → (handle : ℕ) → line.link ≡ Some handle → (link : Link) × (link_up side past ≡ Some link) × (link.handle ≡ handle)
+
+-- In each run from the beginning, with at least one buffer at each controller, a host knows of the link that is up.
+abbrev pub KnowsItsLink : Type 0
+KnowsItsLink = (size count mtu obex : ℕ) (names : List (List ℕ)) (shelf : Shelved) (inbox : Kept) (happenings : List Happening) (moment : Moment) → 27 ≤ size → size ≤ 1021 → 1 ≤ count → count ≤ 64
+    → Runs happenings (first_moment size count mtu obex names shelf inbox) moment
+    → (side : Side) (link : Link) → link_up side (all_entries happenings) ≡ Some link → (face_at side moment).line.link ≡ Some link.handle
 
 -- ---- nothing waits
 

@@ -1,6 +1,6 @@
 //! Laws of the wires of hosts, whatever happens in a world.
 
-ghost use Rattle.host_wire.specs.WireLaws.{WiresAtFirst, WiresStep, WiresAgain, WireSays, HeardNews, LinkIsTold, LinkIsKnown, FlowsAtFirst, FlowsOn, WaitsNowhere};
+ghost use Rattle.host_wire.specs.WireLaws.{WiresAtFirst, WiresStep, WiresAgain, WireSays, HeardNews, LinkIsTold, LinkIsKnown, KnowsItsLink, FlowsAtFirst, FlowsOn, WaitsNowhere};
 
 /// What a host lets wait comes out of it piece by piece, and nothing else does.
 pub fn wires_hold()
@@ -23,6 +23,11 @@ pub fn hosts_hear_what_came_in()
 pub fn links_are_told()
     ensures told { LinkIsTold }
     ensures known { LinkIsKnown }
+{}
+
+/// In each run from the beginning a host knows of the link that the capture says is up.
+pub fn hosts_know_their_links()
+    ensures { KnowsItsLink }
 {}
 
 /// Where all is at rest, nothing waits to be put out or to move.
