@@ -1,20 +1,19 @@
 -- A client goes on: what its steps let wait, and how far they lead its push.
-use Rattle.std.proofs.Common.{rules, ◌≡◌, ℕ, ◌+◌, ◌<◌, ◌≤◌, List, [], ◌∷◌, length, Bool, true, false, cond, Option, Some, None, refl, sym, ap, subst, ◌∙◌, arith}
+use Rattle.std.proofs.Common.{rules, ◌≡◌, ℕ, ◌+◌, ◌<◌, ◌≤◌, List, length, Bool, true, false, cond, Option, Some, None, refl, sym, ap, subst, arith}
+use Rattle.std.specs.Prelude.{is_some}
 use Rattle.bt_base.specs.Objects.{Object}
 use Rattle.h4_framing.specs.Packets.{Packet}
 use Rattle.capture.specs.Links.{Linking}
-use Rattle.host_link.specs.declared.host_command.HostCommand.{HostCommand}
 use Rattle.host_link.specs.declared.host_command.HostCommand.TheVariants.{CreateConnection, Disconnect}
 use Rattle.host_link.specs.Lines.{Line}
-use Rattle.host_link.specs.PuttingOut.{put_out, connecting, ending, with_pdu}
+use Rattle.host_link.specs.PuttingOut.{put_out, connecting, ending}
 use Rattle.bt_host.specs.declared.steps.Step.{Step}
 use Rattle.bt_host.specs.declared.steps.Step.TheVariants.{Wait, Page, Send, BreakLink}
-use Rattle.bt_host.specs.Courses.{Course}
 use Rattle.bt_host.specs.Steps.{next_step}
-use Rattle.bt_host.specs.Clients.{Client, peer_address, after_step, IsSendable, stepped, StepsOn, GoesOn, putting_out}
+use Rattle.bt_host.specs.Clients.{Client, peer_address, after_step, IsSendable, StepsOn, GoesOn}
 use Rattle.world_model.specs.Hosts.{IsAddress}
-use Rattle.world_links.proofs.Reaching.{Reach, AtRest, Due, Calling, Onward, reach, Clean, IsOnLink, StepReach, StepsTo, step_goes}
-use Rattle.world_links.proofs.Ways.{HostAt, Next, Waits, next_same, next_then, puts_next, waits_next, sends_next}
+use Rattle.world_links.proofs.Reaching.{Reach, AtRest, Due, Calling, Onward, reach, Clean, IsOnLink, StepReach, step_goes}
+use Rattle.world_links.proofs.Ways.{HostAt, Next, next_same, next_then, puts_next, waits_next, sends_next}
 
 -- ---- one step
 
@@ -98,6 +97,7 @@ pub record Advances (moved : Linking) (count : ℕ) (said : List Packet) (old ne
   pub next : Next moved count pages 0 said old.line new.line
   pub far : Advance (reach old.course.stage) (length old.line.commands.waiting) pages (reach new.course.stage)
   pub clean : Clean old.course.outcome → Clean new.course.outcome
+  pub kept : is_some old.course.outcome ≡ true → is_some new.course.outcome ≡ true
 
 module _ (moved : Linking) (count : ℕ) (content : Option (List Object)) (faults faults' : ℕ) where
   steps_next : (said : List Packet) (old new : Client) → StepsOn content faults faults' old new → HostAt moved count said old.line → Advances moved count said old new
@@ -109,6 +109,7 @@ module _ (moved : Linking) (count : ℕ) (content : Option (List Object)) (fault
         next = did.next;
         far = advance (reach old.course.stage) (next_step steps.given old.course).0 _ (length old.line.commands.waiting) did.pages goes.goes did.few did.all;
         clean = goes.clean;
+        kept = goes.kept;
       })
 
   pub advances : (said : List Packet) (old new : Client) → GoesOn content faults faults' old new → HostAt moved count said old.line → Advances moved count said old new
@@ -123,4 +124,5 @@ module _ (moved : Linking) (count : ℕ) (content : Option (List Object)) (fault
             (next_then moved count (first.pages + second.pages) 0 0 0 said old.line goes.behind.line (put_out goes.behind.line) both puts);
         far = advance_then (reach old.course.stage) (reach goes.between.course.stage) (reach goes.behind.course.stage) (length old.line.commands.waiting) (length goes.between.line.commands.waiting) first.pages second.pages first.far second.far;
         clean = λ clean. second.clean (first.clean clean);
+        kept = λ some. second.kept (first.kept some);
       })

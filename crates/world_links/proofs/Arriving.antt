@@ -1,17 +1,16 @@
 -- Host a hears what its controller owes it, and goes on.
-use Rattle.std.proofs.Common.{◌≡◌, ℕ, ◌+◌, ◌<◌, ◌≤◌, List, [], ◌∷◌, ◌++◌, length, Bool, true, false, cond, Option, Some, None, refl, sym, ap, subst, ◌∙◌, arith, inl, inr}
+use Rattle.std.proofs.Common.{◌≡◌, ℕ, ◌≤◌, List, ◌∷◌, Bool, true, false, cond, refl, sym, ap, subst, ◌∙◌, arith, inl, inr}
 use Rattle.std.specs.Prelude.{is_some, ◌&&◌}
 use Rattle.std.specs.List.{AllByRecursion}
 use Rattle.h4_framing.specs.Packets.{Packet}
 use Rattle.push_script.specs.declared.word.Side.{Side}
-use Rattle.push_script.specs.declared.word.Side.TheVariants as sides
 use Rattle.capture.specs.Entries.{Entry}
 use Rattle.capture.specs.Moves.{moves}
-use Rattle.capture.specs.Links.{Linking, after_move, linking}
+use Rattle.capture.specs.Links.{after_move, linking}
 use Rattle.host_link.specs.declared.role.Role.{Role}
 use Rattle.host_link.specs.declared.role.Role.TheVariants.{Client}
 use Rattle.host_link.specs.Lines.{Line}
-use Rattle.host_link.specs.Hearing.{PlainNews, Nothing, LinkUp, LinkFailed, LinkDown, Pdu, is_server, heard, news_of}
+use Rattle.host_link.specs.Hearing.{PlainNews, Nothing, LinkUp, LinkFailed, LinkDown, Pdu, is_server, heard}
 use Rattle.host_link.specs.Stands.{into}
 use Rattle.radio_air.specs.Controllers.{Answer, Returned, Stated, Called, LinkMade, LinkGone, GivenBack, Carried, packet_of}
 use Rattle.radio_air.specs.Radio.{Radio, controller, is_together}
@@ -20,13 +19,14 @@ use Rattle.radio_air.proofs.Entering.{owed-of}
 use Rattle.world_model.specs.Hosts.{IsHonest, OwesHonestly}
 use Rattle.world_model.proofs.Honest.{of_side}
 use Rattle.world_model.proofs.Hearing.{tells_of, hears}
+use Rattle.world_model.proofs.Hearing.{owed_below}
 use Rattle.world_links.proofs.Reaching.{Reach, AtRest, Due, Calling, Onward, reach_up, reach_after}
 use Rattle.world_links.proofs.Ways.{HostAt}
-use Rattle.world_links.proofs.Pacing.{View, is_called}
+use Rattle.world_links.proofs.Pacing.{View}
 use Rattle.world_links.proofs.Viewing.{told_a}
-use Rattle.world_links.proofs.Listening.{IsQuiet, is_made, is_gone, Quietly, Comes, Leaves, Turns}
+use Rattle.world_links.proofs.Listening.{IsQuiet, is_made, Turns}
 use Rattle.world_links.proofs.Advancing.{Advance}
-use Rattle.world_links.proofs.Keeping.{Order, owed_below, FarStands, Pace}
+use Rattle.world_links.proofs.Keeping.{Order, FarStands, Pace}
 use Rattle.world_links.proofs.Handing.{OwesA, quiet_a, up_a, down_a}
 use Rattle.world_links.proofs.Asking.{asked_behind, IsLow}
 use Rattle.world_links.proofs.Upholding.{is_onward}
@@ -67,7 +67,7 @@ pub record Led (mid : Reach) (asked : Bool) (creates accepts before : ℕ) (now 
   pub calls : asked ≡ true → mid ≡ Calling
   pub rests : far ≡ AtRest → mid ≡ AtRest
 
-quiet_reach : (news : PlainNews) (far : Reach) → IsQuiet news → reach_after news far ≡ far
+pub quiet_reach : (news : PlainNews) (far : Reach) → IsQuiet news → reach_after news far ≡ far
 quiet_reach Nothing far quiet = refl
 quiet_reach LinkUp far quiet = absurd quiet
 quiet_reach (LinkFailed status) far quiet = absurd quiet
@@ -103,13 +103,13 @@ rests_untold creates now (LinkGone handle reason) rest made owed stands = cc
 rests_untold creates now (GivenBack handle count) rest made owed stands = cc
 rests_untold creates now (Carried handle piece) rest made owed stands = cc
 
-calls_then : (far : Reach) (creates : ℕ) (now : View) (answer : Answer) (rest : List Answer) → is_made answer ≡ true → false ≡ is_onward far → OwesA now (answer ∷ rest) → FarStands far creates now → far ≡ Calling
+pub calls_then : (far : Reach) (creates : ℕ) (now : View) (answer : Answer) (rest : List Answer) → is_made answer ≡ true → false ≡ is_onward far → OwesA now (answer ∷ rest) → FarStands far creates now → far ≡ Calling
 calls_then AtRest creates now answer rest made unlinked owed stands = absurd (rests_untold creates now answer rest made owed stands)
 calls_then Due creates now answer rest made unlinked owed stands = absurd stands
 calls_then Calling creates now answer rest made unlinked owed stands = refl
 calls_then Onward creates now answer rest made unlinked owed stands = absurd cc
 
-onward_of : (far : Reach) → true ≡ is_onward far → far ≡ Onward
+pub onward_of : (far : Reach) → true ≡ is_onward far → far ≡ Onward
 onward_of AtRest linked = absurd cc
 onward_of Due linked = absurd cc
 onward_of Calling linked = absurd cc

@@ -1,6 +1,5 @@
 -- Whether a host has asked for a link, as the capture says: by what moved out of it, and by what it hears.
-use Rattle.std.proofs.Common.{◌≡◌, ℕ, ◌+◌, ◌<◌, ◌≤◌, List, [], ◌∷◌, ◌++◌, Bool, true, false, cond, Option, Some, None, refl, sym, ap, subst, ◌∙◌, arith, inl, inr, ◌⊎◌, eq-eqb}
-use Rattle.std.proofs.lemmas.Bool.{eqb-true, cases_Bool}
+use Rattle.std.proofs.Common.{◌≡◌, ℕ, ◌≤◌, List, [], ◌∷◌, ◌++◌, Bool, true, false, cond, Option, Some, None, refl, ap, ◌∙◌, inl, inr, ◌⊎◌}
 use Rattle.std.specs.Prelude.{◌==◌, ◌&&◌, ◌||◌, is_none}
 use Rattle.h4_framing.specs.Packets.{Packet, Command, Acl, Sync, Event}
 use Rattle.hci_packets.specs.Commands.{command_refusal}
@@ -10,10 +9,9 @@ use Rattle.capture.specs.Moves.{Move}
 use Rattle.capture.specs.Links.{Link, Linking, LinkNews, Asked, Answered, LinkEnded, NoNews, link_news, gone_on, ends_with, after_news, after_move}
 use Rattle.host_link.specs.Stands.{into, out_of}
 use Rattle.radio_air.specs.Controllers.{Answer, Returned, Stated, Called, LinkMade, LinkGone, GivenBack, Carried, packet_of}
-use Rattle.radio_air.specs.Radio.{Radio, Requested, is_requested, after_command, joined, owes}
+use Rattle.radio_air.specs.Radio.{Radio, Requested, after_command}
 use Rattle.world_model.proofs.Reading.{returned_news, stated_news, called_news, given_back_news, link_made_news, link_gone_news}
 use Rattle.world_links.proofs.Ways.{has_opcode}
-use Rattle.world_links.proofs.Listening.{is_made}
 use Rattle.world_links.proofs.Pacing.{View, view, made, accepts_where}
 
 -- ---- what moved out

@@ -1,8 +1,7 @@
 -- A packet comes into host a.
-use Rattle.std.proofs.Common.{◌≡◌, ℕ, ◌+◌, ◌<◌, ◌≤◌, List, [], ◌∷◌, ◌++◌, length, Bool, true, false, cond, Option, Some, None, refl, sym, ap, subst, ◌∙◌, arith}
+use Rattle.std.proofs.Common.{◌≡◌, ℕ, List, [], ◌∷◌, ◌++◌, Bool, refl, sym, ap, subst, ◌∙◌, arith}
 use Rattle.std.specs.Prelude.{is_some}
 use Rattle.h4_framing.specs.Packets.{Packet}
-use Rattle.push_script.specs.declared.word.Side.{Side}
 use Rattle.push_script.specs.declared.word.Side.TheVariants as sides
 use Rattle.capture.specs.declared.flow.Flow.TheVariants.{Into}
 use Rattle.capture.specs.Entries.{Entry, Moved}
@@ -12,9 +11,9 @@ use Rattle.host_link.specs.Lines.{Line}
 use Rattle.host_link.specs.Hearing.{heard, news_of}
 use Rattle.host_link.specs.Stands.{into}
 use Rattle.bt_host.specs.Courses.{Course}
-use Rattle.bt_host.specs.Clients.{Client, Hears, after_news, told}
+use Rattle.bt_host.specs.Clients.{Hears, after_news, told}
 use Rattle.radio_air.specs.Controllers.{Answer, Returned, Stated, Called, LinkMade, LinkGone, GivenBack, Carried, packet_of}
-use Rattle.radio_air.specs.Radio.{Radio, controller, after_answer}
+use Rattle.radio_air.specs.Radio.{Radio, after_answer}
 use Rattle.radio_air.specs.Showing.{Shows}
 use Rattle.radio_air.proofs.Sizing.{sizes-stay}
 use Rattle.world_model.specs.Faces.{Face}
@@ -24,26 +23,26 @@ use Rattle.world_model.specs.Insides.{Inside, Shelved, Pushing, Serving, Tells, 
 use Rattle.world_model.specs.Moments.{Moment}
 use Rattle.world_model.specs.Happenings.{Arrives}
 use Rattle.world_links.proofs.Reaching.{Reach, reach, reach_after, Clean, news_goes}
-use Rattle.world_links.proofs.Ways.{on_way, HostAt, Next, puts_again}
+use Rattle.world_links.proofs.Ways.{HostAt, puts_again}
 use Rattle.world_links.proofs.Pacing.{View, view}
 use Rattle.world_links.proofs.Viewing.{told_a, view_told_a}
 use Rattle.world_links.proofs.Listening.{listens}
-use Rattle.world_links.proofs.Advancing.{Advances, advances}
-use Rattle.world_links.proofs.Keeping.{order_of, FarStands, Pace}
+use Rattle.world_links.proofs.Advancing.{advances}
+use Rattle.world_links.proofs.Keeping.{order_of}
 use Rattle.world_links.proofs.Splitting.{split_moved}
 use Rattle.world_links.proofs.Asking.{asked_heard, asked_behind}
-use Rattle.world_links.proofs.Upholding.{is_onward, ClientStands, ServerStands, Beside, Upholds}
+use Rattle.world_links.proofs.Upholding.{ClientStands, Beside, Upholds}
 use Rattle.world_links.proofs.Departing.{host_on, asked_on}
 use Rattle.world_links.proofs.Arriving.{hears_host, owed_first, low_of, Led, led, goes_same, client_accepts}
 
 -- a client that hears stays a client
-record ToldClient (packet : Packet) (line line' : Line) (course : Course) (shelf : Shelved) (inside' : Inside) : Type 0 where
-  course' : Course
-  shelf' : Shelved
-  is : inside' ≡ Pushing course' shelf'
-  hears : Hears shelf.content shelf.faults shelf'.faults packet (client line course) (client line' course')
+pub record ToldClient (packet : Packet) (line line' : Line) (course : Course) (shelf : Shelved) (inside' : Inside) : Type 0 where
+  pub course' : Course
+  pub shelf' : Shelved
+  pub is : inside' ≡ Pushing course' shelf'
+  pub hears : Hears shelf.content shelf.faults shelf'.faults packet (client line course) (client line' course')
 
-tells_client : (packet : Packet) (line line' : Line) (course : Course) (shelf : Shelved) (inside' : Inside) → Tells packet line line' (Pushing course shelf) inside' → ToldClient packet line line' course shelf inside'
+pub tells_client : (packet : Packet) (line line' : Line) (course : Course) (shelf : Shelved) (inside' : Inside) → Tells packet line line' (Pushing course shelf) inside' → ToldClient packet line line' course shelf inside'
 tells_client packet line line' course shelf (Pushing course' shelf') tells = record { course' = course'; shelf' = shelf'; is = refl; hears = tells.0 }
 tells_client packet line line' course shelf (Serving served inbox) tells = absurd tells
 
@@ -94,11 +93,11 @@ module _ (past : List Entry) (radio : Radio) (answer : Answer) (rest : List Answ
       let mid : Reach = reach_after (news_of packet line) far in
       let mid_is : reach (after_news (news_of packet line) course).stage ≡ mid = news.reach_is in
       let lead_on : Led (reach (after_news (news_of packet line) course).stage) (asked_behind answer known.asked) creates accepts before (told_a answer now) (heard packet line) far =
-          subst (λ (r : Reach). Led r (asked_behind answer known.asked) creates accepts before (told_a answer now) (heard packet line) far) (sym mid_is) lead in
+      subst (λ (r : Reach). Led r (asked_behind answer known.asked) creates accepts before (told_a answer now) (heard packet line) far) (sym mid_is) lead in
       let to = goes_same (reach (after_news (news_of packet line) course).stage) (reach tells.course'.stage) creates _ goes.pages (told_a answer now) lead_on.pace.far_is goes.far in
       let low = low_of radio.a.told radio.a.up answer rest radio.number _ shows.order.handles owes in
       let led_to : Led (reach tells.course'.stage) (asked_behind answer known.asked) creates accepts before (told_a answer now) (heard packet line) far =
-          subst (λ (r : Reach). Led r (asked_behind answer known.asked) creates accepts before (told_a answer now) (heard packet line) far) (sym to.1) lead_on in
+      subst (λ (r : Reach). Led r (asked_behind answer known.asked) creates accepts before (told_a answer now) (heard packet line) far) (sym to.1) lead_on in
       let asks = first.kin.asks in
       let asks_heard = listen.kin.asks in
       let asks_on = goes.next.kin.asks in
@@ -142,7 +141,7 @@ arrives_a past packet old new arrives shows honest upholds =
     let known_b : Linking = linking (moves sides.B past) in
     let count = ap (λ p. p.1) ((sizes-stay radio sides.A).2) in
     let then = behind past radio answer arrives.rest arrives.owed shows honest old.scene.pushes.going known_b.asked upholds.creates upholds.accepts upholds.before upholds.course upholds.shelf old.a arrives.face
-        upholds.inside_a (subst (λ (p : Packet). HearsBehind p old.a arrives.face) arrives.packet_is arrives.hears) upholds.clean upholds.a upholds.beside in
+    upholds.inside_a (subst (λ (p : Packet). HearsBehind p old.a arrives.face) arrives.packet_is arrives.hears) upholds.clean upholds.a upholds.beside in
     subst (λ (p : Packet). Upholds (past ++ Moved sides.A Into p ∷ []) new) (sym arrives.packet_is)
     (subst (Upholds (past ++ entry ∷ [])) (sym arrives.new_is) (record {
       course = then.course;

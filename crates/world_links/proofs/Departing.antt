@@ -1,37 +1,31 @@
 -- A packet moves from a host to its controller.
-use Rattle.std.proofs.Common.{◌≡◌, ℕ, ◌+◌, ◌<◌, ◌≤◌, List, [], ◌∷◌, ◌++◌, Bool, true, false, cond, Option, Some, None, refl, sym, ap, subst, ◌∙◌, arith, inl, inr}
-use Rattle.std.proofs.lemmas.Bool.{cases_Bool, eqb-true}
-use Rattle.std.specs.Prelude.{is_some, ◌==◌}
-use Rattle.std.specs.List.{AllByRecursion}
-use Rattle.h4_framing.specs.Packets.{Packet, Command, Acl, Sync, Event, spelling, spellings, IsPacket}
+use Rattle.std.proofs.Common.{◌≡◌, ℕ, ◌+◌, ◌≤◌, List, [], ◌∷◌, ◌++◌, Bool, true, cond, refl, sym, ap, subst, ◌∙◌, arith, inl, inr}
+use Rattle.h4_framing.specs.Packets.{Packet, spelling, IsPacket}
 use Rattle.push_script.specs.declared.word.Side.{Side}
 use Rattle.push_script.specs.declared.word.Side.TheVariants as sides
 use Rattle.capture.specs.declared.flow.Flow.TheVariants.{Out}
 use Rattle.capture.specs.Entries.{Entry, Moved}
-use Rattle.capture.specs.Moves.{Move, move_of, moves}
+use Rattle.capture.specs.Moves.{move_of, moves}
 use Rattle.capture.specs.Links.{Linking, after_move, linking}
 use Rattle.capture.specs.Laws.{led_on}
 use Rattle.capture.proofs.FurtherLaws.{entry_links-more}
 use Rattle.host_link.specs.Lines.{Line}
 use Rattle.host_link.specs.Stands.{out_of}
-use Rattle.radio_air.specs.Radio.{Radio, Phase, Apart, Paging, Requested, Together, after_packet}
-use Rattle.world_model.specs.Faces.{with_out}
-use Rattle.world_model.specs.Media.{Medium, after_moving}
-use Rattle.world_model.specs.Moments.{Moment, with_face, with_medium}
+use Rattle.radio_air.specs.Radio.{Radio, after_packet}
+use Rattle.world_model.specs.Moments.{Moment}
 use Rattle.world_model.specs.Happenings.{Departs}
-use Rattle.world_model.specs.Holding.{Holds}
 use Rattle.host_link.specs.declared.host_command.HostCommand.{HostCommand}
 use Rattle.world_model.proofs.Standing.{Keeps}
 use Rattle.world_model.proofs.Moving.{keeps_moved}
 use Rattle.world_model.proofs.Departing.{first_is, moved_sizes}
 use Rattle.world_links.proofs.Reaching.{Reach, AtRest, Due, Calling, Onward, reach}
-use Rattle.world_links.proofs.Ways.{number_of, has_opcode, on_way, HostAt}
-use Rattle.world_links.proofs.Pacing.{View, view, paged, requested, made, broken, IsClear}
-use Rattle.world_links.proofs.Viewing.{packet_a, packet_b}
-use Rattle.world_links.proofs.Keeping.{requested_count, Order, order_of, FarStands, Pace, pace_fewer, pace_fewer_accepts, pace_paged, pace_requested, pace_broken, pace_made}
+use Rattle.world_links.proofs.Ways.{has_opcode, on_way, HostAt}
+use Rattle.world_links.proofs.Pacing.{View, view, paged, requested, broken}
+use Rattle.world_links.proofs.Viewing.{packet_a}
+use Rattle.world_links.proofs.Keeping.{FarStands, Pace, pace_fewer, pace_paged, pace_requested, pace_broken}
 use Rattle.world_links.proofs.Splitting.{split_moved}
-use Rattle.world_links.proofs.Asking.{asked_out, accept_out}
-use Rattle.world_links.proofs.Upholding.{ClientStands, ServerStands, Beside, Upholds}
+use Rattle.world_links.proofs.Asking.{asked_out}
+use Rattle.world_links.proofs.Upholding.{Beside, Upholds}
 
 abbrev pub bit : ℕ → Packet → ℕ
 bit n packet = cond (has_opcode n packet) 1 0
@@ -99,10 +93,11 @@ module _ (going asked_b : Bool) (far : Reach) (creates accepts before : ℕ) whe
       packet_a (Beside going asked_b far creates accepts before) packet radio
       (beside_with now now refl refl refl _ beside less)
       (λ is clear.
-          let page : Pace far creates accepts before (paged now) =
-              pace_paged far creates accepts before now clear (subst (λ (n : ℕ). Pace far (n + creates) accepts before now) (bit_one 0x0405 packet is) beside.pace) in
-          (beside_with now (paged now) refl refl refl _ beside page,
-              beside_with now (requested now) refl refl refl _ beside (pace_requested far creates accepts before (paged now) refl page)))
+      let page : Pace far creates accepts before (paged now) =
+      pace_paged far creates accepts before now clear (subst (λ (n : ℕ). Pace far (n + creates) accepts before now) (bit_one 0x0405 packet is) beside.pace) in (
+        beside_with now (paged now) refl refl refl _ beside page,
+        beside_with now (requested now) refl refl refl _ beside (pace_requested far creates accepts before (paged now) refl page),
+      ))
       (λ paging. beside_with now (requested now) refl refl refl _ beside (pace_requested far creates accepts before now paging less))
       (λ together. beside_with now (broken now) refl refl refl _ beside (pace_broken far creates accepts before now together less))
 

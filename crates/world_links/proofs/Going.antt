@@ -1,23 +1,22 @@
 -- What a controller gives back, and the words of a script.
-use Rattle.std.proofs.Common.{◌≡◌, ℕ, ◌+◌, ◌<◌, ◌≤◌, List, [], ◌∷◌, ◌++◌, Bool, true, false, Option, Some, None, refl, sym, ap, subst, ◌∙◌, arith, inl, inr, ◌⊎◌}
+use Rattle.std.proofs.Common.{◌≡◌, ℕ, ◌+◌, List, [], ◌∷◌, ◌++◌, Bool, refl, sym, ap, subst, ◌∙◌, inl, inr}
 use Rattle.std.proofs.lemmas.List.{append-nil}
 use Rattle.push_script.specs.declared.word.Side.{Side}
 use Rattle.push_script.specs.declared.word.Side.TheVariants as sides
 use Rattle.push_script.specs.declared.word.Word.{Word}
 use Rattle.capture.specs.Entries.{Entry, Acted}
 use Rattle.capture.specs.Moves.{moves}
-use Rattle.capture.specs.Links.{Linking, linking}
-use Rattle.radio_air.specs.Radio.{Radio, after_offer, passed, dropped}
+use Rattle.capture.specs.Links.{linking}
+use Rattle.radio_air.specs.Radio.{Radio, after_offer}
 use Rattle.radio_air.proofs.Sizing.{sizes-stay}
 use Rattle.world_model.specs.Acting.{Makes}
 use Rattle.world_model.specs.Media.{Medium, in_radio}
-use Rattle.world_model.specs.Moments.{Moment, with_medium}
+use Rattle.world_model.specs.Moments.{Moment}
 use Rattle.world_model.specs.Happenings.{GivesBack, Acts, Misses}
 use Rattle.world_links.proofs.Reaching.{Reach, reach}
-use Rattle.world_links.proofs.Ways.{HostAt}
 use Rattle.world_links.proofs.Pacing.{View, view, broken}
 use Rattle.world_links.proofs.Viewing.{view_offer, passed_view, dropped_view}
-use Rattle.world_links.proofs.Keeping.{Pace, pace_broken}
+use Rattle.world_links.proofs.Keeping.{pace_broken}
 use Rattle.world_links.proofs.Splitting.{split_moved}
 use Rattle.world_links.proofs.Upholding.{ClientStands, ServerStands, Beside, Upholds}
 use Rattle.world_links.proofs.Departing.{host_on, asked_on}

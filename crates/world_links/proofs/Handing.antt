@@ -1,14 +1,15 @@
 -- An answer is handed to a host: how far the push is, beside how far the radio is.
-use Rattle.std.proofs.Common.{◌≡◌, ℕ, ◌+◌, ◌<◌, ◌≤◌, List, [], ◌∷◌, Bool, true, false, cond, Some, None, refl, sym, ap, subst, ◌∙◌, arith}
+use Rattle.std.proofs.Common.{◌≡◌, ℕ, ◌+◌, ◌≤◌, List, ◌∷◌, Bool, true, false, refl, subst, arith}
 use Rattle.radio_air.specs.Controllers.{Answer, Returned, Stated, Called, LinkMade, LinkGone, GivenBack, Carried}
-use Rattle.radio_air.specs.Radio.{Radio, Phase, Apart, Paging, Requested, Together, is_together}
+use Rattle.radio_air.specs.Radio.{Phase, Apart, Paging, Requested, Together, is_together}
 use Rattle.radio_air.specs.Showing.{IsOwed}
+use Rattle.world_model.proofs.Hearing.{owed_below}
 use Rattle.world_links.proofs.Reaching.{Reach, AtRest, Due, Calling, Onward}
 use Rattle.world_links.proofs.Ways.{number_of}
 use Rattle.world_links.proofs.Pacing.{View, is_called}
 use Rattle.world_links.proofs.Viewing.{told_a, told_b, with_called}
 use Rattle.world_links.proofs.Listening.{is_made, is_gone}
-use Rattle.world_links.proofs.Keeping.{calling_count, requested_count, Order, owed_below, owed_parted, FarStands, Pace, up_not}
+use Rattle.world_links.proofs.Keeping.{calling_count, Order, owed_parted, FarStands, Pace, up_not}
 
 -- what a controller owes, as the radio is
 abbrev pub OwesA : View → List Answer → Type 0

@@ -1,50 +1,49 @@
 -- A packet comes into host b.
-use Rattle.std.proofs.Common.{◌≡◌, ℕ, ◌+◌, ◌<◌, ◌≤◌, List, [], ◌∷◌, ◌++◌, length, Bool, true, false, cond, Option, Some, None, refl, sym, ap, subst, ◌∙◌, arith}
+use Rattle.std.proofs.Common.{◌≡◌, ℕ, ◌+◌, ◌<◌, ◌≤◌, List, [], ◌∷◌, ◌++◌, Bool, true, false, cond, refl, sym, ap, subst, ◌∙◌, arith}
 use Rattle.std.specs.Prelude.{◌&&◌}
 use Rattle.h4_framing.specs.Packets.{Packet}
-use Rattle.push_script.specs.declared.word.Side.{Side}
 use Rattle.push_script.specs.declared.word.Side.TheVariants as sides
 use Rattle.capture.specs.declared.flow.Flow.TheVariants.{Into}
 use Rattle.capture.specs.Entries.{Entry, Moved}
 use Rattle.capture.specs.Moves.{moves}
 use Rattle.capture.specs.Links.{Linking, after_move, linking}
 use Rattle.host_link.specs.Lines.{Line}
-use Rattle.host_link.specs.Hearing.{is_server, heard, news_of}
+use Rattle.host_link.specs.Hearing.{is_server, heard}
 use Rattle.host_link.specs.Stands.{into}
 use Rattle.bt_host.specs.Servers.{Server, Served, Kept}
 use Rattle.bt_host.specs.Servers as server
 use Rattle.radio_air.specs.Controllers.{Answer, Returned, Stated, Called, LinkMade, LinkGone, GivenBack, Carried, packet_of}
-use Rattle.radio_air.specs.Radio.{Radio, controller, after_answer, is_together}
+use Rattle.radio_air.specs.Radio.{Radio, after_answer, is_together}
 use Rattle.radio_air.specs.Showing.{Shows}
 use Rattle.radio_air.proofs.Sizing.{sizes-stay}
-use Rattle.world_model.specs.Faces.{Face}
 use Rattle.world_model.specs.Hearing.{put_out_again, HearsBehind}
 use Rattle.world_model.specs.Hosts.{OwesHonestly}
 use Rattle.world_model.specs.Insides.{Inside, Pushing, Serving, Tells, server as serving}
 use Rattle.world_model.specs.Moments.{Moment}
 use Rattle.world_model.specs.Happenings.{Arrives}
-use Rattle.world_links.proofs.Reaching.{Reach, AtRest, Due, Calling, Onward, reach}
-use Rattle.world_links.proofs.Ways.{number_of, on_way, HostAt, Next, puts_again}
+use Rattle.world_model.proofs.Hearing.{owed_below}
+use Rattle.world_links.proofs.Reaching.{Reach, reach}
+use Rattle.world_links.proofs.Ways.{number_of, HostAt, puts_again}
 use Rattle.world_links.proofs.Pacing.{View, view, is_called}
 use Rattle.world_links.proofs.Viewing.{told_b, with_called, view_told_b}
 use Rattle.world_links.proofs.Listening.{listens}
 use Rattle.world_links.proofs.Serving.{serves}
-use Rattle.world_links.proofs.Keeping.{Order, order_of, owed_below, FarStands, Pace, up_not}
+use Rattle.world_links.proofs.Keeping.{Order, order_of}
 use Rattle.world_links.proofs.Handing.{OwesB, hears_b}
 use Rattle.world_links.proofs.Splitting.{split_moved}
 use Rattle.world_links.proofs.Asking.{asked_heard, asked_behind}
-use Rattle.world_links.proofs.Upholding.{ClientStands, ServerStands, Beside, Upholds}
+use Rattle.world_links.proofs.Upholding.{Beside, Upholds}
 use Rattle.world_links.proofs.Departing.{host_on, asked_on}
 use Rattle.world_links.proofs.Arriving.{hears_host, owed_first, low_of}
 
 -- a server that hears stays a server
-record ToldServer (packet : Packet) (line line' : Line) (served : Served) (inbox : Kept) (inside' : Inside) : Type 0 where
-  served' : Served
-  inbox' : Kept
-  is : inside' ≡ Serving served' inbox'
-  hears : server.Hears inbox inbox' packet (serving line served) (serving line' served')
+pub record ToldServer (packet : Packet) (line line' : Line) (served : Served) (inbox : Kept) (inside' : Inside) : Type 0 where
+  pub served' : Served
+  pub inbox' : Kept
+  pub is : inside' ≡ Serving served' inbox'
+  pub hears : server.Hears inbox inbox' packet (serving line served) (serving line' served')
 
-tells_server : (packet : Packet) (line line' : Line) (served : Served) (inbox : Kept) (inside' : Inside) → Tells packet line line' (Serving served inbox) inside' → ToldServer packet line line' served inbox inside'
+pub tells_server : (packet : Packet) (line line' : Line) (served : Served) (inbox : Kept) (inside' : Inside) → Tells packet line line' (Serving served inbox) inside' → ToldServer packet line line' served inbox inside'
 tells_server packet line line' served inbox (Serving served' inbox') tells = record { served' = served'; inbox' = inbox'; is = refl; hears = tells }
 tells_server packet line line' served inbox (Pushing course shelf) tells = absurd tells
 

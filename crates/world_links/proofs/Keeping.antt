@@ -1,12 +1,12 @@
 -- How far a push is, beside how far the radio is: what stands between them, and that it stays so.
-use Rattle.std.proofs.Common.{◌≡◌, ℕ, ◌+◌, ◌<◌, ◌≤◌, List, [], ◌∷◌, Bool, true, false, cond, Some, None, refl, sym, ap, subst, ◌∙◌, arith}
-use Rattle.std.specs.Prelude.{◌||◌, max}
+use Rattle.std.proofs.Common.{◌≡◌, ℕ, ◌+◌, ◌≤◌, List, [], ◌∷◌, Bool, true, false, refl, sym, ap, arith}
+use Rattle.std.specs.Prelude.{◌||◌}
 use Rattle.radio_air.specs.Controllers.{Answer, Returned, Stated, Called, LinkMade, LinkGone, GivenBack, Carried}
 use Rattle.radio_air.specs.Radio.{Radio, Phase, Apart, Paging, Requested, Together, is_paging, is_requested, is_together}
 use Rattle.radio_air.specs.Showing.{IsOwed, IsOrdered}
+use Rattle.world_model.proofs.Hearing.{owed_below}
 use Rattle.world_links.proofs.Reaching.{Reach, AtRest, Due, Calling, Onward}
-use Rattle.world_links.proofs.Ways.{number_of}
-use Rattle.world_links.proofs.Pacing.{View, view, is_called, paged, requested, made, broken, IsClear}
+use Rattle.world_links.proofs.Pacing.{View, view, paged, requested, made, broken, IsClear}
 
 -- ---- what the radio keeps to by itself
 
@@ -28,17 +28,6 @@ pub record Order (now : View) : Type 0 where
   pub calling_a : calling_count now.phase ≡ 1 → now.told_a ≡ now.number
   pub calling_b : calling_count now.phase ≡ 1 → now.told_b ≡ now.number
 
-pub owed_below : (told : ℕ) (up : Bool) (answers : List Answer) (number : ℕ) (together : Bool) → IsOwed told up answers number together → told ≤ number
-owed_below told up [] number together owed = omega (arith, owed.0)
-owed_below told up (Returned opcode params ∷ rest) number together owed = owed_below told up rest number together owed
-owed_below told up (Stated opcode ∷ rest) number together owed = owed_below told up rest number together owed
-owed_below told up (Called ∷ rest) number together owed = owed_below told up rest number together owed
-owed_below told up (LinkMade handle ∷ rest) number together owed =
-    let more = owed_below handle true rest number together owed.4 in omega (arith, more, owed.1)
-owed_below told up (LinkGone handle reason ∷ rest) number together owed = owed_below told false rest number together owed.3
-owed_below told up (GivenBack handle count ∷ rest) number together owed = owed_below told up rest number together owed.2
-owed_below told up (Carried handle piece ∷ rest) number together owed = owed_below told up rest number together owed.2
-
 -- a host that was told of all links, and that none is up, is right
 pub owed_parted : (told : ℕ) (answers : List Answer) (number : ℕ) (together : Bool) → told ≡ number → IsOwed told false answers number together → together ≡ false
 owed_parted told [] number together all owed = sym owed.1
@@ -51,7 +40,7 @@ owed_parted told (LinkGone handle reason ∷ rest) number together all owed = ab
 owed_parted told (GivenBack handle count ∷ rest) number together all owed = owed_parted told rest number together all owed.2
 owed_parted told (Carried handle piece ∷ rest) number together all owed = absurd (let up = owed.0 in cc)
 
-calls_of : (phase : Phase) → calling_count phase ≡ 1 → is_paging phase || is_requested phase ≡ true
+pub calls_of : (phase : Phase) → calling_count phase ≡ 1 → is_paging phase || is_requested phase ≡ true
 calls_of Apart one = absurd (omega (arith, one))
 calls_of Paging one = refl
 calls_of Requested one = refl

@@ -1,9 +1,7 @@
 -- A packet moves from host b to its controller.
-use Rattle.std.proofs.Common.{◌≡◌, ℕ, ◌+◌, ◌<◌, ◌≤◌, List, [], ◌∷◌, ◌++◌, Bool, true, false, cond, Option, Some, None, refl, sym, ap, subst, ◌∙◌, arith, inl, inr}
+use Rattle.std.proofs.Common.{◌≡◌, ℕ, ◌+◌, ◌≤◌, List, [], ◌∷◌, ◌++◌, Bool, true, false, refl, sym, ap, subst, ◌∙◌, arith, inl, inr}
 use Rattle.std.proofs.lemmas.Bool.{cases_Bool, eqb-true}
-use Rattle.std.specs.Prelude.{◌==◌}
 use Rattle.h4_framing.specs.Packets.{Packet, Command, Acl, Sync, Event}
-use Rattle.push_script.specs.declared.word.Side.{Side}
 use Rattle.push_script.specs.declared.word.Side.TheVariants as sides
 use Rattle.capture.specs.declared.flow.Flow.TheVariants.{Out}
 use Rattle.capture.specs.Entries.{Entry, Moved}
@@ -22,10 +20,10 @@ use Rattle.world_links.proofs.Viewing.{packet_b}
 use Rattle.world_links.proofs.Keeping.{requested_count, Order, order_of, FarStands, Pace, pace_fewer_accepts, pace_requested, pace_broken, pace_made}
 use Rattle.world_links.proofs.Splitting.{split_moved}
 use Rattle.world_links.proofs.Asking.{asked_out, accept_out}
-use Rattle.world_links.proofs.Upholding.{ClientStands, ServerStands, Beside, Upholds}
-use Rattle.world_links.proofs.Departing.{bit, bit_one, Moves, moves_first, way_less, host_on, asked_on}
+use Rattle.world_links.proofs.Upholding.{Beside, Upholds}
+use Rattle.world_links.proofs.Departing.{bit, bit_one, moves_first, way_less, host_on, asked_on}
 
-requested_of : (phase : Phase) → 1 ≤ requested_count phase → phase ≡ Requested
+pub requested_of : (phase : Phase) → 1 ≤ requested_count phase → phase ≡ Requested
 requested_of Apart some = absurd (omega (arith, some))
 requested_of Paging some = absurd (omega (arith, some))
 requested_of Requested some = refl

@@ -1,8 +1,8 @@
 -- What a host hears, and what becomes of its link and of what is on its way.
-use Rattle.std.proofs.Common.{◌≡◌, ℕ, ◌+◌, ◌≤◌, List, [], ◌∷◌, ◌++◌, Bool, true, false, cond, eqb, Option, Some, None, refl, sym, ap, subst, ◌∙◌, arith, inl, inr, ◌⊎◌}
+use Rattle.std.proofs.Common.{◌≡◌, ℕ, ◌≤◌, List, [], ◌∷◌, ◌++◌, Bool, true, false, cond, Option, Some, None, refl, sym, ap, subst, arith, inl, inr, ◌⊎◌}
 use Rattle.std.specs.Prelude.{◌==◌, ◌&&◌, is_some, is_none, nat_lt, length, drop}
 use Rattle.h4_framing.specs.Packets.{Packet}
-use Rattle.hci_packets.specs.Events.{PlainEvent, ConnectionComplete, ConnectionRequest, DisconnectionComplete, CommandComplete, CommandStatus, CompletedPackets, code_of, event_params, event_refusal}
+use Rattle.hci_packets.specs.Events.{PlainEvent, ConnectionComplete, ConnectionRequest, DisconnectionComplete, code_of, event_params, event_refusal}
 use Rattle.acl_fragments.specs.Pieces.{Piece}
 use Rattle.acl_fragments.specs.Answers as joined
 use Rattle.push_script.specs.declared.word.Side.{Side}
@@ -10,15 +10,14 @@ use Rattle.push_script.specs.declared.word.Side.TheVariants as sides
 use Rattle.host_link.specs.declared.news.ControllerFault.{ControllerFault}
 use Rattle.host_link.specs.declared.returned.Returned.{Returned as Return}
 use Rattle.host_link.specs.declared.returned.Returned.TheVariants.{Refused, Unlisted, Status, Buffers}
-use Rattle.host_link.specs.declared.host_command.HostCommand.{HostCommand}
 use Rattle.host_link.specs.declared.host_command.HostCommand.TheVariants.{AcceptConnection}
 use Rattle.host_link.specs.HostCommands.{opcode}
 use Rattle.host_link.specs.CommandFlows.{Flow, awaits, stated, answered, with_command, is_number}
-use Rattle.host_link.specs.Hearing.{PlainNews, Nothing, LinkUp, LinkFailed, LinkDown, Pdu, with_flow, learn, after_answer, after_other, after_complete, after_status, after_connection, connection_news, is_server, may_accept, after_request, ends_link, after_disconnection, disconnection_news, after_completed, piece_on, after_piece, joined_news, piece_news, after_event, event_news, event_fault, unless_fault, heard, news_of}
+use Rattle.host_link.specs.Hearing.{PlainNews, Nothing, LinkUp, LinkDown, Pdu, with_flow, learn, after_answer, after_other, after_complete, after_status, after_connection, connection_news, is_server, may_accept, after_request, after_disconnection, disconnection_news, after_completed, piece_on, after_piece, joined_news, piece_news, after_event, event_news, event_fault, unless_fault, heard, news_of}
 use Rattle.acl_credits.specs.Ledgers.{without}
 use Rattle.host_link.specs.EventReading.{event_at}
 use Rattle.host_link.specs.Lines.{Line}
-use Rattle.radio_air.specs.Controllers.{Answer, Returned, Stated, Called, LinkMade, LinkGone, GivenBack, Carried, address, other_side, event_of, packet_of}
+use Rattle.radio_air.specs.Controllers.{Answer, Returned, Stated, Called, LinkMade, LinkGone, GivenBack, Carried, event_of, packet_of}
 use Rattle.world_model.proofs.Lists.{chosen}
 use Rattle.world_model.proofs.Reading.{heard_by}
 use Rattle.world_links.proofs.Ways.{number_of, number_of-append, Kin, kin_same}
@@ -63,6 +62,7 @@ pub record Listens (answer : Answer) (said : List Packet) (line new : Line) (new
   pub accepts : ℕ
   pub few : accepts ≤ cond (is_called answer && is_server line.role) 1 0
   pub kin : Kin 0 accepts said said line new
+  pub waits : is_called answer && is_server line.role ≡ false → new.commands.waiting ≡ line.commands.waiting
   pub turns : Turns answer line new news
 
 -- ---- what changes no link
@@ -70,10 +70,11 @@ pub record Listens (answer : Answer) (said : List Packet) (line new : Line) (new
 record Still (said : List Packet) (line new : Line) : Type 0 where
   pub link : new.link ≡ line.link
   pub kin : Kin 0 0 said said line new
+  waits : new.commands.waiting ≡ line.commands.waiting
 
 module _ (said : List Packet) where
   still_same : (line : Line) → Still said line line
-  still_same line = record { link = refl; kin = kin_same said line }
+  still_same line = record { link = refl; kin = kin_same said line; waits = refl }
 
   still_flow : (line : Line) (flow : Flow) → flow.waiting ≡ line.commands.waiting → Still said line (with_flow flow line)
   still_flow line flow same = record {
@@ -82,13 +83,15 @@ module _ (said : List Packet) where
       role = refl;
       asks = let more = ap (number_of (λ command. opcode command == 0x0405)) same in omega (arith, more);
       takes = let more = ap (number_of (λ command. opcode command == 0x0409)) same in omega (arith, more);
+      scans = let more = ap (number_of (λ command. opcode command == 0x0C1A)) same in omega (arith, more);
     };
+    waits = same;
   }
 
   still_learn : (size count : ℕ) (flow : Flow) (line : Line) → flow.waiting ≡ line.commands.waiting → Still said line (learn size count (with_flow flow line))
   still_learn size count flow line same =
       let still = still_flow line flow same in
-      chosen (Still said line) (is_none line.link) _ (with_flow flow line) (λ none. record { link = refl; kin = record { role = refl; asks = still.kin.asks; takes = still.kin.takes } }) still
+      chosen (Still said line) (is_none line.link) _ (with_flow flow line) (λ none. record { link = refl; kin = record { role = refl; asks = still.kin.asks; takes = still.kin.takes; scans = still.kin.scans }; waits = same }) still
 
   still_answer : (number : ℕ) (returned : Return) (line : Line) → Still said line (after_answer number returned line)
   still_answer number Refused line = still_same line
@@ -113,7 +116,7 @@ module _ (said : List Packet) where
 
   still_piece : (piece : Option Piece) (line : Line) → Still said line (after_piece piece line)
   still_piece None line = still_same line
-  still_piece (Some piece) line = record { link = refl; kin = record { role = refl; asks = omega arith; takes = omega arith } }
+  still_piece (Some piece) line = record { link = refl; kin = record { role = refl; asks = omega arith; takes = omega arith; scans = omega arith }; waits = refl }
 
 joined_quiet : (answer : joined.Answer) → IsQuiet (joined_news answer)
 joined_quiet (joined.Pdu channel octets) = tt
@@ -127,7 +130,7 @@ piece_quiet (Some piece) line = joined_quiet _
 -- ---- an event that was read, or refused
 
 listens_still : (answer : Answer) (said : List Packet) (line new : Line) (news : PlainNews) → Still said line new → IsQuiet news → Listens answer said line new news
-listens_still answer said line new news still quiet = record { accepts = 0; few = omega arith; kin = still.kin; turns = inl (record { link = still.link; quiet = quiet }) }
+listens_still answer said line new news still quiet = record { accepts = 0; few = omega arith; kin = still.kin; waits = λ other. still.waits; turns = inl (record { link = still.link; quiet = quiet }) }
 
 -- a host at whose controller's fault stays as it is
 still_unless : (said : List Packet) (fault : Option ControllerFault) (line new : Line) → Still said line new → Still said line (unless_fault fault new line)
@@ -155,6 +158,7 @@ accept_kin true from said line = record {
   role = refl;
   asks = let all = number_of-append (λ command. opcode command == 0x0405) line.commands.waiting (AcceptConnection from ∷ []) in omega (arith, all);
   takes = let all = number_of-append (λ command. opcode command == 0x0409) line.commands.waiting (AcceptConnection from ∷ []) in omega (arith, all);
+  scans = let all = number_of-append (λ command. opcode command == 0x0C1A) line.commands.waiting (AcceptConnection from ∷ []) in omega (arith, all);
 }
 accept_kin false from said line = kin_same said line
 
@@ -165,6 +169,9 @@ bit_few false = omega arith
 server_of : (line : Line) → may_accept 1 line ≡ true → is_server line.role ≡ true
 server_of line may = both_left (is_server line.role) _ (both_left _ _ (both_left _ _ (both_left _ _ may)))
 
+served_not : (served : Bool) → served ≡ true → served ≡ false → ⊥
+served_not served is_so is_not = cc
+
 requests : (from : List ℕ) (said : List Packet) (line : Line) → Listens Called said line (after_request from 1 line) Nothing
 requests from said line =
     chosen (λ (new : Line). Listens Called said line new Nothing) (may_accept 1 line) (accept_waits from line) line
@@ -172,6 +179,7 @@ requests from said line =
       accepts = cond (nat_lt (length line.commands.waiting) 8) 1 0;
       few = subst (λ (test : Bool). cond (nat_lt (length line.commands.waiting) 8) 1 0 ≤ cond test 1 0) (sym (server_of line may)) (bit_few (nat_lt (length line.commands.waiting) 8));
       kin = accept_kin (nat_lt (length line.commands.waiting) 8) from said line;
+      waits = λ other. absurd (served_not (is_server line.role) (server_of line may) other);
       turns = inl (record { link = refl; quiet = tt });
     })
     (listens_still Called said line line Nothing (still_same said line) tt)
@@ -191,6 +199,7 @@ alike_kin said line new role commands = record {
   role = role;
   asks = let more = ap (λ (flow : Flow). number_of (λ command. opcode command == 0x0405) flow.waiting) commands in omega (arith, more);
   takes = let more = ap (λ (flow : Flow). number_of (λ command. opcode command == 0x0409) flow.waiting) commands in omega (arith, more);
+  scans = let more = ap (λ (flow : Flow). number_of (λ command. opcode command == 0x0C1A) flow.waiting) commands in omega (arith, more);
 }
 
 comes : (answer : Answer) (said : List Packet) (handle : ℕ) (line : Line) → is_made answer ≡ true → (asked : Bool) (link : Option ℕ)
@@ -199,10 +208,11 @@ comes answer said handle line made true None = record {
   accepts = 0;
   few = omega arith;
   kin = alike_kin said (alike true None line) (after_connection 0 handle (alike true None line)) refl refl;
+  waits = λ other. refl;
   turns = inr (inl (record { made = made; none = refl; there = refl; up = refl }));
 }
 comes answer said handle line made true (Some other) =
-    listens_still answer said (alike true (Some other) line) (alike false (Some other) line) Nothing (record { link = refl; kin = alike_kin said (alike true (Some other) line) (alike false (Some other) line) refl refl }) tt
+    listens_still answer said (alike true (Some other) line) (alike false (Some other) line) Nothing (record { link = refl; kin = alike_kin said (alike true (Some other) line) (alike false (Some other) line) refl refl; waits = refl }) tt
 comes answer said handle line made false link = listens_still answer said (alike false link line) (alike false link line) Nothing (still_same said (alike false link line)) tt
 
 reads_made : (answer : Answer) (said : List Packet) (test : Bool) (handle : ℕ) (from : List ℕ) (kind encryption : ℕ) (line : Line) → is_made answer ≡ true
@@ -224,6 +234,7 @@ leaves_by answer said handle other reason line gone true = record {
   accepts = 0;
   few = omega arith;
   kin = alike_kin said (linked_by (Some other) line) (let_go handle line) refl refl;
+  waits = λ other. refl;
   turns = inr (inr (record { gone = gone; there = refl; none = refl; reason = reason; down = refl }));
 }
 leaves_by answer said handle other reason line gone false = listens_still answer said (linked_by (Some other) line) (linked_by (Some other) line) Nothing (still_same said (linked_by (Some other) line)) tt
@@ -258,6 +269,6 @@ listens sides.B (LinkMade handle) said line = reads_made (LinkMade handle) said 
 listens side (LinkGone handle reason) said line = reads_gone (LinkGone handle reason) said (accepted side (LinkGone handle reason)) _ _ line refl
 listens side (GivenBack handle count) said line =
     reads_still (GivenBack handle count) said (accepted side (GivenBack handle count)) (event_heard side (GivenBack handle count)) line
-    (record { link = refl; kin = alike_kin said line (after_completed (drop 1 (event_params (event_of side (GivenBack handle count)))) line) refl refl }) refl
+    (record { link = refl; kin = alike_kin said line (after_completed (drop 1 (event_params (event_of side (GivenBack handle count)))) line) refl refl; waits = refl }) refl
 listens side (Carried handle piece) said line =
     listens_still (Carried handle piece) said line _ _ (still_piece said (piece_on line.link (packet_of side (Carried handle piece))) line) (piece_quiet (piece_on line.link (packet_of side (Carried handle piece))) line)

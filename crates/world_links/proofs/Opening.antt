@@ -1,10 +1,8 @@
 -- A push begins, and a push ends.
-use Rattle.std.proofs.Common.{◌≡◌, ℕ, ◌+◌, ◌<◌, ◌≤◌, List, [], ◌∷◌, ◌++◌, length, Bool, true, false, cond, Option, Some, None, refl, sym, ap, subst, ◌∙◌, arith}
-use Rattle.std.specs.Prelude.{is_some, ◌≢◌}
-use Rattle.push_script.specs.declared.word.Side.{Side}
+use Rattle.std.proofs.Common.{◌≡◌, ℕ, ◌+◌, ◌≤◌, List, [], ◌∷◌, ◌++◌, length, Bool, true, false, cond, Option, Some, None, refl, sym, ap, subst, ◌∙◌, arith}
+use Rattle.std.specs.Prelude.{is_some}
 use Rattle.push_script.specs.declared.word.Side.TheVariants as sides
 use Rattle.push_script.specs.declared.outcome.Outcome.{Outcome}
-use Rattle.push_script.specs.declared.outcome.Outcome.TheVariants.{ShelfFault}
 use Rattle.capture.specs.Entries.{Entry, Begun, Ended}
 use Rattle.capture.specs.Moves.{moves}
 use Rattle.capture.specs.Links.{Linking, linking}
@@ -12,39 +10,36 @@ use Rattle.host_link.specs.Lines.{Line}
 use Rattle.bt_host.specs.Courses.{Course, begun}
 use Rattle.bt_host.specs.ClientHosts.{PushesOn}
 use Rattle.radio_air.specs.Controllers.{Answer}
-use Rattle.radio_air.specs.Radio.{Radio, Phase, Apart, Paging, Requested, Together, is_together}
+use Rattle.radio_air.specs.Radio.{Radio, Phase, Apart, is_together}
 use Rattle.radio_air.specs.Showing.{Shows, IsOwed}
 use Rattle.radio_air.proofs.Entering.{links-of}
-use Rattle.world_model.specs.Faces.{Face}
 use Rattle.world_model.specs.Insides.{Inside, Shelved, Pushing, Serving, StartsPush, client, idles}
-use Rattle.world_model.specs.Ordering.{Pushes, next_name}
 use Rattle.world_model.specs.Moments.{Moment}
 use Rattle.world_model.specs.Happenings.{Opens, Closes}
 use Rattle.world_links.proofs.Reaching.{Reach, AtRest, Due, Calling, Onward, reach, Clean, idle_rests}
-use Rattle.world_links.proofs.Ways.{on_way, HostAt}
 use Rattle.world_links.proofs.Pacing.{View, view}
-use Rattle.world_links.proofs.Advancing.{Advance, Advances, advances}
-use Rattle.world_links.proofs.Keeping.{calling_count, FarStands, Pace}
+use Rattle.world_links.proofs.Advancing.{Advance, advances}
+use Rattle.world_links.proofs.Keeping.{calling_count, FarStands}
 use Rattle.world_links.proofs.Splitting.{split_moved, split_begun}
-use Rattle.world_links.proofs.Upholding.{is_onward, ClientStands, ServerStands, Beside, Upholds, unlinked_a, unlinked_b}
+use Rattle.world_links.proofs.Upholding.{is_onward, Upholds, unlinked_a, unlinked_b}
 use Rattle.world_links.proofs.Departing.{host_on, asked_on}
 use Rattle.world_links.proofs.Leaving.{rests_apart}
 
 -- ---- a push begins
 
 -- a client that begins to push stays a client
-record BeginsClient (name : List ℕ) (line line' : Line) (course : Course) (shelf : Shelved) (inside' : Inside) : Type 0 where
-  course' : Course
-  shelf' : Shelved
-  is : inside' ≡ Pushing course' shelf'
-  pushes : PushesOn shelf.content shelf.faults shelf'.faults name (client line course) (client line' course')
+pub record BeginsClient (name : List ℕ) (line line' : Line) (course : Course) (shelf : Shelved) (inside' : Inside) : Type 0 where
+  pub course' : Course
+  pub shelf' : Shelved
+  pub is : inside' ≡ Pushing course' shelf'
+  pub pushes : PushesOn shelf.content shelf.faults shelf'.faults name (client line course) (client line' course')
 
-begins_client : (name : List ℕ) (line line' : Line) (course : Course) (shelf : Shelved) (inside' : Inside) → StartsPush name line line' (Pushing course shelf) inside' → BeginsClient name line line' course shelf inside'
+pub begins_client : (name : List ℕ) (line line' : Line) (course : Course) (shelf : Shelved) (inside' : Inside) → StartsPush name line line' (Pushing course shelf) inside' → BeginsClient name line line' course shelf inside'
 begins_client name line line' course shelf (Pushing course' shelf') starts = record { course' = course'; shelf' = shelf'; is = refl; pushes = starts.0 }
 begins_client name line line' course shelf (Serving served inbox) starts = absurd starts
 
 -- none goes on where there is a next one
-next_rests : (going : Bool) (one : Option (List ℕ)) (name : List ℕ) → cond going None one ≡ Some name → going ≡ false
+pub next_rests : (going : Bool) (one : Option (List ℕ)) (name : List ℕ) → cond going None one ≡ Some name → going ≡ false
 next_rests true one name is = absurd cc
 next_rests false one name is = refl
 
@@ -92,7 +87,7 @@ opens past push old new step shows upholds =
     let no_a = unlinked_a past old shows upholds rests in
     let no_b = unlinked_b past old shows upholds none in
     let starts = begins_client step.name old.a.line step.face.line upholds.course upholds.shelf step.face.inside
-        (subst (λ (i : Inside). StartsPush step.name old.a.line step.face.line i step.face.inside) upholds.inside_a step.starts) in
+    (subst (λ (i : Inside). StartsPush step.name old.a.line step.face.line i step.face.inside) upholds.inside_a step.starts) in
     let first : Course = begun step.name starts.pushes.begins.size upholds.course in
     let goes = advances known_a radio.count upholds.shelf.content upholds.shelf.faults starts.shelf'.faults upholds.a.said (client old.a.line starts.pushes.course) (client step.face.line starts.course') starts.pushes.goes upholds.a.host in
     let far = subst (λ (course : Course). Advance (reach course.stage) (length old.a.line.commands.waiting) goes.pages (reach starts.course'.stage)) starts.pushes.begins.leaves goes.far in

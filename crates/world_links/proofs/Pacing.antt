@@ -1,17 +1,16 @@
 -- How far the radio is with links, as its two hosts see it, and what a packet of a host does to that.
-use Rattle.std.proofs.Common.{◌≡◌, ℕ, ◌+◌, ◌<◌, ◌≤◌, List, [], ◌∷◌, ◌++◌, Bool, true, false, cond, Some, None, refl, sym, ap, subst, ◌∙◌, arith}
+use Rattle.std.proofs.Common.{◌≡◌, ℕ, ◌+◌, List, [], ◌∷◌, ◌++◌, Bool, true, false, cond, refl, sym, ap, subst, ◌∙◌, arith}
 use Rattle.std.proofs.lemmas.Bool.{eqb-true}
-use Rattle.std.specs.Prelude.{◌==◌, ◌&&◌, not, nat_lt, is_none, slice_index}
+use Rattle.std.specs.Prelude.{◌==◌, ◌&&◌, not, is_none, slice_index}
 use Rattle.byteorder.specs.Endian.{little_number}
-use Rattle.bt_base.specs.Octets.{le16}
-use Rattle.h4_framing.specs.Packets.{Packet, Command, Acl, Sync, Event}
 use Rattle.hci_packets.specs.Commands.{command_refusal}
 use Rattle.push_script.specs.declared.word.Side.{Side}
 use Rattle.push_script.specs.declared.word.Side.TheVariants as sides
-use Rattle.radio_air.specs.Controllers.{Answer, Returned, Stated, Called, LinkMade, LinkGone, GivenBack, Carried, Controller, owing}
+use Rattle.radio_air.specs.Controllers.{Answer, Returned, Stated, Called, LinkMade, LinkGone, owing}
 use Rattle.radio_air.specs.Radio.{Radio, Phase, Apart, Paging, Requested, Together, is_apart, is_paging, is_requested, is_together, owes, may_page, is_reached, after_reaching, after_paging, joined, after_accepting, parted, parted_by, knows_link, after_disconnecting, scanning, returned, after_row, after_command}
 use Rattle.world_model.proofs.Lists.{chosen}
-use Rattle.world_links.proofs.Ways.{number_of, number_of-append, has_opcode}
+use Rattle.world_model.proofs.Putting.{both_right}
+use Rattle.world_links.proofs.Ways.{number_of, number_of-append}
 
 abbrev pub is_called : Answer → Bool
 is_called Called = true
@@ -67,10 +66,6 @@ pub both_left : (a b : Bool) → a && b ≡ true → a ≡ true
 both_left true b both = refl
 both_left false b both = absurd cc
 
-pub both_right : (a b : Bool) → a && b ≡ true → b ≡ true
-both_right true b both = both
-both_right false b both = absurd cc
-
 not_true : (a : Bool) → not a ≡ true → a ≡ false
 not_true true is = absurd cc
 not_true false is = refl
@@ -81,7 +76,7 @@ apart_is Paging is = absurd cc
 apart_is Requested is = absurd cc
 apart_is Together is = absurd cc
 
-paging_is : (phase : Phase) → is_paging phase ≡ true → phase ≡ Paging
+pub paging_is : (phase : Phase) → is_paging phase ≡ true → phase ≡ Paging
 paging_is Apart is = absurd cc
 paging_is Paging is = refl
 paging_is Requested is = absurd cc
@@ -118,7 +113,7 @@ clear_of radio may =
 pub plus_none : (n : ℕ) → n + 0 ≡ n
 plus_none n = omega arith
 
-none_called : (owed : List Answer) (answer : Answer) → is_called answer ≡ false → number_of is_called (owed ++ answer ∷ []) ≡ number_of is_called owed
+pub none_called : (owed : List Answer) (answer : Answer) → is_called answer ≡ false → number_of is_called (owed ++ answer ∷ []) ≡ number_of is_called owed
 none_called owed answer is = number_of-append is_called owed (answer ∷ []) ∙ (ap (λ (test : Bool). number_of is_called owed + (cond test 1 0 + 0)) is ∙ plus_none _)
 
 pub view_owes : (side : Side) (more : List Answer) (radio : Radio) → number_of is_called more ≡ 0 → view (owes side more radio) ≡ view radio
@@ -136,14 +131,14 @@ module _ (P : View → Type 0) where
   owes_still : (side : Side) (more : List Answer) (radio : Radio) → number_of is_called more ≡ 0 → P (view radio) → P (view (owes side more radio))
   owes_still side more radio none p = subst P (sym (view_owes side more radio none)) p
 
-  reaches : (radio : Radio) → P (view radio) → (radio.phase ≡ Paging → P (requested (view radio))) → P (view (after_reaching radio))
+  pub reaches : (radio : Radio) → P (view radio) → (radio.phase ≡ Paging → P (requested (view radio))) → P (view (after_reaching radio))
   reaches radio stays asks =
       chosen (λ (next : Radio). P (view next)) (is_reached radio) (record radio { b = owing (Called ∷ []) radio.b; phase = Requested }) radio
       (λ reached. subst P (ap (λ (n : ℕ). record (view radio) { phase = Requested; called = n }) (sym (number_of-append is_called radio.b.owed (Called ∷ []))))
-          (asks (paging_is radio.phase (both_left (is_paging radio.phase) _ reached))))
+      (asks (paging_is radio.phase (both_left (is_paging radio.phase) _ reached))))
       stays
 
-  pages : (radio : Radio) → P (view radio) → (IsClear (view radio) → P (paged (view radio)) × P (requested (view radio))) → P (view (after_paging sides.A radio))
+  pub pages : (radio : Radio) → P (view radio) → (IsClear (view radio) → P (paged (view radio)) × P (requested (view radio))) → P (view (after_paging sides.A radio))
   pages radio stays clear =
       chosen (λ (next : Radio). P (view next)) (may_page radio) (after_reaching (record radio { phase = Paging })) radio
       (λ may. let both = clear (clear_of radio may) in reaches (record radio { phase = Paging }) both.0 (λ is. both.1)) stays

@@ -1,31 +1,25 @@
 -- What is true of a world and its links holds at first, and along each run.
-use Rattle.std.proofs.Common.{◌≡◌, ℕ, ◌+◌, ◌≤◌, min, List, [], ◌∷◌, ◌++◌, Bool, true, false, Option, Some, None, refl, sym, ap, subst, ◌∙◌, arith}
+use Rattle.std.proofs.Common.{ℕ, List, [], ◌++◌, refl, ap, arith}
 use Rattle.std.specs.Prelude.{is_some}
-use Rattle.push_script.specs.declared.word.Side.{Side}
 use Rattle.push_script.specs.declared.word.Side.TheVariants as sides
 use Rattle.capture.specs.Entries.{Entry}
 use Rattle.capture.specs.Links.{no_links}
 use Rattle.host_link.specs.declared.role.Role.{Role}
 use Rattle.host_link.specs.declared.role.Role.TheVariants.{Client, Server}
 use Rattle.host_link.specs.Lines.{fresh}
-use Rattle.host_link.specs.PuttingOut.{put_out, started}
 use Rattle.bt_host.specs.Servers.{Kept}
 use Rattle.bt_host.specs.Courses.{resting}
-use Rattle.radio_air.specs.Radio.{new_radio}
 use Rattle.world_model.specs.Insides.{Shelved}
-use Rattle.world_model.specs.Hosts.{OwesHonestly}
-use Rattle.world_model.specs.Moments.{Moment, first_moment, first_client, first_server}
-use Rattle.world_model.specs.Happenings.{Happening, Departure, Arrival, GivingBack, Opening, Closing, Deed, Miss, Does, Runs, entries_of, all_entries}
+use Rattle.world_model.specs.Moments.{Moment, first_moment}
+use Rattle.world_model.specs.Happenings.{Happening, Departure, Arrival, GivingBack, Opening, Closing, Deed, Miss, Does, entries_of, all_entries}
 use Rattle.world_model.specs.Holding.{Holds}
 use Rattle.world_model.proofs.Letting.{start_addressed}
-use Rattle.world_model.proofs.Standing.{Keeps}
 use Rattle.world_model.proofs.Beginning.{stands_started, shows_nothing, honest_at_first}
 use Rattle.world_model.proofs.Holding.{holds_on, kept_along}
 use Rattle.world_links.specs.LinkFacts.{IsBeginning, LinksOfRuns}
-use Rattle.world_links.proofs.Reaching.{Reach, AtRest, reach}
-use Rattle.world_links.proofs.Ways.{on_way, HostAt, Next, puts_next}
+use Rattle.world_links.proofs.Ways.{HostAt, puts_next}
 use Rattle.world_links.proofs.Splitting.{split_first}
-use Rattle.world_links.proofs.Upholding.{ClientStands, ServerStands, Beside, Upholds, facts_of}
+use Rattle.world_links.proofs.Upholding.{Upholds, facts_of}
 use Rattle.world_links.proofs.Departing.{departs_a}
 use Rattle.world_links.proofs.Leaving.{departs_b}
 use Rattle.world_links.proofs.Coming.{arrives_a}
@@ -48,7 +42,7 @@ upholds_on past (Miss word) old new does holds upholds = misses past word old ne
 
 -- ---- at first
 
-fresh_host : (count : ℕ) (role : Role) → HostAt no_links count [] (fresh role)
+pub fresh_host : (count : ℕ) (role : Role) → HostAt no_links count [] (fresh role)
 fresh_host count role = record {
   own = no_links;
   keeps = record {
@@ -129,14 +123,13 @@ pub record Stood (past : List Entry) (moment : Moment) : Type 0 where
   pub holds : Holds past moment
   pub upholds : Upholds past moment
 
-pub stood : (size count mtu obex : ℕ) (names : List (List ℕ)) (shelf : Shelved) (inbox : Kept) (happenings : List Happening) (moment : Moment) → IsBeginning size count names
-    → Runs happenings (first_moment size count mtu obex names shelf inbox) moment → Stood (all_entries happenings) moment
-stood size count mtu obex names shelf inbox happenings moment is runs =
-    kept_along Stood
-    (λ past happening old new does before. record { holds = holds_on past happening old new does before.holds; upholds = upholds_on past happening old new does before.holds before.upholds })
-    happenings [] (first_moment size count mtu obex names shelf inbox) moment runs
-    (record { holds = first_holds size count mtu obex names shelf inbox is; upholds = first_upholds size count mtu obex names shelf inbox })
+pub stood_on : (past : List Entry) (happening : Happening) (old new : Moment) → Does happening old new → Stood past old → Stood (past ++ entries_of happening) new
+stood_on past happening old new does before = record { holds = holds_on past happening old new does before.holds; upholds = upholds_on past happening old new does before.holds before.upholds }
+
+pub first_stood : (size count mtu obex : ℕ) (names : List (List ℕ)) (shelf : Shelved) (inbox : Kept) → IsBeginning size count names → Stood [] (first_moment size count mtu obex names shelf inbox)
+first_stood size count mtu obex names shelf inbox is = record { holds = first_holds size count mtu obex names shelf inbox is; upholds = first_upholds size count mtu obex names shelf inbox }
 
 pub links_of_runs : LinksOfRuns
 links_of_runs size count mtu obex names shelf inbox happenings moment is runs =
-    let there = stood size count mtu obex names shelf inbox happenings moment is runs in facts_of (all_entries happenings) moment there.holds.shows there.upholds
+    let there = kept_along Stood stood_on happenings [] (first_moment size count mtu obex names shelf inbox) moment runs (first_stood size count mtu obex names shelf inbox is) in
+    facts_of (all_entries happenings) moment there.holds.shows there.upholds

@@ -1,5 +1,5 @@
 -- A server goes on: nothing that it lets wait is a command.
-use Rattle.std.proofs.Common.{◌≡◌, ℕ, List, Option, Some, None, sym, subst}
+use Rattle.std.proofs.Common.{ℕ, List, Option, Some, None, sym, subst}
 use Rattle.h4_framing.specs.Packets.{Packet}
 use Rattle.capture.specs.Links.{Linking}
 use Rattle.host_link.specs.Lines.{Line}

@@ -1,13 +1,12 @@
 -- What is true of a world and its links at each moment of a run, and what follows for its capture.
-use Rattle.std.proofs.Common.{◌≡◌, ℕ, ◌+◌, ◌<◌, ◌≤◌, List, [], ◌∷◌, ◌++◌, length, Bool, true, false, cond, Option, Some, None, refl, sym, ap, subst, ◌∙◌, arith}
+use Rattle.std.proofs.Common.{◌≡◌, ℕ, ◌+◌, ◌<◌, ◌≤◌, List, length, Bool, true, false, refl, sym, ap, subst, ◌∙◌, arith}
 use Rattle.std.specs.Prelude.{is_some}
 use Rattle.h4_framing.specs.Packets.{Packet}
 use Rattle.push_script.specs.declared.word.Side.{Side}
 use Rattle.push_script.specs.declared.word.Side.TheVariants as sides
-use Rattle.push_script.specs.declared.outcome.Outcome.{Outcome}
 use Rattle.capture.specs.Entries.{Entry}
 use Rattle.capture.specs.Moves.{moves}
-use Rattle.capture.specs.Links.{Link, linking, links}
+use Rattle.capture.specs.Links.{linking, links}
 use Rattle.host_link.specs.declared.role.Role.TheVariants.{Client}
 use Rattle.host_link.specs.Lines.{Line}
 use Rattle.bt_host.specs.declared.stages.Stage.{Stage}
@@ -15,17 +14,16 @@ use Rattle.bt_host.specs.declared.stages.Stage.TheVariants.{Idle, ToPage, Paging
 use Rattle.bt_host.specs.Courses.{Course}
 use Rattle.bt_host.specs.Events.{is_idle}
 use Rattle.bt_host.specs.Servers.{Served, Kept}
-use Rattle.radio_air.specs.Controllers.{Controller}
-use Rattle.radio_air.specs.Radio.{Radio}
-use Rattle.radio_air.specs.Showing.{ShowsUp, Shows}
+use Rattle.radio_air.specs.Showing.{Shows}
 use Rattle.radio_air.proofs.Entering.{links-of}
-use Rattle.world_model.specs.Insides.{Inside, Shelved, Pushing, Serving, idles, came_of}
+use Rattle.world_model.specs.Insides.{Shelved, Pushing, Serving, idles, came_of}
 use Rattle.world_model.specs.Moments.{Moment}
+use Rattle.world_model.proofs.Hearing.{none_up}
 use Rattle.world_links.specs.LinkFacts.{since_begin, IsUnlinked, LinkFacts}
-use Rattle.world_links.proofs.Reaching.{Reach, AtRest, Due, Calling, Onward, reach, Clean}
+use Rattle.world_links.proofs.Reaching.{Reach, AtRest, Calling, Onward, reach, Clean}
 use Rattle.world_links.proofs.Ways.{on_way, HostAt}
 use Rattle.world_links.proofs.Pacing.{View, view}
-use Rattle.world_links.proofs.Keeping.{Order, order_of, FarStands, Pace, up_not}
+use Rattle.world_links.proofs.Keeping.{order_of, FarStands, Pace}
 use Rattle.world_links.proofs.Splitting.{IsSplit, split_many}
 
 abbrev pub is_onward : Reach → Bool
@@ -75,10 +73,6 @@ pub record Upholds (past : List Entry) (moment : Moment) : Type 0 where
   pub clean : Clean course.outcome
 
 -- ---- what follows
-
-pub none_up : (up : Option Link) (one : Controller) → one.up ≡ false → ShowsUp up one → up ≡ None
-none_up None one down shows = refl
-none_up (Some link) one down shows = let there = shows.0 in absurd cc
 
 pub untrue : (test : Bool) → (test ≡ true → ⊥) → test ≡ false
 untrue true not = absurd (not refl)

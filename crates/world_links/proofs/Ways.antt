@@ -1,5 +1,5 @@
 -- What is on its way from a host to its controller, and what stays of a host that puts out what it may.
-use Rattle.std.proofs.Common.{◌≡◌, ℕ, zero, suc, ◌+◌, ◌<◌, ◌≤◌, List, [], ◌∷◌, ◌++◌, length, drop, Bool, true, false, cond, eqb, Option, Some, None, refl, sym, ap, subst, ◌∙◌, arith, lt-ltb, inl, inr}
+use Rattle.std.proofs.Common.{◌≡◌, ℕ, zero, suc, ◌+◌, ◌<◌, ◌≤◌, List, [], ◌∷◌, ◌++◌, length, drop, Bool, false, cond, Option, Some, None, refl, sym, ap, subst, ◌∙◌, arith, lt-ltb, inl, inr}
 use Rattle.std.proofs.lemmas.Bool.{ltb-true, cases_Bool}
 use Rattle.std.specs.Prelude.{◌==◌, ◌&&◌, nat_lt}
 use Rattle.bt_base.specs.Octets.{IsOctets}
@@ -48,9 +48,10 @@ pub record Kin (pages accepts : ℕ) (said said' : List Packet) (old new : Line)
   pub role : new.role ≡ old.role
   pub asks : on_way 0x0405 said' new.commands.waiting ≡ on_way 0x0405 said old.commands.waiting + pages
   pub takes : on_way 0x0409 said' new.commands.waiting ≡ on_way 0x0409 said old.commands.waiting + accepts
+  pub scans : on_way 0x0C1A said old.commands.waiting ≤ on_way 0x0C1A said' new.commands.waiting
 
 pub kin_same : (said : List Packet) (line : Line) → Kin 0 0 said said line line
-kin_same said line = record { role = refl; asks = omega arith; takes = omega arith }
+kin_same said line = record { role = refl; asks = omega arith; takes = omega arith; scans = omega arith }
 
 pub kin_then : (p q p' q' : ℕ) (r s t : List Packet) (a b c : Line) → Kin p q r s a b → Kin p' q' s t b c → Kin (p + p') (q + q') r t a c
 kin_then p q p' q' r s t a b c first second =
@@ -58,13 +59,14 @@ kin_then p q p' q' r s t a b c first second =
     let takes = first.takes in
     let more_asks = second.asks in
     let more_takes = second.takes in
-    record { role = second.role ∙ first.role; asks = omega (arith, asks, more_asks); takes = omega (arith, takes, more_takes) }
+    record { role = second.role ∙ first.role; asks = omega (arith, asks, more_asks); takes = omega (arith, takes, more_takes); scans = let before = first.scans in let then = second.scans in omega (arith, before, then) }
 
-piece_kin : (said : List Packet) (line : Line) (handle : ℕ) (piece : Piece) (rest : List Piece) → Kin 0 0 said (said ++ piece_packet handle piece ∷ []) line (with_piece handle piece rest line)
+pub piece_kin : (said : List Packet) (line : Line) (handle : ℕ) (piece : Piece) (rest : List Piece) → Kin 0 0 said (said ++ piece_packet handle piece ∷ []) line (with_piece handle piece rest line)
 piece_kin said line handle piece rest = record {
   role = refl;
   asks = let more = number_of-append (has_opcode 0x0405) said (piece_packet handle piece ∷ []) in omega (arith, more);
   takes = let more = number_of-append (has_opcode 0x0409) said (piece_packet handle piece ∷ []) in omega (arith, more);
+  scans = let more = number_of-append (has_opcode 0x0C1A) said (piece_packet handle piece ∷ []) in omega (arith, more);
 }
 
 first_moves : (n : ℕ) (said : List Packet) (waiting : List HostCommand) (command : HostCommand) → first_of waiting ≡ Some command
@@ -75,11 +77,12 @@ first_moves n said (first ∷ rest) command is =
     let more = number_of-append (has_opcode n) said (command_packet command ∷ []) in
     subst (λ (c : HostCommand). on_way n (said ++ command_packet command ∷ []) rest ≡ on_way n said (c ∷ rest) + 0) (sym same) (omega (arith, more))
 
-command_kin : (said : List Packet) (line : Line) (command : HostCommand) → first_of line.commands.waiting ≡ Some command → Kin 0 0 said (said ++ command_packet command ∷ []) line (with_next (Some command) line)
+pub command_kin : (said : List Packet) (line : Line) (command : HostCommand) → first_of line.commands.waiting ≡ Some command → Kin 0 0 said (said ++ command_packet command ∷ []) line (with_next (Some command) line)
 command_kin said line command first = record {
   role = refl;
   asks = first_moves 0x0405 said line.commands.waiting command first;
   takes = first_moves 0x0409 said line.commands.waiting command first;
+  scans = let same = first_moves 0x0C1A said line.commands.waiting command first in omega (arith, same);
 }
 
 abbrev pub with_more : HostCommand → Flow → Flow
@@ -90,6 +93,7 @@ more_kin command said line = record {
   role = refl;
   asks = let all = number_of-append (λ command. opcode command == 0x0405) line.commands.waiting (command ∷ []) in omega (arith, all);
   takes = let all = number_of-append (λ command. opcode command == 0x0409) line.commands.waiting (command ∷ []) in omega (arith, all);
+  scans = let all = number_of-append (λ command. opcode command == 0x0C1A) line.commands.waiting (command ∷ []) in omega (arith, all);
 }
 
 -- a host after what moved led the links of the capture there, with these packets still to move
@@ -114,6 +118,29 @@ pub record Waits (command : HostCommand) (moved : Linking) (count : ℕ) (said :
   pub next : Next moved count pages accepts said line (with_flow (with_command command line.commands) line)
 
 module _ (moved : Linking) (count : ℕ) where
+  pub piece_host : (said : List Packet) (line : Line) (handle : ℕ) (piece : Piece) (rest : List Piece) → line.link ≡ Some handle → packets_of line.ledger.held < line.ledger.total → line.pieces ≡ piece ∷ rest
+      → HostAt moved count said line → HostAt moved count (said ++ piece_packet handle piece ∷ []) (with_piece handle piece rest line)
+  piece_host said line handle piece rest link room pieces host = record { own = after_move host.own (out_of (piece_packet handle piece)); keeps = keeps_piece moved host.own count said line handle piece rest link room pieces host.keeps }
+
+  pub command_host : (said : List Packet) (line : Line) (command : HostCommand) → next_command line.commands ≡ Some command → HostAt moved count said line
+      → HostAt moved count (said ++ command_packet command ∷ []) (with_next (Some command) line)
+  command_host said line command is host =
+      let addressed = first_addressed line.commands.waiting command (next_waits _ line.commands.waiting command is) host.keeps.bounded.commands in
+      record { own = after_move host.own (out_of (command_packet command)); keeps = keeps_command moved host.own count said line command addressed host.keeps }
+
+  pub flow_host : (command : HostCommand) (said : List Packet) (line : Line) → IsAddressed command → HostAt moved count said line → HostAt moved count said (with_flow (with_more command line.commands) line)
+  flow_host command said line is host = record {
+    own = host.own;
+    keeps = keeps_flow moved host.own count said (with_more command line.commands) line (all_both IsAddressed line.commands.waiting (command ∷ []) host.keeps.bounded.commands (is, tt)) host.keeps;
+  }
+
+  pub send_host : (handle : ℕ) (pdu : List ℕ) (said : List Packet) (line : Line) → IsOctets pdu → HostAt moved count said line → HostAt moved count said (with_pdu (Some handle) pdu line)
+  send_host handle pdu said line is host = record {
+    own = host.own;
+    keeps = keeps_pieces moved host.own count said (line.pieces ++ cut line.size First pdu) line
+        (all_both IsShort line.pieces (cut line.size First pdu) host.keeps.bounded.pieces (cut_short (length pdu) line.size First pdu host.keeps.bounded.sound.short is)) host.keeps;
+  }
+
   pub next_same : (said : List Packet) (line : Line) (host : HostAt moved count said line) → Next moved count 0 0 said line line
   next_same said line host = record { said' = said; host = host; link = refl; kin = kin_same said line }
 
@@ -126,7 +153,7 @@ module _ (moved : Linking) (count : ℕ) where
       → HostAt moved count said line → Next moved count 0 0 said line (with_piece handle piece rest line)
   piece_next said line handle piece rest link room pieces host = record {
     said' = said ++ piece_packet handle piece ∷ [];
-    host = record { own = after_move host.own (out_of (piece_packet handle piece)); keeps = keeps_piece moved host.own count said line handle piece rest link room pieces host.keeps };
+    host = piece_host said line handle piece rest link room pieces host;
     link = refl;
     kin = piece_kin said line handle piece rest;
   }
@@ -137,8 +164,8 @@ module _ (moved : Linking) (count : ℕ) where
   pieces_next handle (piece ∷ rest) said line link is host =
       chosen (Next moved count 0 0 said line) (has_room line && has_buffer line) (with_pieces handle rest (with_piece handle piece rest line)) line
       (λ may. let first = piece_next said line handle piece rest link (ltb-true (packets_of line.ledger.held) line.ledger.total (both_right (has_room line) (has_buffer line) may)) is host in
-          next_then 0 0 0 0 said line (with_piece handle piece rest line) (with_pieces handle rest (with_piece handle piece rest line)) first
-          (pieces_next handle rest first.said' (with_piece handle piece rest line) link refl first.host))
+      next_then 0 0 0 0 said line (with_piece handle piece rest line) (with_pieces handle rest (with_piece handle piece rest line)) first
+      (pieces_next handle rest first.said' (with_piece handle piece rest line) link refl first.host))
       (next_same said line host)
 
   on_link_next : (link : Option ℕ) (said : List Packet) (line : Line) → line.link ≡ link → HostAt moved count said line → Next moved count 0 0 said line (put_pieces_on link line)
@@ -149,10 +176,9 @@ module _ (moved : Linking) (count : ℕ) where
   command_next None said line is host = next_same said line host
   command_next (Some command) said line is host =
       let first = next_waits _ line.commands.waiting command is in
-      let addressed = first_addressed line.commands.waiting command first host.keeps.bounded.commands in
       record {
         said' = said ++ command_packet command ∷ [];
-        host = record { own = after_move host.own (out_of (command_packet command)); keeps = keeps_command moved host.own count said line command addressed host.keeps };
+        host = command_host said line command is host;
         link = refl;
         kin = command_kin said line command first;
       }
@@ -190,7 +216,7 @@ module _ (moved : Linking) (count : ℕ) where
               (sym (ap (λ (test : Bool). cond test (with_more command line.commands) line.commands) room_left))
               (record {
                 said' = said;
-                host = record { own = host.own; keeps = keeps_flow moved host.own count said (with_more command line.commands) line (all_both IsAddressed line.commands.waiting (command ∷ []) host.keeps.bounded.commands (is, tt)) host.keeps };
+                host = flow_host command said line is host;
                 link = refl;
                 kin = more_kin command said line;
               });
@@ -210,11 +236,7 @@ module _ (moved : Linking) (count : ℕ) where
   sends_next None pdu said line is host = next_same said line host
   sends_next (Some handle) pdu said line is host = record {
     said' = said;
-    host = record {
-      own = host.own;
-      keeps = keeps_pieces moved host.own count said (line.pieces ++ cut line.size First pdu) line
-          (all_both IsShort line.pieces (cut line.size First pdu) host.keeps.bounded.pieces (cut_short (length pdu) line.size First pdu host.keeps.bounded.sound.short is)) host.keeps;
-    };
+    host = send_host handle pdu said line is host;
     link = refl;
-    kin = record { role = refl; asks = omega arith; takes = omega arith };
+    kin = record { role = refl; asks = omega arith; takes = omega arith; scans = omega arith };
   }

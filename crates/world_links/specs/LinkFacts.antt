@@ -1,5 +1,5 @@
 -- What is true of the links of a world in each run from the beginning (this project's own).
-use Rattle.std.specs.Prelude.{ℕ, ◌≡◌, ◌≢◌, ◌≤◌, true, false, List, [], ◌∷◌, ◌++◌, length, fold, Option, Some, None, is_some}
+use Rattle.std.specs.Prelude.{ℕ, ◌≡◌, ◌≢◌, ◌≤◌, true, false, List, [], ◌∷◌, ◌++◌, length, fold, Some, None, is_some}
 use Rattle.push_script.specs.declared.word.Side.{Side}
 use Rattle.push_script.specs.declared.word.Side.TheVariants as sides
 use Rattle.push_script.specs.declared.outcome.Outcome.{Outcome}
