@@ -16,6 +16,7 @@ use Rattle.host_wire.specs.Sending.{sent_in_answer}
 use Rattle.push_talk.specs.Conversing.{Saying, Says}
 use Rattle.push_talk.specs.Speaking.{pdu_of, told}
 use Rattle.push_talk.specs.ClientTurns.{says_packet, answers_packet, unwelcome, response}
+use Rattle.push_talk.specs.ServerTurns as serving
 use Rattle.push_talk.specs.ServerTurns.{Turn, steps, behind, turn, ChannelTurns, SessionTurns, PushIsServed, IsReady, Replies}
 use Rattle.push_course.specs.Conversations.{Conversation, code_of}
 use Rattle.push_course.proofs.Owning.{own, IsBy, IsNext, next_is, none_next}
@@ -176,6 +177,17 @@ module _ (mtu maximum : ℕ) where
       rests = ap (λ (s : Served). s.session.progress) replies.served_is ∙ readied.rests;
     }
 
+    -- the session answers with success, and asks nothing of the inbox
+    agreed_to : (reply : PlainPacket) (one : Saying) → old.channel.stage ≡ stages.Open → serving.Agrees reply old noted inbox inbox' response' → NotesSo one (Some (pdu_of (answers_packet reply))) None None old.channel
+    agreed_to reply one stage agrees = record {
+      responds = agrees.responds;
+      noted_channel = old.channel;
+      noted_is = ap (λ (s : Served). s.channel) agrees.served_same;
+      taken = channels.rests old.channel stage;
+      maximum_is = ap (λ (s : Served). s.session.maximum) agrees.served_same ∙ readied.maximum_is;
+      rests = ap (λ (s : Served). s.session.progress) agrees.served_same ∙ readied.rests;
+    }
+
     ready : old.channel.peer ≡ own_endpoint → IsReady old
     ready peer = record { rests = readied.rests; peer = peer }
 
@@ -189,18 +201,11 @@ module _ (mtu maximum : ℕ) where
         let low : 255 ≤ maximum = let low = capable.low in omega (arith, low) in
         let room : 7 ≤ old.session.maximum = let same = readied.maximum_is in omega (arith, low, same) in
         by_saying Listening pdu one is
-        (elim (served_so.connects maximum old noted inbox inbox' response' low capable.high (ready peer) room (heard (connect_packet maximum) pdu stage is notes)) [
-          | inl replies ↦
-              moves_to (record decided { greets = Some true }) refl (λ c agrees. record { put = agrees.put; greets = told_none decided.greets _ greets; stores = agrees.stores; parts = agrees.parts })
-              Listening one refl (answers_packet (unwelcome 0xA0 maximum) ∷ []) (refl, tt) Welcoming
-              (λ c agrees. ap (λ b. one ∷ answers_packet (unwelcome (code_of b) maximum) ∷ greeted c.greets c) agrees.greets)
-              _ _ _ _ (replied _ _ _ one stage replies) (ap (λ n. pdu_of (answers_packet (unwelcome 0xA0 n)) ∷ []) readied.maximum_is) readied.mtu_is (stage, peer, refl, stores, parts)
-          | inr failed ↦
-              moves_to (record decided { greets = Some false }) refl (λ c agrees. record { put = agrees.put; greets = told_none decided.greets _ greets; stores = agrees.stores; parts = agrees.parts })
-              Listening one refl (answers_packet (unwelcome 0xD0 maximum) ∷ []) (refl, tt) Refusing
-              (λ c agrees. ap (λ b. one ∷ answers_packet (unwelcome (code_of b) maximum) ∷ greeted c.greets c) agrees.greets)
-              _ _ _ _ (replied _ _ _ one stage failed.1) (ap (λ n. pdu_of (answers_packet (unwelcome 0xD0 n)) ∷ []) readied.maximum_is) readied.mtu_is (stage, peer, refl)
-        ])
+        (moves_to (record decided { greets = Some true }) refl (λ c agrees. record { put = agrees.put; greets = told_none decided.greets _ greets; stores = agrees.stores; parts = agrees.parts })
+            Listening one refl (answers_packet (unwelcome 0xA0 maximum) ∷ []) (refl, tt) Welcoming
+            (λ c agrees. ap (λ b. one ∷ answers_packet (unwelcome (code_of b) maximum) ∷ greeted c.greets c) agrees.greets)
+            _ _ _ _ (agreed_to _ one stage (served_so.connects maximum old noted inbox inbox' response' low capable.high (ready peer) room (heard (connect_packet maximum) pdu stage is notes)))
+            (ap (λ n. pdu_of (answers_packet (unwelcome 0xA0 n)) ∷ []) readied.maximum_is) readied.mtu_is (stage, peer, refl, stores, parts))
 
     -- DISCONNECT
     parts_by : (place : ServerPlace) (b : Bool) → old.channel.stage ≡ stages.Open → old.channel.peer ≡ own_endpoint → decided.parts ≡ None
@@ -221,10 +226,8 @@ module _ (mtu maximum : ℕ) where
         let is : pdu ≡ pdu_of one = next_is sides.B one _ pdu (subst (λ rest. IsNext sides.B rest pdu) (tails some agreed) (next some agreed)) in
         let room : 3 ≤ old.session.maximum = let low = capable.low in let same = readied.maximum_is in omega (arith, low, same) in
         by_saying place pdu one is
-        (elim (served_so.disconnects old noted inbox inbox' response' (ready peer) room (heard disconnect_packet pdu stage is notes)) [
-          | inl replies ↦ parts_by place true stage peer free tails (replied _ _ _ one stage replies)
-          | inr failed ↦ parts_by place false stage peer free tails (replied _ _ _ one stage failed.1)
-        ])
+        (parts_by place true stage peer free tails
+            (agreed_to _ one stage (served_so.disconnects old noted inbox inbox' response' (ready peer) room (heard disconnect_packet pdu stage is notes))))
 
     -- ---- the object
 
