@@ -3,25 +3,18 @@ use Rattle.std.proofs.Common.{◌≡◌, ℕ, ◌≤◌, List, [], ◌∷◌, �
 use Rattle.std.specs.Prelude.{IfSome, option_to_list}
 use Rattle.std.specs.List.{AllByRecursion}
 use Rattle.std.proofs.lemmas.List.{append-nil}
-use Rattle.bt_base.specs.Streams.{gained, GainedFront}
-use Rattle.bt_base.proofs.PortLaws.{front_none, front_whole, gained-gained, gained-nil}
 use Rattle.push_script.specs.declared.scenario.Scenario.{Scenario}
-use Rattle.push_script.specs.declared.word.Word.{Word}
-use Rattle.capture.specs.Entries.{Entry, Ended, IsEntry, entry_octets, capture_octets}
+use Rattle.capture.specs.Entries.{Entry, Ended, IsEntry, capture_octets}
 use Rattle.capture.specs.Air.{words_of}
-use Rattle.bt_host.specs.Servers.{Kept, Served}
 use Rattle.bt_host.specs.ServerHosts.{ServerState}
-use Rattle.world_model.specs.Insides.{Inside, Serving}
 use Rattle.world_model.specs.Faces.{Face}
-use Rattle.world_model.specs.Moments.{Moment, with_pushes}
-use Rattle.world_model.specs.Ordering.{one_ended}
+use Rattle.world_model.specs.Moments.{Moment}
 use Rattle.world_model.specs.Happenings.{Plays, EndsScript, all_entries, all_words, last_outcome}
-use Rattle.radio_world.specs.Breaking.{IsDue, IsForB, Stops}
+use Rattle.radio_world.specs.Breaking.{IsDue}
 use Rattle.radio_world.specs.Unfinished.{KeepsAll, HappensShort}
 use Rattle.radio_world.specs.OwnHosts.{server_face}
 use Rattle.radio_world.specs.Worlds.{World, Happens, beginning, new_world}
 use Rattle.radio_world.specs.declared.fault.WorldFault.{WorldFault}
-use Rattle.radio_world.specs.declared.fault.WorldFault.TheVariants.{TraceFault}
 use Rattle.btpush.specs.Plays.{Stocked}
 use Rattle.btpush.specs.Short.{PlaysShort}
 use Rattle.radio_world.proofs.Breaking.{breaks_none}
