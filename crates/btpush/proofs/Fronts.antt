@@ -41,7 +41,8 @@ pub record Fronts (entries : List Entry) (due : Option Entry) (trace trace' : Op
   pub whole : HasWhole octets found
   pub found_are : (found ≡ entries) ⊎ (found ≡ entries ++ option_to_list due)
 
-last_is : (entries : List Entry) (entry : Entry) → AllByRecursion IsEntry (entries ++ entry ∷ []) → IsEntry entry
+-- the last of entries that can be written
+pub last_is : (entries : List Entry) (entry : Entry) → AllByRecursion IsEntry (entries ++ entry ∷ []) → IsEntry entry
 last_is [] entry all = all.0
 last_is (x ∷ xs) entry all = last_is xs entry all.1
 

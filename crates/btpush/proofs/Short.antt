@@ -1,5 +1,5 @@
 -- A run of a scenario that stopped.
-use Rattle.std.proofs.Common.{◌≡◌, ℕ, ◌≤◌, List, [], ◌∷◌, ◌++◌, Bool, true, false, Option, Some, None, refl, sym, ap, subst, ◌∙◌, ◌⊎◌, inl, inr}
+use Rattle.std.proofs.Common.{◌≡◌, ℕ, ◌≤◌, List, [], ◌++◌, Bool, true, false, Option, Some, None, refl, sym, ap, subst, ◌∙◌, ◌⊎◌, inl, inr}
 use Rattle.std.specs.Prelude.{IfSome, option_to_list}
 use Rattle.std.specs.List.{AllByRecursion}
 use Rattle.std.proofs.lemmas.List.{append-nil}
@@ -20,7 +20,7 @@ use Rattle.btpush.specs.Short.{PlaysShort}
 use Rattle.radio_world.proofs.Breaking.{breaks_none}
 use Rattle.radio_world.proofs.Going.{goes_none}
 use Rattle.radio_world.proofs.Unfinished.{start_short}
-use Rattle.btpush.proofs.Fronts.{Fronts, fronts_of, all_whole}
+use Rattle.btpush.proofs.Fronts.{Fronts, fronts_of, all_whole, last_is}
 
 keeps_found : (scenario : Scenario) (entries found : List Entry) (due : Option Entry) → KeepsAll scenario.acl_length scenario.acl_count (words_of scenario.script) entries
     → KeepsAll scenario.acl_length scenario.acl_count (words_of scenario.script) (entries ++ option_to_list due) → (found ≡ entries) ⊎ (found ≡ entries ++ option_to_list due)
@@ -53,10 +53,6 @@ plays_short fault scenario server stock stock' trace trace' short =
 
 -- ---- a run that was whole, but of which there was no memory to tell
 
-last_ones : (entries : List Entry) (entry : Entry) → AllByRecursion IsEntry (entries ++ entry ∷ []) → IsEntry entry
-last_ones [] entry all = all.0
-last_ones (x ∷ xs) entry all = last_ones xs entry all.1
-
 -- the end of the script, as something that was due
 record IsEnd (before last : Moment) (past ended : List Entry) : Type 0 where
   due : Option Entry
@@ -67,7 +63,7 @@ record IsEnd (before last : Moment) (past ended : List Entry) : Type 0 where
 end_is : (going : Bool) (before last : Moment) (past ended : List Entry) → before.scene.pushes.going ≡ going → EndsScript going before last ended → AllByRecursion IsEntry (past ++ ended) → IsEnd before last past ended
 end_is true before last past ended is ends all =
     let entry : Entry = Ended before.scene.pushes.begun (last_outcome before) in
-    let fits : IsEntry entry = last_ones past entry (subst (λ xs. AllByRecursion IsEntry (past ++ xs)) ends.0 all) in
+    let fits : IsEntry entry = last_is past entry (subst (λ xs. AllByRecursion IsEntry (past ++ xs)) ends.0 all) in
     record { due = Some entry; is_due = (is, refl, fits.0, fits.1, refl); ended_is = ends.0; b = ap (λ (m : Moment). m.b) ends.1 }
 end_is false before last past ended is ends all = record { due = None; is_due = tt; ended_is = ends.0; b = ap (λ (m : Moment). m.b) ends.1 }
 
