@@ -1,5 +1,5 @@
 -- What stands whole at the front of a capture that was cut off.
-use Rattle.std.proofs.Common.{◌≡◌, ℕ, suc, ◌+◌, ◌≤◌, ◌<◌, List, [], ◌∷◌, ◌++◌, length, take, drop, Option, Some, None, refl, sym, ap, subst, ◌∙◌, arith, ◌⊎◌, inl, inr}
+use Rattle.std.proofs.Common.{◌≡◌, ℕ, ◌<◌, List, [], ◌∷◌, ◌++◌, length, take, drop, Option, Some, None, refl, sym, ap, ◌∙◌, arith, ◌⊎◌, inl, inr}
 use Rattle.std.specs.Prelude.{option_to_list}
 use Rattle.std.specs.List.{AllByRecursion}
 use Rattle.std.proofs.lemmas.Bool.{cases_lt}
@@ -41,7 +41,8 @@ pub record Fronts (entries : List Entry) (due : Option Entry) (trace trace' : Op
   pub whole : HasWhole octets found
   pub found_are : (found ≡ entries) ⊎ (found ≡ entries ++ option_to_list due)
 
-last_is : (entries : List Entry) (entry : Entry) → AllByRecursion IsEntry (entries ++ entry ∷ []) → IsEntry entry
+-- the last of entries that can be written
+pub last_is : (entries : List Entry) (entry : Entry) → AllByRecursion IsEntry (entries ++ entry ∷ []) → IsEntry entry
 last_is [] entry all = all.0
 last_is (x ∷ xs) entry all = last_is xs entry all.1
 
@@ -52,19 +53,19 @@ fronts_one entries entry n trace trace' each all gains =
     gains ∙ ap (λ xs. gained (gained trace (capture_octets entries)) (take n xs)) (append-nil (entry_octets entry)) ∙ gained-gained trace (capture_octets entries) (take n (entry_octets entry)) in
     elim (cases_lt n (length (entry_octets entry))) [
       | inl few ↦ record {
-          octets = capture_octets entries ++ take n (entry_octets entry);
-          written = one;
-          found = entries;
-          whole = cut_whole entries entry n each (last_is entries entry all) few;
-          found_are = inl refl;
-        }
+        octets = capture_octets entries ++ take n (entry_octets entry);
+        written = one;
+        found = entries;
+        whole = cut_whole entries entry n each (last_is entries entry all) few;
+        found_are = inl refl;
+      }
       | inr enough ↦ record {
-          octets = capture_octets (entries ++ entry ∷ []);
-          written = one ∙ ap (λ xs. gained trace (capture_octets entries ++ xs)) (take_all n (entry_octets entry) enough ∙ sym (append-nil (entry_octets entry))) ∙ ap (gained trace) (sym (octets-in_parts entries (entry ∷ [])));
-          found = entries ++ entry ∷ [];
-          whole = all_whole (entries ++ entry ∷ []) all;
-          found_are = inr refl;
-        }
+        octets = capture_octets (entries ++ entry ∷ []);
+        written = one ∙ ap (λ xs. gained trace (capture_octets entries ++ xs)) (take_all n (entry_octets entry) enough ∙ sym (append-nil (entry_octets entry))) ∙ ap (gained trace) (sym (octets-in_parts entries (entry ∷ [])));
+        found = entries ++ entry ∷ [];
+        whole = all_whole (entries ++ entry ∷ []) all;
+        found_are = inr refl;
+      }
     ]
 
 nothing_taken : (n : ℕ) → take {A = ℕ} n [] ≡ []

@@ -1,33 +1,26 @@
 -- A run of a scenario that stopped.
-use Rattle.std.proofs.Common.{◌≡◌, ℕ, ◌≤◌, List, [], ◌∷◌, ◌++◌, Bool, true, false, Option, Some, None, refl, sym, ap, subst, ◌∙◌, ◌⊎◌, inl, inr}
+use Rattle.std.proofs.Common.{◌≡◌, ℕ, ◌≤◌, List, [], ◌++◌, Bool, true, false, Option, Some, None, refl, sym, ap, subst, ◌∙◌, ◌⊎◌, inl, inr}
 use Rattle.std.specs.Prelude.{IfSome, option_to_list}
 use Rattle.std.specs.List.{AllByRecursion}
 use Rattle.std.proofs.lemmas.List.{append-nil}
-use Rattle.bt_base.specs.Streams.{gained, GainedFront}
-use Rattle.bt_base.proofs.PortLaws.{front_none, front_whole, gained-gained, gained-nil}
 use Rattle.push_script.specs.declared.scenario.Scenario.{Scenario}
-use Rattle.push_script.specs.declared.word.Word.{Word}
-use Rattle.capture.specs.Entries.{Entry, Ended, IsEntry, entry_octets, capture_octets}
+use Rattle.capture.specs.Entries.{Entry, Ended, IsEntry, capture_octets}
 use Rattle.capture.specs.Air.{words_of}
-use Rattle.bt_host.specs.Servers.{Kept, Served}
 use Rattle.bt_host.specs.ServerHosts.{ServerState}
-use Rattle.world_model.specs.Insides.{Inside, Serving}
 use Rattle.world_model.specs.Faces.{Face}
-use Rattle.world_model.specs.Moments.{Moment, with_pushes}
-use Rattle.world_model.specs.Ordering.{one_ended}
+use Rattle.world_model.specs.Moments.{Moment}
 use Rattle.world_model.specs.Happenings.{Plays, EndsScript, all_entries, all_words, last_outcome}
-use Rattle.radio_world.specs.Breaking.{IsDue, IsForB, Stops}
+use Rattle.radio_world.specs.Breaking.{IsDue}
 use Rattle.radio_world.specs.Unfinished.{KeepsAll, HappensShort}
 use Rattle.radio_world.specs.OwnHosts.{server_face}
 use Rattle.radio_world.specs.Worlds.{World, Happens, beginning, new_world}
 use Rattle.radio_world.specs.declared.fault.WorldFault.{WorldFault}
-use Rattle.radio_world.specs.declared.fault.WorldFault.TheVariants.{TraceFault}
 use Rattle.btpush.specs.Plays.{Stocked}
 use Rattle.btpush.specs.Short.{PlaysShort}
 use Rattle.radio_world.proofs.Breaking.{breaks_none}
 use Rattle.radio_world.proofs.Going.{goes_none}
 use Rattle.radio_world.proofs.Unfinished.{start_short}
-use Rattle.btpush.proofs.Fronts.{Fronts, fronts_of, all_whole}
+use Rattle.btpush.proofs.Fronts.{Fronts, fronts_of, all_whole, last_is}
 
 keeps_found : (scenario : Scenario) (entries found : List Entry) (due : Option Entry) → KeepsAll scenario.acl_length scenario.acl_count (words_of scenario.script) entries
     → KeepsAll scenario.acl_length scenario.acl_count (words_of scenario.script) (entries ++ option_to_list due) → (found ≡ entries) ⊎ (found ≡ entries ++ option_to_list due)
@@ -60,10 +53,6 @@ plays_short fault scenario server stock stock' trace trace' short =
 
 -- ---- a run that was whole, but of which there was no memory to tell
 
-last_ones : (entries : List Entry) (entry : Entry) → AllByRecursion IsEntry (entries ++ entry ∷ []) → IsEntry entry
-last_ones [] entry all = all.0
-last_ones (x ∷ xs) entry all = last_ones xs entry all.1
-
 -- the end of the script, as something that was due
 record IsEnd (before last : Moment) (past ended : List Entry) : Type 0 where
   due : Option Entry
@@ -74,7 +63,7 @@ record IsEnd (before last : Moment) (past ended : List Entry) : Type 0 where
 end_is : (going : Bool) (before last : Moment) (past ended : List Entry) → before.scene.pushes.going ≡ going → EndsScript going before last ended → AllByRecursion IsEntry (past ++ ended) → IsEnd before last past ended
 end_is true before last past ended is ends all =
     let entry : Entry = Ended before.scene.pushes.begun (last_outcome before) in
-    let fits : IsEntry entry = last_ones past entry (subst (λ xs. AllByRecursion IsEntry (past ++ xs)) ends.0 all) in
+    let fits : IsEntry entry = last_is past entry (subst (λ xs. AllByRecursion IsEntry (past ++ xs)) ends.0 all) in
     record { due = Some entry; is_due = (is, refl, fits.0, fits.1, refl); ended_is = ends.0; b = ap (λ (m : Moment). m.b) ends.1 }
 end_is false before last past ended is ends all = record { due = None; is_due = tt; ended_is = ends.0; b = ap (λ (m : Moment). m.b) ends.1 }
 

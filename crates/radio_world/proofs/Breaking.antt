@@ -1,16 +1,15 @@
 -- What was due where a run broke off, and the steps before it.
-use Rattle.std.proofs.Common.{◌≡◌, ◌≢◌, ℕ, ◌+◌, ◌^◌, ◌<◌, true, List, [], ◌∷◌, ◌++◌, Option, Some, None, refl, sym, ap, subst, ◌∙◌, inl, inr, ◌⊎◌, Result, Ok, Err}
-use Rattle.std.specs.Prelude.{IfSome, IfErr, IsErrAnd, option_to_list}
+use Rattle.std.proofs.Common.{◌≡◌, ℕ, ◌+◌, ◌^◌, ◌<◌, true, List, [], ◌∷◌, ◌++◌, Option, Some, None, refl, sym, subst, inl, inr, ◌⊎◌, Result, Ok, Err}
+use Rattle.std.specs.Prelude.{IfErr, IsErrAnd}
 use Rattle.std.proofs.lemmas.List.{append-nil}
-use Rattle.bt_base.specs.Streams.{gained, GainedFront}
-use Rattle.bt_base.proofs.PortLaws.{front_none, front_whole}
+use Rattle.bt_base.specs.Streams.{GainedFront}
+use Rattle.bt_base.proofs.PortLaws.{front_none}
 use Rattle.h4_framing.specs.Packets.{Packet, spelling, IsPacket}
-use Rattle.push_script.specs.declared.outcome.Outcome.{Outcome}
 use Rattle.push_script.specs.declared.word.Side.{Side}
 use Rattle.push_script.specs.declared.word.Side.TheVariants as sides
 use Rattle.push_script.specs.declared.word.Word.{Word}
 use Rattle.capture.specs.declared.flow.Flow.TheVariants.{Out, Into}
-use Rattle.capture.specs.Entries.{Entry, Moved, Begun, Ended, entry_octets, capture_octets}
+use Rattle.capture.specs.Entries.{Entry, Moved, Begun, entry_octets, capture_octets}
 use Rattle.radio_air.specs.Controllers.{Answer, packet_of}
 use Rattle.radio_air.specs.Radio.{controller}
 use Rattle.world_model.specs.Insides.{idles}
@@ -23,7 +22,7 @@ use Rattle.world_model.specs.Moments.{Moment}
 use Rattle.radio_world.specs.Running.{moment, in_medium}
 use Rattle.radio_world.specs.Extending.{Extends}
 use Rattle.radio_world.specs.Going.{Goes}
-use Rattle.radio_world.specs.Breaking.{IsDue, IsForB, Stops, MovesShort, Breaks}
+use Rattle.radio_world.specs.Breaking.{IsDue, Stops, MovesShort, Breaks}
 use Rattle.radio_world.specs.declared.fault.WorldFault.{WorldFault}
 use Rattle.radio_world.specs.declared.fault.WorldFault.TheVariants.{TraceFault}
 use Rattle.radio_world.proofs.Extending.{extends_none, extends_then}

@@ -6,18 +6,15 @@ use Rattle.h4_framing.specs.Packets.{Packet, spelling, IsPacket}
 use Rattle.push_script.specs.declared.word.Side.{Side}
 use Rattle.push_script.specs.declared.word.Side.TheVariants as sides
 use Rattle.push_script.specs.declared.word.Word.{Word}
-use Rattle.capture.specs.Histories.{EachAfter}
 use Rattle.capture.specs.declared.flow.Flow.TheVariants.{Out, Into}
 use Rattle.capture.specs.Entries.{Entry, Moved, Begun, Ended, Acted}
-use Rattle.capture.specs.Buffers.{KeepsWithin, all_outstanding}
-use Rattle.capture.specs.Air.{KeepsTo}
+use Rattle.capture.specs.Buffers.{all_outstanding}
 use Rattle.host_link.specs.Hearing.{heard}
 use Rattle.host_link.specs.PuttingOut.{put_out}
 use Rattle.radio_air.specs.Controllers.{Answer, packet_of}
 use Rattle.radio_air.specs.Radio.{controller, after_answer}
 use Rattle.radio_air.proofs.Coming.{shows-answer}
 use Rattle.radio_air.proofs.Sizing.{sizes-stay}
-use Rattle.world_model.specs.Acting as acting
 use Rattle.world_model.specs.Faces.{Face}
 use Rattle.world_model.specs.Hearing.{acl_limit}
 use Rattle.world_model.specs.Media.{Medium, in_radio, after_moving, face_a, face_b}

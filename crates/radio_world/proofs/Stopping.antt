@@ -1,17 +1,16 @@
 -- Words that were turned before a run broke off, and the end of a script.
-use Rattle.std.proofs.Common.{◌≡◌, ℕ, ◌+◌, ◌-◌, ◌^◌, ◌<◌, true, false, List, [], ◌∷◌, ◌++◌, take, drop, replicate, Option, Some, None, refl, sym, ap, subst, ◌∙◌, append_assoc, arith}
-use Rattle.std.specs.Prelude.{IfSome, option_to_list, unwrap_or}
-use Rattle.std.proofs.lemmas.List.{append-nil, replicate-append-replicate, take-append-drop}
+use Rattle.std.proofs.Common.{◌≡◌, ℕ, ◌+◌, ◌-◌, ◌^◌, ◌<◌, true, List, [], ◌∷◌, ◌++◌, take, drop, replicate, Option, Some, None, refl, sym, ap, subst, ◌∙◌, append_assoc, arith}
+use Rattle.std.specs.Prelude.{IfSome, unwrap_or}
+use Rattle.std.proofs.lemmas.List.{replicate-append-replicate, take-append-drop}
 use Rattle.std.proofs.lemmas.Grind.{flat_map-append}
 use Rattle.bt_base.specs.Streams.{gained, GainedFront}
 use Rattle.push_script.specs.declared.outcome.Outcome.{Outcome}
 use Rattle.push_script.specs.declared.outcome.Outcome.TheVariants.{ScriptEnded}
-use Rattle.push_script.specs.declared.word.Side.{Side}
 use Rattle.push_script.specs.declared.word.Word.{Word}
 use Rattle.capture.specs.declared.flow.Flow.TheVariants.{Out, Into}
 use Rattle.capture.specs.Entries.{Entry, Moved, Begun, Ended, Acted, entry_octets}
 use Rattle.capture.specs.Air.{words_of}
-use Rattle.world_model.specs.Insides.{idles, came_of}
+use Rattle.world_model.specs.Insides.{came_of}
 use Rattle.world_model.specs.Faces.{Face}
 use Rattle.world_model.specs.Media.{Medium}
 use Rattle.world_model.specs.Acting.{Acts}
@@ -20,7 +19,7 @@ use Rattle.world_model.specs.Scenes.{Scene}
 use Rattle.world_model.specs.Moments.{Moment, IsAtRest}
 use Rattle.radio_world.specs.Running.{moment}
 use Rattle.radio_world.specs.Going.{Turns}
-use Rattle.radio_world.specs.Breaking.{IsDue, IsForB, Stops, Breaks, TurnsShort, EndsShort, FinishesShort}
+use Rattle.radio_world.specs.Breaking.{IsDue, Stops, Breaks, TurnsShort, EndsShort, FinishesShort}
 use Rattle.radio_world.specs.declared.fault.WorldFault.{WorldFault}
 use Rattle.radio_world.proofs.Turned.{scene_of, turns_none, turns_then, turns_to_act}
 use Rattle.radio_world.proofs.Breaking.{stops_none, stops_at, breaks_now}

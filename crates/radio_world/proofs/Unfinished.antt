@@ -1,6 +1,6 @@
 -- A run of a scenario that broke off.
 use Rattle.std.specs.Prelude.{option_to_list}
-use Rattle.std.proofs.Common.{◌≡◌, ℕ, ◌+◌, ◌≤◌, List, [], ◌++◌, length, drop, Option, Some, refl, sym, ap, subst, ◌∙◌, append_assoc, inl, inr}
+use Rattle.std.proofs.Common.{◌≡◌, ℕ, ◌≤◌, List, [], ◌++◌, drop, Option, refl, sym, ap, subst, ◌∙◌, inl, inr}
 use Rattle.std.proofs.lemmas.List.{append-nil}
 use Rattle.bt_base.specs.Streams.{gained, GainedFront}
 use Rattle.bt_base.proofs.PortLaws.{gained-gained}
@@ -17,15 +17,14 @@ use Rattle.world_model.specs.Media.{Medium}
 use Rattle.world_model.specs.Standing.{Stands, IdleSince}
 use Rattle.world_model.specs.Scenes.{Scene}
 use Rattle.world_model.specs.Moments.{Moment}
-use Rattle.world_model.specs.Happenings.{Runs, all_entries, all_words}
+use Rattle.world_model.specs.Happenings.{all_entries}
 use Rattle.world_model.proofs.Beginning.{stands_at_first}
 use Rattle.world_model.proofs.Turning.{idle_at, done_more}
 use Rattle.radio_world.specs.Running.{IsRun, moment}
 use Rattle.radio_world.specs.Going.{Goes, Turns}
 use Rattle.radio_world.specs.Breaking.{Stops, Breaks, TurnsShort}
 use Rattle.radio_world.specs.Unfinished.{KeepsAll, HappensShort}
-use Rattle.radio_world.specs.Worlds.{World, new_world, beginning}
-use Rattle.radio_world.specs.OwnHosts.{client_face, server_face}
+use Rattle.radio_world.specs.Worlds.{beginning}
 use Rattle.radio_world.specs.declared.fault.WorldFault.{WorldFault}
 use Rattle.radio_world.proofs.Running.{run_then}
 use Rattle.radio_world.proofs.Turned.{rest_of}

@@ -1,5 +1,5 @@
 -- Where a run broke off: what was due then, and how much of it the capture says (this project's own).
-use Rattle.std.specs.Prelude.{ℕ, ◌+◌, ◌^◌, ◌≡◌, ◌<◌, ◌⊎◌, true, List, [], ◌∷◌, ◌++◌, Option, Some, None, IfSome, option_to_list}
+use Rattle.std.specs.Prelude.{ℕ, ◌+◌, ◌^◌, ◌≡◌, ◌<◌, ◌⊎◌, true, List, [], ◌∷◌, ◌++◌, Option, Some, IfSome, option_to_list}
 use Rattle.bt_base.specs.Streams.{GainedFront}
 use Rattle.h4_framing.specs.Packets.{spelling, IsPacket}
 use Rattle.push_script.specs.declared.outcome.Outcome.{Outcome}
