@@ -114,7 +114,7 @@ course_closes names past push outcome old new closing facts facts' (inr during) 
 
 -- ---- whatever happens
 
-pushes_of_face : (side : Side) (face : Face) (moment : Moment) → (with_face side face moment).scene.pushes ≡ moment.scene.pushes
+pub pushes_of_face : (side : Side) (face : Face) (moment : Moment) → (with_face side face moment).scene.pushes ≡ moment.scene.pushes
 pushes_of_face sides.A face moment = refl
 pushes_of_face sides.B face moment = refl
 

@@ -1,2 +1,5 @@
 pub mod Telling
 pub mod Apart
+pub mod Tallying
+pub mod Ending
+pub mod Keeping
