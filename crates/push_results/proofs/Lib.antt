@@ -3,3 +3,5 @@ pub mod Apart
 pub mod Tallying
 pub mod Ending
 pub mod Keeping
+pub mod Marking
+pub mod Numbering
