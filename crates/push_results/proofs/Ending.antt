@@ -1,5 +1,5 @@
 -- What came of the pushes that ended, after a capture, and of one more that ends.
-use Rattle.std.proofs.Common.{◌≡◌, inl, inr, ℕ, ◌+◌, ◌-◌, ◌≤◌, List, [], ◌∷◌, ◌++◌, length, map, Bool, true, false, Option, Some, None, refl, sym, ap, subst, ◌∙◌, arith}
+use Rattle.std.proofs.Common.{◌≡◌, inl, inr, ℕ, ◌+◌, ◌-◌, ◌≤◌, List, [], ◌∷◌, ◌++◌, length, map, Bool, true, Option, Some, None, sym, ap, subst, ◌∙◌, arith}
 use Rattle.std.specs.Prelude.{slice_get, unwrap_or, IfSome}
 use Rattle.std.specs.List.{filter_map, AllByRecursion}
 use Rattle.std.proofs.lemmas.List.{map-append, length-map}
@@ -10,7 +10,7 @@ use Rattle.push_script.specs.declared.outcome.Outcome.TheVariants.{ScriptEnded}
 use Rattle.capture.specs.Entries.{Entry, Ended}
 use Rattle.capture.specs.Pushes.{mark_of}
 use Rattle.capture.specs.Spelled.{objects_heard}
-use Rattle.capture.specs.Results.{Ends, MayStand, IsReported, IsPushed}
+use Rattle.capture.specs.Results.{MayStand, IsReported, IsPushed}
 use Rattle.bt_host.specs.Servers.{Kept}
 use Rattle.world_model.specs.Insides.{Inside, Pushing, Serving, came_of}
 use Rattle.world_model.specs.Moments.{Moment}

@@ -1,32 +1,26 @@
 -- Along a run it is known what came of the pushes that ended.
-use Rattle.std.proofs.Common.{◌≡◌, ◌⊎◌, inl, inr, ℕ, ◌+◌, ◌-◌, List, [], ◌∷◌, ◌++◌, length, length-append, Bool, true, false, cond, Option, Some, None, refl, sym, ap, subst, ◌∙◌, append_assoc, arith}
+use Rattle.std.proofs.Common.{◌≡◌, ◌⊎◌, inl, inr, ℕ, ◌+◌, ◌-◌, List, [], ◌∷◌, ◌++◌, length, length-append, Bool, false, cond, Option, Some, None, refl, sym, ap, subst, ◌∙◌, append_assoc, arith}
 use Rattle.std.specs.Prelude.{slice_get, unwrap_or}
 use Rattle.std.specs.List.{filter_map, list_any}
-use Rattle.std.proofs.lemmas.List.{append-nil, flat_map_more}
+use Rattle.std.proofs.lemmas.List.{flat_map_more}
 use Rattle.std.proofs.lemmas.List.Elements.{filter_map-append}
 use Rattle.bt_base.specs.Objects.{Object}
-use Rattle.push_script.specs.declared.word.Side.{Side}
-use Rattle.push_script.specs.declared.word.Side.TheVariants as sides
 use Rattle.push_script.specs.declared.outcome.Outcome.{Outcome}
 use Rattle.push_script.specs.declared.outcome.Outcome.TheVariants.{ScriptEnded}
 use Rattle.capture.specs.Entries.{Entry, Moved, Acted, Begun, Ended}
 use Rattle.capture.specs.Pushes.{Mark, mark_of, is_begin, is_end}
 use Rattle.bt_host.specs.Servers.{Kept}
-use Rattle.world_model.specs.Faces.{Face}
 use Rattle.world_model.specs.Insides.{Inside}
-use Rattle.world_model.specs.Ordering.{Pushes, no_pushes, one_begun, one_ended}
-use Rattle.world_model.specs.Moments.{Moment, with_face}
-use Rattle.world_model.specs.Happenings.{Happening, Departure, Arrival, GivingBack, Opening, Closing, Deed, Miss, Does, Runs, Opens, Closes, entries_of, all_entries}
+use Rattle.world_model.specs.Ordering.{Pushes, one_begun, one_ended}
+use Rattle.world_model.specs.Moments.{Moment}
+use Rattle.world_model.specs.Happenings.{Happening, Departure, Arrival, GivingBack, Opening, Closing, Deed, Miss, Does, Opens, Closes, entries_of, all_entries}
 use Rattle.world_model.specs.Holding.{Holds}
-use Rattle.world_model.proofs.Holding.{kept_along}
 use Rattle.world_links.specs.LinkFacts.{LinkFacts}
-use Rattle.push_order.proofs.Lists.{none_both, or_none}
+use Rattle.push_order.proofs.Lists.{none_both}
 use Rattle.push_order.proofs.Parts.{IsOpen, opens_part}
-use Rattle.push_order.proofs.Courses.{Told, Between, During}
-use Rattle.push_order.proofs.Following.{Course, Reached, FactsFrom, reached_more, runs_more, none_goes, follows, pushes_of_face}
-use Rattle.push_results.proofs.Telling.{HasInbox}
+use Rattle.push_order.proofs.Following.{Course, Reached, runs_more, none_goes, pushes_of_face}
 use Rattle.push_results.proofs.Apart.{stays_apart}
-use Rattle.push_results.proofs.Tallying.{Tallies, tallies_none}
+use Rattle.push_results.proofs.Tallying.{Tallies}
 use Rattle.push_results.proofs.Ending.{AllCame, all_more, ComesFrom, Underway, all_ended}
 
 -- no push goes on
@@ -169,7 +163,7 @@ module _ (shelf : Option (List Object)) (names : List (List ℕ)) (inbox : Kept)
       }))
 
   -- whatever happens
-  state_on : (past : List Entry) (happening : Happening) (old new : Moment) → ComesFrom shelf first → Does happening old new → Holds past old → LinkFacts past old → Reached first past old → Course names past old.scene.pushes
+  pub state_on : (past : List Entry) (happening : Happening) (old new : Moment) → ComesFrom shelf first → Does happening old new → Holds past old → LinkFacts past old → Reached first past old → Course names past old.scene.pushes
       → State shelf names inbox first past old → State shelf names inbox first (past ++ entries_of happening) new
   state_on past (Departure side packet) old new from does holds facts reached course state =
       state_still past (Departure side packet) old new does holds facts refl (ap (λ (m : Moment). m.scene.pushes) does.new_is ∙ pushes_of_face side _ _) state

@@ -5,3 +5,5 @@ pub mod Ending
 pub mod Keeping
 pub mod Marking
 pub mod Numbering
+pub mod Gathering
+pub mod Finishing

@@ -5,7 +5,7 @@ use Rattle.std.proofs.lemmas.List.{append-nil, length-map}
 use Rattle.std.proofs.lemmas.Grind.{flat_map-append}
 use Rattle.bt_base.specs.Objects.{Object}
 use Rattle.capture.specs.Results.{marked, stored_of}
-use Rattle.push_results.proofs.Tallying.{Came, stored_in, objects_in, gain_in, marks_for, marks_in, Comes, EachComes}
+use Rattle.push_results.proofs.Tallying.{Came, stored_in, objects_in, gain_in, marks_for, marks_in, EachComes}
 
 -- ---- lists of lists
 

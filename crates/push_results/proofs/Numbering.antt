@@ -1,10 +1,9 @@
 -- What is told of each push by its number, from what came of those that ended; the others have no part.
-use Rattle.std.proofs.Common.{◌≡◌, ℕ, zero, suc, ◌+◌, ◌-◌, ◌≤◌, List, [], ◌∷◌, ◌++◌, length, length-append, append_assoc, map, replicate, Bool, true, false, cond, Option, Some, None, refl, sym, ap, ap₂, subst, inl, ◌∙◌, arith}
+use Rattle.std.proofs.Common.{◌≡◌, ℕ, zero, suc, ◌+◌, ◌-◌, ◌≤◌, List, [], ◌∷◌, ◌++◌, length, length-append, append_assoc, map, replicate, Bool, false, cond, Option, Some, None, refl, sym, ap, ap₂, subst, inl, ◌∙◌, arith}
 use Rattle.std.specs.Prelude.{not, slice_get, IfSome}
 use Rattle.std.specs.List.{list_any, take_while, AllByRecursion}
 use Rattle.bt_base.specs.Objects.{Object}
 use Rattle.push_script.specs.declared.word.Side.TheVariants as sides
-use Rattle.push_script.specs.declared.outcome.Outcome.{Outcome}
 use Rattle.push_script.specs.declared.outcome.Outcome.TheVariants.{ScriptEnded}
 use Rattle.capture.specs.Entries.{Entry}
 use Rattle.capture.specs.Spelled.{objects_heard}
@@ -61,11 +60,10 @@ none_end push (suc count) entries none =
 pub each_end : (shelf : Option (List Object)) (names : List (List ℕ)) (push : ℕ) (cames : List Came) (count : ℕ) (entries : List Entry) → AreParts push (map body_of cames) entries → EachComes shelf names push cames
     → NoneFrom (push + length cames) entries → EachEnds entries push (map outcome_of cames ++ replicate count ScriptEnded) (map stored_in cames ++ replicate count false)
 each_end shelf names push [] count entries parts each none = none_end push count entries (λ other more. none other (omega (arith, more)))
-each_end shelf names push (came ∷ cames) count entries parts each none =
-    (
-      subst (λ (part : List Entry). Ends part came.outcome came.stored) (sym (part_is push came.body entries parts.0)) each.0.ends,
-      each_end shelf names (push + 1) cames count entries parts.1 each.1 (λ other more. none other (omega (arith, more)))
-    )
+each_end shelf names push (came ∷ cames) count entries parts each none = (
+  subst (λ (part : List Entry). Ends part came.outcome came.stored) (sym (part_is push came.body entries parts.0)) each.0.ends,
+  each_end shelf names (push + 1) cames count entries parts.1 each.1 (λ other more. none other (omega (arith, more))),
+)
 
 -- ---- whose objects they are
 
@@ -78,18 +76,16 @@ each_pushed : (objects : List Object) (front rest : List (List ℕ)) (push : ℕ
     → AreParts push (map body_of cames) entries → NoneFrom (push + length cames) entries → EachPushed objects entries push rest
 each_pushed objects front [] push cames entries is each parts none = tt
 each_pushed objects front (name ∷ names) push [] entries is each parts none =
-    let longer = length-append front (name ∷ []) in
-    (
+    let longer = length-append front (name ∷ []) in (
       subst (λ (part : List Entry). AllByRecursion (IsPushed objects name) (objects_heard sides.B part)) (sym (part_none push entries (none push (omega arith)))) tt,
-      each_pushed objects (front ++ name ∷ []) names (push + 1) [] entries (omega (arith, is, longer)) tt tt (λ other more. none other (omega (arith, more)))
+      each_pushed objects (front ++ name ∷ []) names (push + 1) [] entries (omega (arith, is, longer)) tt tt (λ other more. none other (omega (arith, more))),
     )
 each_pushed objects front (name ∷ names) push (came ∷ cames) entries is each parts none =
-    let longer = length-append front (name ∷ []) in
-    (
+    let longer = length-append front (name ∷ []) in (
       subst (λ (part : List Entry). AllByRecursion (IsPushed objects name) (objects_heard sides.B part)) (sym (part_is push came.body entries parts.0))
-      (each.0.pushed name (slice_get_behind front name names (push - 1) (omega (arith, is)))),
+          (each.0.pushed name (slice_get_behind front name names (push - 1) (omega (arith, is)))),
       each_pushed objects (front ++ name ∷ []) names (push + 1) cames entries (omega (arith, is, longer))
-      (subst (λ (all : List (List ℕ)). EachComes (Some objects) all (push + 1) cames) (sym (append_assoc front (name ∷ []) names)) each.1) parts.1 (λ other more. none other (omega (arith, more)))
+          (subst (λ (all : List (List ℕ)). EachComes (Some objects) all (push + 1) cames) (sym (append_assoc front (name ∷ []) names)) each.1) parts.1 (λ other more. none other (omega (arith, more))),
     )
 
 pub pushed_of : (shelf : Option (List Object)) (names : List (List ℕ)) (cames : List Came) (entries : List Entry) → EachComes shelf names 1 cames → AreParts 1 (map body_of cames) entries → NoneFrom (1 + length cames) entries

@@ -12,8 +12,7 @@ use Rattle.host_link.specs.EventReading.{event_in}
 use Rattle.host_link.specs.Hearing.{PlainNews, Nothing, LinkUp, LinkFailed, LinkDown, Pdu, event_news, piece_on, piece_news, news_of}
 use Rattle.host_link.specs.PuttingOut.{is_waiting}
 use Rattle.bt_host.specs.Channels.{Channel}
-use Rattle.bt_host.specs.Servers.{Served, Server, Kept, LeavesSession, LetsGo, HearsPacket, NotesPdu, Notes}
-use Rattle.bt_host.specs.Servers as serving
+use Rattle.bt_host.specs.Servers.{Served, Kept, LeavesSession, LetsGo, HearsPacket, NotesPdu, Notes}
 use Rattle.world_model.specs.Insides.{Inside, Pushing, Serving, Tells}
 use Rattle.world_model.specs.Moments.{Moment}
 use Rattle.world_model.specs.Happenings.{Happening, Departure, Arrival, GivingBack, Opening, Closing, Deed, Miss, Does, Runs}

@@ -1,5 +1,5 @@
 -- What comes of all pushes of a play, by what comes of each (this project's own).
-use Rattle.std.specs.Prelude.{ℕ, ◌≡◌, List, [], Option, IfSome}
+use Rattle.std.specs.Prelude.{ℕ, List, Option, IfSome}
 use Rattle.bt_base.specs.Objects.{Object}
 use Rattle.push_script.specs.declared.word.Word.{Word}
 use Rattle.push_script.specs.declared.outcome.Outcome.{Outcome}
