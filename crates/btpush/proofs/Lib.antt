@@ -4,3 +4,5 @@ pub mod Played
 pub mod Blaming
 pub mod Gained
 pub mod Ordered
+pub mod Fronts
+pub mod Short

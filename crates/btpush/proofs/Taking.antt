@@ -37,17 +37,17 @@ pub if_some : {A : Type 0} {P Q : A → Type 0} (o : Option A) → ((x : A) → 
 if_some None h p = tt
 if_some (Some x) h p = h x p
 
-pub not_taken : (input text given : List ℕ) (stock stock' : Stocked) (left sink sink' trace : Option (List ℕ)) (untouched : Type 0) (line : ℕ) (refusal : ScriptRefusal) (result : Status)
+pub not_taken : (input text given : List ℕ) (stock stock' : Stocked) (left sink sink' trace : Option (List ℕ)) (trace_failed untouched : Type 0) (line : ℕ) (refusal : ScriptRefusal) (result : Status)
     → text ≡ take kept_limit input → given ≡ text → left ≡ unread input → reading missing_features given ≡ Err (line, refusal) → Refuses (refusal_line line refusal) sink sink' result → untouched
-    → Pushes input stock stock' left sink sink' trace trace untouched result
-not_taken input text given stock stock' left sink sink' trace untouched line refusal result e f l read refuses same =
+    → Pushes input stock stock' left sink sink' trace trace trace_failed untouched result
+not_taken input text given stock stock' left sink sink' trace trace_failed untouched line refusal result e f l read refuses same =
     NotTaken line refusal l (sym (reading_kept missing_features input) ∙ ap (λ (t : List ℕ). reading missing_features t) (sym e ∙ sym f) ∙ read) refuses same
 
 -- a scenario is kept whole, and nothing behind it is left
-pub taken : (input text given again : List ℕ) (stock stock' : Stocked) (left sink sink' trace trace' : Option (List ℕ)) (untouched : Type 0) (scenario : Scenario) (line : ℕ) (result : Status)
+pub taken : (input text given again : List ℕ) (stock stock' : Stocked) (left sink sink' trace trace' : Option (List ℕ)) (trace_failed untouched : Type 0) (scenario : Scenario) (line : ℕ) (result : Status)
     → text ≡ take kept_limit input → given ≡ text → again ≡ text → left ≡ unread input → reading missing_features given ≡ Ok (script_of scenario) → line ≡ object_line again
-    → Runs scenario line stock stock' sink sink' trace trace' result → Pushes input stock stock' left sink sink' trace trace' untouched result
-taken input text given again stock stock' left sink sink' trace trace' untouched scenario line result e f a l read at runs =
+    → Runs scenario line stock stock' sink sink' trace trace' trace_failed result → Pushes input stock stock' left sink sink' trace trace' trace_failed untouched result
+taken input text given again stock stock' left sink sink' trace trace' trace_failed untouched scenario line result e f a l read at runs =
     let whole : reading missing_features input ≡ Ok (script_of scenario) = sym (reading_kept missing_features input) ∙ ap (λ (t : List ℕ). reading missing_features t) (sym e ∙ sym f) ∙ read in
     let short : length input ≤ text_limit = short_read missing_features input (script_of scenario) whole in
     let same : again ≡ input = a ∙ e ∙ take_all kept_limit input (omega arith) in

@@ -16,7 +16,10 @@ use Rattle.btpush.specs.declared.status.Status.TheVariants as status
 use Rattle.btpush.specs.declared.playing.Played.{Played}
 use Rattle.btpush.specs.Gathering.{unread}
 use Rattle.btpush.specs.Plays.{Stocked, Plays}
+use Rattle.btpush.specs.Short.{PlaysShort}
 use Rattle.radio_world.specs.Blaming.{IsNotBuilt}
+use Rattle.radio_world.specs.declared.fault.WorldFault.{WorldFault}
+use Rattle.radio_world.specs.declared.fault.WorldFault.TheVariants as world
 
 -- A refusal is told by this line, all of it, or after a fault a front of it.
 abbrev pub Refuses : List ℕ → Option (List ℕ) → Option (List ℕ) → Status → Type 0
@@ -48,10 +51,10 @@ Reports scenario played old new status.InputRefused = ⊥
 Reports scenario played old new status.ReadFault = ⊥
 
 -- the trace failed, or memory was wanting
-abbrev pub IsStopped : Status → Type 0
-IsStopped status.WriteFault = Unit {0}
-IsStopped status.NoMemory = Unit {0}
-IsStopped _ = ⊥
+abbrev pub IsStopped : WorldFault → Status → Type 0
+IsStopped world.TraceFault status.WriteFault = Unit {0}
+IsStopped world.NoMemory status.NoMemory = Unit {0}
+IsStopped _ _ = ⊥
 
 -- the source failed, or memory was wanting
 abbrev pub IsUnread : Status → Type 0
@@ -60,21 +63,21 @@ IsUnread status.NoMemory = Unit {0}
 IsUnread _ = ⊥
 
 -- What becomes of a scenario whose object stands on that line of its text: `sink` and `trace` with what they then hold, and
--- the shelf and the inbox.
-pub data Runs (scenario : Scenario) (line : ℕ) (stock stock' : Stocked) (sink sink' trace trace' : Option (List ℕ)) (result : Status) : Type 0 where
+-- the shelf and the inbox. `trace_failed` says that the trace failed.
+pub data Runs (scenario : Scenario) (line : ℕ) (stock stock' : Stocked) (sink sink' trace trace' : Option (List ℕ)) (trace_failed : Type 0) (result : Status) : Type 0 where
   -- it is played to its end and reported
-  RanToEnd : (played : Played) → Plays scenario played stock stock' trace trace' → Reports scenario played sink sink' result → Runs scenario line stock stock' sink sink' trace trace' result
+  RanToEnd : (played : Played) → Plays scenario played stock stock' trace trace' → Reports scenario played sink sink' result → Runs scenario line stock stock' sink sink' trace trace' trace_failed result
   -- its object is too long for a push so far, or a word does nothing yet, and the object's line is refused
-  RanUnbuilt : IsNotBuilt stock.shelf.content scenario.names scenario.script → Refuses (refusal_line line NotBuilt) sink sink' result → Runs scenario line stock stock' sink sink' trace trace' result
-  -- it is stopped by the trace or for want of memory, and nothing is said of it
-  RanShort : sink' ≡ sink → IsStopped result → Runs scenario line stock stock' sink sink' trace trace' result
+  RanUnbuilt : IsNotBuilt stock.shelf.content scenario.names scenario.script → PlaysShort world.NotBuilt scenario stock stock' trace trace' → Refuses (refusal_line line NotBuilt) sink sink' result → Runs scenario line stock stock' sink sink' trace trace' trace_failed result
+  -- it is stopped by the trace or for want of memory, and no report is told
+  RanShort : (fault : WorldFault) → IsStopped fault result → (fault ≡ world.TraceFault → trace_failed) → PlaysShort fault scenario stock stock' trace trace' → sink' ≡ sink → Runs scenario line stock stock' sink sink' trace trace' trace_failed result
 
--- The form `push` on an input, of which the source then has `left`, with these objects on the shelf. `untouched` says that trace, shelf and inbox are as
--- they were.
-pub data Pushes (input : List ℕ) (stock stock' : Stocked) (left sink sink' trace trace' : Option (List ℕ)) (untouched : Type 0) (result : Status) : Type 0 where
+-- The form `push` on an input, of which the source then has `left`, with these objects on the shelf. `trace_failed` says that the
+-- trace failed, and `untouched` that trace, shelf and inbox are as they were.
+pub data Pushes (input : List ℕ) (stock stock' : Stocked) (left sink sink' trace trace' : Option (List ℕ)) (trace_failed untouched : Type 0) (result : Status) : Type 0 where
   -- the input is not read to its end, or there is no memory for what it says
-  NotRead : (n : ℕ) → left ≡ Some (drop n input) → sink' ≡ sink → untouched → IsUnread result → Pushes input stock stock' left sink sink' trace trace' untouched result
+  NotRead : (n : ℕ) → left ≡ Some (drop n input) → sink' ≡ sink → untouched → IsUnread result → Pushes input stock stock' left sink sink' trace trace' trace_failed untouched result
   -- it is no scenario, and the first refusal is told
-  NotTaken : (line : ℕ) (refusal : ScriptRefusal) → left ≡ unread input → reading missing_features input ≡ Err (line, refusal) → Refuses (refusal_line line refusal) sink sink' result → untouched → Pushes input stock stock' left sink sink' trace trace' untouched result
+  NotTaken : (line : ℕ) (refusal : ScriptRefusal) → left ≡ unread input → reading missing_features input ≡ Err (line, refusal) → Refuses (refusal_line line refusal) sink sink' result → untouched → Pushes input stock stock' left sink sink' trace trace' trace_failed untouched result
   -- it is a scenario, which is run
-  Taken : (scenario : Scenario) → left ≡ Some [] → reading missing_features input ≡ Ok (script_of scenario) → Runs scenario (object_line input) stock stock' sink sink' trace trace' result → Pushes input stock stock' left sink sink' trace trace' untouched result
+  Taken : (scenario : Scenario) → left ≡ Some [] → reading missing_features input ≡ Ok (script_of scenario) → Runs scenario (object_line input) stock stock' sink sink' trace trace' trace_failed result → Pushes input stock stock' left sink sink' trace trace' trace_failed untouched result

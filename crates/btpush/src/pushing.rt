@@ -2,6 +2,7 @@
 
 ghost use Rattle.std.specs.Prelude.{◌≡◌, ◌≢◌, ◌≤◌, false, [], List, length, IfSome};
 ghost use Rattle.std.specs.List.{list_all};
+ghost use Rattle.bt_base.specs.Counts.{HasRisen};
 ghost use Rattle.h4_view.specs.View.{IsAnswered};
 ghost use Rattle.push_script.specs.Features.{missing_features};
 ghost use Rattle.push_script.specs.Reading.{text_limit};
@@ -81,7 +82,7 @@ fn run_scenario<K: Sink, T: Sink, F: Shelf, B: Inbox>(
     inbox: &mut B,
 ) -> Status
     requires pending { B.is_pending inbox.old ≡ false }
-    ensures runs { Runs scenario.now line (stocked (F.content shelf.old) (F.faults shelf.old) (B.content inbox.old) (B.faults inbox.old) (B.shortages inbox.old)) (stocked (F.content shelf.new) (F.faults shelf.new) (B.content inbox.new) (B.faults inbox.new) (B.shortages inbox.new)) (K.content sink.old) (K.content sink.new) (T.content trace.old) (T.content trace.new) result }
+    ensures runs { Runs scenario.now line (stocked (F.content shelf.old) (F.faults shelf.old) (B.content inbox.old) (B.faults inbox.old) (B.shortages inbox.old)) (stocked (F.content shelf.new) (F.faults shelf.new) (B.content inbox.new) (B.faults inbox.new) (B.shortages inbox.new)) (K.content sink.old) (K.content sink.new) (T.content trace.old) (T.content trace.new) (HasRisen (T.faults trace.old) (T.faults trace.new)) result }
     ensures causes { HasCauses 0 0 (K.faults sink.old) (K.faults sink.new) (T.faults trace.old) (T.faults trace.new) result }
     ensures sink_short { IsAnswered (K.shortages sink.old) (K.shortages sink.new) (result ≡ Status.NoMemory) }
     ensures trace_short { IsAnswered (T.shortages trace.old) (T.shortages trace.new) (result ≡ Status.NoMemory) }
@@ -115,7 +116,7 @@ pub(crate) fn push<S: Source, K: Sink, T: Sink, F: Shelf, B: Inbox>(
     inbox: &mut B,
 ) -> Status
     requires pending { B.is_pending inbox.old ≡ false }
-    ensures pushes { IfSome (S.content source.old) (λ input. Pushes input (stocked (F.content shelf.old) (F.faults shelf.old) (B.content inbox.old) (B.faults inbox.old) (B.shortages inbox.old)) (stocked (F.content shelf.new) (F.faults shelf.new) (B.content inbox.new) (B.faults inbox.new) (B.shortages inbox.new)) (S.content source.new) (K.content sink.old) (K.content sink.new) (T.content trace.old) (T.content trace.new) ((trace.new ≡ trace.old) × (shelf.new ≡ shelf.old) × (inbox.new ≡ inbox.old)) result) }
+    ensures pushes { IfSome (S.content source.old) (λ input. Pushes input (stocked (F.content shelf.old) (F.faults shelf.old) (B.content inbox.old) (B.faults inbox.old) (B.shortages inbox.old)) (stocked (F.content shelf.new) (F.faults shelf.new) (B.content inbox.new) (B.faults inbox.new) (B.shortages inbox.new)) (S.content source.new) (K.content sink.old) (K.content sink.new) (T.content trace.old) (T.content trace.new) (HasRisen (T.faults trace.old) (T.faults trace.new)) ((trace.new ≡ trace.old) × (shelf.new ≡ shelf.old) × (inbox.new ≡ inbox.old)) result) }
     ensures known { result ≢ Status.BadWords }
     ensures finish { HasEnded result → IfSome (S.content source.new) (λ left. left ≡ []) }
     ensures causes { HasCauses (S.faults source.old) (S.faults source.new) (K.faults sink.old) (K.faults sink.new) (T.faults trace.old) (T.faults trace.new) result }

@@ -1,6 +1,7 @@
 //! The top call: what the program does, over ports.
 
 ghost use Rattle.std.specs.Prelude.{◌≡◌, ◌≢◌, ◌≤◌, true, false, [], map, string_bytes, IfSome, Some, None};
+ghost use Rattle.bt_base.specs.Counts.{HasRisen};
 ghost use Rattle.btpush.specs.Run.{Decodes, RefusesWords, HasCauses, HasEnded};
 ghost use Rattle.btpush.specs.Plays.{stocked};
 ghost use Rattle.btpush.specs.Pushing.{Pushes};
@@ -64,8 +65,9 @@ pub fn run<S: Source, K: Sink, T: Sink, F: Shelf, B: Inbox>(
     requires { B.is_pending inbox.old ≡ false }
     // What the sink gains from `decode` is the view of the input, up to and with the first refusal.
     ensures decode { form_of (map string_bytes words.now.items) ≡ Some Form.Decode → IfSome (S.content source.old) (λ input. Decodes input (S.content source.new) (K.content sink.old) (K.content sink.new) result) }
-    // `push` runs the scenario that the input is, or tells why it is none.
-    ensures push { form_of (map string_bytes words.now.items) ≡ Some Form.Push → IfSome (S.content source.old) (λ input. Pushes input (stocked (F.content shelf.old) (F.faults shelf.old) (B.content inbox.old) (B.faults inbox.old) (B.shortages inbox.old)) (stocked (F.content shelf.new) (F.faults shelf.new) (B.content inbox.new) (B.faults inbox.new) (B.shortages inbox.new)) (S.content source.new) (K.content sink.old) (K.content sink.new) (T.content trace.old) (T.content trace.new) ((trace.new ≡ trace.old) × (shelf.new ≡ shelf.old) × (inbox.new ≡ inbox.old)) result) }
+    // `push` runs the scenario that the input is, or tells why it is none. Where it stops short, the whole entries in the
+    // trace are those of a run so far: both hosts kept within the buffers, and the air to the script.
+    ensures push { form_of (map string_bytes words.now.items) ≡ Some Form.Push → IfSome (S.content source.old) (λ input. Pushes input (stocked (F.content shelf.old) (F.faults shelf.old) (B.content inbox.old) (B.faults inbox.old) (B.shortages inbox.old)) (stocked (F.content shelf.new) (F.faults shelf.new) (B.content inbox.new) (B.faults inbox.new) (B.shortages inbox.new)) (S.content source.new) (K.content sink.old) (K.content sink.new) (T.content trace.old) (T.content trace.new) (HasRisen (T.faults trace.old) (T.faults trace.new)) ((trace.new ≡ trace.old) × (shelf.new ≡ shelf.old) × (inbox.new ≡ inbox.old)) result) }
     // Other words are refused, and no others.
     ensures words { form_of (map string_bytes words.now.items) ≡ None → RefusesWords (K.content sink.old) (K.content sink.new) result }
     ensures bad_words { result ≡ Status.BadWords → form_of (map string_bytes words.now.items) ≡ None }

@@ -15,3 +15,7 @@ pub mod ServerHearing
 pub mod Runs
 pub mod Happening
 pub mod Blaming
+pub mod Breaking
+pub mod Stopping
+pub mod Due
+pub mod Unfinished

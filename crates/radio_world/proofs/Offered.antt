@@ -27,7 +27,7 @@ gives_back : (side : Side) (old new : Medium) (face other : Face) (scene : Scene
 gives_back sides.A old new face other scene still is = record { still = still; new_is = ap (λ (m : Medium). moment (in_medium m scene) face other) is }
 gives_back sides.B old new face other scene still is = record { still = still; new_is = ap (λ (m : Medium). moment (in_medium m scene) other face) is }
 
-offered_extends : (side : Side) (old new : Medium) (face : Face) (trace : Option (List ℕ)) → IsStillOut face.line → new ≡ in_radio (after_offer side old.radio) old → Extends side old new face face trace trace
+pub offered_extends : (side : Side) (old new : Medium) (face : Face) (trace : Option (List ℕ)) → IsStillOut face.line → new ≡ in_radio (after_offer side old.radio) old → Extends side old new face face trace trace
 offered_extends side old new face trace still is =
     let same : sizes (after_offer side old.radio) ≡ sizes old.radio = (sizes-stay old.radio side).1 in
     record {

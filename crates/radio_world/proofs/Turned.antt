@@ -37,12 +37,12 @@ use Rattle.world_model.proofs.Turning.{idle_behind}
 abbrev pub scene_of : Medium → Pushes → ℕ → Scene
 scene_of medium pushes turned = record { medium = medium; pushes = pushes; turned = turned }
 
-next_word : (n : ℕ) (script behind : List Word) (word : Word) → drop n script ≡ word ∷ behind → slice_get script n ≡ Some word
+pub next_word : (n : ℕ) (script behind : List Word) (word : Word) → drop n script ≡ word ∷ behind → slice_get script n ≡ Some word
 next_word zero script behind word e = ap (λ xs. slice_get xs 0) e
 next_word (suc n) [] behind word e = absurd cc
 next_word (suc n) (x ∷ xs) behind word e = next_word n xs behind word e
 
-made_sizes : (word : Word) (radio next : Radio) → Makes word radio next → sizes next ≡ sizes radio
+pub made_sizes : (word : Word) (radio next : Radio) → Makes word radio next → sizes next ≡ sizes radio
 made_sizes word radio next (inl makes) = (sizes-stay radio sides.A).3 next (inl makes.1)
 made_sizes word radio next (inr makes) = (sizes-stay radio sides.A).3 next (inr makes.1)
 
@@ -139,7 +139,7 @@ turns_none scene a b trace = record {
   run = λ script behind past next idle stands. run_none (moment scene a b);
 }
 
-rest_of : (n : ℕ) (script one rest : List Word) → drop n script ≡ one ++ rest → drop (n + length one) script ≡ rest
+pub rest_of : (n : ℕ) (script one rest : List Word) → drop n script ≡ one ++ rest → drop (n + length one) script ≡ rest
 rest_of n script one rest e = sym (drop-drop (length one) n script) ∙ ap (drop (length one)) e ∙ drop-append_seam one rest
 
 -- what stands in between

@@ -5,3 +5,5 @@ pub mod Going
 pub mod OwnHosts
 pub mod Worlds
 pub mod Blaming
+pub mod Breaking
+pub mod Unfinished

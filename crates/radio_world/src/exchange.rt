@@ -1,9 +1,10 @@
 //! All that moves between a host and its controller.
 
-ghost use Rattle.std.specs.Prelude.{◌≡◌, false, Ok, OnOk, IsErrOf};
+ghost use Rattle.std.specs.Prelude.{◌≡◌, false, Ok, OnOk, IfErr, IsErrOf};
 ghost use Rattle.radio_air.specs.Controllers.{other_side};
 ghost use Rattle.radio_air.specs.Radio.{controller};
 ghost use Rattle.radio_world.specs.Extending.{Extends};
+ghost use Rattle.radio_world.specs.Breaking.{MovesShort};
 ghost use Rattle.world_model.specs.Moving.{IsStillOut, IsStillIn};
 ghost use Rattle.radio_world.specs.Blaming.{BlamesTrace, KeepsPort};
 
@@ -25,6 +26,7 @@ impl Medium {
     ) -> Result<bool, WorldFault>
         requires may_hear { H.may_hear host.old port.old }
         ensures extends { OnOk result (Extends side self.old self.new (H.face host.old port.old) (H.face host.new port.new) (T.content trace.old) (T.content trace.new)) }
+        ensures broken { IfErr result (λ fault. MovesShort fault side self.old (H.face host.old port.old) (H.face host.new port.new) (T.content trace.old) (T.content trace.new)) }
         ensures none { OnOk result (IsStillIn side self.new) }
         ensures still { result ≡ Ok false → IsStillOut (H.face host.new port.new).line × ((controller side self.new.radio).taken ≡ 0) × (H.face host.new port.new ≡ H.face host.old port.old) × (controller (other_side side) self.new.radio ≡ controller (other_side side) self.old.radio) × (T.content trace.new ≡ T.content trace.old) }
         ensures may_hear { H.may_hear host.new port.new }
@@ -47,6 +49,7 @@ impl Medium {
         trace: &mut T,
     ) -> Result<bool, WorldFault>
         ensures extends { OnOk result (Extends side self.old self.new (H.face host.old port.now) (H.face host.new port.now) (T.content trace.old) (T.content trace.new)) }
+        ensures broken { IfErr result (λ fault. MovesShort fault side self.old (H.face host.old port.now) (H.face host.new port.now) (T.content trace.old) (T.content trace.new)) }
         ensures still { OnOk result (IsStillOut (H.face host.new port.now).line) }
         ensures idle { result ≡ Ok false → (self.new ≡ self.old) × (H.face host.new port.now ≡ H.face host.old port.now) × (T.content trace.new ≡ T.content trace.old) }
         ensures may_hear { H.may_hear host.old port.now → H.may_hear host.new port.now }
@@ -70,6 +73,7 @@ impl Medium {
     ) -> Result<bool, WorldFault>
         requires may_hear { H.may_hear host.old port.old }
         ensures extends { OnOk result (Extends side self.old self.new (H.face host.old port.old) (H.face host.new port.new) (T.content trace.old) (T.content trace.new)) }
+        ensures broken { IfErr result (λ fault. MovesShort fault side self.old (H.face host.old port.old) (H.face host.new port.new) (T.content trace.old) (T.content trace.new)) }
         ensures still { OnOk result (IsStillIn side self.new) }
         ensures idle { result ≡ Ok false → (self.new ≡ self.old) × (H.face host.new port.new ≡ H.face host.old port.old) × (T.content trace.new ≡ T.content trace.old) }
         ensures may_hear { H.may_hear host.new port.new }

@@ -1,6 +1,6 @@
 //! What lies between the two hosts: the radio, and the packets that move.
 
-ghost use Rattle.std.specs.Prelude.{◌≡◌, ◌<◌, ◌≤◌, [], false, true, length, Ok, IfOk, OnOk, IsErrOf};
+ghost use Rattle.std.specs.Prelude.{◌≡◌, ◌<◌, ◌≤◌, [], false, true, length, Ok, IfOk, OnOk, IfErr, IsErrOf};
 ghost use Rattle.radio_air.specs.Radio.{controller, is_quiet};
 ghost use Rattle.world_model.specs.Acting.{Acts};
 ghost use Rattle.world_model.specs.Acting.{MakesNothing};
@@ -8,6 +8,7 @@ ghost use Rattle.radio_air.specs.Acting.{IsSize};
 ghost use Rattle.world_model.specs.Media.{noted};
 ghost use Rattle.world_model.specs.Moments.{first_medium};
 ghost use Rattle.radio_world.specs.Extending.{Extends};
+ghost use Rattle.radio_world.specs.Breaking.{MovesShort};
 ghost use Rattle.world_model.specs.Moving.{IsStillOut, IsStillIn};
 ghost use Rattle.radio_world.specs.Blaming.{BlamesTrace, KeepsPort, IsUnbuilt};
 
@@ -76,6 +77,7 @@ impl Medium {
         trace: &mut T,
     ) -> Result<bool, WorldFault>
         ensures extends { OnOk result (Extends side self.old self.new (H.face host.old port.now) (H.face host.new port.now) (T.content trace.old) (T.content trace.new)) }
+        ensures broken { IfErr result (λ fault. MovesShort fault side self.old (H.face host.old port.now) (H.face host.new port.now) (T.content trace.old) (T.content trace.new)) }
         ensures still { result ≡ Ok false → IsStillOut (H.face host.old port.now).line × (self.new ≡ self.old) × (H.face host.new port.now ≡ H.face host.old port.now) × (T.content trace.new ≡ T.content trace.old) }
         ensures shorter { result ≡ Ok true → length (H.face host.new port.now).line.out < length (H.face host.old port.now).line.out }
         ensures may_hear { H.may_hear host.old port.now → H.may_hear host.new port.now }
@@ -118,6 +120,7 @@ impl Medium {
     ) -> Result<bool, WorldFault>
         requires may_hear { H.may_hear host.old port.old }
         ensures extends { OnOk result (Extends side self.old self.new (H.face host.old port.old) (H.face host.new port.new) (T.content trace.old) (T.content trace.new)) }
+        ensures broken { IfErr result (λ fault. MovesShort fault side self.old (H.face host.old port.old) (H.face host.new port.new) (T.content trace.old) (T.content trace.new)) }
         ensures still { result ≡ Ok false → IsStillIn side self.old × (self.new ≡ self.old) × (H.face host.new port.new ≡ H.face host.old port.old) × (T.content trace.new ≡ T.content trace.old) }
         ensures shorter { result ≡ Ok true → length (controller side self.new.radio).owed < length (controller side self.old.radio).owed }
         ensures may_hear { H.may_hear host.new port.new }

@@ -1,11 +1,13 @@
 //! A whole script, word by word.
 
-ghost use Rattle.std.specs.Prelude.{◌≡◌, ◌≤◌, ◌⊎◌, false, take, replicate, length, OnOk, IsErrOf};
+ghost use Rattle.std.specs.Prelude.{◌≡◌, ◌≤◌, ◌⊎◌, false, take, replicate, length, OnOk, IfErr, IsErrOf};
 ghost use Rattle.obex_session.specs.Rules.{is_under_way};
 ghost use Rattle.capture.specs.Air.{words_of};
 ghost use Rattle.bt_host.specs.ClientHosts.{IsSupplied};
 ghost use Rattle.bt_host.specs.Servers.{kept};
-ghost use Rattle.radio_world.specs.OwnHosts.{shelved};
+ghost use Rattle.radio_world.specs.OwnHosts.{shelved, client_face, server_face};
+ghost use Rattle.radio_world.specs.Breaking.{TurnsShort};
+ghost use Rattle.radio_world.specs.Unfinished.{HappensShort};
 ghost use Rattle.radio_world.specs.Worlds.{new_world, WorldTurns, IsStill, Happens};
 ghost use Rattle.radio_world.specs.Blaming.{BlamesTrace, KeepsPort, KeepsCounts, HasLong, IsUnbuilt, IsNotBuilt};
 
@@ -28,6 +30,7 @@ impl World {
         requires supplied { IsSupplied (F.content shelf.old) self.old.client }
         requires pending { B.is_pending inbox.old ≡ is_under_way self.old.server.server.served.session.progress }
         ensures turns { OnOk result (WorldTurns (replicate count word) self.old self.new (shelved (F.content shelf.old) (F.faults shelf.old)) (shelved (F.content shelf.new) (F.faults shelf.new)) (kept (B.content inbox.old) (B.faults inbox.old) (B.shortages inbox.old)) (kept (B.content inbox.new) (B.faults inbox.new) (B.shortages inbox.new)) (T.content trace.old) (T.content trace.new)) }
+        ensures broken { IfErr result (λ fault. TurnsShort fault (replicate count word) self.old.scene (client_face self.old.client (shelved (F.content shelf.old) (F.faults shelf.old))) (server_face self.old.server (kept (B.content inbox.old) (B.faults inbox.old) (B.shortages inbox.old))) (server_face self.new.server (kept (B.content inbox.new) (B.faults inbox.new) (B.shortages inbox.new))) (T.content trace.old) (T.content trace.new)) }
         ensures still { OnOk result (IsStill self.new (shelved (F.content shelf.new) (F.faults shelf.new)) (kept (B.content inbox.new) (B.faults inbox.new) (B.shortages inbox.new))) }
         ensures supplied { IsSupplied (F.content shelf.new) self.new.client }
         ensures pending { B.is_pending inbox.new ≡ is_under_way self.new.server.server.served.session.progress }
@@ -54,6 +57,7 @@ impl World {
         requires supplied { IsSupplied (F.content shelf.old) self.old.client }
         requires pending { B.is_pending inbox.old ≡ is_under_way self.old.server.server.served.session.progress }
         ensures turns { OnOk result (WorldTurns (words_of script.now) self.old self.new (shelved (F.content shelf.old) (F.faults shelf.old)) (shelved (F.content shelf.new) (F.faults shelf.new)) (kept (B.content inbox.old) (B.faults inbox.old) (B.shortages inbox.old)) (kept (B.content inbox.new) (B.faults inbox.new) (B.shortages inbox.new)) (T.content trace.old) (T.content trace.new)) }
+        ensures broken { IfErr result (λ fault. TurnsShort fault (words_of script.now) self.old.scene (client_face self.old.client (shelved (F.content shelf.old) (F.faults shelf.old))) (server_face self.old.server (kept (B.content inbox.old) (B.faults inbox.old) (B.shortages inbox.old))) (server_face self.new.server (kept (B.content inbox.new) (B.faults inbox.new) (B.shortages inbox.new))) (T.content trace.old) (T.content trace.new)) }
         ensures still { OnOk result (IsStill self.new (shelved (F.content shelf.new) (F.faults shelf.new)) (kept (B.content inbox.new) (B.faults inbox.new) (B.shortages inbox.new))) }
         ensures supplied { IsSupplied (F.content shelf.new) self.new.client }
         ensures pending { B.is_pending inbox.new ≡ is_under_way self.new.server.server.served.session.progress }
@@ -87,6 +91,7 @@ impl World {
         requires fresh { self.old ≡ new_world scenario.now }
         requires pending { B.is_pending inbox.old ≡ false }
         ensures happens { OnOk result (Happens scenario.now self.new (shelved (F.content shelf.old) (F.faults shelf.old)) (shelved (F.content shelf.new) (F.faults shelf.new)) (kept (B.content inbox.old) (B.faults inbox.old) (B.shortages inbox.old)) (kept (B.content inbox.new) (B.faults inbox.new) (B.shortages inbox.new)) (T.content trace.old) (T.content trace.new)) }
+        ensures broken { IfErr result (λ fault. HappensShort fault scenario.now (shelved (F.content shelf.old) (F.faults shelf.old)) (kept (B.content inbox.old) (B.faults inbox.old) (B.shortages inbox.old)) (server_face self.new.server (kept (B.content inbox.new) (B.faults inbox.new) (B.shortages inbox.new))) (T.content trace.old) (T.content trace.new)) }
         ensures each { OnOk result (length self.new.scene.pushes.outcomes ≡ length scenario.now.names) }
         ensures blame { BlamesTrace (T.faults trace.old) (T.faults trace.new) (T.shortages trace.old) (T.shortages trace.new) result }
         ensures shelf { KeepsPort (F.content shelf.old) (F.content shelf.new) (F.faults shelf.old) (F.faults shelf.new) (F.shortages shelf.old) (F.shortages shelf.new) result }

@@ -1,6 +1,6 @@
 //! What goes on between the two hosts.
 
-ghost use Rattle.std.specs.Prelude.{◌≡◌, ◌⊎◌, ◌∷◌, [], true, false, length, None, Ok, OnOk, IsErrOf};
+ghost use Rattle.std.specs.Prelude.{◌≡◌, ◌⊎◌, ◌∷◌, [], true, false, length, None, Ok, OnOk, IfErr, IsErrOf};
 ghost use Rattle.push_script.specs.declared.word.Side.TheVariants as sides;
 ghost use Rattle.world_model.specs.Insides.{idles, came_of};
 ghost use Rattle.world_model.specs.Faces.{Face};
@@ -9,6 +9,7 @@ ghost use Rattle.world_model.specs.Ordering.{next_name};
 ghost use Rattle.world_model.specs.Moments.{IsAtRest};
 ghost use Rattle.radio_world.specs.Running.{moment};
 ghost use Rattle.radio_world.specs.Going.{Begins, Ends, Goes, StaysPut, Turns, LastEnds, Finishes};
+ghost use Rattle.radio_world.specs.Breaking.{Breaks, TurnsShort, EndsShort, FinishesShort};
 ghost use Rattle.radio_world.specs.Blaming.{BlamesTrace, KeepsPort, HasLong, IsUnbuilt};
 
 use crate::fault::WorldFault;
@@ -54,6 +55,7 @@ impl Scene {
         ensures begins { result ≡ Ok true → Begins self.old self.new (A.face a.old shelf.old) (A.face a.new shelf.new) (T.content trace.old) (T.content trace.new) }
         ensures none { result ≡ Ok false → (self.new ≡ self.old) × (A.face a.new shelf.new ≡ A.face a.old shelf.old) × (T.content trace.new ≡ T.content trace.old) × (idles (A.face a.old shelf.old).inside ≡ true → next_name self.old.pushes ≡ None) }
         ensures goes { OnOk result ((b : Face) → Goes self.old self.new (A.face a.old shelf.old) (A.face a.new shelf.new) b b (T.content trace.old) (T.content trace.new)) }
+        ensures broken { IfErr result (λ fault. (b : Face) → Breaks fault self.old (A.face a.old shelf.old) b b (T.content trace.old) (T.content trace.new)) }
         ensures may_hear { A.may_hear a.new shelf.new }
         ensures blame { BlamesTrace (T.faults trace.old) (T.faults trace.new) (T.shortages trace.old) (T.shortages trace.new) result }
         ensures keeps_a { KeepsPort (A.content shelf.old) (A.content shelf.new) (A.faults shelf.old) (A.faults shelf.new) (A.shortages shelf.old) (A.shortages shelf.new) result }
@@ -79,6 +81,7 @@ impl Scene {
     fn end<T: Sink>(&mut self, outcome: Outcome, trace: &mut T) -> Result<(), WorldFault>
         requires { self.old.pushes.going ≡ true }
         ensures ends { OnOk result (Ends outcome self.old self.new (T.content trace.old) (T.content trace.new)) }
+        ensures front { EndsShort outcome self.old (T.content trace.old) (T.content trace.new) }
         ensures blame { BlamesTrace (T.faults trace.old) (T.faults trace.new) (T.shortages trace.old) (T.shortages trace.new) result }
         ensures built { IsErrOf result WorldFault.NotBuilt → ⊥ }
     {
@@ -97,6 +100,7 @@ impl Scene {
     ) -> Result<bool, WorldFault>
         requires none_b { IsStillIn sides.B self.old.medium }
         ensures goes { OnOk result ((b : Face) → Goes self.old self.new (A.face a.now _shelf.now) (A.face a.now _shelf.now) b b (T.content trace.old) (T.content trace.new)) }
+        ensures broken { IfErr result (λ fault. (b : Face) → Breaks fault self.old (A.face a.now _shelf.now) b b (T.content trace.old) (T.content trace.new)) }
         ensures none { result ≡ Ok false → (self.new ≡ self.old) × (T.content trace.new ≡ T.content trace.old) × (self.old.pushes.going ≡ true → idles (A.face a.now _shelf.now).inside ≡ true → came_of (A.face a.now _shelf.now).inside ≡ None) }
         ensures blame { BlamesTrace (T.faults trace.old) (T.faults trace.new) (T.shortages trace.old) (T.shortages trace.new) result }
         ensures built { IsErrOf result WorldFault.NotBuilt → ⊥ }
@@ -124,6 +128,7 @@ impl Scene {
         requires may_hear_a { A.may_hear a.old shelf.old }
         requires may_hear_b { B.may_hear b.old inbox.old }
         ensures goes { OnOk result (Goes self.old self.new (A.face a.old shelf.old) (A.face a.new shelf.new) (B.face b.old inbox.old) (B.face b.new inbox.new) (T.content trace.old) (T.content trace.new)) }
+        ensures broken { IfErr result (λ fault. Breaks fault self.old (A.face a.old shelf.old) (B.face b.old inbox.old) (B.face b.new inbox.new) (T.content trace.old) (T.content trace.new)) }
         ensures none_b { OnOk result (IsStillIn sides.B self.new.medium) }
         ensures idle { result ≡ Ok false → StaysPut self.old self.new (A.face a.old shelf.old) (A.face a.new shelf.new) (B.face b.new inbox.new) }
         ensures may_hear_a { A.may_hear a.new shelf.new }
@@ -150,6 +155,7 @@ impl Scene {
         requires may_hear_a { A.may_hear a.old shelf.old }
         requires may_hear_b { B.may_hear b.old inbox.old }
         ensures goes { OnOk result (Goes self.old self.new (A.face a.old shelf.old) (A.face a.new shelf.new) (B.face b.old inbox.old) (B.face b.new inbox.new) (T.content trace.old) (T.content trace.new)) }
+        ensures broken { IfErr result (λ fault. Breaks fault self.old (A.face a.old shelf.old) (B.face b.old inbox.old) (B.face b.new inbox.new) (T.content trace.old) (T.content trace.new)) }
         ensures rest { result ≡ Ok false → IsAtRest (moment self.new (A.face a.new shelf.new) (B.face b.new inbox.new)) }
         ensures may_hear_a { A.may_hear a.new shelf.new }
         ensures may_hear_b { B.may_hear b.new inbox.new }
@@ -176,6 +182,7 @@ impl Scene {
         requires may_hear_a { A.may_hear a.old shelf.old }
         requires may_hear_b { B.may_hear b.old inbox.old }
         ensures goes { OnOk result (Goes self.old self.new (A.face a.old shelf.old) (A.face a.new shelf.new) (B.face b.old inbox.old) (B.face b.new inbox.new) (T.content trace.old) (T.content trace.new)) }
+        ensures broken { IfErr result (λ fault. Breaks fault self.old (A.face a.old shelf.old) (B.face b.old inbox.old) (B.face b.new inbox.new) (T.content trace.old) (T.content trace.new)) }
         ensures rest { OnOk result (IsAtRest (moment self.new (A.face a.new shelf.new) (B.face b.new inbox.new))) }
         ensures may_hear_a { A.may_hear a.new shelf.new }
         ensures may_hear_b { B.may_hear b.new inbox.new }
@@ -209,6 +216,7 @@ impl Scene {
         requires may_hear_a { A.may_hear a.old shelf.old }
         requires may_hear_b { B.may_hear b.old inbox.old }
         ensures turns { OnOk result (Turns (word ∷ []) self.old self.new (A.face a.old shelf.old) (A.face a.new shelf.new) (B.face b.old inbox.old) (B.face b.new inbox.new) (T.content trace.old) (T.content trace.new)) }
+        ensures broken { IfErr result (λ fault. TurnsShort fault (word ∷ []) self.old (A.face a.old shelf.old) (B.face b.old inbox.old) (B.face b.new inbox.new) (T.content trace.old) (T.content trace.new)) }
         ensures rest { OnOk result (IsAtRest (moment self.new (A.face a.new shelf.new) (B.face b.new inbox.new))) }
         ensures may_hear_a { A.may_hear a.new shelf.new }
         ensures may_hear_b { B.may_hear b.new inbox.new }
@@ -233,6 +241,7 @@ impl Scene {
     /// Ends the push that goes on, if one does: with what came of it, or else with the script.
     fn end_last<T: Sink>(&mut self, came: Option<Outcome>, trace: &mut T) -> Result<(), WorldFault>
         ensures ends { OnOk result (LastEnds came self.old self.new (T.content trace.old) (T.content trace.new)) }
+        ensures front { FinishesShort came self.old (T.content trace.old) (T.content trace.new) }
         ensures blame { BlamesTrace (T.faults trace.old) (T.faults trace.new) (T.shortages trace.old) (T.shortages trace.new) result }
         ensures built { IsErrOf result WorldFault.NotBuilt → ⊥ }
     {
@@ -251,6 +260,7 @@ impl Scene {
         trace: &mut T,
     ) -> Result<(), WorldFault>
         ensures ends { OnOk result (Finishes came self.old self.new (T.content trace.old) (T.content trace.new)) }
+        ensures front { FinishesShort came self.old (T.content trace.old) (T.content trace.new) }
         ensures each { OnOk result (length self.new.pushes.outcomes ≡ length self.new.pushes.names) }
         ensures blame { BlamesTrace (T.faults trace.old) (T.faults trace.new) (T.shortages trace.old) (T.shortages trace.new) result }
         ensures built { IsErrOf result WorldFault.NotBuilt → ⊥ }

@@ -1,12 +1,13 @@
 //! The simulated world: two hosts, their controllers and the air between them.
 
-ghost use Rattle.std.specs.Prelude.{◌≡◌, ◌⊎◌, ◌∷◌, [], min, length, slice_get, IfOk, OnOk, IsErrOf};
+ghost use Rattle.std.specs.Prelude.{◌≡◌, ◌⊎◌, ◌∷◌, [], min, length, slice_get, IfOk, OnOk, IfErr, IsErrOf};
 ghost use Rattle.std.specs.Option.{option_map};
 ghost use Rattle.radio_air.specs.Radio.{frames};
 ghost use Rattle.obex_session.specs.Rules.{is_under_way};
 ghost use Rattle.bt_host.specs.ClientHosts.{IsSupplied};
 ghost use Rattle.bt_host.specs.Servers.{kept};
-ghost use Rattle.radio_world.specs.OwnHosts.{shelved};
+ghost use Rattle.radio_world.specs.OwnHosts.{shelved, client_face, server_face};
+ghost use Rattle.radio_world.specs.Breaking.{Breaks, TurnsShort, FinishesShort};
 ghost use Rattle.radio_world.specs.Worlds.{new_world, WorldGoes, WorldTurns, WorldFinishes, IsStill};
 ghost use Rattle.radio_world.specs.Blaming.{BlamesTrace, KeepsPort, KeepsCounts, HasLong, IsUnbuilt};
 
@@ -117,6 +118,7 @@ impl World {
         requires supplied { IsSupplied (F.content shelf.old) self.old.client }
         requires pending { B.is_pending inbox.old ≡ is_under_way self.old.server.server.served.session.progress }
         ensures goes { OnOk result (WorldGoes self.old self.new (shelved (F.content shelf.old) (F.faults shelf.old)) (shelved (F.content shelf.new) (F.faults shelf.new)) (kept (B.content inbox.old) (B.faults inbox.old) (B.shortages inbox.old)) (kept (B.content inbox.new) (B.faults inbox.new) (B.shortages inbox.new)) (T.content trace.old) (T.content trace.new)) }
+        ensures broken { IfErr result (λ fault. Breaks fault self.old.scene (client_face self.old.client (shelved (F.content shelf.old) (F.faults shelf.old))) (server_face self.old.server (kept (B.content inbox.old) (B.faults inbox.old) (B.shortages inbox.old))) (server_face self.new.server (kept (B.content inbox.new) (B.faults inbox.new) (B.shortages inbox.new))) (T.content trace.old) (T.content trace.new)) }
         ensures still { OnOk result (IsStill self.new (shelved (F.content shelf.new) (F.faults shelf.new)) (kept (B.content inbox.new) (B.faults inbox.new) (B.shortages inbox.new))) }
         ensures supplied { IsSupplied (F.content shelf.new) self.new.client }
         ensures pending { B.is_pending inbox.new ≡ is_under_way self.new.server.server.served.session.progress }
@@ -146,6 +148,7 @@ impl World {
         requires supplied { IsSupplied (F.content shelf.old) self.old.client }
         requires pending { B.is_pending inbox.old ≡ is_under_way self.old.server.server.served.session.progress }
         ensures turns { OnOk result (WorldTurns (word ∷ []) self.old self.new (shelved (F.content shelf.old) (F.faults shelf.old)) (shelved (F.content shelf.new) (F.faults shelf.new)) (kept (B.content inbox.old) (B.faults inbox.old) (B.shortages inbox.old)) (kept (B.content inbox.new) (B.faults inbox.new) (B.shortages inbox.new)) (T.content trace.old) (T.content trace.new)) }
+        ensures broken { IfErr result (λ fault. TurnsShort fault (word ∷ []) self.old.scene (client_face self.old.client (shelved (F.content shelf.old) (F.faults shelf.old))) (server_face self.old.server (kept (B.content inbox.old) (B.faults inbox.old) (B.shortages inbox.old))) (server_face self.new.server (kept (B.content inbox.new) (B.faults inbox.new) (B.shortages inbox.new))) (T.content trace.old) (T.content trace.new)) }
         ensures still { OnOk result (IsStill self.new (shelved (F.content shelf.new) (F.faults shelf.new)) (kept (B.content inbox.new) (B.faults inbox.new) (B.shortages inbox.new))) }
         ensures supplied { IsSupplied (F.content shelf.new) self.new.client }
         ensures pending { B.is_pending inbox.new ≡ is_under_way self.new.server.server.served.session.progress }
@@ -169,6 +172,7 @@ impl World {
     /// with the script. It comes once and last. It refuses as `start` does.
     pub fn finish<T: Sink>(&mut self, trace: &mut T) -> Result<(), WorldFault>
         ensures finishes { OnOk result (WorldFinishes self.old self.new (T.content trace.old) (T.content trace.new)) }
+        ensures front { FinishesShort self.old.client.client.course.outcome self.old.scene (T.content trace.old) (T.content trace.new) }
         ensures each { OnOk result (length self.new.scene.pushes.outcomes ≡ length self.new.scene.pushes.names) }
         ensures hosts { (self.new.client ≡ self.old.client) × (self.new.server ≡ self.old.server) }
         ensures blame { BlamesTrace (T.faults trace.old) (T.faults trace.new) (T.shortages trace.old) (T.shortages trace.new) result }

@@ -2,6 +2,9 @@ use Rattle.std.proofs.Common.{rules}
 use Rattle.std.proofs.lemmas.Result.{err_from_is_err_and}
 use Rattle.radio_world.proofs.Blaming.{blames_err, keeps_err}
 use Rattle.btpush.proofs.Played.{Tells, plays_of}
+use Rattle.radio_world.proofs.Breaking.{any_fault, same_fault}
+use Rattle.btpush.specs.Plays.{stocked}
+use Rattle.btpush.proofs.Short.{plays_short, whole_short, unbegun_short}
 use Rattle.btpush.proofs.playing.play.Goals as goal
 
 pub returns-clause-plays : goal.returns-clause-plays
@@ -32,3 +35,15 @@ pub returns-in_err-play-clause-inbox : goal.returns-in_err-play-clause-inbox
 returns-in_err-play-clause-inbox g c =
     let handed = err_from_is_err_and c.from_residual-in_err-play.result c.from_residual-in_err-play.ensures.1 in
     rw handed.1 (keeps_err handed.2 c.in_err-play.ensures.inbox)
+
+pub returns-in_err-world-clause-broken : goal.returns-in_err-world-clause-broken
+returns-in_err-world-clause-broken g c = any_fault _ _ (λ fault. unbegun_short fault c.args.scenario.now (stocked (g.F.Shelf.content c.args.shelf.now) (g.F.Shelf.faults c.args.shelf.now) (g.B.Inbox.content c.args.inbox.now) (g.B.Inbox.faults c.args.inbox.now) (g.B.Inbox.shortages c.args.inbox.now)) (g.T.Sink.content c.args.trace.now) c.args.scenario.now.acl_length_low c.args.scenario.now.acl_length_high c.args.scenario.now.acl_count_low c.args.scenario.now.acl_count_high)
+
+pub returns-in_err-play-clause-broken : goal.returns-in_err-play-clause-broken
+returns-in_err-play-clause-broken g c =
+    same_fault _ _ c.in_err-play.field-0.0 c.from_residual-in_err-play.ensures.1
+    (plays_short c.in_err-play.field-0.0 c.args.scenario.now c.play.new.self.server (stocked (g.F.Shelf.content c.args.shelf.now) (g.F.Shelf.faults c.args.shelf.now) (g.B.Inbox.content c.args.inbox.now) (g.B.Inbox.faults c.args.inbox.now) (g.B.Inbox.shortages c.args.inbox.now)) (stocked (g.F.Shelf.content c.play.new.shelf) (g.F.Shelf.faults c.play.new.shelf) (g.B.Inbox.content c.play.new.inbox) (g.B.Inbox.faults c.play.new.inbox) (g.B.Inbox.shortages c.play.new.inbox)) (g.T.Sink.content c.args.trace.now) (g.T.Sink.content c.play.new.trace) c.in_err-play.ensures.broken)
+
+pub returns-in_err-outcomes_of-clause-broken : goal.returns-in_err-outcomes_of-clause-broken
+returns-in_err-outcomes_of-clause-broken g c =
+    any_fault _ _ (λ fault. whole_short fault c.args.scenario.now c.play.new.self (stocked (g.F.Shelf.content c.args.shelf.now) (g.F.Shelf.faults c.args.shelf.now) (g.B.Inbox.content c.args.inbox.now) (g.B.Inbox.faults c.args.inbox.now) (g.B.Inbox.shortages c.args.inbox.now)) (stocked (g.F.Shelf.content c.play.new.shelf) (g.F.Shelf.faults c.play.new.shelf) (g.B.Inbox.content c.play.new.inbox) (g.B.Inbox.faults c.play.new.inbox) (g.B.Inbox.shortages c.play.new.inbox)) (g.T.Sink.content c.args.trace.now) (g.T.Sink.content c.play.new.trace) c.in_ok-play.ensures.happens)

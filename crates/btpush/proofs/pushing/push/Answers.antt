@@ -15,7 +15,7 @@ pub returns-in-Err-NoMemory-clause-pushes : goal.returns-in-Err-NoMemory-clause-
 returns-in-Err-NoMemory-clause-pushes g c = if_some _ (λ input h. NotRead h.0 h.1 refl (refl, refl, refl) tt) c.in-Err-NoMemory.ensures.gathers
 
 pub returns-in-Err-Refused-clause-pushes : goal.returns-in-Err-Refused-clause-pushes
-returns-in-Err-Refused-clause-pushes g c = if_some _ (λ input h. not_taken input _ _ _ _ _ _ _ _ _ c.in-Err-Refused.line c.in-Err-Refused.refusal _ h.0 c.deref.ensures.value h.1 (rw c.in-Err-Refused.field-0-is at c.in-Err-Refused.ensures) (rw (c.in-Err-Refused.line-is, c.in-Err-Refused.refusal-is) at c.refuse.ensures.refuses) (refl, refl, refl)) c.in-Ok.ensures.gathers
+returns-in-Err-Refused-clause-pushes g c = if_some _ (λ input h. not_taken input _ _ _ _ _ _ _ _ _ _ c.in-Err-Refused.line c.in-Err-Refused.refusal _ h.0 c.deref.ensures.value h.1 (rw c.in-Err-Refused.field-0-is at c.in-Err-Refused.ensures) (rw (c.in-Err-Refused.line-is, c.in-Err-Refused.refusal-is) at c.refuse.ensures.refuses) (refl, refl, refl)) c.in-Ok.ensures.gathers
 
 pub returns-in-Err-NoMemory-scenario_of-clause-pushes : goal.returns-in-Err-NoMemory-scenario_of-clause-pushes
 returns-in-Err-NoMemory-scenario_of-clause-pushes g c = if_some _ (λ input h. NotRead reading_limit h.1 refl (refl, refl, refl) tt) c.in-Ok.ensures.gathers
@@ -24,7 +24,7 @@ pub object_line-requires : goal.object_line-requires
 object_line-requires g c = record { short = omega (arith, short_read missing_features c.deref.result.now (script_of c.in-Ok-scenario_of.scenario) c.in-Ok-scenario_of.ensures, ap (λ (t : List ℕ). length t) (c.deref.ensures.value ∙ sym c.deref-2.ensures.value)) }
 
 pub returns-clause-pushes : goal.returns-clause-pushes
-returns-clause-pushes g c = if_some _ (λ input h. taken input _ _ _ _ _ _ _ _ _ _ _ c.in-Ok-scenario_of.scenario _ _ h.0 c.deref.ensures.value c.deref-2.ensures.value h.1 c.in-Ok-scenario_of.ensures c.object_line.ensures c.run_scenario.ensures.runs) c.in-Ok.ensures.gathers
+returns-clause-pushes g c = if_some _ (λ input h. taken input _ _ _ _ _ _ _ _ _ _ _ _ c.in-Ok-scenario_of.scenario _ _ h.0 c.deref.ensures.value c.deref-2.ensures.value h.1 c.in-Ok-scenario_of.ensures c.object_line.ensures c.run_scenario.ensures.runs) c.in-Ok.ensures.gathers
 
 pub returns-clause-finish : goal.returns-clause-finish
 returns-clause-finish g c ended = c.in-Ok.ensures.finish (omega (arith, short_read missing_features c.deref.result.now (script_of c.in-Ok-scenario_of.scenario) c.in-Ok-scenario_of.ensures, ap (λ (t : List ℕ). length t) c.deref.ensures.value))

@@ -1,4 +1,6 @@
-use Rattle.btpush.specs.Pushing.{RanToEnd}
+use Rattle.std.proofs.Common.{refl}
+use Rattle.radio_world.specs.declared.fault.WorldFault.TheVariants as world
+use Rattle.btpush.specs.Pushing.{RanToEnd, RanShort}
 use Rattle.btpush.proofs.Blaming.{still_trace, beside_trace}
 use Rattle.btpush.proofs.pushing.run_scenario.Goals as goal
 
@@ -10,3 +12,9 @@ returns-in-Ok-clause-causes g c = beside_trace (still_trace c.in-Ok.ensures.blam
 
 pub returns-in-Err-NotBuilt-clause-causes : goal.returns-in-Err-NotBuilt-clause-causes
 returns-in-Err-NotBuilt-clause-causes g c = beside_trace (still_trace c.in-Err-NotBuilt.ensures.blame (λ is. let not = c.in-Err-NotBuilt.field-0-is in absurd cc)) c.refuse.ensures.causes
+
+pub returns-in-Err-TraceFault-clause-runs : goal.returns-in-Err-TraceFault-clause-runs
+returns-in-Err-TraceFault-clause-runs g c = RanShort world.TraceFault tt (λ is. (rw c.in-Err-TraceFault.field-0-is at c.in-Err-TraceFault.ensures.blame.failed) refl) (rw c.in-Err-TraceFault.field-0-is at c.in-Err-TraceFault.ensures.broken) refl
+
+pub returns-in-Err-NoMemory-clause-runs : goal.returns-in-Err-NoMemory-clause-runs
+returns-in-Err-NoMemory-clause-runs g c = RanShort world.NoMemory tt (λ is. absurd cc) (rw c.in-Err-NoMemory.field-0-is at c.in-Err-NoMemory.ensures.broken) refl

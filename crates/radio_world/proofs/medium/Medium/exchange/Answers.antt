@@ -2,7 +2,8 @@ use Rattle.std.proofs.Common.{◌≡◌, ℕ, ap, ◌∙◌}
 use Rattle.push_script.specs.declared.word.Side.{Side}
 use Rattle.radio_air.specs.Radio.{Radio, after_offer}
 use Rattle.world_model.specs.Media.{Medium, in_radio}
-use Rattle.radio_world.proofs.Offered.{exchange_extends}
+use Rattle.radio_world.proofs.Offered.{exchange_extends, offered_extends}
+use Rattle.radio_world.proofs.Breaking.{any_fault, same_fault, short_none, moves_then_short}
 use Rattle.radio_world.proofs.medium.Medium.exchange.Goals as goal
 
 abbrev mk : Radio → ℕ → ℕ → Medium
@@ -23,3 +24,17 @@ returns-else-out-clause-extends g c =
     exchange_extends _ _ _ _ _ _ _ _ _ _ _ c.in_ok-out.ensures.extends c.in_ok-out.ensures.still
     (with_radio c.args.side c.self.inside.radio c.offered.new.self c.self.inside.peak_a c.self.inside.peak_b c.move_all_out.new.self c.in_ok-offered.ensures c.self.view_is)
     c.in_ok-into.ensures.extends
+
+pub returns-in_err-out-clause-broken : goal.returns-in_err-out-clause-broken
+returns-in_err-out-clause-broken g c = same_fault _ _ c.in_err-out.field-0.0 c.from_residual.ensures.1 c.in_err-out.ensures.broken
+
+pub returns-in_err-offered-clause-broken : goal.returns-in_err-offered-clause-broken
+returns-in_err-offered-clause-broken g c = any_fault _ _ (λ fault. short_none fault c.args.side c.args.self.now c.move_all_out.new.self _ _ _ _ c.in_ok-out.ensures.extends)
+
+pub returns-in_err-into-clause-broken : goal.returns-in_err-into-clause-broken
+returns-in_err-into-clause-broken g c =
+    same_fault _ _ c.in_err-into.field-0.0 c.from_residual-in_err-into.ensures.1
+    (moves_then_short c.in_err-into.field-0.0 c.args.side c.args.self.now c.move_all_out.new.self _ _ _ _ _ _ c.in_ok-out.ensures.extends
+    (moves_then_short c.in_err-into.field-0.0 c.args.side c.move_all_out.new.self (mk c.offered.new.self c.self.inside.peak_a c.self.inside.peak_b) _ _ _ _ _ _
+    (offered_extends c.args.side _ _ _ _ c.in_ok-out.ensures.still (with_radio c.args.side c.self.inside.radio c.offered.new.self c.self.inside.peak_a c.self.inside.peak_b c.move_all_out.new.self c.in_ok-offered.ensures c.self.view_is))
+    c.in_err-into.ensures.broken))

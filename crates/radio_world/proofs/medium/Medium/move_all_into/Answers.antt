@@ -1,5 +1,6 @@
 use Rattle.radio_world.proofs.Exchanging.{on_none, on_one}
 use Rattle.radio_world.proofs.Blaming.{blames_none, blames_then, blames_ok, keeps_none, keeps_then, keeps_on}
+use Rattle.radio_world.proofs.Breaking.{same_fault, moves_then_short}
 use Rattle.radio_world.proofs.medium.Medium.move_all_into.Goals as goal
 
 pub loop-moved-init : goal.loop-moved-init
@@ -15,3 +16,8 @@ loop-moved-preserved g c = (
   blames_ok (blames_then c.loop-moved.invariant.2 c.in_ok-move_into.ensures.blame),
   keeps_on (keeps_then c.loop-moved.invariant.3 c.in_ok-move_into.ensures.keeps),
 )
+
+pub returns-in_err-move_into-clause-broken : goal.returns-in_err-move_into-clause-broken
+returns-in_err-move_into-clause-broken g c =
+    same_fault _ _ c.in_err-move_into.field-0.0 c.from_residual.ensures.1
+    (moves_then_short c.in_err-move_into.field-0.0 c.args.side c.args.self.now c.loop-moved.self _ _ _ _ _ _ c.loop-moved.invariant.0.extends c.in_err-move_into.ensures.broken)

@@ -1,5 +1,6 @@
 use Rattle.radio_world.proofs.Exchanging.{on_none, on_one}
 use Rattle.radio_world.proofs.Blaming.{blames_none, blames_then, blames_ok}
+use Rattle.radio_world.proofs.Breaking.{same_fault, moves_then_short}
 use Rattle.radio_world.proofs.medium.Medium.move_all_out.Goals as goal
 
 pub loop-moved-init : goal.loop-moved-init
@@ -14,3 +15,8 @@ loop-moved-preserved g c = (
   λ may. c.move_out.ensures.may_hear (c.loop-moved.invariant.1 may),
   blames_ok (blames_then c.loop-moved.invariant.2 c.in_ok-move_out.ensures.blame),
 )
+
+pub returns-in_err-move_out-clause-broken : goal.returns-in_err-move_out-clause-broken
+returns-in_err-move_out-clause-broken g c =
+    same_fault _ _ c.in_err-move_out.field-0.0 c.from_residual.ensures.1
+    (moves_then_short c.in_err-move_out.field-0.0 c.args.side c.args.self.now c.loop-moved.self _ _ _ _ _ _ c.loop-moved.invariant.0.extends c.in_err-move_out.ensures.broken)

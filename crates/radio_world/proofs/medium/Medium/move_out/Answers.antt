@@ -10,12 +10,14 @@ use Rattle.world_model.specs.Media.{Medium, noted, in_radio}
 use Rattle.radio_world.proofs.Departed.{moved_extends}
 use Rattle.world_model.proofs.Departing.{left_shorter}
 use Rattle.radio_world.proofs.Extending.{extends_none, nothing_whole}
+use Rattle.radio_world.proofs.Breaking.{any_fault, short_out}
 use Rattle.radio_world.proofs.Blaming.{blames_none}
 use Rattle.radio_world.proofs.medium.Medium.move_out.Goals as goal
 
 pub returns-in_default : goal.returns-in_default
 returns-in_default g c = record {
   extends = extends_none c.args.side c.args.self.now (g.H.Host.face c.args.host.now c.args.port.now) (g.T.Sink.content c.args.trace.now);
+  broken = tt;
   still = λ _. (nothing_whole (g.H.Host.face c.args.host.now c.args.port.now).line.out c.first.result (subst (λ xs. IsLeading 1021 xs c.first.result) (c.out.ensures c.args.port.now) c.first.ensures) c.in_default.not-Whole, refl, refl, refl);
   shorter = λ is. absurd cc;
   may_hear = λ may. may;
@@ -52,3 +54,15 @@ returns-clause-shorter g c = λ moved.
     subst (λ (face : Face). length face.line.out < length (g.H.Host.face c.args.host.now c.args.port.now).line.out) (sym c.taken.ensures.face)
     (left_shorter (packet c.in-Whole.unit) (g.H.Host.face c.args.host.now c.args.port.now).line.out (drop c.in-Whole.n (g.H.Host.face c.args.host.now c.args.port.now).line.out)
     (split_off (g.H.Host.face c.args.host.now c.args.port.now).line.out (spelling (packet c.in-Whole.unit)) c.in-Whole.n (ap (take c.in-Whole.n) (sym (c.out.ensures c.args.port.now)) ∙ c.in-Whole.ensures.3)))
+
+pub returns-in_err-record-clause-broken : goal.returns-in_err-record-clause-broken
+returns-in_err-record-clause-broken g c =
+    any_fault _ _ (λ fault. short_out fault c.args.side c.args.self.now (g.H.Host.face c.args.host.now c.args.port.now) _ _ (packet c.in-Whole.unit) _ c.in-Whole.ensures.0
+    (split_off (g.H.Host.face c.args.host.now c.args.port.now).line.out (spelling (packet c.in-Whole.unit)) c.in-Whole.n (ap (take c.in-Whole.n) (sym (c.out.ensures c.args.port.now)) ∙ c.in-Whole.ensures.3))
+    c.in_err-record.ensures.front)
+
+pub returns-in_err-take-clause-broken : goal.returns-in_err-take-clause-broken
+returns-in_err-take-clause-broken g c =
+    any_fault _ _ (λ fault. short_out fault c.args.side c.args.self.now (g.H.Host.face c.args.host.now c.args.port.now) _ _ (packet c.in-Whole.unit) _ c.in-Whole.ensures.0
+    (split_off (g.H.Host.face c.args.host.now c.args.port.now).line.out (spelling (packet c.in-Whole.unit)) c.in-Whole.n (ap (take c.in-Whole.n) (sym (c.out.ensures c.args.port.now)) ∙ c.in-Whole.ensures.3))
+    c.in_ok-record.ensures.front)

@@ -9,6 +9,7 @@ use Rattle.world_model.specs.Ordering.{Pushes, next_name, one_begun}
 use Rattle.world_model.specs.Scenes.{Scene}
 use Rattle.radio_world.specs.Going.{Begins}
 use Rattle.radio_world.proofs.Going.{goes_none, goes_begun}
+use Rattle.radio_world.proofs.Breaking.{any_break, breaks_begun}
 use Rattle.radio_world.proofs.scene.Scene.begin.Goals as goal
 
 pub returns-then-not-idle-clause-goes : goal.returns-then-not-idle-clause-goes
@@ -53,3 +54,27 @@ returns-clause-goes g c =
     let written : g.T.Sink.content c.record.new.trace ≡ gained (g.T.Sink.content c.args.trace.now) (entry_octets (Begun (c.self.inside.pushes.begun + 1))) = search rules in
     λ b. goes_begun _ _ _ _ b _ _ (begins c.args.self.now c.self.inside.medium c.self.inside.pushes c.begin.new.self c.self.inside.turned _ _ c.in-Some.name.now _ _ c.self.view_is c.begin.ensures few idle next
     c.in-Ok.ensures.puts c.in-Ok.ensures.starts c.in-Ok.ensures.held written)
+
+pub returns-in_err-record-clause-broken : goal.returns-in_err-record-clause-broken
+returns-in_err-record-clause-broken g c =
+    let few : c.begun.result + 1 < 2 ^ 16 = search rules in
+    let is : c.begun.result ≡ c.args.self.now.pushes.begun = search rules in
+    let idle : idles (g.A.Host.face c.args.a.now c.args.shelf.now).inside ≡ true = search rules in
+    let next : next_name c.args.self.now.pushes ≡ Some c.in-Some.name.now = search rules in
+    any_break _ c.args.self.now (g.A.Host.face c.args.a.now c.args.shelf.now) _ _ (λ fault b. breaks_begun fault c.args.self.now (c.begun.result + 1) c.in-Some.name.now _ b _ _ next (ap (λ n. n + 1) is) few idle c.in_err-record.ensures.front)
+
+pub returns-in-Err-TooLarge-clause-broken : goal.returns-in-Err-TooLarge-clause-broken
+returns-in-Err-TooLarge-clause-broken g c =
+    let few : c.begun.result + 1 < 2 ^ 16 = search rules in
+    let is : c.begun.result ≡ c.args.self.now.pushes.begun = search rules in
+    let idle : idles (g.A.Host.face c.args.a.now c.args.shelf.now).inside ≡ true = search rules in
+    let next : next_name c.args.self.now.pushes ≡ Some c.in-Some.name.now = search rules in
+    λ b. breaks_begun _ c.args.self.now (c.begun.result + 1) c.in-Some.name.now _ b _ _ next (ap (λ n. n + 1) is) few idle c.in_ok-record.ensures.front
+
+pub returns-in-Err-NoMemory-clause-broken : goal.returns-in-Err-NoMemory-clause-broken
+returns-in-Err-NoMemory-clause-broken g c =
+    let few : c.begun.result + 1 < 2 ^ 16 = search rules in
+    let is : c.begun.result ≡ c.args.self.now.pushes.begun = search rules in
+    let idle : idles (g.A.Host.face c.args.a.now c.args.shelf.now).inside ≡ true = search rules in
+    let next : next_name c.args.self.now.pushes ≡ Some c.in-Some.name.now = search rules in
+    λ b. breaks_begun _ c.args.self.now (c.begun.result + 1) c.in-Some.name.now _ b _ _ next (ap (λ n. n + 1) is) few idle c.in_ok-record.ensures.front

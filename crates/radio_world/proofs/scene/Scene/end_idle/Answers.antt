@@ -1,6 +1,8 @@
 use Rattle.std.proofs.Common.{rules, ◌≡◌, Some, true}
 use Rattle.world_model.specs.Insides.{idles, came_of}
 use Rattle.radio_world.proofs.Going.{goes_none, goes_ended}
+use Rattle.radio_world.proofs.Breaking.{any_break}
+use Rattle.radio_world.proofs.Stopping.{breaks_ended}
 use Rattle.radio_world.proofs.scene.Scene.end_idle.Goals as goal
 
 pub returns-then-not-going-clause-goes : goal.returns-then-not-going-clause-goes
@@ -15,3 +17,9 @@ returns-clause-goes g c =
     let idle : idles (g.A.Host.face c.args.a.now c.args._shelf.now).inside ≡ true = search rules in
     let came : came_of (g.A.Host.face c.args.a.now c.args._shelf.now).inside ≡ Some c.in-Some.outcome = search rules in
     λ b. goes_ended c.args.self.now c.end.new.self _ b c.in-Some.outcome _ _ (record { ends = c.in_ok-end.ensures.ends; going = going; idle = idle; came = came; none_b = c.requires.none_b })
+
+pub returns-in_err-end-clause-broken : goal.returns-in_err-end-clause-broken
+returns-in_err-end-clause-broken g c =
+    let going : c.args.self.now.pushes.going ≡ true = search rules in
+    let came : came_of (g.A.Host.face c.args.a.now c.args._shelf.now).inside ≡ Some c.in-Some.outcome = search rules in
+    any_break _ c.args.self.now (g.A.Host.face c.args.a.now c.args._shelf.now) _ _ (λ fault b. breaks_ended fault c.in-Some.outcome c.args.self.now _ b _ _ going came c.end.ensures.front)

@@ -1,5 +1,6 @@
 use Rattle.radio_world.proofs.Going.{goes_none, goes_then}
 use Rattle.radio_world.proofs.Blaming.{blames_none, blames_then, blames_ok, keeps_none, keeps_then, keeps_on}
+use Rattle.radio_world.proofs.Breaking.{same_fault, breaks_none, goes_then_breaks}
 use Rattle.radio_world.proofs.scene.Scene.settle.Goals as goal
 
 pub loop-init : goal.loop-init
@@ -10,3 +11,11 @@ returns-then-not-branch-clause-goes g c = goes_then c.args.self.now c.loop.self 
 
 pub loop-preserved : goal.loop-preserved
 loop-preserved g c = (goes_then c.args.self.now c.loop.self c.round.new.self _ _ _ _ _ _ _ _ _ c.loop.invariant.0 c.in_ok-round.ensures.goes, c.round.ensures.may_hear_a, c.round.ensures.may_hear_b, blames_ok (blames_then c.loop.invariant.3 c.in_ok-round.ensures.blame), keeps_on (keeps_then c.loop.invariant.4 c.in_ok-round.ensures.keeps_a), keeps_on (keeps_then c.loop.invariant.5 c.in_ok-round.ensures.keeps_b))
+
+pub returns-in_err-round-clause-broken : goal.returns-in_err-round-clause-broken
+returns-in_err-round-clause-broken g c =
+    same_fault _ _ c.in_err-round.field-0.0 c.from_residual.ensures.1
+    (goes_then_breaks c.in_err-round.field-0.0 c.args.self.now c.loop.self _ _ _ _ _ _ _ _ c.loop.invariant.0 c.in_err-round.ensures.broken)
+
+pub returns-clause-broken : goal.returns-clause-broken
+returns-clause-broken g c = breaks_none _ c.args.self.now c.loop.self _ _ _ _ _ _ c.loop.invariant.0

@@ -1,7 +1,9 @@
-use Rattle.std.proofs.Common.{rules, ◌≡◌, ◌+◌, ◌^◌, ◌<◌, Ok, ap, subst, inl}
+use Rattle.std.proofs.Common.{rules, [], ◌∷◌, ◌≡◌, ◌+◌, ◌^◌, ◌<◌, Ok, ap, subst, inl}
 use Rattle.world_model.specs.Scenes.{Scene}
 use Rattle.radio_world.specs.Blaming.{HasLong}
 use Rattle.radio_world.proofs.Turned.{turns_to_nothing, turns_to_act}
+use Rattle.radio_world.proofs.Breaking.{any_fault, same_fault}
+use Rattle.radio_world.proofs.Stopping.{short_unsaid, short_at_word, word_then_breaks}
 use Rattle.radio_world.proofs.scene.Scene.turn.Goals as goal
 
 pub returns-then-not-acted-clause-turns : goal.returns-then-not-acted-clause-turns
@@ -20,3 +22,25 @@ returns-clause-turns g c =
 
 pub returns-in_err-settle-clause-built : goal.returns-in_err-settle-clause-built
 returns-in_err-settle-clause-built g c = λ is. inl (subst (λ (s : Scene). HasLong (g.A.Host.content c.args.shelf.now) s.pushes.names) c.self.view_is (c.in_err-settle.ensures.built (search rules)))
+
+pub returns-in_default-clause-broken : goal.returns-in_default-clause-broken
+returns-in_default-clause-broken g c = short_unsaid _ (c.args.word ∷ []) c.args.self.now (g.A.Host.face c.args.a.now c.args.shelf.now) (g.B.Host.face c.args.b.now c.args.inbox.now) (g.T.Sink.content c.args.trace.now)
+
+pub returns-in_err-acted-clause-broken : goal.returns-in_err-acted-clause-broken
+returns-in_err-acted-clause-broken g c =
+    any_fault _ _ (λ fault. short_unsaid fault (c.args.word ∷ []) c.args.self.now (g.A.Host.face c.args.a.now c.args.shelf.now) (g.B.Host.face c.args.b.now c.args.inbox.now) (g.T.Sink.content c.args.trace.now))
+
+pub returns-in_err-record-clause-broken : goal.returns-in_err-record-clause-broken
+returns-in_err-record-clause-broken g c =
+    let next : c.in-Some.ordinal ≡ c.self.inside.turned + 1 = search rules in
+    let below : c.in-Some.ordinal < 2 ^ 64 = search rules in
+    any_fault _ _ (λ fault. short_at_word fault c.self.inside.medium c.act.new.self c.self.inside.pushes c.self.inside.turned c.in-Some.ordinal c.args.self.now c.args.word (g.A.Host.face c.args.a.now c.args.shelf.now) (g.B.Host.face c.args.b.now c.args.inbox.now) _ _
+    c.self.view_is c.requires.rest (c.in_ok-acted.ensures.acts (ap Ok c.if-not-acted.false)) next below c.in_err-record.ensures.front)
+
+pub returns-in_err-settle-clause-broken : goal.returns-in_err-settle-clause-broken
+returns-in_err-settle-clause-broken g c =
+    let next : c.in-Some.ordinal ≡ c.self.inside.turned + 1 = search rules in
+    let below : c.in-Some.ordinal < 2 ^ 64 = search rules in
+    same_fault _ _ c.in_err-settle.field-0.0 c.from_residual-in_err-settle.ensures.1
+    (word_then_breaks c.in_err-settle.field-0.0 c.self.inside.medium c.act.new.self c.self.inside.pushes c.self.inside.turned c.in-Some.ordinal c.args.self.now c.args.word (g.A.Host.face c.args.a.now c.args.shelf.now) (g.B.Host.face c.args.b.now c.args.inbox.now) _ _ _ _
+    c.self.view_is c.requires.rest (c.in_ok-acted.ensures.acts (ap Ok c.if-not-acted.false)) next below c.in_ok-record.ensures.ok c.in_err-settle.ensures.broken)

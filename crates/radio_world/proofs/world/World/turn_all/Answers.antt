@@ -1,4 +1,4 @@
-use Rattle.std.proofs.Common.{rules, List, replicate, take, sym, subst, ◌∙◌}
+use Rattle.std.proofs.Common.{rules, ◌+◌, List, ◌++◌, replicate, take, drop, sym, ap, subst, ◌∙◌}
 use Rattle.push_script.specs.declared.word.Word.{Word}
 use Rattle.capture.specs.Air.{words_of}
 use Rattle.bt_host.specs.Servers.{kept}
@@ -7,6 +7,9 @@ use Rattle.radio_world.specs.OwnHosts.{shelved, client_face, server_face}
 use Rattle.radio_world.proofs.Turned.{turns_none, turns_then}
 use Rattle.radio_world.proofs.Runs.{run_more, none_beyond}
 use Rattle.radio_world.proofs.Blaming.{blames_none, blames_then, keeps_none, keeps_then, unbuilt_before}
+use Rattle.radio_world.specs.Breaking.{TurnsShort}
+use Rattle.radio_world.proofs.Breaking.{same_fault}
+use Rattle.radio_world.proofs.Stopping.{turns_then_short, short_longer, in_script}
 use Rattle.radio_world.proofs.world.World.turn_all.Goals as goal
 
 pub loop-i-init : goal.loop-i-init
@@ -31,3 +34,11 @@ pub returns-in_err-turn_times-clause-built : goal.returns-in_err-turn_times-clau
 returns-in_err-turn_times-clause-built g c = λ is.
     unbuilt_before c.loop-i.invariant.5.told c.loop-i.invariant.0.names (λ w. (c.loop-i.i, c.in-Some.count, c.in-Some.word, sym c.at.ensures ∙ c.in-Some.is, w))
     (c.in_err-turn_times.ensures.built (search rules))
+
+pub returns-in_err-turn_times-clause-broken : goal.returns-in_err-turn_times-clause-broken
+returns-in_err-turn_times-clause-broken g c =
+    same_fault _ _ c.in_err-turn_times.field-0.0 c.from_residual.ensures.1
+    (subst (λ (words : List Word). TurnsShort c.in_err-turn_times.field-0.0 words c.args.self.now.scene (client_face c.args.self.now.client (shelved (g.F.Shelf.content c.args.shelf.now) (g.F.Shelf.faults c.args.shelf.now))) (server_face c.args.self.now.server (kept (g.B.Inbox.content c.args.inbox.now) (g.B.Inbox.faults c.args.inbox.now) (g.B.Inbox.shortages c.args.inbox.now))) (server_face c.turn_times.new.self.server (kept (g.B.Inbox.content c.turn_times.new.inbox) (g.B.Inbox.faults c.turn_times.new.inbox) (g.B.Inbox.shortages c.turn_times.new.inbox))) (g.T.Sink.content c.args.trace.now) (g.T.Sink.content c.turn_times.new.trace))
+    (ap (λ xs. xs ++ words_of (drop (c.loop-i.i + 1) c.args.script.now)) (run_more c.args.script.now c.loop-i.i c.in-Some.count c.in-Some.word (sym c.at.ensures ∙ c.in-Some.is)) ∙ in_script c.args.script.now (c.loop-i.i + 1))
+    (short_longer c.in_err-turn_times.field-0.0 (words_of (take c.loop-i.i c.args.script.now) ++ replicate c.in-Some.count c.in-Some.word) (words_of (drop (c.loop-i.i + 1) c.args.script.now)) c.args.self.now.scene _ _ _ _ _
+    (turns_then_short c.in_err-turn_times.field-0.0 (words_of (take c.loop-i.i c.args.script.now)) (replicate c.in-Some.count c.in-Some.word) c.args.self.now.scene c.loop-i.self.scene _ _ _ _ _ _ _ _ c.loop-i.invariant.0 c.in_err-turn_times.ensures.broken)))

@@ -1,0 +1,113 @@
+-- A run of a scenario that stopped.
+use Rattle.std.proofs.Common.{◌≡◌, ℕ, ◌≤◌, List, [], ◌∷◌, ◌++◌, Bool, true, false, Option, Some, None, refl, sym, ap, subst, ◌∙◌, ◌⊎◌, inl, inr}
+use Rattle.std.specs.Prelude.{IfSome, option_to_list}
+use Rattle.std.specs.List.{AllByRecursion}
+use Rattle.std.proofs.lemmas.List.{append-nil}
+use Rattle.bt_base.specs.Streams.{gained, GainedFront}
+use Rattle.bt_base.proofs.PortLaws.{front_none, front_whole, gained-gained, gained-nil}
+use Rattle.push_script.specs.declared.scenario.Scenario.{Scenario}
+use Rattle.push_script.specs.declared.word.Word.{Word}
+use Rattle.capture.specs.Entries.{Entry, Ended, IsEntry, entry_octets, capture_octets}
+use Rattle.capture.specs.Air.{words_of}
+use Rattle.bt_host.specs.Servers.{Kept, Served}
+use Rattle.bt_host.specs.ServerHosts.{ServerState}
+use Rattle.world_model.specs.Insides.{Inside, Serving}
+use Rattle.world_model.specs.Faces.{Face}
+use Rattle.world_model.specs.Moments.{Moment, with_pushes}
+use Rattle.world_model.specs.Ordering.{one_ended}
+use Rattle.world_model.specs.Happenings.{Plays, EndsScript, all_entries, all_words, last_outcome}
+use Rattle.radio_world.specs.Breaking.{IsDue, IsForB, Stops}
+use Rattle.radio_world.specs.Unfinished.{KeepsAll, HappensShort}
+use Rattle.radio_world.specs.OwnHosts.{server_face}
+use Rattle.radio_world.specs.Worlds.{World, Happens, beginning, new_world}
+use Rattle.radio_world.specs.declared.fault.WorldFault.{WorldFault}
+use Rattle.radio_world.specs.declared.fault.WorldFault.TheVariants.{TraceFault}
+use Rattle.btpush.specs.Plays.{Stocked}
+use Rattle.btpush.specs.Short.{PlaysShort}
+use Rattle.radio_world.proofs.Breaking.{breaks_none}
+use Rattle.radio_world.proofs.Going.{goes_none}
+use Rattle.radio_world.proofs.Unfinished.{start_short}
+use Rattle.btpush.proofs.Fronts.{Fronts, fronts_of, all_whole}
+
+keeps_found : (scenario : Scenario) (entries found : List Entry) (due : Option Entry) → KeepsAll scenario.acl_length scenario.acl_count (words_of scenario.script) entries
+    → KeepsAll scenario.acl_length scenario.acl_count (words_of scenario.script) (entries ++ option_to_list due) → (found ≡ entries) ⊎ (found ≡ entries ++ option_to_list due)
+    → KeepsAll scenario.acl_length scenario.acl_count (words_of scenario.script) found
+keeps_found scenario entries found due keeps more (inl is) = subst (KeepsAll scenario.acl_length scenario.acl_count (words_of scenario.script)) (sym is) keeps
+keeps_found scenario entries found due keeps more (inr is) = subst (KeepsAll scenario.acl_length scenario.acl_count (words_of scenario.script)) (sym is) more
+
+-- what a world says of it
+pub plays_short : (fault : WorldFault) (scenario : Scenario) (server : ServerState) (stock stock' : Stocked) (trace trace' : Option (List ℕ)) → HappensShort fault scenario stock.shelf stock.inbox (server_face server stock'.inbox) trace trace'
+    → PlaysShort fault scenario stock stock' trace trace'
+plays_short fault scenario server stock stock' trace trace' short =
+    let stops = short.stops in
+    let fronts : Fronts (all_entries short.happenings) stops.due trace trace' = fronts_of (all_entries short.happenings) stops.due trace trace' short.keeps.each short.keeps_due.each stops.front in
+    record {
+      octets = fronts.octets;
+      written = fronts.written;
+      entries = fronts.found;
+      whole = fronts.whole;
+      keeps = keeps_found scenario (all_entries short.happenings) fronts.found stops.due short.keeps short.keeps_due fronts.found_are;
+      happenings = short.happenings;
+      last = short.last;
+      runs = short.runs;
+      behind = short.behind;
+      words = short.words;
+      due = stops.due;
+      is_due = stops.is_due;
+      entries_are = fronts.found_are;
+      stays = λ why. (server.server.served, ap (λ (f : Face). f.inside) (sym (stops.stays why)));
+    }
+
+-- ---- a run that was whole, but of which there was no memory to tell
+
+last_ones : (entries : List Entry) (entry : Entry) → AllByRecursion IsEntry (entries ++ entry ∷ []) → IsEntry entry
+last_ones [] entry all = all.0
+last_ones (x ∷ xs) entry all = last_ones xs entry all.1
+
+-- the end of the script, as something that was due
+record IsEnd (before last : Moment) (past ended : List Entry) : Type 0 where
+  due : Option Entry
+  is_due : IfSome due (λ entry. IsDue [] entry before)
+  ended_is : ended ≡ option_to_list due
+  b : last.b ≡ before.b
+
+end_is : (going : Bool) (before last : Moment) (past ended : List Entry) → before.scene.pushes.going ≡ going → EndsScript going before last ended → AllByRecursion IsEntry (past ++ ended) → IsEnd before last past ended
+end_is true before last past ended is ends all =
+    let entry : Entry = Ended before.scene.pushes.begun (last_outcome before) in
+    let fits : IsEntry entry = last_ones past entry (subst (λ xs. AllByRecursion IsEntry (past ++ xs)) ends.0 all) in
+    record { due = Some entry; is_due = (is, refl, fits.0, fits.1, refl); ended_is = ends.0; b = ap (λ (m : Moment). m.b) ends.1 }
+end_is false before last past ended is ends all = record { due = None; is_due = tt; ended_is = ends.0; b = ap (λ (m : Moment). m.b) ends.1 }
+
+-- what a world that was played says, where what came of it cannot be told
+pub whole_short : (fault : WorldFault) (scenario : Scenario) (world : World) (stock stock' : Stocked) (trace trace' : Option (List ℕ)) → Happens scenario world stock.shelf stock'.shelf stock.inbox stock'.inbox trace trace'
+    → PlaysShort fault scenario stock stock' trace trace'
+whole_short fault scenario world stock stock' trace trace' happens =
+    let plays : Plays (words_of scenario.script) (beginning scenario stock.shelf stock.inbox) happens.last happens.entries = happens.plays in
+    let end : IsEnd plays.before happens.last (all_entries plays.happenings) plays.ended =
+    end_is plays.before.scene.pushes.going plays.before happens.last (all_entries plays.happenings) plays.ended refl plays.ends (subst (AllByRecursion IsEntry) plays.entries_are happens.entries_are) in
+    record {
+      octets = capture_octets happens.entries;
+      written = happens.written;
+      entries = happens.entries;
+      whole = all_whole happens.entries happens.entries_are;
+      keeps = record { each = happens.entries_are; obeys = happens.obeys.each; within_a = happens.within_a; within_b = happens.within_b };
+      happenings = plays.happenings;
+      last = plays.before;
+      runs = plays.runs;
+      behind = [];
+      words = sym plays.words ∙ sym (append-nil (all_words plays.happenings));
+      due = end.due;
+      is_due = end.is_due;
+      entries_are = inr (plays.entries_are ∙ ap (λ xs. all_entries plays.happenings ++ xs) end.ended_is);
+      stays = λ why. (world.server.server.served, ap (λ (f : Face). f.inside) (sym (happens.ends.server ∙ end.b)));
+    }
+
+-- ---- a run that did not begin
+
+pub unbegun_short : (fault : WorldFault) (scenario : Scenario) (stock : Stocked) (trace : Option (List ℕ)) → 27 ≤ scenario.acl_length → scenario.acl_length ≤ 1021 → 1 ≤ scenario.acl_count → scenario.acl_count ≤ 64
+    → PlaysShort fault scenario stock stock trace trace
+unbegun_short fault scenario stock trace long short some few =
+    let first : Moment = beginning scenario stock.shelf stock.inbox in
+    plays_short fault scenario (new_world scenario).server stock stock trace trace
+    (start_short fault scenario stock.shelf stock.inbox first.b trace trace long short some few
+    (breaks_none fault first.scene first.scene first.a first.a first.b first.b trace trace (goes_none first.scene first.a first.b trace)))

@@ -1,0 +1,39 @@
+-- A run of a scenario that stopped before all of it was said (this project's own).
+use Rattle.std.specs.Prelude.{ℕ, ◌≡◌, ◌⊎◌, List, ◌++◌, Option, IfSome, option_to_list}
+use Rattle.bt_base.specs.Streams.{gained}
+use Rattle.push_script.specs.declared.scenario.Scenario.{Scenario}
+use Rattle.push_script.specs.declared.word.Word.{Word}
+use Rattle.capture.specs.Entries.{Entry}
+use Rattle.capture.specs.Front.{HasWhole}
+use Rattle.capture.specs.Air.{words_of}
+use Rattle.bt_host.specs.Servers.{Served}
+use Rattle.world_model.specs.Insides.{Serving}
+use Rattle.world_model.specs.Moments.{Moment}
+use Rattle.world_model.specs.Happenings.{Happening, Runs, all_entries, all_words}
+use Rattle.radio_world.specs.Breaking.{IsDue, IsForB}
+use Rattle.radio_world.specs.Unfinished.{KeepsAll}
+use Rattle.radio_world.specs.Worlds.{beginning}
+use Rattle.radio_world.specs.declared.fault.WorldFault.{WorldFault}
+use Rattle.radio_world.specs.declared.fault.WorldFault.TheVariants.{TraceFault}
+use Rattle.btpush.specs.Plays.{Stocked}
+
+-- A scenario was played until the trace failed, or memory was wanting, or there was something that is not built yet. What the
+-- trace gained are whole entries, and behind them less than one. At each moment of these entries the air obeys the script, and
+-- both hosts keep within the buffers of their controllers. They are of all that happened from the first moment of the world on,
+-- but for the last thing that was due then, of which they are or are not. The inbox is as host b had it then; where memory was
+-- wanting, a packet that was due for host b may have changed it.
+pub record PlaysShort (fault : WorldFault) (scenario : Scenario) (stock stock' : Stocked) (trace trace' : Option (List ℕ)) : Type 0 where
+  pub octets : List ℕ
+  pub written : trace' ≡ gained trace octets
+  pub entries : List Entry
+  pub whole : HasWhole octets entries
+  pub keeps : KeepsAll scenario.acl_length scenario.acl_count (words_of scenario.script) entries
+  pub happenings : List Happening
+  pub last : Moment
+  pub runs : Runs happenings (beginning scenario stock.shelf stock.inbox) last
+  pub behind : List Word
+  pub words : words_of scenario.script ≡ all_words happenings ++ behind
+  pub due : Option Entry
+  pub is_due : IfSome due (λ entry. IsDue behind entry last)
+  pub entries_are : (entries ≡ all_entries happenings) ⊎ (entries ≡ all_entries happenings ++ option_to_list due)
+  pub stays : (fault ≡ TraceFault) ⊎ (IsForB due → ⊥) → (served : Served) × (last.b.inside ≡ Serving served stock'.inbox)
