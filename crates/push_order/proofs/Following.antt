@@ -27,11 +27,11 @@ pub record Reached (first : Moment) (past : List Entry) (moment : Moment) : Type
   pub runs : Runs happenings first moment
   pub past_is : past ≡ all_entries happenings
 
-runs_more : (happenings : List Happening) (happening : Happening) (old mid new : Moment) → Runs happenings old mid → Does happening mid new → Runs (happenings ++ happening ∷ []) old new
+pub runs_more : (happenings : List Happening) (happening : Happening) (old mid new : Moment) → Runs happenings old mid → Does happening mid new → Runs (happenings ++ happening ∷ []) old new
 runs_more [] happening old mid new same does = (new, subst (λ (m : Moment). Does happening m new) same does, refl)
 runs_more (now ∷ happenings) happening old mid new (next, first, rest) does = (next, first, runs_more happenings happening next mid new rest does)
 
-reached_more : (first : Moment) (past : List Entry) (happening : Happening) (old new : Moment) → Does happening old new → Reached first past old → Reached first (past ++ entries_of happening) new
+pub reached_more : (first : Moment) (past : List Entry) (happening : Happening) (old new : Moment) → Does happening old new → Reached first past old → Reached first (past ++ entries_of happening) new
 reached_more first past happening old new does reached = record {
   happenings = reached.happenings ++ happening ∷ [];
   runs = runs_more reached.happenings happening first old new reached.runs does;
@@ -72,7 +72,7 @@ course_nothing names past old new same course =
     subst (λ (es : List Entry). Course names es new.scene.pushes) (sym (append-nil past)) (subst (Course names past) (sym same) course)
 
 -- a push begins only where none goes on
-none_goes : {X : Type 0} (going : Bool) (found : Option X) (name : X) → cond going None found ≡ Some name → going ≡ false
+pub none_goes : {X : Type 0} (going : Bool) (found : Option X) (name : X) → cond going None found ≡ Some name → going ≡ false
 none_goes true found name some = absurd cc
 none_goes false found name some = refl
 
@@ -114,7 +114,7 @@ course_closes names past push outcome old new closing facts facts' (inr during) 
 
 -- ---- whatever happens
 
-pushes_of_face : (side : Side) (face : Face) (moment : Moment) → (with_face side face moment).scene.pushes ≡ moment.scene.pushes
+pub pushes_of_face : (side : Side) (face : Face) (moment : Moment) → (with_face side face moment).scene.pushes ≡ moment.scene.pushes
 pushes_of_face sides.A face moment = refl
 pushes_of_face sides.B face moment = refl
 

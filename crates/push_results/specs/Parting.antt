@@ -11,7 +11,7 @@ use Rattle.capture.specs.Pushes.{mark_of}
 use Rattle.capture.specs.Spelled.{objects_heard}
 use Rattle.capture.specs.Results.{first_cause, asks_nothing, MayStand, IsPushed}
 use Rattle.bt_host.specs.Servers.{Kept}
-use Rattle.world_model.specs.Insides.{Inside, Pushing, Serving, Shelved, came_of}
+use Rattle.world_model.specs.Insides.{Inside, Serving, Shelved, came_of}
 use Rattle.world_model.specs.Moments.{Moment, first_moment}
 use Rattle.world_model.specs.Happenings.{Happening, Opening, Runs, all_entries}
 use Rattle.push_course.specs.Conversations.{IsSetting}

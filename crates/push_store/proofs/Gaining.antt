@@ -99,7 +99,7 @@ hears_packet before packet old new inbox inbox' response hears fits =
 -- ---- whatever a packet tells
 
 -- one of two, whichever it is
-either : (b : Bool) (X Y Z : Type 0) → (X → Z) → (Y → Z) → WhereTrue b X Y → Z
+pub either : (b : Bool) (X Y Z : Type 0) → (X → Z) → (Y → Z) → WhereTrue b X Y → Z
 either true X Y Z f g x = f x
 either false X Y Z f g y = g y
 

@@ -1,0 +1,36 @@
+-- What comes of all pushes of a play, by what comes of each (this project's own).
+use Rattle.std.specs.Prelude.{ℕ, List, Option, IfSome}
+use Rattle.bt_base.specs.Objects.{Object}
+use Rattle.push_script.specs.declared.word.Word.{Word}
+use Rattle.push_script.specs.declared.outcome.Outcome.{Outcome}
+use Rattle.capture.specs.Entries.{Entry}
+use Rattle.capture.specs.Results.{CameOf, EachPushed}
+use Rattle.bt_host.specs.Servers.{Kept}
+use Rattle.world_model.specs.Insides.{Inside, Pushing, Serving, Shelved}
+use Rattle.world_model.specs.Moments.{Moment, first_moment}
+use Rattle.world_model.specs.Happenings.{Plays}
+use Rattle.push_order.specs.InOrder.{all_outcomes}
+use Rattle.push_course.specs.Conversations.{IsSetting}
+use Rattle.push_results.specs.Parting.{Adds, PushesCome}
+
+-- The inbox stores a gain behind what it held before, and that came of the pushes; each object that host b heard is that of
+-- its push on the shelf.
+pub record Results (shelf : Option (List Object)) (names : List (List ℕ)) (entries : List Entry) (outcomes : List Outcome) (inbox inbox' : Kept) : Type 0 where
+  pub gain : List Object
+  pub adds : Adds inbox.content gain inbox'.content
+  pub came : CameOf entries outcomes gain inbox.faults inbox'.faults
+  pub pushed : IfSome shelf (λ objects. EachPushed objects entries 1 names)
+
+abbrev pub ResultsIn : Option (List Object) → List (List ℕ) → List Entry → List Outcome → Kept → Inside → Type 0
+ResultsIn shelf names entries outcomes inbox (Serving served inbox') = Results shelf names entries outcomes inbox inbox'
+ResultsIn shelf names entries outcomes inbox (Pushing course shelf') = ⊥
+
+-- So it is at the end of each play from the beginning.
+abbrev pub ResultsOfPlays : Type 0
+ResultsOfPlays = (size count mtu obex : ℕ) (names : List (List ℕ)) (shelf : Shelved) (inbox : Kept) → IsSetting size count mtu obex names
+    → (script : List Word) (last : Moment) (entries : List Entry) → Plays script (first_moment size count mtu obex names shelf inbox) last entries
+    → ResultsIn shelf.content names entries (all_outcomes names last.scene.pushes.outcomes) inbox last.b.inside
+
+-- where that comes of each push, this comes of all
+abbrev pub ResultsFromPushes : Type 0
+ResultsFromPushes = PushesCome → ResultsOfPlays
