@@ -24,11 +24,11 @@ given (Dropped reason) = []
 abbrev pub gives : ℕ → List Piece → Piece → List (List ℕ)
 gives limit past piece = given (answer limit (open_after limit past) (starts piece.boundary) piece.octets)
 
-none_cut : (n size : ℕ) → first_pieces n size Continuing [] ≡ []
+pub none_cut : (n size : ℕ) → first_pieces n size Continuing [] ≡ []
 none_cut zero size = refl
 none_cut (suc n) size = refl
 
-abbrev go_on : List ℕ → Piece
+abbrev pub go_on : List ℕ → Piece
 go_on octets = record { boundary = Continuing; octets = octets }
 
 -- ---- pieces that go on
@@ -38,18 +38,18 @@ next_is : (held octets : List ℕ) (n : ℕ) → pdu_length held ≡ n → 4 ≤
 next_is held octets n says long within =
     rw (ne_eqb (length held) 0 (λ none. omega arith), says, le-ltb n (length held + length octets) within) refl
 
-given_next : (limit : ℕ) (past : List Piece) (held octets : List ℕ) (n : ℕ) (last : Bool) → open_after limit past ≡ held → pdu_length held ≡ n → 4 ≤ length held → length held + length octets ≤ n
+pub given_next : (limit : ℕ) (past : List Piece) (held octets : List ℕ) (n : ℕ) (last : Bool) → open_after limit past ≡ held → pdu_length held ≡ n → 4 ≤ length held → length held + length octets ≤ n
     → eqb n (length held + length octets) ≡ last → answer limit (open_after limit past) false octets ≡ cond last (Pdu (channel_of (held ++ octets)) (held ++ octets)) More
 given_next limit past held octets n last opened says long within is =
     ap (λ (h : List ℕ). next_answer h octets) opened ∙ (next_is held octets n says long within ∙ ap (λ (b : Bool). cond b (Pdu (channel_of (held ++ octets)) (held ++ octets)) More) is)
 
-open_next : (limit : ℕ) (past : List Piece) (held octets : List ℕ) → open_after limit past ≡ held → answer limit (open_after limit past) false octets ≡ More → open_after limit (past ++ go_on octets ∷ []) ≡ held ++ octets
+pub open_next : (limit : ℕ) (past : List Piece) (held octets : List ℕ) → open_after limit past ≡ held → answer limit (open_after limit past) false octets ≡ More → open_after limit (past ++ go_on octets ∷ []) ≡ held ++ octets
 open_next limit past held octets opened more =
     open_after-append limit past (go_on octets)
     ∙ (ap (λ (a : Answer). kept a (open_after limit past ++ octets)) more ∙ ap (λ (h : List ℕ). h ++ octets) opened)
 
 -- all octets came: nothing is left
-ends_there : (size : ℕ) (held octets x : List ℕ) → held ++ octets ≡ x → length held + length (take size octets) ≡ length x → (drop size octets ≡ []) × (held ++ take size octets ≡ x)
+pub ends_there : (size : ℕ) (held octets x : List ℕ) → held ++ octets ≡ x → length held + length (take size octets) ≡ length x → (drop size octets ≡ []) × (held ++ take size octets ≡ x)
 ends_there size held octets x whole all =
     let parts = take-append-drop size octets in
     let lengths : length (take size octets) + length (drop size octets) ≡ length octets = sym (length-append (take size octets) (drop size octets)) ∙ ap length parts in
@@ -93,15 +93,15 @@ rest_whole (suc n) size limit past held (y ∷ ys) x some few opened whole long 
 
 -- ---- the first piece
 
-abbrev begin : List ℕ → Piece
+abbrev pub begin : List ℕ → Piece
 begin octets = record { boundary = First; octets = octets }
 
-start_is : (limit : ℕ) (octets : List ℕ) (n : ℕ) → pdu_length octets ≡ n → 4 ≤ length octets → length octets ≤ n → n ≤ limit
+pub start_is : (limit : ℕ) (octets : List ℕ) (n : ℕ) → pdu_length octets ≡ n → 4 ≤ length octets → length octets ≤ n → n ≤ limit
     → start_answer limit octets ≡ cond (eqb n (length octets)) (Pdu (channel_of octets) octets) More
 start_is limit octets n says long within fits =
     rw (le-ltb (length octets) 4 long, says, le-ltb n (length octets) within, le-ltb limit n fits) refl
 
-open_first : (limit : ℕ) (past : List Piece) (octets : List ℕ) → start_answer limit octets ≡ More → open_after limit (past ++ begin octets ∷ []) ≡ octets
+pub open_first : (limit : ℕ) (past : List Piece) (octets : List ℕ) → start_answer limit octets ≡ More → open_after limit (past ++ begin octets ∷ []) ≡ octets
 open_first limit past octets more =
     open_after-append limit past (begin octets) ∙ ap (λ (a : Answer). kept a octets) more
 

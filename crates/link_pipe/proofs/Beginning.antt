@@ -36,7 +36,7 @@ first_way size last = record {
 first_pipes : (size : ℕ) → Pipes size []
 first_pipes size = (first_way size 0, first_way size 0)
 
-first_piping : (size count mtu obex : ℕ) (names : List (List ℕ)) (shelf : Shelved) (inbox : Kept) → 27 ≤ size → size ≤ 1021 → 1 ≤ count → count ≤ 64
+pub first_piping : (size count mtu obex : ℕ) (names : List (List ℕ)) (shelf : Shelved) (inbox : Kept) → 27 ≤ size → size ≤ 1021 → 1 ≤ count → count ≤ 64
     → IsPiping [] (first_moment size count mtu obex names shelf inbox)
 first_piping size count mtu obex names shelf inbox size_low size_high count_low count_high = record {
   holds = record {

@@ -58,7 +58,7 @@ fresh_host count role = record {
   };
 }
 
-first_upholds : (size count mtu obex : ℕ) (names : List (List ℕ)) (shelf : Shelved) (inbox : Kept) → Upholds [] (first_moment size count mtu obex names shelf inbox)
+pub first_upholds : (size count mtu obex : ℕ) (names : List (List ℕ)) (shelf : Shelved) (inbox : Kept) → Upholds [] (first_moment size count mtu obex names shelf inbox)
 first_upholds size count mtu obex names shelf inbox =
     let a = puts_next no_links count [] (fresh Client) (fresh_host count Client) in
     let b = puts_next no_links count [] (fresh Server) (fresh_host count Server) in

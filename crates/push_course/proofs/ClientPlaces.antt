@@ -1,0 +1,61 @@
+-- Where a client stands in the conversation of its push.
+use Rattle.std.proofs.Common.{◌≡◌, ℕ, ◌≤◌, ◌^◌, ◌<◌, Bool, true, false, List, [], length, Option, Some, None, refl, arith}
+use Rattle.std.specs.Str.{IsUtf8}
+use Rattle.bt_host.specs.declared.stages.Stage.TheVariants.{Connecting, Configuring, Greeting, Putting, Parting, Closing, Leaving}
+use Rattle.bt_host.specs.declared.stages.PeerRequest.TheVariants.{Awaited}
+use Rattle.bt_host.specs.Pdus.{own_endpoint}
+use Rattle.bt_host.specs.Pushing.{utf16}
+use Rattle.bt_host.specs.Courses.{Course}
+use Rattle.push_talk.specs.Conversing.{Saying}
+use Rattle.push_course.specs.Conversations.{Conversation}
+use Rattle.push_course.proofs.Deciding.{Decisions}
+use Rattle.push_course.proofs.Tails.{closed_tail, parting_tail, putting_tail, greeting_tail, asked_tail, configuring_tail, connecting_tail}
+
+-- what the client awaits: the grant of the channel, that of its configuration, the peer's request, the responses to CONNECT,
+-- to the PUT and to DISCONNECT, the grant of the end of the channel; or nothing more
+pub data ClientPlace : Type 0 where
+  Asking : ClientPlace
+  Agreeing : ClientPlace
+  BeingAsked : ClientPlace
+  BeingGreeted : ClientPlace
+  Delivering : ClientPlace
+  TakingLeave : ClientPlace
+  BeingClosed : ClientPlace
+  Done : ClientPlace
+
+-- both hosts take PDUs and OBEX packets of these lengths
+pub record IsCapable (mtu maximum : ℕ) : Type 0 where
+  pub mtu_low : 416 ≤ mtu
+  pub mtu_high : mtu < 2 ^ 16
+  pub low : 416 ≤ maximum
+  pub high : maximum < 2 ^ 16
+
+-- a course with these lengths; its object may be put
+pub record IsAble (mtu maximum : ℕ) (course : Course) : Type 0 where
+  pub mtu_is : course.mtu ≡ mtu
+  pub maximum_is : course.maximum ≡ maximum
+  pub text : IsUtf8 course.name
+  pub few : length (utf16 course.name) ≤ 100
+  pub small : course.size ≤ 200
+
+module _ (mtu maximum : ℕ) where
+  abbrev pub client_tail : ClientPlace → Conversation → List Saying
+  client_tail Asking c = connecting_tail mtu maximum c
+  client_tail Agreeing c = configuring_tail mtu maximum c
+  client_tail BeingAsked c = asked_tail mtu maximum c
+  client_tail BeingGreeted c = greeting_tail mtu maximum c
+  client_tail Delivering c = putting_tail c
+  client_tail TakingLeave c = parting_tail c
+  client_tail BeingClosed c = closed_tail
+  client_tail Done c = []
+
+  -- the stage of its course there, and that the delivery is not yet decided
+  abbrev pub ClientStands : ClientPlace → Decisions → Course → Type 0
+  ClientStands Asking decided course = (course.stage ≡ Connecting) × (decided.put ≡ None)
+  ClientStands Agreeing decided course = (course.stage ≡ Configuring false Awaited) × (course.peer ≡ own_endpoint) × (decided.put ≡ None)
+  ClientStands BeingAsked decided course = (course.stage ≡ Configuring true Awaited) × (course.peer ≡ own_endpoint) × (decided.put ≡ None)
+  ClientStands BeingGreeted decided course = (course.stage ≡ Greeting) × (course.peer ≡ own_endpoint) × (course.peer_mtu ≡ mtu) × (decided.put ≡ None)
+  ClientStands Delivering decided course = (course.stage ≡ Putting) × (course.peer ≡ own_endpoint)
+  ClientStands TakingLeave decided course = (course.stage ≡ Parting) × (course.peer ≡ own_endpoint)
+  ClientStands BeingClosed decided course = (course.stage ≡ Closing) × (course.peer ≡ own_endpoint)
+  ClientStands Done decided course = course.stage ≡ Leaving

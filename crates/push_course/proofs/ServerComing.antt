@@ -1,0 +1,221 @@
+-- A packet comes into a server, and the conversation on each of its links behind it.
+use Rattle.std.proofs.Common.{◌≡◌, ℕ, ◌+◌, ◌<◌, ◌≤◌, List, [], ◌∷◌, ◌++◌, map, length, Bool, true, false, Option, Some, None, refl, sym, ap, ap₂, subst, ◌∙◌, append_assoc, inl, inr, ◌⊎◌, arith}
+use Rattle.std.specs.Prelude.{is_some}
+use Rattle.std.proofs.lemmas.List.{append-nil}
+use Rattle.h4_framing.specs.Packets.{Packet}
+use Rattle.push_script.specs.declared.word.Side.TheVariants as sides
+use Rattle.capture.specs.declared.flow.Flow.TheVariants.{Out, Into}
+use Rattle.capture.specs.Links.{Linking}
+use Rattle.capture.specs.Pdus.{Pdu}
+use Rattle.host_link.specs.Hearing.{PlainNews, Nothing, LinkUp, LinkDown}
+use Rattle.host_link.specs.Stands.{into}
+use Rattle.bt_host.specs.declared.steps.Step.TheVariants.{Wait}
+use Rattle.bt_host.specs.declared.channel_stages.ChannelStage.TheVariants as stages
+use Rattle.bt_host.specs.Channels.{Channel}
+use Rattle.bt_host.specs.Pdus.{asks_connection}
+use Rattle.bt_host.specs.Courses.{Course}
+use Rattle.bt_host.specs.Servers.{Served}
+use Rattle.link_pipe.proofs.Numbers.{given_last}
+use Rattle.host_wire.specs.Sending.{sent_by, on_link, put_heard}
+use Rattle.push_talk.specs.Conversing.{Saying, Says}
+use Rattle.push_talk.specs.Speaking.{pdu_of, speaker}
+use Rattle.push_talk.specs.ClientTurns.{Turn}
+use Rattle.push_course.specs.Conversations.{Conversation}
+use Rattle.push_course.proofs.Owning.{pdu_at, one_of, own, own-append, IsNext, none_mine}
+use Rattle.push_course.proofs.Deciding.{Decisions, Agrees, IsFair, filled, filled_agrees}
+use Rattle.push_course.proofs.ClientPlaces.{ClientPlace, Asking, Agreeing, BeingAsked, BeingGreeted, Delivering, TakingLeave, BeingClosed, Done, IsAble, client_tail, ClientStands}
+use Rattle.push_course.proofs.ServerMoves.{ServerMoves}
+use Rattle.push_course.proofs.ClientComing.{in_move, begins_so}
+use Rattle.push_course.proofs.ServerPlaces.{ServerPlace, Fresh, server_tail, ServerStands}
+use Rattle.push_course.proofs.Tails.{connecting_tail}
+use Rattle.push_course.proofs.Moving.{moved, count_of, GoesOn, completes, count_on, Begins, count_begun, moved_begun, Ends, count_ended}
+use Rattle.push_course.proofs.Halves.{Talks, IsSilent, Half, other_pdu, Meets, next_for}
+use Rattle.push_course.proofs.HalfSteps.{none_some, half_beside, half_other, half_still, moved_one, half_begun, half_ended, BeginsSo, StaysSilent, stays_silent}
+use Rattle.push_course.proofs.Courses.{Wire, all, ClientHalf, ServerHalf, Converses, is_last}
+
+-- ---- decisions of one host change nothing for the other
+
+client_keeps : (mtu maximum : ℕ) (decided decided' : Decisions) (course : Course) → decided'.put ≡ decided.put → (place : ClientPlace) → ClientStands mtu maximum place decided course → ClientStands mtu maximum place decided' course
+client_keeps mtu maximum decided decided' course put Asking (stage, free) = (stage, put ∙ free)
+client_keeps mtu maximum decided decided' course put Agreeing (stage, peer, free) = (stage, peer, put ∙ free)
+client_keeps mtu maximum decided decided' course put BeingAsked (stage, peer, free) = (stage, peer, put ∙ free)
+client_keeps mtu maximum decided decided' course put BeingGreeted (stage, peer, peer_mtu, free) = (stage, peer, peer_mtu, put ∙ free)
+client_keeps mtu maximum decided decided' course put Delivering stands = stands
+client_keeps mtu maximum decided decided' course put TakingLeave stands = stands
+client_keeps mtu maximum decided decided' course put BeingClosed stands = stands
+client_keeps mtu maximum decided decided' course put Done stands = stands
+
+module _ (mtu maximum : ℕ) (packet : Packet) (known known' : Linking) (link link' : Option ℕ) (put put' : List (List ℕ)) (a : Wire) (course : Course) (served served' : Served) (n : ℕ) where
+  abbrev here : Wire
+  here = record { known = known; link = link; put = put }
+
+  abbrev here' : Wire
+  here' = record { known = known'; link = link'; put = put' }
+
+  abbrev Before : Type 0
+  Before = Converses mtu maximum a here course served n
+
+  abbrev After : Type 0
+  After = Converses mtu maximum a here' course served' n
+
+  abbrev StandsSo : Served → Decisions → ServerPlace → Type 0
+  StandsSo served decided place = ServerStands mtu maximum place decided served.channel
+
+  -- with another half, and as many links as before
+  with_half : (count_of known' ≡ count_of known) → (converses : Before) → ServerHalf mtu maximum here' served' converses.decided n → After
+  with_half count converses half = record {
+    decided = converses.decided;
+    fair = converses.fair;
+    half_a = converses.half_a;
+    half_b = half;
+    fresh_a = converses.fresh_a;
+    fresh_b = λ below. converses.fresh_b (subst (λ k. k < n) count below);
+  }
+
+  -- ---- the link that is up goes on
+
+  module _ (goes : GoesOn (into packet) known known') where
+    pub server_other : (n ≡ count_of known → ⊥) → Before → After
+    server_other apart converses =
+        with_half (count_on (into packet) known known' goes) converses
+        (half_other sides.B (all mtu maximum) ServerPlace (server_tail mtu maximum) known known' converses.decided n (into packet) link link' put put' (StandsSo served converses.decided) (StandsSo served' converses.decided) goes apart converses.half_b)
+
+    pub server_still : link' ≡ link → put' ≡ put → served'.channel ≡ served.channel → given_last (completes (into packet)) known.up ≡ [] → Before → After
+    server_still same_link same_put same_served none converses = elim (is_last n (count_of known)) [
+      | inl last ↦
+          with_half (count_on (into packet) known known' goes) converses
+          (half_still sides.B (all mtu maximum) ServerPlace (server_tail mtu maximum) known known' converses.decided n (into packet) link link' put put' (StandsSo served converses.decided) (StandsSo served' converses.decided) goes last none same_link same_put
+          (λ place so. subst (λ channel. ServerStands mtu maximum place converses.decided channel) (sym same_served) so) converses.half_b)
+      | inr apart ↦ server_other apart converses
+    ]
+
+    -- what the two ends have of it
+    abbrev pub MeetsHere : Before → List ℕ → Type 0
+    MeetsHere converses octets = Meets sides.B (all mtu maximum) converses.decided (map (pdu_at sides.B) converses.half_b.done ++ in_move octets ∷ [])
+
+    -- a host that does not know of the link
+    pub server_silent : link ≡ None → link' ≡ None → (octets : List ℕ) → given_last (completes (into packet)) known.up ≡ in_move octets ∷ [] → n ≡ count_of known → is_some known.up ≡ true
+        → (converses : Before) → MeetsHere converses octets → After
+    server_silent none none' octets is last some converses meets =
+        let half = converses.half_b in
+        let decided : Decisions = converses.decided in
+        let next = next_for sides.B (all mtu maximum) decided half.done octets meets in
+        let stays : StaysSilent sides.B (all mtu maximum) decided half.done octets =
+        stays_silent sides.B (all mtu maximum) decided (filled decided) (filled_agrees decided) (begins_so mtu maximum) half.done octets (half.silent last none some) next in
+        with_half (count_on (into packet) known known' goes) converses (record {
+          done = half.done ++ stays.one ∷ [];
+          moved_is = moved_one sides.B (all mtu maximum) ServerPlace (server_tail mtu maximum) known known' decided n (into packet) octets stays.one half.done goes last is half.moved_is stays.pdu_is;
+          front = stays.front;
+          silent = λ now gone up. stays.silent;
+          talks = λ now there. absurd (none_some link' none' there);
+        })
+
+    -- ---- a host that talks
+
+    -- what stands next for it, in all conversations that may be
+    pub record Hearkens (converses : Before) (octets : List ℕ) : Type 0 where
+      pub talks : Talks sides.B (all mtu maximum) converses.decided converses.half_b.done put ServerPlace (server_tail mtu maximum) (StandsSo served converses.decided)
+      pub none : talks.mine ≡ []
+      pub next : (c : Conversation) → Agrees converses.decided c → IsNext sides.B (server_tail mtu maximum talks.place c) octets
+
+    pub hearkens : is_some link ≡ true → n ≡ count_of known → (octets : List ℕ) (converses : Before) → MeetsHere converses octets → Hearkens converses octets
+    hearkens some last octets converses meets =
+        let talks = converses.half_b.talks last some in
+        let next : (c : Conversation) → Agrees converses.decided c → (talks.mine ≡ []) × IsNext sides.B (server_tail mtu maximum talks.place c) octets = λ c agrees.
+        none_mine sides.B talks.mine (server_tail mtu maximum talks.place c) octets talks.by
+        (next_for sides.B (all mtu maximum) converses.decided converses.half_b.done octets meets c agrees (talks.mine ++ server_tail mtu maximum talks.place c) (talks.follows c agrees)) in
+        record { talks = talks; none = (next (filled converses.decided) (filled_agrees converses.decided)).0; next = λ c agrees. (next c agrees).1 }
+
+    pub server_talks : (sent : List (List ℕ)) → is_some link ≡ true → link' ≡ link → (octets : List ℕ) → given_last (completes (into packet)) known.up ≡ in_move octets ∷ [] → n ≡ count_of known → put' ≡ put ++ sent
+        → (converses : Before) (hears : Hearkens converses octets) → ServerMoves mtu maximum converses.decided hears.talks.place octets sent served' → After
+    server_talks sent some same_link octets is last same_put converses hears moves =
+        let half = converses.half_b in
+        let decided' : Decisions = moves.decided' in
+        let fair' : IsFair decided' = λ delivery put. converses.fair delivery (sym moves.put_same ∙ put) in
+        let done' : List Saying = half.done ++ moves.saying ∷ [] in
+        let some' : is_some link' ≡ true = subst (λ (l : Option ℕ). is_some l ≡ true) (sym same_link) some in
+        let follows : (c : Conversation) → Agrees decided' c → all mtu maximum c ≡ done' ++ (moves.mine ++ server_tail mtu maximum moves.place' c) = λ c agrees.
+        hears.talks.follows c (moves.agrees c agrees)
+        ∙ (ap (λ xs. half.done ++ (xs ++ server_tail mtu maximum hears.talks.place c)) hears.none
+        ∙ (ap (λ xs. half.done ++ xs) (moves.follows c agrees) ∙ sym (append_assoc half.done (moves.saying ∷ []) (moves.mine ++ server_tail mtu maximum moves.place' c)))) in
+        -- what it said before, and what it says now
+        let own_before : put ≡ own sides.B half.done = hears.talks.put_is ∙ ap (own sides.B) (ap (λ xs. half.done ++ xs) hears.none ∙ append-nil half.done) in
+        let own_one : own sides.B done' ≡ own sides.B half.done =
+        own-append sides.B half.done (moves.saying ∷ []) ∙ (ap (λ xs. own sides.B half.done ++ xs) (none_own moves.saying moves.by) ∙ append-nil (own sides.B half.done)) in
+        let own_now : put' ≡ own sides.B (done' ++ moves.mine) =
+        same_put ∙ (ap₂ (λ xs ys. xs ++ ys) (own_before ∙ sym own_one) moves.sends ∙ sym (own-append sides.B done' moves.mine)) in
+        let talks' : Talks sides.B (all mtu maximum) decided' done' put' ServerPlace (server_tail mtu maximum) (StandsSo served' decided') = record {
+          place = moves.place';
+          mine = moves.mine;
+          by = moves.by_mine;
+          put_is = own_now;
+          follows = follows;
+          stands_so = moves.stands;
+        } in
+        record {
+          decided = decided';
+          fair = fair';
+          half_a = half_beside sides.A (all mtu maximum) ClientPlace (client_tail mtu maximum) a.known a.link a.put converses.decided decided' n (λ place. ClientStands mtu maximum place converses.decided course)
+              (λ place. ClientStands mtu maximum place decided' course) moves.agrees (client_keeps mtu maximum converses.decided decided' course moves.put_same) converses.half_a;
+          half_b = record {
+            done = done';
+            moved_is = moved_one sides.B (all mtu maximum) ServerPlace (server_tail mtu maximum) known known' converses.decided n (into packet) octets moves.saying half.done goes last is half.moved_is
+                (other_pdu sides.B moves.saying octets moves.by moves.pdu_is);
+            front = λ c agrees. (moves.mine ++ server_tail mtu maximum moves.place' c, follows c agrees);
+            silent = λ now gone up. absurd (none_some link' gone some');
+            talks = λ now there. talks';
+          };
+          fresh_a = λ below. moves.put_same ∙ converses.fresh_a below;
+          fresh_b = λ below. absurd (let count = count_on (into packet) known known' goes in omega (arith, below, last, count));
+        }
+      where
+        none_own : (one : Saying) → speaker one ≡ sides.A → own sides.B (one ∷ []) ≡ []
+        none_own one by = ap (λ s. one_of sides.B s (pdu_of one) ++ []) by
+
+  -- ---- a link begins, or ends
+
+  pub server_passes : (Begins known known' ⊎ Ends known known') → link' ≡ None → Before → After
+  server_passes (inl begins) none converses = record {
+    decided = converses.decided;
+    fair = converses.fair;
+    half_a = converses.half_a;
+    half_b = half_begun sides.B (all mtu maximum) ServerPlace (server_tail mtu maximum) known known' converses.decided n link link' put put' (StandsSo served converses.decided) (StandsSo served' converses.decided) begins
+        (λ some. absurd (none_some link' none some)) converses.half_b;
+    fresh_a = converses.fresh_a;
+    fresh_b = λ below. converses.fresh_b (let more = count_begun known known' begins in omega (arith, below, more));
+  }
+  server_passes (inr ends) none converses =
+      with_half (count_ended known known' ends) converses
+      (half_ended sides.B (all mtu maximum) ServerPlace (server_tail mtu maximum) known known' converses.decided n link link' put put' (StandsSo served converses.decided) (StandsSo served' converses.decided) ends none converses.half_b)
+
+  pub server_up : Begins known known' → put' ≡ [] → served'.channel.stage ≡ stages.Free → Before → After
+  server_up begins same_put stage converses =
+      let more = count_begun known known' begins in
+      -- on the new link nothing is decided; on each other one nothing changes
+      elim (is_last n (count_of known')) [
+        | inl last ↦ record {
+          decided = converses.decided;
+          fair = converses.fair;
+          half_a = converses.half_a;
+          half_b = half_begun sides.B (all mtu maximum) ServerPlace (server_tail mtu maximum) known known' converses.decided n link link' put put' (StandsSo served converses.decided) (StandsSo served' converses.decided) begins
+              (λ some.
+                  let free = converses.fresh_b (omega (arith, more, last)) in
+                  record { place = Fresh; mine = []; by = tt; put_is = same_put; follows = λ c agrees. refl; stands_so = (stage, free.0, free.1, free.2) }) converses.half_b;
+          fresh_a = converses.fresh_a;
+          fresh_b = λ below. converses.fresh_b (omega (arith, below, more));
+        }
+        | inr apart ↦ record {
+          decided = converses.decided;
+          fair = converses.fair;
+          half_a = converses.half_a;
+          half_b = record {
+            done = converses.half_b.done;
+            moved_is = moved_begun known known' begins n ∙ converses.half_b.moved_is;
+            front = converses.half_b.front;
+            silent = λ last gone some. absurd (apart last);
+            talks = λ last some. absurd (apart last);
+          };
+          fresh_a = converses.fresh_a;
+          fresh_b = λ below. converses.fresh_b (omega (arith, below, more));
+        }
+      ]

@@ -1,0 +1,54 @@
+-- Where a server stands in the conversation of a push.
+use Rattle.std.proofs.Common.{◌≡◌, ℕ, Bool, List, [], Some, None, true, false}
+use Rattle.obex_session.specs.declared.ruling.Progress.TheVariants.{Unnamed}
+use Rattle.bt_host.specs.declared.channel_stages.ChannelStage.TheVariants as stages
+use Rattle.bt_host.specs.Pdus.{own_endpoint}
+use Rattle.bt_host.specs.Channels.{Channel}
+use Rattle.bt_host.specs.Servers.{Served}
+use Rattle.push_talk.specs.Conversing.{Saying}
+use Rattle.push_course.specs.Conversations.{Conversation}
+use Rattle.push_course.proofs.Deciding.{Decisions}
+use Rattle.push_course.proofs.Tails.{parted, from_parting, greeted, from_greeting, from_granting, from_configuring, from_connecting}
+
+-- what the server awaits: the request for the channel, that for its configuration, the grant of its own, CONNECT, what
+-- follows the welcome of it or the refusal, DISCONNECT, the end of the channel; or nothing more
+pub data ServerPlace : Type 0 where
+  Fresh : ServerPlace
+  Taken : ServerPlace
+  Agreeing : ServerPlace
+  Listening : ServerPlace
+  Welcoming : ServerPlace
+  Refusing : ServerPlace
+  Stored : ServerPlace
+  Parting : ServerPlace
+  Closed : ServerPlace
+
+-- no object is under way, and both hosts take PDUs and packets of these lengths
+pub record IsReadied (mtu maximum : ℕ) (served : Served) : Type 0 where
+  pub mtu_is : served.channel.mtu ≡ mtu
+  pub maximum_is : served.session.maximum ≡ maximum
+  pub rests : served.session.progress ≡ Unnamed
+
+module _ (mtu maximum : ℕ) where
+  abbrev pub server_tail : ServerPlace → Conversation → List Saying
+  server_tail Fresh c = from_connecting mtu maximum c
+  server_tail Taken c = from_configuring mtu maximum c
+  server_tail Agreeing c = from_granting mtu maximum c
+  server_tail Listening c = from_greeting mtu maximum c
+  server_tail Welcoming c = greeted c.greets c
+  server_tail Refusing c = greeted c.greets c
+  server_tail Stored c = from_parting c
+  server_tail Parting c = parted c.parts
+  server_tail Closed c = []
+
+  -- the stage of its channel there, and what it has not yet decided, or has
+  abbrev pub ServerStands : ServerPlace → Decisions → Channel → Type 0
+  ServerStands Fresh decided channel = (channel.stage ≡ stages.Free) × (decided.greets ≡ None) × (decided.stores ≡ None) × (decided.parts ≡ None)
+  ServerStands Taken decided channel = (channel.stage ≡ stages.Taken) × (channel.peer ≡ own_endpoint) × (decided.greets ≡ None) × (decided.stores ≡ None) × (decided.parts ≡ None)
+  ServerStands Agreeing decided channel = (channel.stage ≡ stages.Configuring) × (channel.peer ≡ own_endpoint) × (decided.greets ≡ None) × (decided.stores ≡ None) × (decided.parts ≡ None)
+  ServerStands Listening decided channel = (channel.stage ≡ stages.Open) × (channel.peer ≡ own_endpoint) × (decided.greets ≡ None) × (decided.stores ≡ None) × (decided.parts ≡ None)
+  ServerStands Welcoming decided channel = (channel.stage ≡ stages.Open) × (channel.peer ≡ own_endpoint) × (decided.greets ≡ Some true) × (decided.stores ≡ None) × (decided.parts ≡ None)
+  ServerStands Refusing decided channel = (channel.stage ≡ stages.Open) × (channel.peer ≡ own_endpoint) × (decided.greets ≡ Some false)
+  ServerStands Stored decided channel = (channel.stage ≡ stages.Open) × (channel.peer ≡ own_endpoint) × (decided.parts ≡ None)
+  ServerStands Parting decided channel = (channel.stage ≡ stages.Open) × (channel.peer ≡ own_endpoint) × (b : Bool) × (decided.parts ≡ Some b)
+  ServerStands Closed decided channel = channel.stage ≡ stages.Closed

@@ -1,0 +1,8 @@
+//! Laws of the conversations of a world, for every run from the beginning.
+
+ghost use Rattle.push_course.specs.Conversations.{LinksConverse};
+
+/// What the two hosts of a push say to each other on a link is a front of one conversation.
+pub fn links_converse()
+    ensures { LinksConverse }
+{}
