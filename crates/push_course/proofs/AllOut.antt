@@ -1,8 +1,8 @@
 -- Where all PDUs that a host let wait have moved, none of their pieces waits.
-use Rattle.std.proofs.Common.{◌≡◌, ℕ, zero, suc, ◌+◌, ◌≤◌, ◌<◌, List, [], ◌∷◌, ◌++◌, length, take, drop, Bool, true, false, cond, eqb, not, Option, Some, None, refl, sym, ap, subst, ◌∙◌, append_assoc, length-append, inl, inr, ◌⊎◌, arith}
+use Rattle.std.proofs.Common.{◌≡◌, ℕ, zero, suc, ◌+◌, ◌≤◌, ◌<◌, List, [], ◌∷◌, ◌++◌, length, take, drop, Bool, false, cond, eqb, not, Option, Some, None, refl, sym, ap, subst, ◌∙◌, append_assoc, length-append, inl, inr, ◌⊎◌, arith}
 use Rattle.std.specs.List.{AllByRecursion}
 use Rattle.std.proofs.lemmas.Bool.{cases_Bool, cases_lt, eqb-true, eqb-false}
-use Rattle.std.proofs.lemmas.List.{append-nil, take-append-drop, length-take, nil_from_length}
+use Rattle.std.proofs.lemmas.List.{take-append-drop, length-take, nil_from_length}
 use Rattle.byteorder.specs.Numbers.{little_from-append}
 use Rattle.byteorder.specs.Endian.{little_number}
 use Rattle.h4_framing.specs.Packets.{Packet}
@@ -10,7 +10,7 @@ use Rattle.hci_packets.specs.declared.acl.Boundary.TheVariants.{First, Continuin
 use Rattle.acl_fragments.specs.Pieces.{Piece, starts, pdu_length, channel_of}
 use Rattle.acl_fragments.specs.Cuts.{first_pieces, cut}
 use Rattle.acl_fragments.specs.Answers.{Answer, Pdu, More, open_after, answer}
-use Rattle.acl_fragments.specs.Laws.{IsPdu, all_cut}
+use Rattle.acl_fragments.specs.Laws.{all_cut}
 use Rattle.push_script.specs.declared.word.Side.{Side}
 use Rattle.capture.specs.Entries.{Entry}
 use Rattle.capture.specs.declared.flow.Flow.TheVariants.{Out}

@@ -1,5 +1,5 @@
 -- A packet came into host a: what is true then.
-use Rattle.std.proofs.Common.{◌≡◌, ℕ, List, [], ◌∷◌, ◌++◌, Option, refl, sym, ap, subst, ◌∙◌}
+use Rattle.std.proofs.Common.{◌≡◌, ℕ, List, [], ◌∷◌, ◌++◌, refl, sym, ap, subst, ◌∙◌}
 use Rattle.std.specs.Prelude.{is_some}
 use Rattle.h4_framing.specs.Packets.{Packet}
 use Rattle.push_script.specs.declared.word.Side.TheVariants as sides
@@ -9,13 +9,10 @@ use Rattle.capture.specs.Links.{Linking, after_move}
 use Rattle.host_link.specs.Hearing.{PlainNews, heard, news_of}
 use Rattle.host_link.specs.Lines.{Line}
 use Rattle.host_link.specs.Stands.{into}
-use Rattle.radio_air.specs.Controllers.{Answer, packet_of}
 use Rattle.world_model.specs.Faces.{Face}
 use Rattle.world_model.specs.Moments.{Moment}
 use Rattle.world_model.specs.Happenings.{Arrival, Arrives}
 use Rattle.world_model.specs.Holding.{Holds}
-use Rattle.world_links.proofs.Reaching.{reach}
-use Rattle.world_links.proofs.Upholding.{is_onward}
 use Rattle.world_links.proofs.Listening.{Turns, listens}
 use Rattle.host_wire.specs.Wiring.{Wires}
 use Rattle.host_wire.specs.Sending.{on_link, put_heard, put_on, sent_told, line_hearing}

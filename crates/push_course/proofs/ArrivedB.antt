@@ -15,7 +15,6 @@ use Rattle.link_pipe.specs.Pipes.{octets_in}
 use Rattle.host_wire.specs.WireLaws.{IsFrame}
 use Rattle.host_wire.proofs.News.{link_is_known}
 use Rattle.std.specs.List.{filter_map, AllByRecursion}
-use Rattle.radio_air.specs.Controllers.{Answer, packet_of}
 use Rattle.world_model.specs.Faces.{Face}
 use Rattle.world_model.specs.Moments.{Moment}
 use Rattle.world_model.specs.Happenings.{Arrival, Arrives}
@@ -84,7 +83,7 @@ module _ (read : SayingsAreRead) (mtu maximum : ℕ) (capable : IsCapable mtu ma
       let both = wires_again sides.B old.scene.medium.radio.count past put does.hears.times old.b.line (holds.host_b, stands.wires_b) in
       let last = each (count_of known) in
       let frames = frames_of read mtu maximum capable sides.B known line.link put last.decided last.fair ServerPlace (server_tail mtu maximum) (λ place. ServerStands mtu maximum place last.decided stands.served.channel)
-          (nothing_put sides.B past line put wires) last.half_b in
+      (nothing_put sides.B past line put wires) last.half_b in
       let empties : is_some line.link ≡ true → filter_map (octets_in Out) (moved known (count_of known)) ≡ put → is_waiting line ≡ false = λ some moved_all. empty_by past line put wires both.0.sound.long frames line.link refl some moved_all in
       let behind : Behind read mtu maximum capable past past' packet new grounds'.piping known known' line.link face.line.link put put' sent a stands.course stands.served told.served' stands.inbox (is_waiting line) news =
       behind_b read mtu maximum capable past past' packet new grounds'.piping known known' line.link face.line.link put put' sent a stands.course stands.served told.served' stands.inbox (is_waiting line) news stands.is_served each

@@ -1,54 +1,40 @@
 -- A packet comes into host a.
-use Rattle.std.proofs.Common.{◌≡◌, ℕ, ◌+◌, ◌<◌, ◌≤◌, List, [], ◌∷◌, ◌++◌, map, length, Bool, true, false, Option, Some, None, refl, sym, ap, ap₂, subst, ◌∙◌, inl, inr, ◌⊎◌, arith}
+use Rattle.std.proofs.Common.{◌≡◌, ℕ, List, [], ◌∷◌, ◌++◌, length, true, Option, Some, None, refl, sym, ap, ap₂, subst, ◌∙◌, inl, inr, arith}
 use Rattle.std.specs.Prelude.{is_some}
 use Rattle.h4_framing.specs.Packets.{Packet}
 use Rattle.push_script.specs.declared.word.Side.TheVariants as sides
 use Rattle.capture.specs.declared.flow.Flow.TheVariants.{Into}
-use Rattle.capture.specs.Entries.{Entry, Moved}
-use Rattle.capture.specs.Links.{Link, Linking, after_move}
+use Rattle.capture.specs.Entries.{Entry}
+use Rattle.capture.specs.Links.{Link, Linking}
 use Rattle.capture.specs.Pdus.{Pdu}
-use Rattle.host_link.specs.Hearing.{PlainNews, Nothing, LinkUp, LinkDown, heard, news_of}
+use Rattle.host_link.specs.Hearing.{PlainNews, Nothing, news_of}
 use Rattle.host_link.specs.Lines.{Line}
 use Rattle.host_link.specs.Stands.{into}
 use Rattle.bt_host.specs.Courses.{Course}
-use Rattle.bt_host.specs.Events.{is_idle}
 use Rattle.bt_host.specs.Clients.{after_news}
 use Rattle.bt_host.specs.declared.stages.Stage.TheVariants as stages
 use Rattle.bt_host.specs.Servers.{Served}
-use Rattle.radio_air.specs.Controllers.{Answer, packet_of}
-use Rattle.world_model.specs.Faces.{Face}
 use Rattle.world_model.specs.Insides.{Inside, Shelved, Pushing, Serving, Tells}
 use Rattle.world_model.specs.Moments.{Moment}
-use Rattle.world_model.specs.Happenings.{Happening, Arrival, Does, Arrives}
-use Rattle.world_model.specs.Holding.{Holds}
 use Rattle.world_links.proofs.Reaching.{reach}
 use Rattle.world_links.proofs.Upholding.{is_onward, Upholds}
-use Rattle.world_links.proofs.Listening.{Turns, listens}
 use Rattle.link_pipe.proofs.Keeping.{IsPiping}
 use Rattle.link_pipe.proofs.Numbers.{given_last}
-use Rattle.host_wire.specs.Wiring.{Wires}
-use Rattle.host_wire.specs.Sending.{sent_by, on_link, put_heard, put_on, sent_told, line_hearing}
+use Rattle.host_wire.specs.Sending.{sent_by, on_link, put_heard, sent_told}
 use Rattle.host_wire.specs.Spoken.{news_by}
-use Rattle.host_wire.proofs.Putting.{wires_again}
-use Rattle.host_wire.proofs.Stepping.{wires_step}
-use Rattle.host_wire.proofs.LinkTold.{puts_link, again_link}
 use Rattle.push_talk.specs.Speaking.{SayingsAreRead}
 use Rattle.push_talk.specs.ClientTurns.{turn}
 use Rattle.push_talk.proofs.ClientTurns.{client_turns}
-use Rattle.push_course.proofs.Owning.{pdu_at}
-use Rattle.push_course.proofs.Deciding.{Decisions}
-use Rattle.push_course.proofs.ClientPlaces.{IsCapable, IsAble}
-use Rattle.push_course.proofs.ClientMoves.{pdu_news, ClientMoves, client_moves}
+use Rattle.push_course.proofs.ClientPlaces.{IsCapable, IsAble, ClientMoves}
+use Rattle.push_course.proofs.ClientMoves.{pdu_news, client_moves}
 use Rattle.push_course.proofs.Turning.{ClientTold, client_told}
-use Rattle.push_course.proofs.Moving.{moved, count_of, known_of, known_more, known_same, GoesOn, completes, moved_last, Led, led}
-use Rattle.push_course.proofs.Meeting.{answer_on}
+use Rattle.push_course.proofs.Moving.{moved, count_of, known_of, GoesOn, completes, moved_last}
 use Rattle.push_course.proofs.Meets.{meets_of}
 use Rattle.push_course.proofs.HalfSteps.{AtMostOne, at_most_one}
-use Rattle.push_course.proofs.Coming.{GoesOnTold, PassesBy, ComesUp, GoesDown, Coming, coming}
-use Rattle.push_course.proofs.ClientTakes.{Takes, takes_none, takes_awaits, none_sent, fair_given, stands_busy, LinksOn, takes_up, takes_down}
+use Rattle.push_course.proofs.Coming.{GoesOnTold, PassesBy, Coming}
+use Rattle.push_course.proofs.ClientTakes.{Takes, takes_none, takes_awaits, none_sent, fair_given, stands_busy, takes_up, takes_down}
 use Rattle.push_course.proofs.ClientComing.{in_move, client_other, client_still, MeetsHere, client_silent, Hearkens, hearkens, client_talks, client_passes, client_up}
-use Rattle.push_course.proofs.Courses.{Wire, Converses, IsCourse, Stands, Grounds, is_last}
-use Rattle.push_course.proofs.Next.{stands_next}
+use Rattle.push_course.proofs.Courses.{Wire, Converses, IsCourse, is_last}
 
 -- ---- news that it takes
 
@@ -142,9 +128,9 @@ module _ (read : SayingsAreRead) (mtu maximum : ℕ) (capable : IsCapable mtu ma
             let able : IsAble mtu maximum course = is_course.able (stands_busy mtu maximum hears.talks.place (each n).decided course hears.talks.stands_so) in
             client_moves mtu maximum client_turns capable takes.given takes.then_given course able (each n).decided (each n).fair hears.talks.place octets hears.talks.stands_so hears.next
             (λ greeted sized.
-                let small = able.small in
-                fair_given takes.given (after_news (pdu_news octets) course).size (omega (arith, small, sized))
-                (subst (λ n. (after_news n course).stage ≡ stages.Greeted → (octets : List ℕ) → takes.given ≡ Some octets → length octets ≡ (after_news n course).size) told takes.sized greeted))
+            let small = able.small in
+            fair_given takes.given (after_news (pdu_news octets) course).size (omega (arith, small, sized))
+            (subst (λ n. (after_news n course).stage ≡ stages.Greeted → (octets : List ℕ) → takes.given ≡ Some octets → length octets ≡ (after_news n course).size) told takes.sized greeted))
 
         on_some : (l : Option ℕ) → link' ≡ l → is_some l ≡ true → on_link link' sent ≡ sent
         on_some None is there = absurd cc

@@ -1,5 +1,5 @@
 -- A packet comes into host b.
-use Rattle.std.proofs.Common.{◌≡◌, ℕ, ◌+◌, ◌<◌, ◌≤◌, List, [], ◌∷◌, ◌++◌, map, length, Bool, true, false, Option, Some, None, refl, sym, ap, ap₂, subst, ◌∙◌, inl, inr, ◌⊎◌}
+use Rattle.std.proofs.Common.{◌≡◌, ℕ, List, [], ◌∷◌, ◌++◌, Bool, true, false, Option, Some, None, refl, sym, ap, ap₂, subst, ◌∙◌, inl, inr}
 use Rattle.std.specs.Prelude.{is_some}
 use Rattle.std.specs.List.{filter_map}
 use Rattle.std.proofs.lemmas.List.{append-nil}
@@ -8,7 +8,7 @@ use Rattle.push_script.specs.declared.word.Side.TheVariants as sides
 use Rattle.capture.specs.declared.flow.Flow.TheVariants.{Out, Into}
 use Rattle.capture.specs.Entries.{Entry}
 use Rattle.capture.specs.Links.{Linking}
-use Rattle.host_link.specs.Hearing.{PlainNews, Nothing, LinkUp, LinkDown, news_of}
+use Rattle.host_link.specs.Hearing.{PlainNews, Nothing, news_of}
 use Rattle.host_link.specs.Lines.{Line}
 use Rattle.host_link.specs.PuttingOut.{is_waiting}
 use Rattle.host_link.specs.Stands.{into}
@@ -26,15 +26,16 @@ use Rattle.push_talk.specs.Speaking.{SayingsAreRead}
 use Rattle.push_talk.specs.ServerTurns.{steps}
 use Rattle.push_talk.proofs.ServerTurns.{channel_turns, session_turns}
 use Rattle.push_talk.proofs.Serving.{push_is_served}
-use Rattle.push_course.proofs.Owning.{pdu_at, own, said_own}
+use Rattle.push_course.proofs.Owning.{own, said_own}
 use Rattle.push_course.proofs.ClientPlaces.{IsCapable}
 use Rattle.push_course.proofs.ClientMoves.{pdu_news}
-use Rattle.push_course.proofs.ServerMoves.{served_behind, ServerMoves, server_moves}
+use Rattle.push_course.proofs.ServerMoves.{server_moves}
+use Rattle.push_course.proofs.ServerPlaces.{ServerMoves}
 use Rattle.push_course.proofs.Turning.{ServerTold, server_told}
 use Rattle.push_course.proofs.Moving.{moved, count_of, known_of, GoesOn, completes, moved_last}
 use Rattle.push_course.proofs.Meets.{meets_of}
 use Rattle.push_course.proofs.HalfSteps.{AtMostOne, at_most_one}
-use Rattle.push_course.proofs.Coming.{GoesOnTold, PassesBy, ComesUp, GoesDown, Coming}
+use Rattle.push_course.proofs.Coming.{GoesOnTold, PassesBy, Coming}
 use Rattle.push_course.proofs.ClientComing.{in_move}
 use Rattle.push_course.proofs.ClientTakes.{none_sent}
 use Rattle.push_course.proofs.ArrivingA.{some_there}

@@ -1,33 +1,25 @@
 -- A push begins.
-use Rattle.std.proofs.Common.{◌≡◌, ℕ, zero, suc, ◌+◌, ◌<◌, ◌≤◌, List, [], ◌∷◌, ◌++◌, length, Bool, true, false, cond, Option, Some, None, refl, sym, ap, subst, ◌∙◌, true≢false}
+use Rattle.std.proofs.Common.{◌≡◌, ℕ, zero, suc, ◌≤◌, List, [], ◌∷◌, ◌++◌, Bool, true, false, cond, Option, Some, None, refl, sym, ap, subst, ◌∙◌, true≢false}
 use Rattle.std.specs.Prelude.{is_some, slice_get, IfSome}
 use Rattle.std.specs.List.{AllByRecursion}
 use Rattle.std.specs.Str.{IsUtf8}
 use Rattle.std.proofs.lemmas.Str.{IsUtf8-from_is_utf8}
-use Rattle.std.proofs.lemmas.List.{append-nil}
 use Rattle.push_script.specs.Names.{IsName}
 use Rattle.push_script.specs.declared.word.Side.TheVariants as sides
 use Rattle.push_script.specs.declared.outcome.Outcome.TheVariants.{ShelfFault}
 use Rattle.capture.specs.Entries.{Entry, Begun}
 use Rattle.capture.specs.Links.{Linking, link_up}
 use Rattle.host_link.specs.Lines.{Line}
-use Rattle.bt_base.specs.Objects.{Object}
 use Rattle.bt_host.specs.declared.stages.Stage.{Stage}
 use Rattle.bt_host.specs.declared.stages.Stage.TheVariants as stages
 use Rattle.bt_host.specs.Courses.{Course, begun}
 use Rattle.bt_host.specs.Events.{is_idle}
 use Rattle.bt_host.specs.Laws.{awaits}
-use Rattle.bt_host.specs.Pushing.{utf16}
 use Rattle.bt_host.specs.Steps.{next_step}
-use Rattle.bt_host.specs.Clients.{Client}
-use Rattle.bt_host.specs.ClientHosts.{PushesOn}
 use Rattle.bt_host.specs.Servers.{Served}
 use Rattle.bt_host.proofs.Counting.{units_are_counted}
 use Rattle.bt_host.proofs.CourseLaws.{waits_where_awaited}
-use Rattle.bt_host.proofs.Settling.{two_steps_suffice}
 use Rattle.world_model.specs.Insides.{Inside, Shelved, Pushing, Serving, StartsPush, idles}
-use Rattle.world_model.specs.Faces.{Face}
-use Rattle.world_model.specs.Ordering.{Pushes, next_name}
 use Rattle.world_model.specs.Moments.{Moment}
 use Rattle.world_model.specs.Happenings.{Opening, Opens}
 use Rattle.world_model.specs.Holding.{Holds}
@@ -36,7 +28,6 @@ use Rattle.host_wire.specs.Wiring.{Wires}
 use Rattle.host_wire.specs.Sending.{put_on}
 use Rattle.host_wire.proofs.Stepping.{wires_step}
 use Rattle.push_course.proofs.Turning.{course_of}
-use Rattle.push_course.proofs.ClientPlaces.{IsAble}
 use Rattle.push_course.proofs.Moving.{known_of, known_same}
 use Rattle.push_course.proofs.HalfSteps.{none_some}
 use Rattle.push_course.proofs.Courses.{Wire, Converses, IsCourse, Stands, Grounds, unlinked}
@@ -87,11 +78,11 @@ module _ (mtu maximum : ℕ) (name : List ℕ) (is_name : IsName name) (old : Co
     mtu_is = is_course.mtu_is;
     maximum_is = is_course.maximum_is;
     able = λ busy. record {
-        mtu_is = is_course.mtu_is;
-        maximum_is = is_course.maximum_is;
-        text = text;
-        few = subst (λ n. n ≤ 100) (sym (units_are_counted name text)) is_name.few;
-        small = small;
+      mtu_is = is_course.mtu_is;
+      maximum_is = is_course.maximum_is;
+      text = text;
+      few = subst (λ n. n ≤ 100) (sym (units_are_counted name text)) is_name.few;
+      small = small;
     };
     awaited = refl;
   }

@@ -1,40 +1,31 @@
 -- A client hears what stands next in the conversation of its push, and says what follows.
-use Rattle.std.proofs.Common.{◌≡◌, ℕ, ◌≤◌, ◌^◌, ◌<◌, Bool, true, false, List, [], ◌∷◌, ◌++◌, length, drop, Option, Some, None, refl, sym, ap, subst, ◌∙◌, inl, inr, ◌⊎◌, arith, true≢false}
+use Rattle.std.proofs.Common.{◌≡◌, ℕ, ◌≤◌, ◌<◌, Bool, true, false, List, [], ◌∷◌, ◌++◌, length, Option, Some, None, refl, sym, ap, subst, ◌∙◌, inl, inr, ◌⊎◌, arith, true≢false}
 use Rattle.std.specs.Prelude.{◌==◌, slice_index}
 use Rattle.std.specs.List.{AllByRecursion}
 use Rattle.std.specs.Str.{IsUtf8}
 use Rattle.push_script.specs.declared.word.Side.TheVariants as sides
-use Rattle.obex_headers.specs.Packets.{PlainPacket, bare, packet_octets}
 use Rattle.bt_host.specs.declared.stages.Stage.{Stage}
 use Rattle.bt_host.specs.declared.stages.Stage.TheVariants as stages
 use Rattle.bt_host.specs.declared.stages.PeerRequest.TheVariants as request
-use Rattle.bt_host.specs.declared.steps.Step.{Step}
-use Rattle.bt_host.specs.declared.steps.Step.TheVariants.{Wait, Send, BreakLink}
-use Rattle.bt_host.specs.Pdus.{own_endpoint, asks_connection, grants_connection, asks_configuration, grants_configuration, asks_disconnection, grants_disconnection}
+use Rattle.bt_host.specs.Pdus.{own_endpoint, grants_connection, asks_configuration, grants_configuration, asks_disconnection, grants_disconnection}
 use Rattle.bt_host.specs.Pushing.{utf16, connect_packet, disconnect_packet, put_packet}
 use Rattle.bt_host.specs.Courses.{Course}
 use Rattle.bt_host.specs.Clients.{after_news}
-use Rattle.bt_host.specs.Steps.{step_at, next_step}
+use Rattle.bt_host.specs.Steps.{step_at}
 use Rattle.acl_fragments.specs.Pieces.{channel_of}
 use Rattle.host_link.specs.Hearing.{PlainNews, Pdu}
 use Rattle.host_wire.specs.Sending.{sent_by}
 use Rattle.push_talk.specs.Conversing.{Saying, Says}
-use Rattle.push_talk.specs.Speaking.{pdu_of, told, SayingsAreRead}
-use Rattle.push_talk.specs.ClientTurns.{Turn, turned, turn, saying, puts, IsWithinBounds, says_packet, answers_packet, unwelcome, response, ClientTurns}
+use Rattle.push_talk.specs.Speaking.{pdu_of, told}
+use Rattle.push_talk.specs.ClientTurns.{Turn, turned, turn, puts, IsWithinBounds, says_packet, answers_packet, unwelcome, response, ClientTurns}
 use Rattle.push_course.specs.Conversations.{Conversation, code_of}
-use Rattle.push_course.proofs.Owning.{own, IsBy, IsNext}
+use Rattle.push_course.proofs.Owning.{own, IsBy, IsNext, next_is, none_next}
 use Rattle.push_course.proofs.Deciding.{Delivery, Decisions, Agrees, IsFair, IsFairGiven, IsFairDelivery, filled, filled_agrees, told_none}
 use Rattle.push_course.proofs.Sizes.{turn_size}
 use Rattle.push_course.proofs.Tails.{parted, from_parting, putting_tail, greeted, from_putting}
-use Rattle.push_course.proofs.ClientPlaces.{ClientPlace, Asking, Agreeing, BeingAsked, BeingGreeted, Delivering, TakingLeave, BeingClosed, Done, IsCapable, IsAble, client_tail, ClientStands}
+use Rattle.push_course.proofs.ClientPlaces.{ClientPlace, Asking, Agreeing, BeingAsked, BeingGreeted, Delivering, TakingLeave, BeingClosed, Done, IsCapable, IsAble, client_tail, ClientStands, ClientMoves}
 
 -- ---- what was said is what stands next
-
-next_is : (saying : Saying) (others : List Saying) (pdu : List ℕ) → IsNext sides.A (saying ∷ others) pdu → pdu ≡ pdu_of saying
-next_is saying others pdu next =
-    let first : saying ∷ others ≡ next.saying ∷ next.others = next.first in
-    let head : next.saying ≡ saying = cc in
-    next.pdu_is ∙ ap pdu_of head
 
 -- responses with other codes are others
 response_is : (one other : Bool) → pdu_of (answers_packet (response (code_of one))) ≡ pdu_of (answers_packet (response (code_of other))) → one ≡ other
@@ -96,35 +87,16 @@ abbrev pub pdu_news : List ℕ → PlainNews
 pdu_news pdu = Pdu (channel_of pdu) pdu
 
 module _ (mtu maximum : ℕ) where
-  -- it was one saying, the same in all conversations that may be; what is said then, and where the client stands behind it
-  pub record ClientMoves (decided : Decisions) (place : ClientPlace) (pdu : List ℕ) (taken : Turn) : Type 0 where
-    pub decided' : Decisions
-    pub greets_same : decided'.greets ≡ decided.greets
-    pub stores_same : decided'.stores ≡ decided.stores
-    pub parts_same : decided'.parts ≡ decided.parts
-    pub agrees : (c : Conversation) → Agrees decided' c → Agrees decided c
-    pub fair : IsFair decided'
-    pub saying : Saying
-    pub pdu_is : pdu ≡ pdu_of saying
-    pub by : IsBy sides.B saying
-    pub mine : List Saying
-    pub by_mine : AllByRecursion (IsBy sides.A) mine
-    pub place' : ClientPlace
-    pub follows : (c : Conversation) → Agrees decided' c → client_tail mtu maximum place c ≡ saying ∷ (mine ++ client_tail mtu maximum place' c)
-    pub sends : sent_by taken.first ++ sent_by taken.second ≡ own sides.A mine
-    pub stands : ClientStands mtu maximum place' decided' taken.course
-    pub able : IsAble mtu maximum taken.course
-
   module _ (turns : ClientTurns) (capable : IsCapable mtu maximum) (given then_given : Option (List ℕ)) (course : Course) (able : IsAble mtu maximum course) (decided : Decisions) (fair : IsFair decided) where
     abbrev Moves : ClientPlace → List ℕ → Type 0
-    Moves place pdu = ClientMoves decided place pdu (turn given then_given (pdu_news pdu) course)
+    Moves place pdu = ClientMoves mtu maximum decided place pdu (turn given then_given (pdu_news pdu) course)
 
     abbrev IsNextAlways : ClientPlace → List ℕ → Type 0
     IsNextAlways place pdu = (c : Conversation) → Agrees decided c → IsNext sides.A (client_tail mtu maximum place c) pdu
 
-    by_saying : (place : ClientPlace) (pdu : List ℕ) (one : Saying) (taken : Turn) → pdu ≡ pdu_of one → turn given then_given (told one) course ≡ taken → ClientMoves decided place (pdu_of one) taken → Moves place pdu
+    by_saying : (place : ClientPlace) (pdu : List ℕ) (one : Saying) (taken : Turn) → pdu ≡ pdu_of one → turn given then_given (told one) course ≡ taken → ClientMoves mtu maximum decided place (pdu_of one) taken → Moves place pdu
     by_saying place pdu one taken is same moves =
-        subst (Moves place) (sym is) (subst (ClientMoves decided place (pdu_of one)) (sym same) moves)
+        subst (Moves place) (sym is) (subst (ClientMoves mtu maximum decided place (pdu_of one)) (sym same) moves)
 
     abbrev some : Conversation
     some = filled decided
@@ -135,7 +107,7 @@ module _ (mtu maximum : ℕ) where
     -- nothing is decided by it
     module _ (place : ClientPlace) (taken : Turn) (one : Saying) (by : IsBy sides.B one) (mine : List Saying) (by_mine : AllByRecursion (IsBy sides.A) mine) (place' : ClientPlace) where
       moves_on : ((c : Conversation) → Agrees decided c → client_tail mtu maximum place c ≡ one ∷ (mine ++ client_tail mtu maximum place' c)) → sent_by taken.first ++ sent_by taken.second ≡ own sides.A mine
-          → ClientStands mtu maximum place' decided taken.course → IsAble mtu maximum taken.course → ClientMoves decided place (pdu_of one) taken
+          → ClientStands mtu maximum place' decided taken.course → IsAble mtu maximum taken.course → ClientMoves mtu maximum decided place (pdu_of one) taken
       moves_on follows sends stands able' = record {
         decided' = decided;
         greets_same = refl;
@@ -168,27 +140,27 @@ module _ (mtu maximum : ℕ) where
     asking : (pdu : List ℕ) → ClientStands mtu maximum Asking decided course → IsNextAlways Asking pdu → Moves Asking pdu
     asking pdu (stage, free) next =
         let one : Saying = Says sides.B 1 (grants_connection own_endpoint) in
-        by_saying Asking pdu one _ (next_is one _ pdu (next some agreed)) (turns.connects given then_given course stage)
+        by_saying Asking pdu one _ (next_is sides.A one _ pdu (next some agreed)) (turns.connects given then_given course stage)
         (moves_on Asking _ one refl (Says sides.A 2 (asks_configuration own_endpoint mtu) ∷ []) (refl, tt) Agreeing (λ c agrees. refl)
         (ap (λ n. pdu_of (Says sides.A 2 (asks_configuration own_endpoint n)) ∷ []) able.mtu_is) (refl, refl, free) (still_able _ refl refl refl refl))
 
     agreeing : (pdu : List ℕ) → ClientStands mtu maximum Agreeing decided course → IsNextAlways Agreeing pdu → Moves Agreeing pdu
     agreeing pdu (stage, peer, free) next =
         let one : Saying = Says sides.B 2 (grants_configuration own_endpoint) in
-        by_saying Agreeing pdu one _ (next_is one _ pdu (next some agreed)) (turns.configures given then_given course stage)
+        by_saying Agreeing pdu one _ (next_is sides.A one _ pdu (next some agreed)) (turns.configures given then_given course stage)
         (moves_on Agreeing _ one refl [] tt BeingAsked (λ c agrees. refl) refl (refl, peer, free) (still_able _ refl refl refl refl))
 
     being_asked : (pdu : List ℕ) → ClientStands mtu maximum BeingAsked decided course → IsNextAlways BeingAsked pdu → Moves BeingAsked pdu
     being_asked pdu (stage, peer, free) next =
         let one : Saying = Says sides.B 1 (asks_configuration own_endpoint mtu) in
-        by_saying BeingAsked pdu one _ (next_is one _ pdu (next some agreed)) (turns.agrees given then_given course mtu stage peer (let low = capable.mtu_low in omega (arith, low)) capable.mtu_high)
+        by_saying BeingAsked pdu one _ (next_is sides.A one _ pdu (next some agreed)) (turns.agrees given then_given course mtu stage peer (let low = capable.mtu_low in omega (arith, low)) capable.mtu_high)
         (moves_on BeingAsked _ one refl (Says sides.A 1 (grants_configuration own_endpoint) ∷ says_packet (connect_packet maximum) ∷ []) (refl, (refl, tt)) BeingGreeted (λ c agrees. refl)
         (ap (λ n. pdu_of (Says sides.A 1 (grants_configuration own_endpoint)) ∷ pdu_of (says_packet (connect_packet n)) ∷ []) able.maximum_is) (refl, peer, refl, free) (still_able _ refl refl refl refl))
 
     being_closed : (pdu : List ℕ) → ClientStands mtu maximum BeingClosed decided course → IsNextAlways BeingClosed pdu → Moves BeingClosed pdu
     being_closed pdu (stage, peer) next =
         let one : Saying = Says sides.B 3 (grants_disconnection own_endpoint) in
-        by_saying BeingClosed pdu one _ (next_is one _ pdu (next some agreed)) (turns.closes given then_given course stage peer)
+        by_saying BeingClosed pdu one _ (next_is sides.A one _ pdu (next some agreed)) (turns.closes given then_given course stage peer)
         (moves_on BeingClosed _ one refl [] tt Done (λ c agrees. refl) refl refl (still_able _ refl refl refl refl))
 
     -- ---- responses
@@ -199,7 +171,7 @@ module _ (mtu maximum : ℕ) where
 
     delivering : (pdu : List ℕ) → ClientStands mtu maximum Delivering decided course → IsNextAlways Delivering pdu → Moves Delivering pdu
     delivering pdu (stage, peer) next =
-        let is : (c : Conversation) → Agrees decided c → pdu ≡ pdu_of (answers_packet (response (code_of c.stores))) = λ c agrees. next_is _ _ pdu (next c agrees) in
+        let is : (c : Conversation) → Agrees decided c → pdu ≡ pdu_of (answers_packet (response (code_of c.stores))) = λ c agrees. next_is sides.A _ _ pdu (next c agrees) in
         let one : Saying = answers_packet (response (code_of some.stores)) in
         by_saying Delivering pdu one _ (is some agreed) (turns.ends given then_given course (code_of some.stores) stage peer (let low = capable.low in let same = able.maximum_is in omega (arith, low, same)) (code_small some.stores))
         (moves_on Delivering _ one refl (says_packet disconnect_packet ∷ []) (refl, tt) TakingLeave
@@ -222,7 +194,7 @@ module _ (mtu maximum : ℕ) where
 
     taking_leave : (pdu : List ℕ) → ClientStands mtu maximum TakingLeave decided course → IsNextAlways TakingLeave pdu → Moves TakingLeave pdu
     taking_leave pdu stands next =
-        let is : (c : Conversation) → Agrees decided c → pdu ≡ pdu_of (answers_packet (response (code_of c.parts))) = λ c agrees. next_is _ _ pdu (next c agrees) in
+        let is : (c : Conversation) → Agrees decided c → pdu ≡ pdu_of (answers_packet (response (code_of c.parts))) = λ c agrees. next_is sides.A _ _ pdu (next c agrees) in
         leaving_by some.parts pdu stands (λ c agrees. response_is c.parts some.parts (sym (is c agrees) ∙ is some agreed)) (is some agreed)
 
     -- ---- the response to CONNECT, and the object
@@ -238,7 +210,7 @@ module _ (mtu maximum : ℕ) where
     module _ (free : decided.put ≡ None) (small : IsFairGiven given) (taken : Turn) (mine : List Saying) (by_mine : AllByRecursion (IsBy sides.A) mine) (place' : ClientPlace) where
       decides : ((c : Conversation) → Agrees delivered c → greeted c.greets c ≡ mine ++ client_tail mtu maximum place' c) → ((c : Conversation) → Agrees decided c → c.greets ≡ true)
           → sent_by taken.first ++ sent_by taken.second ≡ own sides.A mine → ClientStands mtu maximum place' delivered taken.course → IsAble mtu maximum taken.course
-          → ClientMoves decided BeingGreeted (pdu_of (answers_packet (unwelcome 0xA0 maximum))) taken
+          → ClientMoves mtu maximum decided BeingGreeted (pdu_of (answers_packet (unwelcome 0xA0 maximum))) taken
       decides follows greets sends stands able' =
           let before : (c : Conversation) → Agrees delivered c → Agrees decided c = λ c agrees. record { put = told_none decided.put _ free; greets = agrees.greets; stores = agrees.stores; parts = agrees.parts } in
           record {
@@ -262,18 +234,18 @@ module _ (mtu maximum : ℕ) where
           }
 
     by_given : (g : Option (List ℕ)) → given ≡ g → IsFairGiven given → ClientStands mtu maximum BeingGreeted decided course → ((c : Conversation) → Agrees decided c → c.greets ≡ true)
-        → ClientMoves decided BeingGreeted (pdu_of (answers_packet (unwelcome 0xA0 maximum))) (puts g course)
+        → ClientMoves mtu maximum decided BeingGreeted (pdu_of (answers_packet (unwelcome 0xA0 maximum))) (puts g course)
     by_given (Some octets) is small (stage, peer, peer_mtu, free) greets =
         decides free small _ (says_packet (put_packet (utf16 course.name) octets) ∷ []) (refl, tt) Delivering
         (λ c agrees.
-            ap (λ b. greeted b c) (greets c (record { put = told_none decided.put _ free; greets = agrees.greets; stores = agrees.stores; parts = agrees.parts }))
-            ∙ (ap (λ g. from_putting g c) (ap (λ (d : Delivery). d.given) agrees.put ∙ is) ∙ ap (λ (d : Delivery). says_packet (put_packet (utf16 d.name) octets) ∷ putting_tail c) agrees.put))
+        ap (λ b. greeted b c) (greets c (record { put = told_none decided.put _ free; greets = agrees.greets; stores = agrees.stores; parts = agrees.parts }))
+        ∙ (ap (λ g. from_putting g c) (ap (λ (d : Delivery). d.given) agrees.put ∙ is) ∙ ap (λ (d : Delivery). says_packet (put_packet (utf16 d.name) octets) ∷ putting_tail c) agrees.put))
         greets refl (refl, peer) (still_able _ refl refl refl refl)
     by_given None is small (stage, peer, peer_mtu, free) greets =
         decides free small _ (says_packet disconnect_packet ∷ []) (refl, tt) TakingLeave
         (λ c agrees.
-            ap (λ b. greeted b c) (greets c (record { put = told_none decided.put _ free; greets = agrees.greets; stores = agrees.stores; parts = agrees.parts }))
-            ∙ ap (λ g. from_putting g c) (ap (λ (d : Delivery). d.given) agrees.put ∙ is))
+        ap (λ b. greeted b c) (greets c (record { put = told_none decided.put _ free; greets = agrees.greets; stores = agrees.stores; parts = agrees.parts }))
+        ∙ ap (λ g. from_putting g c) (ap (λ (d : Delivery). d.given) agrees.put ∙ is))
         greets refl (refl, peer) (still_able _ refl refl refl refl)
 
     greeted_by : (b : Bool) (pdu : List ℕ) → ClientStands mtu maximum BeingGreeted decided course → ((c : Conversation) → Agrees decided c → c.greets ≡ b)
@@ -297,7 +269,7 @@ module _ (mtu maximum : ℕ) where
 
     being_greeted : (pdu : List ℕ) → ClientStands mtu maximum BeingGreeted decided course → IsNextAlways BeingGreeted pdu → ((after_news (pdu_news pdu) course).stage ≡ stages.Greeted → (after_news (pdu_news pdu) course).size ≡ course.size → IsFairGiven given) → Moves BeingGreeted pdu
     being_greeted pdu stands next shelf =
-        let is : (c : Conversation) → Agrees decided c → pdu ≡ pdu_of (answers_packet (unwelcome (code_of c.greets) maximum)) = λ c agrees. next_is _ _ pdu (next c agrees) in
+        let is : (c : Conversation) → Agrees decided c → pdu ≡ pdu_of (answers_packet (unwelcome (code_of c.greets) maximum)) = λ c agrees. next_is sides.A _ _ pdu (next c agrees) in
         greeted_by some.greets pdu stands (λ c agrees. welcome_is maximum c.greets some.greets (sym (is c agrees) ∙ is some agreed)) (is some agreed) shelf
 
     -- ---- wherever it stands
@@ -312,6 +284,4 @@ module _ (mtu maximum : ℕ) where
     client_moves TakingLeave pdu stands next shelf = taking_leave pdu stands next
     client_moves BeingClosed pdu stands next shelf = being_closed pdu stands next
     client_moves Done pdu stands next shelf =
-        let none : IsNext sides.A [] pdu = next some agreed in
-        let first : [] ≡ none.saying ∷ none.others = none.first in
-        absurd (cc)
+        absurd (none_next sides.A pdu (next some agreed))

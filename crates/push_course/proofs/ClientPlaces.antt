@@ -1,14 +1,20 @@
--- Where a client stands in the conversation of its push.
-use Rattle.std.proofs.Common.{◌≡◌, ℕ, ◌≤◌, ◌^◌, ◌<◌, Bool, true, false, List, [], length, Option, Some, None, refl, arith}
+-- Where a client stands in the conversation of its push, and where a move leads it.
+use Rattle.std.proofs.Common.{◌≡◌, ℕ, ◌≤◌, ◌^◌, ◌<◌, true, false, List, [], ◌∷◌, ◌++◌, length, None}
 use Rattle.std.specs.Str.{IsUtf8}
 use Rattle.bt_host.specs.declared.stages.Stage.TheVariants.{Connecting, Configuring, Greeting, Putting, Parting, Closing, Leaving}
 use Rattle.bt_host.specs.declared.stages.PeerRequest.TheVariants.{Awaited}
 use Rattle.bt_host.specs.Pdus.{own_endpoint}
 use Rattle.bt_host.specs.Pushing.{utf16}
 use Rattle.bt_host.specs.Courses.{Course}
+use Rattle.std.specs.List.{AllByRecursion}
+use Rattle.push_script.specs.declared.word.Side.TheVariants as sides
+use Rattle.host_wire.specs.Sending.{sent_by}
 use Rattle.push_talk.specs.Conversing.{Saying}
+use Rattle.push_talk.specs.Speaking.{pdu_of}
+use Rattle.push_talk.specs.ClientTurns.{Turn}
+use Rattle.push_course.proofs.Owning.{own, IsBy}
 use Rattle.push_course.specs.Conversations.{Conversation}
-use Rattle.push_course.proofs.Deciding.{Decisions}
+use Rattle.push_course.proofs.Deciding.{Decisions, Agrees, IsFair}
 use Rattle.push_course.proofs.Tails.{closed_tail, parting_tail, putting_tail, greeting_tail, asked_tail, configuring_tail, connecting_tail}
 
 -- what the client awaits: the grant of the channel, that of its configuration, the peer's request, the responses to CONNECT,
@@ -59,3 +65,22 @@ module _ (mtu maximum : ℕ) where
   ClientStands TakingLeave decided course = (course.stage ≡ Parting) × (course.peer ≡ own_endpoint)
   ClientStands BeingClosed decided course = (course.stage ≡ Closing) × (course.peer ≡ own_endpoint)
   ClientStands Done decided course = course.stage ≡ Leaving
+
+  -- it was one saying, the same in all conversations that may be; what is said then, and where the client stands behind it
+  pub record ClientMoves (decided : Decisions) (place : ClientPlace) (pdu : List ℕ) (taken : Turn) : Type 0 where
+    pub decided' : Decisions
+    pub greets_same : decided'.greets ≡ decided.greets
+    pub stores_same : decided'.stores ≡ decided.stores
+    pub parts_same : decided'.parts ≡ decided.parts
+    pub agrees : (c : Conversation) → Agrees decided' c → Agrees decided c
+    pub fair : IsFair decided'
+    pub saying : Saying
+    pub pdu_is : pdu ≡ pdu_of saying
+    pub by : IsBy sides.B saying
+    pub mine : List Saying
+    pub by_mine : AllByRecursion (IsBy sides.A) mine
+    pub place' : ClientPlace
+    pub follows : (c : Conversation) → Agrees decided' c → client_tail place c ≡ saying ∷ (mine ++ client_tail place' c)
+    pub sends : sent_by taken.first ++ sent_by taken.second ≡ own sides.A mine
+    pub stands : ClientStands place' decided' taken.course
+    pub able : IsAble mtu maximum taken.course

@@ -1,14 +1,12 @@
 -- What a client makes of news, in the terms of its course.
-use Rattle.std.proofs.Common.{◌≡◌, ℕ, ◌≤◌, List, [], ◌∷◌, ◌++◌, length, Bool, true, false, Option, Some, None, refl, sym, ap, ap₂, subst, ◌∙◌, inl, inr, ◌⊎◌, arith, true≢false}
-use Rattle.std.specs.Prelude.{is_some}
+use Rattle.std.proofs.Common.{◌≡◌, ℕ, ◌≤◌, List, [], ◌∷◌, ◌++◌, length, Bool, true, false, Option, Some, None, refl, sym, ap, subst, ◌∙◌, inl, inr, ◌⊎◌, arith, true≢false}
 use Rattle.std.proofs.lemmas.List.{append-nil}
 use Rattle.push_script.specs.declared.word.Side.TheVariants as sides
-use Rattle.host_link.specs.Hearing.{PlainNews, Nothing, LinkUp, LinkDown}
+use Rattle.host_link.specs.Hearing.{PlainNews, LinkUp, LinkDown}
 use Rattle.bt_host.specs.declared.steps.Step.{Step}
 use Rattle.bt_host.specs.declared.steps.Step.TheVariants.{Wait}
 use Rattle.bt_host.specs.declared.stages.Stage.{Stage}
 use Rattle.bt_host.specs.declared.stages.Stage.TheVariants as stages
-use Rattle.bt_host.specs.declared.stages.PeerRequest.TheVariants as request
 use Rattle.bt_host.specs.Courses.{Course, at}
 use Rattle.bt_host.specs.Events.{is_idle, after_link_up}
 use Rattle.bt_host.specs.Laws.{awaits}
@@ -21,8 +19,7 @@ use Rattle.host_wire.specs.Sending.{sent_by, on_link}
 use Rattle.world_links.proofs.Reaching.{reach}
 use Rattle.world_links.proofs.Upholding.{is_onward}
 use Rattle.push_talk.specs.Conversing.{Says}
-use Rattle.push_talk.specs.Speaking.{pdu_of}
-use Rattle.push_talk.specs.ClientTurns.{Turn, turned, turn, saying}
+use Rattle.push_talk.specs.ClientTurns.{Turn, turned, turn}
 use Rattle.push_talk.proofs.ClientTurns.{client_turns}
 use Rattle.push_course.proofs.Owning.{own}
 use Rattle.push_course.proofs.Deciding.{Decisions, IsFairGiven}

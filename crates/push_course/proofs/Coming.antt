@@ -1,18 +1,17 @@
 -- What comes into a host means for its link and for what it is told, beside its capture.
-use Rattle.std.proofs.Common.{◌≡◌, ℕ, List, [], ◌∷◌, ◌++◌, Bool, true, false, cond, eqb, Option, Some, None, refl, sym, ap, subst, ◌∙◌, inl, inr, ◌⊎◌, true≢false}
+use Rattle.std.proofs.Common.{◌≡◌, ℕ, List, Bool, true, false, cond, eqb, Option, Some, None, refl, sym, ap, subst, ◌∙◌, inl, inr, ◌⊎◌, true≢false}
 use Rattle.std.specs.Prelude.{is_some, is_none}
 use Rattle.h4_framing.specs.Packets.{Packet, Command, Acl, Sync, Event}
 use Rattle.hci_packets.specs.Events.{PlainEvent, ConnectionComplete, ConnectionRequest, DisconnectionComplete, CommandComplete, CommandStatus, CompletedPackets, Other}
 use Rattle.push_script.specs.declared.word.Side.{Side}
-use Rattle.push_script.specs.declared.word.Side.TheVariants as sides
 use Rattle.capture.specs.Entries.{Entry}
-use Rattle.capture.specs.Links.{Link, Linking, link_up, after_move}
+use Rattle.capture.specs.Links.{Link, Linking, link_up}
 use Rattle.host_link.specs.EventReading.{event_in}
-use Rattle.host_link.specs.Hearing.{PlainNews, Nothing, LinkUp, LinkFailed, LinkDown, Pdu, ends_link, piece_on, piece_news, event_news, heard, news_of}
+use Rattle.host_link.specs.Hearing.{PlainNews, Nothing, LinkUp, LinkFailed, LinkDown, ends_link, piece_on, piece_news, event_news, news_of}
 use Rattle.host_link.specs.Lines.{Line}
 use Rattle.host_link.specs.Stands.{into}
-use Rattle.radio_air.specs.Controllers.{Answer, Returned, Stated, Called, LinkMade, LinkGone, GivenBack, Carried, packet_of}
-use Rattle.world_links.proofs.Listening.{IsQuiet, is_made, is_gone, Quietly, Comes, Leaves, Turns}
+use Rattle.radio_air.specs.Controllers.{Answer, Returned, Stated, Called, LinkMade, LinkGone, GivenBack, Carried}
+use Rattle.world_links.proofs.Listening.{IsQuiet, is_made, is_gone, Turns}
 use Rattle.link_pipe.proofs.Numbers.{given_last}
 use Rattle.host_wire.specs.Wiring.{Wires}
 use Rattle.host_wire.specs.Spoken.{news_by}

@@ -1,15 +1,13 @@
 -- What is true of a push, its two hosts and the conversations on their links at each moment.
-use Rattle.std.proofs.Common.{◌≡◌, ℕ, suc, ◌+◌, ◌<◌, ◌≤◌, List, [], ◌∷◌, ◌++◌, map, filter, length, Bool, true, false, cond, eqb, Option, Some, None, refl, sym, ap, ap₂, subst, ◌∙◌, append_assoc, inl, inr, ◌⊎◌, arith, length-append}
+use Rattle.std.proofs.Common.{◌≡◌, ℕ, suc, ◌+◌, ◌<◌, List, [], ◌∷◌, ◌++◌, map, filter, length, Bool, true, false, cond, eqb, Option, Some, None, refl, sym, ap, subst, ◌∙◌, append_assoc, inl, inr, ◌⊎◌, arith, length-append}
 use Rattle.std.specs.Prelude.{is_some}
 use Rattle.std.specs.List.{filter_map, cons_option, AllByRecursion}
-use Rattle.std.proofs.lemmas.List.{append-nil}
 use Rattle.std.proofs.lemmas.Bool.{cases_Bool, eqb-true, eqb-false}
 use Rattle.h4_framing.specs.Packets.{Packet}
 use Rattle.push_script.specs.declared.word.Side.{Side}
 use Rattle.push_script.specs.declared.word.Side.TheVariants as sides
-use Rattle.capture.specs.declared.flow.Flow.TheVariants.{Out, Into}
+use Rattle.capture.specs.declared.flow.Flow.TheVariants.{Out}
 use Rattle.capture.specs.Entries.{Entry}
-use Rattle.capture.specs.Moves.{Move}
 use Rattle.capture.specs.Links.{Link, Linking, link_up}
 use Rattle.capture.specs.Pdus.{Pdu, same_flow, pdus}
 use Rattle.host_link.specs.Lines.{Line}
@@ -17,8 +15,7 @@ use Rattle.bt_host.specs.Courses.{Course}
 use Rattle.bt_host.specs.Events.{is_idle}
 use Rattle.bt_host.specs.Laws.{awaits}
 use Rattle.bt_host.specs.Servers.{Served, Kept}
-use Rattle.world_model.specs.Insides.{Inside, Shelved, Pushing, Serving}
-use Rattle.world_model.specs.Faces.{Face}
+use Rattle.world_model.specs.Insides.{Shelved, Pushing, Serving}
 use Rattle.world_model.specs.Moments.{Moment, face_at}
 use Rattle.world_model.specs.Holding.{Holds}
 use Rattle.world_links.proofs.Upholding.{Upholds}
@@ -26,15 +23,13 @@ use Rattle.link_pipe.specs.Pipes.{octets_in, IsFront}
 use Rattle.link_pipe.proofs.Keeping.{IsPiping}
 use Rattle.link_pipe.proofs.Numbers.{at, numbered, with_last}
 use Rattle.host_wire.specs.Wiring.{Wired, Wires}
-use Rattle.host_wire.specs.Spoken.{said_on}
 use Rattle.host_wire.specs.WireLaws.{IsFrame}
 use Rattle.host_wire.proofs.Stepping.{wires_say}
 use Rattle.push_talk.specs.Conversing.{Saying}
 use Rattle.push_talk.specs.Speaking.{CanBeSaid, SayingsAreRead}
 use Rattle.push_talk.specs.ServerTurns.{steps}
 use Rattle.push_course.specs.Conversations.{Conversation}
-use Rattle.push_course.proofs.Owning.{own}
-use Rattle.push_course.proofs.Deciding.{Decisions, Agrees, IsFair, filled, filled_agrees}
+use Rattle.push_course.proofs.Deciding.{Decisions, IsFair, filled, filled_agrees}
 use Rattle.push_course.proofs.Tails.{from_connecting}
 use Rattle.push_course.proofs.Lengths.{some_can, front_can, own_frames}
 use Rattle.push_course.proofs.ClientPlaces.{ClientPlace, IsCapable, IsAble, client_tail, ClientStands}
@@ -110,6 +105,7 @@ number_last give links link =
   where
     suc_is : (n : ℕ) → n + 1 ≡ suc n
     suc_is n = omega arith
+
     at_last : (links : List Link) → at give (links ++ link ∷ []) (length links) ≡ give link
     at_last [] = refl
     at_last (x ∷ xs) = at_last xs

@@ -81,3 +81,6 @@ open_agrees decided delivery free = agrees_with decided delivery (subst (λ put.
 
 pub told_none : {X : Type 0} (decided : Option X) (x : X) → decided ≡ None → Told decided x
 told_none decided x free = subst (λ put. Told put x) (sym free) tt
+
+pub told_is : {X : Type 0} (decided : Option X) (x y : X) → decided ≡ Some y → Told decided x → x ≡ y
+told_is decided x y is told = subst (λ d. Told d x) is told

@@ -2,30 +2,27 @@
 use Rattle.std.proofs.Common.{◌≡◌, ℕ, ◌<◌, List, [], ◌∷◌, ◌++◌, true, Option, Some, None, option_map, refl, sym, ap, subst, ◌∙◌, inl, inr}
 use Rattle.std.specs.Prelude.{is_some}
 use Rattle.std.specs.List.{filter_map}
-use Rattle.std.proofs.lemmas.List.{append-nil}
 use Rattle.h4_framing.specs.Packets.{Packet}
-use Rattle.push_script.specs.declared.word.Side.{Side}
 use Rattle.push_script.specs.declared.word.Side.TheVariants as sides
 use Rattle.capture.specs.declared.flow.Flow.TheVariants.{Out}
 use Rattle.capture.specs.Entries.{Entry, Moved}
-use Rattle.capture.specs.Moves.{Move, move_of}
+use Rattle.capture.specs.Moves.{Move}
 use Rattle.capture.specs.Links.{Link, Linking, longer, after_move}
 use Rattle.bt_host.specs.Courses.{Course}
 use Rattle.bt_host.specs.Servers.{Served}
 use Rattle.world_model.specs.Faces.{Face}
 use Rattle.world_model.specs.Moments.{Moment}
-use Rattle.world_model.specs.Happenings.{Happening, Departure, Does, Departs, entries_of}
+use Rattle.world_model.specs.Happenings.{Departure, Departs}
 use Rattle.world_model.specs.Holding.{Holds}
 use Rattle.link_pipe.specs.Pipes.{octets_in, IsFront}
 use Rattle.host_wire.specs.Wiring.{Wires}
-use Rattle.host_wire.specs.Sending.{put_on}
 use Rattle.host_wire.proofs.Stepping.{wires_step}
 use Rattle.push_talk.specs.Speaking.{SayingsAreRead}
 use Rattle.push_course.proofs.ClientPlaces.{ClientPlace, IsCapable, client_tail, ClientStands}
 use Rattle.push_course.proofs.ServerPlaces.{ServerPlace, server_tail, ServerStands}
 use Rattle.push_course.proofs.Moving.{moved, count_of, known_of, known_more, known_same, GoesOn, goes_out, count_on}
 use Rattle.push_course.proofs.HalfSteps.{at_most_one, half_other, half_out}
-use Rattle.push_course.proofs.Courses.{Wire, all, Converses, IsCourse, IsServed, Stands, front_of_put, nothing_put, frames_of, is_last}
+use Rattle.push_course.proofs.Courses.{Wire, all, Converses, Stands, front_of_put, nothing_put, frames_of, is_last}
 use Rattle.push_course.proofs.Next.{stands_next}
 
 abbrev out_move : Packet → Move

@@ -1,7 +1,7 @@
 -- What a packet more does to one end of a link.
-use Rattle.std.proofs.Common.{◌≡◌, ℕ, ◌+◌, ◌<◌, ◌≤◌, List, [], ◌∷◌, ◌++◌, map, length, Bool, true, false, Option, Some, None, option_map, refl, sym, ap, ap₂, subst, ◌∙◌, append_assoc, inl, inr, ◌⊎◌, arith}
+use Rattle.std.proofs.Common.{◌≡◌, ℕ, List, [], ◌∷◌, ◌++◌, map, true, Option, Some, None, option_map, refl, sym, ap, ap₂, subst, ◌∙◌, inl, inr, ◌⊎◌}
 use Rattle.std.specs.Prelude.{is_some}
-use Rattle.std.specs.List.{filter_map, AllByRecursion}
+use Rattle.std.specs.List.{filter_map}
 use Rattle.std.proofs.lemmas.List.{append-nil}
 use Rattle.std.proofs.lemmas.List.Elements.{filter_map-append}
 use Rattle.acl_fragments.specs.Pieces.{Piece, starts}
@@ -20,10 +20,10 @@ use Rattle.link_pipe.proofs.Numbers.{given_last}
 use Rattle.push_talk.specs.Conversing.{Saying, Says}
 use Rattle.push_talk.specs.Speaking.{pdu_of, speaker}
 use Rattle.push_course.specs.Conversations.{Conversation}
-use Rattle.push_course.proofs.Owning.{pdu_at, own, said_own, IsBy, IsNext}
+use Rattle.push_course.proofs.Owning.{pdu_at, said_own, IsNext, next_is}
 use Rattle.push_course.proofs.Deciding.{Decisions, Agrees}
-use Rattle.push_course.proofs.Moving.{moved, count_of, GoesOn, completes, count_on, moved_other, moved_last, Begins, count_begun, moved_begun, none_moved, Ends, count_ended, moved_ended}
-use Rattle.push_course.proofs.Halves.{Talks, IsSilent, Half, done_more, own_pdu, other_pdu, SaysMore, says_more, Meets, next_for}
+use Rattle.push_course.proofs.Moving.{moved, count_of, GoesOn, completes, count_on, moved_other, moved_last, Begins, moved_begun, none_moved, Ends, moved_ended}
+use Rattle.push_course.proofs.Halves.{Talks, IsSilent, Half, done_more, other_pdu, SaysMore, says_more}
 
 -- ---- a packet completes one PDU at most
 
@@ -197,7 +197,7 @@ first_is : (side : Side) (one : Saying) (others : List Saying) (octets : List �
 first_is side one others octets next =
     let first : one ∷ others ≡ next.saying ∷ next.others = next.first in
     let head : next.saying ≡ one = cc in
-    (ap speaker (sym head) ∙ next.by, next.pdu_is ∙ ap pdu_of head)
+    (ap speaker (sym head) ∙ next.by, next_is side one others octets next)
 
 pub stays_silent : (side : Side) (all : Conversation → List Saying) (decided : Decisions) (some : Conversation) → Agrees decided some → BeginsSo all → (done : List Saying) (octets : List ℕ) → IsSilent side done
     → ((c : Conversation) → Agrees decided c → (rest : List Saying) → all c ≡ done ++ rest → IsNext side rest octets) → StaysSilent side all decided done octets

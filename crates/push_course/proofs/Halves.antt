@@ -1,5 +1,5 @@
 -- One end of a link beside the conversation on it: what moved there, and what its host let wait.
-use Rattle.std.proofs.Common.{◌≡◌, ℕ, ◌+◌, ◌<◌, ◌≤◌, List, [], ◌∷◌, ◌++◌, map, length, true, false, Option, Some, None, refl, sym, ap, ap₂, subst, ◌∙◌, append_assoc, inl, inr, ◌⊎◌, arith}
+use Rattle.std.proofs.Common.{◌≡◌, ℕ, List, [], ◌∷◌, ◌++◌, map, true, Option, None, refl, sym, ap, ap₂, subst, ◌∙◌, append_assoc, ◌⊎◌}
 use Rattle.std.specs.Prelude.{is_some}
 use Rattle.std.specs.List.{filter_map, AllByRecursion}
 use Rattle.std.proofs.lemmas.List.{append-nil}
@@ -15,7 +15,7 @@ use Rattle.link_pipe.specs.Pipes.{octets_in, IsFront}
 use Rattle.push_talk.specs.Conversing.{Saying, Says, flow_at}
 use Rattle.push_talk.specs.Speaking.{pdu_of, speaker}
 use Rattle.push_course.specs.Conversations.{Conversation}
-use Rattle.push_course.proofs.Owning.{pdu_at, own, own-append, said_own, heard_own, IsBy, IsNext, next_heard, IsSaid, next_said, none_mine}
+use Rattle.push_course.proofs.Owning.{pdu_at, own, said_own, heard_own, IsBy, IsNext, next_heard, IsSaid, next_said}
 use Rattle.push_course.proofs.Deciding.{Decisions, Agrees}
 use Rattle.push_course.proofs.Moving.{moved, count_of}
 

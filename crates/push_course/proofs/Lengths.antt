@@ -1,5 +1,5 @@
 -- The sayings of a conversation can be said, in PDUs that are whole and not too long.
-use Rattle.std.proofs.Common.{◌≡◌, ℕ, ◌+◌, ◌^◌, ◌<◌, ◌≤◌, Bool, true, false, List, [], ◌∷◌, ◌++◌, length, Option, Some, None, refl, sym, ap, subst, ◌∙◌, arith}
+use Rattle.std.proofs.Common.{◌≡◌, ℕ, ◌≤◌, Bool, true, false, List, [], ◌∷◌, ◌++◌, length, Option, Some, None, refl, sym, subst, arith}
 use Rattle.std.specs.List.{AllByRecursion}
 use Rattle.std.specs.Str.{IsUtf8}
 use Rattle.bt_base.proofs.OctetLemmas.{le16-number}
@@ -8,11 +8,10 @@ use Rattle.acl_fragments.specs.Laws.{IsPdu}
 use Rattle.push_script.specs.declared.word.Side.{Side}
 use Rattle.push_script.specs.declared.word.Side.TheVariants as sides
 use Rattle.l2cap_signal.specs.Commands.{spelling}
-use Rattle.obex_headers.specs.Packets.{packet_octets}
-use Rattle.capture.specs.declared.flow.Flow.TheVariants.{Out, Into}
+use Rattle.capture.specs.declared.flow.Flow.TheVariants.{Into}
 use Rattle.capture.specs.Pdus.{pdu_limit}
 use Rattle.bt_host.specs.Pdus.{pdu}
-use Rattle.bt_host.specs.Pushing.{utf16, put_packet}
+use Rattle.bt_host.specs.Pushing.{utf16}
 use Rattle.bt_host.proofs.SpelledLaws.{put_has_size}
 use Rattle.bt_host.proofs.Counting.{units_are_counted}
 use Rattle.std.proofs.lemmas.Str.{IsUtf8-nil}
@@ -21,10 +20,10 @@ use Rattle.link_pipe.specs.Pipes.{AreTaken}
 use Rattle.host_wire.specs.WireLaws.{IsFrame}
 use Rattle.push_talk.specs.Conversing.{Saying, Says, Sends, opening}
 use Rattle.push_talk.specs.Speaking.{pdu_of, speaker, CanBeSaid, SayingsAreRead}
-use Rattle.push_course.specs.Conversations.{Conversation, code_of}
+use Rattle.push_course.specs.Conversations.{Conversation}
 use Rattle.push_course.proofs.Owning.{one_of, own}
 use Rattle.push_course.proofs.Deciding.{Delivery, delivery_of, Decisions, IsFair, IsFairGiven, IsFairDelivery, filled}
-use Rattle.push_course.proofs.Tails.{from_closing, parted, parting_tail, from_parting, putting_tail, from_putting, greeted, from_greeting, from_connecting}
+use Rattle.push_course.proofs.Tails.{parted, from_parting, from_putting, greeted, from_greeting, from_connecting}
 use Rattle.push_course.proofs.ClientPlaces.{IsCapable}
 
 abbrev Can : List Saying → Type 0
@@ -61,8 +60,11 @@ module _ (read : SayingsAreRead) (mtu maximum : ℕ) (capable : IsCapable mtu ma
   fair_or None decided is fair = subst (λ (p : Option Delivery). IsFairDelivery (delivery_of (filled (record decided { put = p })))) (sym is) (record { text = no_text; few = (let same = units_are_counted [] no_text in omega (arith, same)); small = tt })
   fair_or (Some delivery) decided is fair = subst (λ (p : Option Delivery). IsFairDelivery (delivery_of (filled (record decided { put = p })))) (sym is) (fair delivery is)
 
+  pub some_fair : (decided : Decisions) → IsFair decided → IsFairDelivery (delivery_of (filled decided))
+  some_fair decided fair = fair_or decided.put decided refl fair
+
   pub some_can : (decided : Decisions) → IsFair decided → Can (from_connecting mtu maximum (filled decided))
-  some_can decided fair = sayings_can (filled decided) (fair_or decided.put decided refl fair)
+  some_can decided fair = sayings_can (filled decided) (some_fair decided fair)
 
 -- ---- those that stand in front
 

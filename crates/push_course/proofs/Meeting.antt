@@ -1,13 +1,13 @@
 -- What one host hears on a link is a front of what the other said on it, by the number of the link; and what is known of an
 -- answer that a controller owes.
-use Rattle.std.proofs.Common.{◌≡◌, ℕ, zero, suc, ◌≤◌, ◌<◌, List, [], ◌∷◌, ◌++◌, length, Bool, true, false, Option, Some, None, option_to_list, refl, sym, ap, subst, ◌∙◌, arith}
+use Rattle.std.proofs.Common.{◌≡◌, ℕ, zero, suc, ◌≤◌, List, [], ◌∷◌, Bool, true, refl, sym, subst, arith}
 use Rattle.std.specs.List.{filter_map}
 use Rattle.push_script.specs.declared.word.Side.{Side}
 use Rattle.push_script.specs.declared.word.Side.TheVariants as sides
 use Rattle.capture.specs.declared.flow.Flow.TheVariants.{Out, Into}
 use Rattle.capture.specs.Entries.{Entry}
 use Rattle.capture.specs.Links.{Link, Linking}
-use Rattle.capture.specs.Pdus.{Pdu, pdus}
+use Rattle.capture.specs.Pdus.{pdus}
 use Rattle.radio_air.specs.Controllers.{Answer, Returned, Stated, Called, LinkMade, LinkGone, GivenBack, Carried, Controller, other_side}
 use Rattle.radio_air.specs.Radio.{Radio, controller, is_together}
 use Rattle.radio_air.specs.Showing.{Shows, IsOwed}
@@ -16,7 +16,7 @@ use Rattle.world_model.proofs.Hearing.{Tells, tells_of, none_up, one_up}
 use Rattle.world_model.proofs.Hearing as hearing
 use Rattle.world_model.proofs.Telling.{IsUp}
 use Rattle.world_links.proofs.Arriving.{owed_first, low_of}
-use Rattle.link_pipe.specs.Pipes.{octets_in, said, heard, IsFront, AreTaken, IsPipe}
+use Rattle.link_pipe.specs.Pipes.{octets_in, said, heard, IsFront, AreTaken}
 use Rattle.link_pipe.proofs.Piping.{IsPiped}
 use Rattle.link_pipe.proofs.Completing.{came}
 use Rattle.link_pipe.proofs.Fronts.{piped_front}

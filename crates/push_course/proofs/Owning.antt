@@ -1,15 +1,14 @@
 -- What each side says among sayings, and which of them stands next where a side says or hears a PDU more.
-use Rattle.std.proofs.Common.{◌≡◌, ℕ, List, [], ◌∷◌, ◌++◌, map, refl, sym, ap, ap₂, subst, ◌∙◌, append_assoc, inl, inr, ◌⊎◌}
+use Rattle.std.proofs.Common.{◌≡◌, ℕ, List, [], ◌∷◌, ◌++◌, map, refl, sym, ap, ap₂, subst, ◌∙◌, append_assoc}
 use Rattle.std.specs.List.{filter_map, flat_map, AllByRecursion}
-use Rattle.std.proofs.lemmas.List.{append-nil}
 use Rattle.push_script.specs.declared.word.Side.{Side}
 use Rattle.push_script.specs.declared.word.Side.TheVariants as sides
 use Rattle.capture.specs.declared.flow.Flow.TheVariants.{Out, Into}
 use Rattle.capture.specs.Pdus.{Pdu}
-use Rattle.capture.specs.Talk.{Talk, said_by}
+use Rattle.capture.specs.Talk.{said_by}
 use Rattle.radio_air.specs.Controllers.{other_side}
 use Rattle.link_pipe.specs.Pipes.{octets_in, IsFront}
-use Rattle.push_talk.specs.Conversing.{Saying, flow_at, seen, seen_all}
+use Rattle.push_talk.specs.Conversing.{Saying, flow_at, seen_all}
 use Rattle.push_talk.specs.Speaking.{pdu_of, speaker, CanBeSaid, SayingsAreRead}
 
 -- ---- the PDUs of sayings
@@ -86,6 +85,17 @@ begins sides.A sides.A pdu p xs ys (rest, is) (rest', none) = absurd (cc)
 begins sides.A sides.B pdu p xs ys (rest, is) none = (refl, cc)
 begins sides.B sides.A pdu p xs ys (rest, is) none = (refl, cc)
 begins sides.B sides.B pdu p xs ys (rest, is) (rest', none) = absurd (cc)
+
+pub next_is : (side : Side) (one : Saying) (others : List Saying) (pdu : List ℕ) → IsNext side (one ∷ others) pdu → pdu ≡ pdu_of one
+next_is side one others pdu next =
+    let first : one ∷ others ≡ next.saying ∷ next.others = next.first in
+    let head : next.saying ≡ one = cc in
+    next.pdu_is ∙ ap pdu_of head
+
+pub none_next : (side : Side) (pdu : List ℕ) → IsNext side [] pdu → ⊥
+none_next side pdu next =
+    let first : [] ≡ next.saying ∷ next.others = next.first in
+    cc
 
 -- One side has come as far as `done` and hears a PDU more; the other has come as far as `there`. What each hears is a front
 -- of what the other said.

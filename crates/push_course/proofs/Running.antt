@@ -1,32 +1,28 @@
 -- What is true of a push and its conversations holds at first, and along each run.
-use Rattle.std.proofs.Common.{◌≡◌, ℕ, zero, suc, ◌^◌, ◌<◌, ◌≤◌, min, List, [], ◌∷◌, ◌++◌, Option, Some, None, true, false, refl, sym, ap, subst, ◌∙◌, inl, inr, arith, true≢false}
-use Rattle.std.specs.Prelude.{is_some}
+use Rattle.std.proofs.Common.{◌≡◌, ℕ, zero, suc, min, List, [], ◌∷◌, ◌++◌, refl, ap, arith, true≢false}
 use Rattle.std.specs.List.{AllByRecursion}
 use Rattle.std.proofs.lemmas.List.{append-nil}
 use Rattle.push_script.specs.Names.{IsName}
 use Rattle.push_script.specs.declared.word.Side.{Side}
 use Rattle.push_script.specs.declared.word.Side.TheVariants as sides
 use Rattle.capture.specs.Entries.{Entry, Ended, Acted}
-use Rattle.capture.specs.Links.{Linking, no_links}
-use Rattle.capture.specs.Pdus.{pdus}
+use Rattle.capture.specs.Links.{no_links}
 use Rattle.bt_host.specs.Courses.{resting}
 use Rattle.bt_host.specs.Servers.{Kept}
 use Rattle.world_model.specs.Insides.{Shelved}
 use Rattle.world_model.specs.Moments.{Moment, first_moment}
 use Rattle.world_model.specs.Happenings.{Happening, Departure, Arrival, GivingBack, Opening, Closing, Deed, Miss, Does, Runs, entries_of, all_entries}
 use Rattle.world_model.proofs.Holding.{kept_along}
-use Rattle.world_links.specs.LinkFacts.{IsBeginning}
 use Rattle.world_links.proofs.Running.{upholds_on, first_upholds}
 use Rattle.link_pipe.proofs.Keeping.{piping_on}
 use Rattle.link_pipe.proofs.Beginning.{first_piping}
 use Rattle.host_wire.proofs.Stepping.{wires_step, wires_at_first}
-use Rattle.push_talk.specs.Speaking.{SayingsAreRead}
 use Rattle.push_talk.proofs.Speaking.{sayings_are_read}
 use Rattle.push_course.specs.Conversations.{IsSetting}
 use Rattle.push_course.proofs.Deciding.{undecided}
 use Rattle.push_course.proofs.ClientPlaces.{IsCapable}
 use Rattle.push_course.proofs.Moving.{moved, known_of, known_same}
-use Rattle.push_course.proofs.Courses.{Converses, IsCourse, IsServed, Stands, Grounds}
+use Rattle.push_course.proofs.Courses.{Stands, Grounds}
 use Rattle.push_course.proofs.Departing.{departs_a, departs_b, stays}
 use Rattle.push_course.proofs.ArrivedA.{arrives_a}
 use Rattle.push_course.proofs.ArrivedB.{arrives_b}
@@ -97,12 +93,12 @@ first_stands size count mtu obex names shelf inbox = record {
   wires_a = wires_at_first size count mtu obex names shelf inbox sides.A;
   wires_b = wires_at_first size count mtu obex names shelf inbox sides.B;
   each = λ n. record {
-      decided = undecided;
-      fair = λ delivery is. absurd cc;
-      half_a = record { done = []; moved_is = none_at n; front = λ c agrees. (_, refl); silent = λ last none some. absurd cc; talks = λ last some. absurd cc };
-      half_b = record { done = []; moved_is = none_at n; front = λ c agrees. (_, refl); silent = λ last none some. absurd cc; talks = λ last some. absurd cc };
-      fresh_a = λ below. refl;
-      fresh_b = λ below. (refl, refl, refl);
+    decided = undecided;
+    fair = λ delivery is. absurd cc;
+    half_a = record { done = []; moved_is = none_at n; front = λ c agrees. (_, refl); silent = λ last none some. absurd cc; talks = λ last some. absurd cc };
+    half_b = record { done = []; moved_is = none_at n; front = λ c agrees. (_, refl); silent = λ last none some. absurd cc; talks = λ last some. absurd cc };
+    fresh_a = λ below. refl;
+    fresh_b = λ below. (refl, refl, refl);
   };
 }
 
@@ -117,8 +113,8 @@ pub stood : (size count mtu obex : ℕ) (names : List (List ℕ)) (shelf : Shelv
 stood size count mtu obex names shelf inbox setting happenings moment runs =
     kept_along (Stood mtu (min obex mtu) names)
     (λ past happening old new does before. record {
-        grounds = grounds_on past happening old new does before.grounds;
-        stands = stands_on mtu (min obex mtu) (capable_of size count mtu obex names setting) names setting.each past old new happening does before.grounds before.stands;
+      grounds = grounds_on past happening old new does before.grounds;
+      stands = stands_on mtu (min obex mtu) (capable_of size count mtu obex names setting) names setting.each past old new happening does before.grounds before.stands;
     })
     happenings [] (first_moment size count mtu obex names shelf inbox) moment runs
     (record {

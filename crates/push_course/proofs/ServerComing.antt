@@ -1,37 +1,27 @@
 -- A packet comes into a server, and the conversation on each of its links behind it.
-use Rattle.std.proofs.Common.{◌≡◌, ℕ, ◌+◌, ◌<◌, ◌≤◌, List, [], ◌∷◌, ◌++◌, map, length, Bool, true, false, Option, Some, None, refl, sym, ap, ap₂, subst, ◌∙◌, append_assoc, inl, inr, ◌⊎◌, arith}
+use Rattle.std.proofs.Common.{◌≡◌, ℕ, ◌<◌, List, [], ◌∷◌, ◌++◌, map, true, Option, None, refl, sym, ap, ap₂, subst, ◌∙◌, append_assoc, inl, inr, ◌⊎◌, arith}
 use Rattle.std.specs.Prelude.{is_some}
 use Rattle.std.proofs.lemmas.List.{append-nil}
 use Rattle.h4_framing.specs.Packets.{Packet}
 use Rattle.push_script.specs.declared.word.Side.TheVariants as sides
-use Rattle.capture.specs.declared.flow.Flow.TheVariants.{Out, Into}
 use Rattle.capture.specs.Links.{Linking}
-use Rattle.capture.specs.Pdus.{Pdu}
-use Rattle.host_link.specs.Hearing.{PlainNews, Nothing, LinkUp, LinkDown}
 use Rattle.host_link.specs.Stands.{into}
-use Rattle.bt_host.specs.declared.steps.Step.TheVariants.{Wait}
 use Rattle.bt_host.specs.declared.channel_stages.ChannelStage.TheVariants as stages
-use Rattle.bt_host.specs.Channels.{Channel}
-use Rattle.bt_host.specs.Pdus.{asks_connection}
 use Rattle.bt_host.specs.Courses.{Course}
 use Rattle.bt_host.specs.Servers.{Served}
 use Rattle.link_pipe.proofs.Numbers.{given_last}
-use Rattle.host_wire.specs.Sending.{sent_by, on_link, put_heard}
-use Rattle.push_talk.specs.Conversing.{Saying, Says}
+use Rattle.push_talk.specs.Conversing.{Saying}
 use Rattle.push_talk.specs.Speaking.{pdu_of, speaker}
-use Rattle.push_talk.specs.ClientTurns.{Turn}
 use Rattle.push_course.specs.Conversations.{Conversation}
 use Rattle.push_course.proofs.Owning.{pdu_at, one_of, own, own-append, IsNext, none_mine}
 use Rattle.push_course.proofs.Deciding.{Decisions, Agrees, IsFair, filled, filled_agrees}
-use Rattle.push_course.proofs.ClientPlaces.{ClientPlace, Asking, Agreeing, BeingAsked, BeingGreeted, Delivering, TakingLeave, BeingClosed, Done, IsAble, client_tail, ClientStands}
-use Rattle.push_course.proofs.ServerMoves.{ServerMoves}
+use Rattle.push_course.proofs.ClientPlaces.{ClientPlace, Asking, Agreeing, BeingAsked, BeingGreeted, Delivering, TakingLeave, BeingClosed, Done, client_tail, ClientStands}
 use Rattle.push_course.proofs.ClientComing.{in_move, begins_so}
-use Rattle.push_course.proofs.ServerPlaces.{ServerPlace, Fresh, server_tail, ServerStands}
-use Rattle.push_course.proofs.Tails.{connecting_tail}
-use Rattle.push_course.proofs.Moving.{moved, count_of, GoesOn, completes, count_on, Begins, count_begun, moved_begun, Ends, count_ended}
-use Rattle.push_course.proofs.Halves.{Talks, IsSilent, Half, other_pdu, Meets, next_for}
-use Rattle.push_course.proofs.HalfSteps.{none_some, half_beside, half_other, half_still, moved_one, half_begun, half_ended, BeginsSo, StaysSilent, stays_silent}
-use Rattle.push_course.proofs.Courses.{Wire, all, ClientHalf, ServerHalf, Converses, is_last}
+use Rattle.push_course.proofs.ServerPlaces.{ServerPlace, Fresh, server_tail, ServerStands, ServerMoves}
+use Rattle.push_course.proofs.Moving.{count_of, GoesOn, completes, count_on, Begins, count_begun, moved_begun, Ends, count_ended}
+use Rattle.push_course.proofs.Halves.{Talks, other_pdu, Meets, next_for}
+use Rattle.push_course.proofs.HalfSteps.{none_some, half_beside, half_other, half_still, moved_one, half_begun, half_ended, StaysSilent, stays_silent}
+use Rattle.push_course.proofs.Courses.{Wire, all, ServerHalf, Converses, is_last}
 
 -- ---- decisions of one host change nothing for the other
 
@@ -199,8 +189,8 @@ module _ (mtu maximum : ℕ) (packet : Packet) (known known' : Linking) (link li
           half_a = converses.half_a;
           half_b = half_begun sides.B (all mtu maximum) ServerPlace (server_tail mtu maximum) known known' converses.decided n link link' put put' (StandsSo served converses.decided) (StandsSo served' converses.decided) begins
               (λ some.
-                  let free = converses.fresh_b (omega (arith, more, last)) in
-                  record { place = Fresh; mine = []; by = tt; put_is = same_put; follows = λ c agrees. refl; stands_so = (stage, free.0, free.1, free.2) }) converses.half_b;
+              let free = converses.fresh_b (omega (arith, more, last)) in
+              record { place = Fresh; mine = []; by = tt; put_is = same_put; follows = λ c agrees. refl; stands_so = (stage, free.0, free.1, free.2) }) converses.half_b;
           fresh_a = converses.fresh_a;
           fresh_b = λ below. converses.fresh_b (omega (arith, below, more));
         }

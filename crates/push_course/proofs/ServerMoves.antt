@@ -1,8 +1,7 @@
 -- A server hears what stands next in the conversation of a push, and says what follows.
-use Rattle.std.proofs.Common.{◌≡◌, ℕ, ◌≤◌, ◌^◌, ◌<◌, Bool, true, false, List, [], ◌∷◌, ◌++◌, length, drop, Option, Some, None, option_to_list, refl, sym, ap, ap₂, subst, ◌∙◌, inl, inr, ◌⊎◌, arith, true≢false}
+use Rattle.std.proofs.Common.{◌≡◌, ℕ, ◌≤◌, Bool, true, false, List, [], ◌∷◌, ◌++◌, Option, Some, None, option_to_list, refl, sym, ap, ap₂, subst, ◌∙◌, inl, inr, arith, true≢false}
 use Rattle.std.specs.Prelude.{◌==◌, slice_index}
 use Rattle.std.specs.List.{AllByRecursion}
-use Rattle.std.specs.Str.{IsUtf8}
 use Rattle.bt_base.specs.Objects.{Contents}
 use Rattle.push_script.specs.declared.word.Side.TheVariants as sides
 use Rattle.obex_headers.specs.Packets.{PlainPacket, packet_octets}
@@ -16,58 +15,28 @@ use Rattle.bt_host.specs.Servers.{Served, Kept, LeavesSession, LetsGo, HearsPack
 use Rattle.host_wire.specs.Sending.{sent_in_answer}
 use Rattle.push_talk.specs.Conversing.{Saying, Says}
 use Rattle.push_talk.specs.Speaking.{pdu_of, told}
-use Rattle.push_talk.specs.ClientTurns.{says_packet, answers_packet, greeting, unwelcome, response}
-use Rattle.push_talk.specs.ServerTurns.{Turn, steps, behind, turn, ChannelTurns, SessionTurns, PushIsServed, IsReady, Replies, Answers}
+use Rattle.push_talk.specs.ClientTurns.{says_packet, answers_packet, unwelcome, response}
+use Rattle.push_talk.specs.ServerTurns.{Turn, steps, behind, turn, ChannelTurns, SessionTurns, PushIsServed, IsReady, Replies}
 use Rattle.push_course.specs.Conversations.{Conversation, code_of}
-use Rattle.push_course.proofs.Owning.{own, IsBy, IsNext}
-use Rattle.push_course.proofs.Deciding.{Delivery, Decisions, Agrees, Told, IsFair, IsFairGiven, IsFairDelivery, filled, filled_agrees, open_agrees, told_none}
-use Rattle.push_course.proofs.Tails.{parted, from_closing, from_parting, putting_tail, parting_tail, greeted, from_putting}
+use Rattle.push_course.proofs.Owning.{own, IsBy, IsNext, next_is, none_next}
+use Rattle.push_course.proofs.Deciding.{Delivery, Decisions, Agrees, IsFair, IsFairGiven, IsFairDelivery, filled, filled_agrees, open_agrees, told_none, told_is}
+use Rattle.push_course.proofs.Tails.{parted, from_closing, from_parting, putting_tail, greeted, from_putting}
 use Rattle.push_course.proofs.ClientPlaces.{IsCapable}
 use Rattle.push_course.proofs.ClientMoves.{pdu_news}
-use Rattle.push_course.proofs.ServerPlaces.{ServerPlace, Fresh, Taken, Agreeing, Listening, Welcoming, Refusing, Stored, Parting, Closed, IsReadied, server_tail, ServerStands}
-
-next_is : (one : Saying) (others : List Saying) (pdu : List ℕ) → IsNext sides.B (one ∷ others) pdu → pdu ≡ pdu_of one
-next_is one others pdu next =
-    let first : one ∷ others ≡ next.saying ∷ next.others = next.first in
-    let head : next.saying ≡ one = cc in
-    next.pdu_is ∙ ap pdu_of head
-
-none_next : (pdu : List ℕ) → IsNext sides.B [] pdu → ⊥
-none_next pdu next =
-    let first : [] ≡ next.saying ∷ next.others = next.first in
-    cc
+use Rattle.push_course.proofs.ServerPlaces.{ServerPlace, Fresh, Taken, Agreeing, Listening, Welcoming, Refusing, Stored, Parting, Closed, IsReadied, server_tail, ServerStands, ServerMoves}
 
 -- what was noted, and the channel behind what it sent
 abbrev pub served_behind : Served → Served
 served_behind noted = record noted { channel = (steps noted.channel).channel }
 
-told_is : {X : Type 0} (decided : Option X) (x y : X) → decided ≡ Some y → Told decided x → x ≡ y
-told_is decided x y is told = subst (λ d. Told d x) is told
-
 module _ (mtu maximum : ℕ) where
-  -- it was one saying, the same in all conversations that may be; what is said then, and where the server stands behind it
-  pub record ServerMoves (decided : Decisions) (place : ServerPlace) (pdu : List ℕ) (sent : List (List ℕ)) (served : Served) : Type 0 where
-    pub decided' : Decisions
-    pub put_same : decided'.put ≡ decided.put
-    pub agrees : (c : Conversation) → Agrees decided' c → Agrees decided c
-    pub saying : Saying
-    pub pdu_is : pdu ≡ pdu_of saying
-    pub by : IsBy sides.A saying
-    pub mine : List Saying
-    pub by_mine : AllByRecursion (IsBy sides.B) mine
-    pub place' : ServerPlace
-    pub follows : (c : Conversation) → Agrees decided' c → server_tail mtu maximum place c ≡ saying ∷ (mine ++ server_tail mtu maximum place' c)
-    pub sends : sent ≡ own sides.B mine
-    pub stands : ServerStands mtu maximum place' decided' served.channel
-    pub readied : IsReadied mtu maximum served
-
   module _ (channels : ChannelTurns) (sessions : SessionTurns) (served_so : PushIsServed) (capable : IsCapable mtu maximum) (old noted : Served) (inbox inbox' : Kept) (response' : Option (List ℕ))
       (readied : IsReadied mtu maximum old) (decided : Decisions) (fair : IsFair decided) where
     abbrev sent_now : List (List ℕ)
     sent_now = sent_in_answer response' noted.channel
 
     abbrev Moves : ServerPlace → List ℕ → Type 0
-    Moves place pdu = ServerMoves decided place pdu sent_now (served_behind noted)
+    Moves place pdu = ServerMoves mtu maximum decided place pdu sent_now (served_behind noted)
 
     abbrev IsNextAlways : ServerPlace → List ℕ → Type 0
     IsNextAlways place pdu = (c : Conversation) → Agrees decided c → IsNext sides.B (server_tail mtu maximum place c) pdu
@@ -161,7 +130,7 @@ module _ (mtu maximum : ℕ) where
     being_fresh : (pdu : List ℕ) → ServerStands mtu maximum Fresh decided old.channel → IsNextAlways Fresh pdu → NotesPdu pdu → Moves Fresh pdu
     being_fresh pdu (stage, greets, stores, parts) next notes =
         let one : Saying = Says sides.A 1 asks_connection in
-        let is : pdu ≡ pdu_of one = next_is one _ pdu (next some agreed) in
+        let is : pdu ≡ pdu_of one = next_is sides.B one _ pdu (next some agreed) in
         by_saying Fresh pdu one is
         (signalled Fresh one refl (Says sides.B 1 (grants_connection own_endpoint) ∷ []) (refl, tt) Taken (λ c agrees. refl) _ _ _
         (let_go one _ _ _ (sessions.grants false old noted inbox inbox' response' stage (notes_told one pdu is notes)) (channels.grants old.channel stage)) refl readied.mtu_is (refl, refl, greets, stores, parts))
@@ -169,7 +138,7 @@ module _ (mtu maximum : ℕ) where
     being_taken : (pdu : List ℕ) → ServerStands mtu maximum Taken decided old.channel → IsNextAlways Taken pdu → NotesPdu pdu → Moves Taken pdu
     being_taken pdu (stage, peer, greets, stores, parts) next notes =
         let one : Saying = Says sides.A 2 (asks_configuration own_endpoint mtu) in
-        let is : pdu ≡ pdu_of one = next_is one _ pdu (next some agreed) in
+        let is : pdu ≡ pdu_of one = next_is sides.B one _ pdu (next some agreed) in
         let low : 48 ≤ mtu = let low = capable.mtu_low in omega (arith, low) in
         by_saying Taken pdu one is
         (signalled Taken one refl (Says sides.B 2 (grants_configuration own_endpoint) ∷ Says sides.B 1 (asks_configuration own_endpoint mtu) ∷ []) (refl, (refl, tt)) Agreeing (λ c agrees. refl) _ _ _
@@ -179,7 +148,7 @@ module _ (mtu maximum : ℕ) where
     being_agreed : (pdu : List ℕ) → ServerStands mtu maximum Agreeing decided old.channel → IsNextAlways Agreeing pdu → NotesPdu pdu → Moves Agreeing pdu
     being_agreed pdu (stage, peer, greets, stores, parts) next notes =
         let one : Saying = Says sides.A 1 (grants_configuration own_endpoint) in
-        let is : pdu ≡ pdu_of one = next_is one _ pdu (next some agreed) in
+        let is : pdu ≡ pdu_of one = next_is sides.B one _ pdu (next some agreed) in
         by_saying Agreeing pdu one is
         (signalled Agreeing one refl [] tt Listening (λ c agrees. refl) _ _ _
         (left one _ _ _ (sessions.opens false old noted inbox inbox' response' stage (notes_told one pdu is notes)) (channels.opens old.channel stage)) refl readied.mtu_is (refl, peer, greets, stores, parts))
@@ -189,7 +158,7 @@ module _ (mtu maximum : ℕ) where
         → ((c : Conversation) → Agrees decided c → server_tail mtu maximum place c ≡ from_closing) → IsNextAlways place pdu → NotesPdu pdu → Moves place pdu
     closing place pdu stage peer tails next notes =
         let one : Saying = Says sides.A 3 (asks_disconnection own_endpoint) in
-        let is : pdu ≡ pdu_of one = next_is one _ pdu (subst (λ rest. IsNext sides.B rest pdu) (tails some agreed) (next some agreed)) in
+        let is : pdu ≡ pdu_of one = next_is sides.B one _ pdu (subst (λ rest. IsNext sides.B rest pdu) (tails some agreed) (next some agreed)) in
         by_saying place pdu one is
         (signalled place one refl (Says sides.B 3 (grants_disconnection own_endpoint) ∷ []) (refl, tt) Closed tails _ _ _
         (let_go one _ _ _ (sessions.closes false old noted inbox inbox' response' stage peer (notes_told one pdu is notes)) (channels.closes old.channel stage peer)) refl readied.mtu_is refl)
@@ -216,7 +185,7 @@ module _ (mtu maximum : ℕ) where
     listening : (pdu : List ℕ) → ServerStands mtu maximum Listening decided old.channel → IsNextAlways Listening pdu → NotesPdu pdu → Moves Listening pdu
     listening pdu (stage, peer, greets, stores, parts) next notes =
         let one : Saying = says_packet (connect_packet maximum) in
-        let is : pdu ≡ pdu_of one = next_is one _ pdu (next some agreed) in
+        let is : pdu ≡ pdu_of one = next_is sides.B one _ pdu (next some agreed) in
         let low : 255 ≤ maximum = let low = capable.low in omega (arith, low) in
         let room : 7 ≤ old.session.maximum = let same = readied.maximum_is in omega (arith, low, same) in
         by_saying Listening pdu one is
@@ -249,7 +218,7 @@ module _ (mtu maximum : ℕ) where
         → ((c : Conversation) → Agrees decided c → server_tail mtu maximum place c ≡ from_parting c) → IsNextAlways place pdu → NotesPdu pdu → Moves place pdu
     departing place pdu stage peer free tails next notes =
         let one : Saying = says_packet disconnect_packet in
-        let is : pdu ≡ pdu_of one = next_is one _ pdu (subst (λ rest. IsNext sides.B rest pdu) (tails some agreed) (next some agreed)) in
+        let is : pdu ≡ pdu_of one = next_is sides.B one _ pdu (subst (λ rest. IsNext sides.B rest pdu) (tails some agreed) (next some agreed)) in
         let room : 3 ≤ old.session.maximum = let low = capable.low in let same = readied.maximum_is in omega (arith, low, same) in
         by_saying place pdu one is
         (elim (served_so.disconnects old noted inbox inbox' response' (ready peer) room (heard disconnect_packet pdu stage is notes)) [
@@ -277,7 +246,7 @@ module _ (mtu maximum : ℕ) where
           λ c agrees. record { put = agrees.put; greets = agrees.greets; stores = told_none decided.stores _ stores; parts = agrees.parts } in
           moves_to (record decided { stores = Some b }) refl before Welcoming one refl (answers_packet (response (code_of b)) ∷ []) (refl, tt) Stored
           (λ c agrees.
-              welcomed c (before c agrees) ∙ (ap (λ g. from_putting g c) given ∙ (named octets c (before c agrees) ∙ ap (λ b. one ∷ answers_packet (response (code_of b)) ∷ from_parting c) agrees.stores)))
+          welcomed c (before c agrees) ∙ (ap (λ g. from_putting g c) given ∙ (named octets c (before c agrees) ∙ ap (λ b. one ∷ answers_packet (response (code_of b)) ∷ from_parting c) agrees.stores)))
           _ _ _ _ notes refl readied.mtu_is (stage, peer, parts)
 
       delivered : (g : Option (List ℕ)) → delivery.given ≡ g → (pdu : List ℕ) → old.channel.stage ≡ stages.Open → old.channel.peer ≡ own_endpoint → decided.stores ≡ None → decided.parts ≡ None
@@ -286,7 +255,7 @@ module _ (mtu maximum : ℕ) where
       delivered (Some octets) given pdu stage peer stores parts next notes =
           let one : Saying = says_packet (put_packet (utf16 delivery.name) octets) in
           let tails : (c : Conversation) → Agrees decided c → greeted c.greets c ≡ one ∷ putting_tail c = λ c agrees. welcomed c agrees ∙ (ap (λ g. from_putting g c) given ∙ named octets c agrees) in
-          let is : pdu ≡ pdu_of one = next_is one _ pdu (subst (λ rest. IsNext sides.B rest pdu) (tails some agreed) (next some agreed)) in
+          let is : pdu ≡ pdu_of one = next_is sides.B one _ pdu (subst (λ rest. IsNext sides.B rest pdu) (tails some agreed) (next some agreed)) in
           let can : IsFairDelivery delivery = fair delivery is_put in
           let room : 416 ≤ old.session.maximum = let low = capable.low in let same = readied.maximum_is in omega (arith, low, same) in
           by_saying Welcoming pdu one is
@@ -301,8 +270,8 @@ module _ (mtu maximum : ℕ) where
         let with : Delivery → Conversation = λ delivery. record (filled decided) { name = delivery.name; given = delivery.given } in
         let follows : (delivery : Delivery) → IsNext sides.B (from_putting delivery.given (with delivery)) pdu = λ delivery.
         subst (λ b. IsNext sides.B (greeted b (with delivery)) pdu) (told_is decided.greets _ true greets (open_agrees decided delivery free).greets) (next (with delivery) (open_agrees decided delivery free)) in
-        let put : pdu ≡ pdu_of (says_packet (put_packet (utf16 []) [])) = next_is _ _ pdu (follows (record { name = []; given = Some [] })) in
-        let none : pdu ≡ pdu_of (says_packet disconnect_packet) = next_is _ _ pdu (follows (record { name = []; given = None })) in
+        let put : pdu ≡ pdu_of (says_packet (put_packet (utf16 []) [])) = next_is sides.B _ _ pdu (follows (record { name = []; given = Some [] })) in
+        let none : pdu ≡ pdu_of (says_packet disconnect_packet) = next_is sides.B _ _ pdu (follows (record { name = []; given = None })) in
         true≢false (ap (λ p. slice_index p 4 == 0x82) (sym put ∙ none))
 
     welcoming_by : (put : Option Delivery) → decided.put ≡ put → (pdu : List ℕ) → ServerStands mtu maximum Welcoming decided old.channel → IsNextAlways Welcoming pdu → NotesPdu pdu → Moves Welcoming pdu
@@ -312,7 +281,7 @@ module _ (mtu maximum : ℕ) where
     parting_by : (b : Bool) (pdu : List ℕ) → old.channel.stage ≡ stages.Open → old.channel.peer ≡ own_endpoint → decided.parts ≡ Some b → IsNextAlways Parting pdu → NotesPdu pdu → Moves Parting pdu
     parting_by true pdu stage peer parts next notes = closing Parting pdu stage peer (λ c agrees. ap parted (told_is decided.parts c.parts true parts agrees.parts)) next notes
     parting_by false pdu stage peer parts next notes =
-        absurd (none_next pdu (subst (λ b. IsNext sides.B (parted b) pdu) (told_is decided.parts some.parts false parts agreed.parts) (next some agreed)))
+        absurd (none_next sides.B pdu (subst (λ b. IsNext sides.B (parted b) pdu) (told_is decided.parts some.parts false parts agreed.parts) (next some agreed)))
 
     -- ---- wherever it stands
 
@@ -325,4 +294,4 @@ module _ (mtu maximum : ℕ) where
     server_moves Refusing pdu (stage, peer, greets) next notes = closing Refusing pdu stage peer (λ c agrees. ap (λ b. greeted b c) (told_is decided.greets c.greets false greets agrees.greets)) next notes
     server_moves Stored pdu (stage, peer, parts) next notes = departing Stored pdu stage peer parts (λ c agrees. refl) next notes
     server_moves Parting pdu (stage, peer, b, parts) next notes = parting_by b pdu stage peer parts next notes
-    server_moves Closed pdu stands next notes = absurd (none_next pdu (next some agreed))
+    server_moves Closed pdu stands next notes = absurd (none_next sides.B pdu (next some agreed))

@@ -1,13 +1,17 @@
--- Where a server stands in the conversation of a push.
-use Rattle.std.proofs.Common.{◌≡◌, ℕ, Bool, List, [], Some, None, true, false}
+-- Where a server stands in the conversation of a push, and where a move leads it.
+use Rattle.std.proofs.Common.{◌≡◌, ℕ, Bool, List, [], ◌∷◌, ◌++◌, Some, None, true, false}
 use Rattle.obex_session.specs.declared.ruling.Progress.TheVariants.{Unnamed}
 use Rattle.bt_host.specs.declared.channel_stages.ChannelStage.TheVariants as stages
 use Rattle.bt_host.specs.Pdus.{own_endpoint}
 use Rattle.bt_host.specs.Channels.{Channel}
 use Rattle.bt_host.specs.Servers.{Served}
+use Rattle.std.specs.List.{AllByRecursion}
+use Rattle.push_script.specs.declared.word.Side.TheVariants as sides
 use Rattle.push_talk.specs.Conversing.{Saying}
+use Rattle.push_talk.specs.Speaking.{pdu_of}
+use Rattle.push_course.proofs.Owning.{own, IsBy}
 use Rattle.push_course.specs.Conversations.{Conversation}
-use Rattle.push_course.proofs.Deciding.{Decisions}
+use Rattle.push_course.proofs.Deciding.{Decisions, Agrees}
 use Rattle.push_course.proofs.Tails.{parted, from_parting, greeted, from_greeting, from_granting, from_configuring, from_connecting}
 
 -- what the server awaits: the request for the channel, that for its configuration, the grant of its own, CONNECT, what
@@ -52,3 +56,19 @@ module _ (mtu maximum : ℕ) where
   ServerStands Stored decided channel = (channel.stage ≡ stages.Open) × (channel.peer ≡ own_endpoint) × (decided.parts ≡ None)
   ServerStands Parting decided channel = (channel.stage ≡ stages.Open) × (channel.peer ≡ own_endpoint) × (b : Bool) × (decided.parts ≡ Some b)
   ServerStands Closed decided channel = channel.stage ≡ stages.Closed
+
+  -- it was one saying, the same in all conversations that may be; what is said then, and where the server stands behind it
+  pub record ServerMoves (decided : Decisions) (place : ServerPlace) (pdu : List ℕ) (sent : List (List ℕ)) (served : Served) : Type 0 where
+    pub decided' : Decisions
+    pub put_same : decided'.put ≡ decided.put
+    pub agrees : (c : Conversation) → Agrees decided' c → Agrees decided c
+    pub saying : Saying
+    pub pdu_is : pdu ≡ pdu_of saying
+    pub by : IsBy sides.A saying
+    pub mine : List Saying
+    pub by_mine : AllByRecursion (IsBy sides.B) mine
+    pub place' : ServerPlace
+    pub follows : (c : Conversation) → Agrees decided' c → server_tail place c ≡ saying ∷ (mine ++ server_tail place' c)
+    pub sends : sent ≡ own sides.B mine
+    pub stands : ServerStands place' decided' served.channel
+    pub readied : IsReadied mtu maximum served

@@ -1,5 +1,5 @@
 -- What a server makes of news, in the terms of its channel and its session.
-use Rattle.std.proofs.Common.{◌≡◌, ℕ, List, [], ◌∷◌, ◌++◌, Bool, Option, Some, None, option_to_list, refl, sym, ap, ap₂, subst, ◌∙◌}
+use Rattle.std.proofs.Common.{◌≡◌, ℕ, List, [], ◌++◌, Bool, Option, None, option_to_list, refl, sym, ap, ap₂, subst, ◌∙◌}
 use Rattle.host_link.specs.Hearing.{PlainNews, Nothing, LinkUp, LinkDown}
 use Rattle.bt_host.specs.declared.channel_stages.ChannelStage.{ChannelStage}
 use Rattle.bt_host.specs.declared.channel_stages.ChannelStage.TheVariants as stages
@@ -10,7 +10,6 @@ use Rattle.obex_session.specs.Past.{Serving}
 use Rattle.obex_session.specs.declared.ruling.Progress.TheVariants.{Unnamed}
 use Rattle.host_wire.specs.Sending.{sent_in_answer}
 use Rattle.push_talk.specs.ServerTurns.{Turn, steps}
-use Rattle.push_course.proofs.ServerPlaces.{IsReadied}
 use Rattle.push_course.proofs.ServerMoves.{served_behind}
 use Rattle.push_course.proofs.Courses.{IsServed}
 

@@ -1,5 +1,5 @@
 -- A step of a push keeps the size of its object.
-use Rattle.std.proofs.Common.{◌≡◌, ℕ, List, Bool, true, false, Option, Some, None, refl, ◌∙◌}
+use Rattle.std.proofs.Common.{◌≡◌, ℕ, List, true, false, Option, Some, None, refl, ◌∙◌}
 use Rattle.host_link.specs.Hearing.{PlainNews}
 use Rattle.bt_host.specs.declared.stages.Stage.{Stage}
 use Rattle.bt_host.specs.declared.stages.Stage.TheVariants as stages

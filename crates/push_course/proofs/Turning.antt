@@ -1,23 +1,19 @@
 -- What hosts within a world make of a packet: the turn of a course, or what a server noted and the turn of its channel.
-use Rattle.std.proofs.Common.{◌≡◌, ℕ, ◌≤◌, List, [], ◌∷◌, ◌++◌, length, Bool, true, false, Option, Some, None, refl, sym, ap, subst, ◌∙◌, arith}
+use Rattle.std.proofs.Common.{◌≡◌, ℕ, List, ◌++◌, length, Option, Some, None, refl, ap, subst, ◌∙◌}
 use Rattle.h4_framing.specs.Packets.{Packet}
 use Rattle.host_link.specs.Lines.{Line}
-use Rattle.host_link.specs.Hearing.{PlainNews, heard, news_of}
+use Rattle.host_link.specs.Hearing.{news_of}
 use Rattle.host_link.specs.PuttingOut.{is_waiting}
 use Rattle.bt_host.specs.declared.stages.Stage.TheVariants as stages
 use Rattle.bt_host.specs.Courses.{Course}
 use Rattle.bt_host.specs.Shelves.{GivesOctets}
-use Rattle.bt_host.specs.Steps.{step_at, next_step}
-use Rattle.bt_host.specs.Channels.{Channel, sent}
+use Rattle.bt_host.specs.Steps.{next_step}
 use Rattle.bt_host.specs.Clients.{Client, after_news, after_step, told}
 use Rattle.bt_host.specs.Clients as client
 use Rattle.bt_host.specs.Servers.{Served, Server, Kept, Notes}
-use Rattle.bt_host.specs.Servers as server
-use Rattle.world_model.specs.Insides.{Inside, Shelved, Pushing, Serving, Tells, StartsPush}
-use Rattle.host_wire.specs.Sending.{sent_by, sent_in_steps, sent_in_answer, sent_told, sent_starting}
-use Rattle.push_talk.specs.ClientTurns.{Turn, turn}
-use Rattle.push_talk.specs.ServerTurns.{steps}
-use Rattle.push_course.proofs.Deciding.{IsFairGiven}
+use Rattle.world_model.specs.Insides.{Inside, Shelved, Pushing, Serving, Tells}
+use Rattle.host_wire.specs.Sending.{sent_by, sent_in_answer, sent_told}
+use Rattle.push_talk.specs.ClientTurns.{turn}
 use Rattle.push_course.proofs.ServerMoves.{served_behind}
 
 -- ---- a client goes on

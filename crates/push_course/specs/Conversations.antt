@@ -1,6 +1,7 @@
 -- What the two hosts of a push say to each other on its link, as one conversation (this project's own).
-use Rattle.std.specs.Prelude.{ℕ, ◌^◌, ◌≡◌, ◌<◌, ◌≤◌, ◌||◌, not, Bool, true, false, min, take, List, [], ◌∷◌, ◌++◌, map, length, Option, Some, None, slice_get, if◌then◌else◌}
+use Rattle.std.specs.Prelude.{ℕ, ◌^◌, ◌≡◌, ◌<◌, ◌≤◌, ◌||◌, not, Bool, true, false, min, take, List, [], ◌∷◌, ◌++◌, map, length, Option, Some, None, slice_get, IfSome, if◌then◌else◌}
 use Rattle.std.specs.List.{AllByRecursion}
+use Rattle.std.specs.Str.{IsUtf8}
 use Rattle.bt_base.specs.Octets.{be16}
 use Rattle.obex_headers.specs.Packets.{PlainPacket, bare, packet_octets}
 use Rattle.push_script.specs.Names.{IsName}
@@ -66,6 +67,12 @@ sayings mtu maximum conversation =
 abbrev pub HasComeIn : Side → List Saying → Link → Type 0
 HasComeIn side all link = (m : ℕ) × (talk link ≡ seen_all side (take m all))
 
+-- the name is text of at most 100 UTF-16 units, and the object has at most 200 octets
+pub record IsSound (conversation : Conversation) : Type 0 where
+  pub text : IsUtf8 conversation.name
+  pub few : length (utf16 conversation.name) ≤ 100
+  pub small : IfSome conversation.given (λ octets. length octets ≤ 200)
+
 -- what a scenario and its devices allow
 pub record IsSetting (size count mtu obex : ℕ) (names : List (List ℕ)) : Type 0 where
   pub size_low : 27 ≤ size
@@ -82,6 +89,7 @@ pub record IsSetting (size count mtu obex : ℕ) (names : List (List ℕ)) : Typ
 -- link number n of host a and link number n of host b, where they are there, are the two ends of one conversation
 pub record Converse (all : Conversation → List Saying) (past : List Entry) (n : ℕ) : Type 0 where
   pub conversation : Conversation
+  pub sound : IsSound conversation
   pub at_a : (link : Link) → slice_get (links sides.A past) n ≡ Some link → HasComeIn sides.A (all conversation) link
   pub at_b : (link : Link) → slice_get (links sides.B past) n ≡ Some link → HasComeIn sides.B (all conversation) link
 
