@@ -1,7 +1,6 @@
 -- What a capture reads off a link, however far its conversation has come, and what one saying more adds to it.
-use Rattle.std.specs.Prelude.{ℕ, ◌+◌, ◌^◌, ◌≡◌, ◌<◌, ◌≤◌, ◌==◌, ◌&&◌, not, true, false, List, [], ◌∷◌, ◌++◌, length, map, Option, Some, None}
+use Rattle.std.specs.Prelude.{ℕ, ◌+◌, ◌^◌, ◌≡◌, ◌<◌, ◌≤◌, ◌==◌, ◌&&◌, not, true, false, List, ◌++◌, map}
 use Rattle.std.specs.List.{filter_map, flat_map, list_any}
-use Rattle.std.specs.Str.{IsUtf8}
 use Rattle.obex_headers.specs.Packets.{packet_octets}
 use Rattle.push_script.specs.declared.word.Side.{Side}
 use Rattle.push_script.specs.declared.word.Side.TheVariants as sides
@@ -13,16 +12,8 @@ use Rattle.capture.specs.Exchanges.{spoken, sent_octets, link_exchanges, ends_ob
 use Rattle.capture.specs.Results.{cause_of, gives_up}
 use Rattle.bt_host.specs.Pushing.{utf16, connect_packet, disconnect_packet, put_packet}
 use Rattle.push_talk.specs.Laws.{heard_by, spoken_at}
-use Rattle.push_course.specs.Conversations.{Conversation}
+use Rattle.push_course.specs.Conversations.{Conversation, IsSound}
 use Rattle.push_readings.specs.Fronts.{HasCome, payloads_said, next_payload, sent_by, objects_said, objects_with, answered_pairs, greeting_exchange, put_exchange, farewell_exchange, exchanges_with, has_put, is_put_answered, refused_unless, done_or_refused, causes_with, has_farewell, is_farewell}
-
--- what can be read as an object: its name is text, and it is no longer than a shelf has it
-pub record CanBeRead (maximum : ℕ) (conversation : Conversation) : Type 0 where
-  pub maximum_low : 255 ≤ maximum
-  pub maximum_high : maximum < 2 ^ 16
-  pub text : IsUtf8 conversation.name
-  pub short : length (utf16 conversation.name) ≤ 100
-  pub small : (octets : List ℕ) → conversation.given ≡ Some octets → length octets ≤ 200
 
 -- ---- of all that was said
 
@@ -35,7 +26,7 @@ PacketsAreRead =
 -- the object is heard with the PUT
 abbrev pub ObjectsAreRead : Type 0
 ObjectsAreRead =
-    (mtu maximum : ℕ) (conversation : Conversation) (m : ℕ) (link : Link) → mtu < 2 ^ 16 → CanBeRead maximum conversation → HasCome sides.B mtu maximum conversation m link
+    (mtu maximum : ℕ) (conversation : Conversation) (m : ℕ) (link : Link) → mtu < 2 ^ 16 → 255 ≤ maximum → maximum < 2 ^ 16 → IsSound conversation → HasCome sides.B mtu maximum conversation m link
     → link_objects link ≡ objects_said conversation m
 
 -- each request is answered by the payload behind it
@@ -84,7 +75,7 @@ pub record FarewellGivesUp : Type 0 where
 
 -- a link that has come so far, and one that has come one saying further, as where a PDU more was said or heard on it
 pub record OneSayingMore : Type 0 where
-  pub objects : (mtu maximum : ℕ) (conversation : Conversation) (m : ℕ) (link further : Link) → mtu < 2 ^ 16 → CanBeRead maximum conversation
+  pub objects : (mtu maximum : ℕ) (conversation : Conversation) (m : ℕ) (link further : Link) → mtu < 2 ^ 16 → 255 ≤ maximum → maximum < 2 ^ 16 → IsSound conversation
       → HasCome sides.B mtu maximum conversation m link → HasCome sides.B mtu maximum conversation (m + 1) further
       → link_objects further ≡ link_objects link ++ objects_with conversation m
   pub exchanges : (side : Side) (mtu maximum : ℕ) (conversation : Conversation) (m : ℕ) (link further : Link) → mtu < 2 ^ 16
