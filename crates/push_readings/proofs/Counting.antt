@@ -36,7 +36,7 @@ twice : (x : Bool) → (x || x) ≡ x
 twice true = refl
 twice false = refl
 
-or_false : (x : Bool) → (x || false) ≡ x
+pub or_false : (x : Bool) → (x || false) ≡ x
 or_false true = refl
 or_false false = refl
 

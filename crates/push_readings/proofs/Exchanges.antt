@@ -64,10 +64,10 @@ if_none false xs none = refl
 no_exchange : (maximum : ℕ) (conversation : Conversation) (m : ℕ) → eqb m 7 ≡ false → eqb m 9 ≡ false → eqb m 11 ≡ false → exchanges_with maximum conversation m ≡ []
 no_exchange maximum conversation m seven nine eleven = rw seven (if_none conversation.greets (exchanges_behind conversation.given conversation m) (no_last conversation.given conversation m nine eleven))
 
-abbrev conversation_of : List ℕ → Option (List ℕ) → (greets stores parts : Bool) → Conversation
+abbrev pub conversation_of : List ℕ → Option (List ℕ) → (greets stores parts : Bool) → Conversation
 conversation_of name given greets stores parts = record { name = name; given = given; greets = greets; stores = stores; parts = parts }
 
-not_at : (m n : ℕ) → n < m → eqb m n ≡ false
+pub not_at : (m n : ℕ) → n < m → eqb m n ≡ false
 not_at m n below = ne_eqb m n (λ same. absurd (omega (arith, below, same)))
 
 table : (maximum : ℕ) (name : List ℕ) (given : Option (List ℕ)) (greets stores parts : Bool) (k : ℕ)
