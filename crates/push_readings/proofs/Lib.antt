@@ -6,3 +6,4 @@ pub mod Sending
 pub mod Answering
 pub mod Objects
 pub mod OneMore
+pub mod Further

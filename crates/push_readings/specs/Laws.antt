@@ -1,18 +1,19 @@
 -- What a capture reads off a link, however far its conversation has come, and what one saying more adds to it.
-use Rattle.std.specs.Prelude.{ℕ, ◌+◌, ◌^◌, ◌≡◌, ◌<◌, ◌≤◌, ◌==◌, ◌&&◌, not, true, false, List, ◌++◌, map}
+use Rattle.std.specs.Prelude.{ℕ, ◌+◌, ◌^◌, ◌≡◌, ◌<◌, ◌≤◌, ◌==◌, ◌&&◌, not, true, false, List, [], ◌∷◌, ◌++◌, map, Some, slice_get}
 use Rattle.std.specs.List.{filter_map, flat_map, list_any}
 use Rattle.obex_headers.specs.Packets.{packet_octets}
 use Rattle.push_script.specs.declared.word.Side.{Side}
 use Rattle.push_script.specs.declared.word.Side.TheVariants as sides
 use Rattle.capture.specs.Links.{Link}
-use Rattle.capture.specs.Talk.{talk}
+use Rattle.capture.specs.Talk.{Talk, talk}
 use Rattle.capture.specs.Packets.{heard_packets}
 use Rattle.capture.specs.Spelled.{link_objects}
 use Rattle.capture.specs.Exchanges.{spoken, sent_octets, link_exchanges, ends_object_with}
 use Rattle.capture.specs.Results.{cause_of, gives_up}
 use Rattle.bt_host.specs.Pushing.{utf16, connect_packet, disconnect_packet, put_packet}
+use Rattle.push_talk.specs.Conversing.{Saying, seen}
 use Rattle.push_talk.specs.Laws.{heard_by, spoken_at}
-use Rattle.push_course.specs.Conversations.{Conversation, IsSound}
+use Rattle.push_course.specs.Conversations.{Conversation, IsSound, sayings}
 use Rattle.push_readings.specs.Fronts.{HasCome, payloads_said, next_payload, sent_by, objects_said, objects_with, answered_pairs, greeting_exchange, put_exchange, farewell_exchange, exchanges_with, has_put, is_put_answered, refused_unless, done_or_refused, causes_with, has_farewell, is_farewell}
 
 -- ---- of all that was said
@@ -87,3 +88,17 @@ pub record OneSayingMore : Type 0 where
   pub sent : (side : Side) (mtu maximum : ℕ) (conversation : Conversation) (m : ℕ) (link further : Link) → mtu < 2 ^ 16
       → HasCome side mtu maximum conversation m link → HasCome side mtu maximum conversation (m + 1) further
       → filter_map sent_octets (spoken (talk further)) ≡ filter_map sent_octets (spoken (talk link)) ++ flat_map (sent_by side) (next_payload maximum conversation m)
+
+-- A link on which one thing more was said has come one saying further, and both stand in one conversation.
+pub record CameFurther (side : Side) (mtu maximum : ℕ) (conversation : Conversation) (link further : Link) (more : Talk) : Type 0 where
+  pub m : ℕ
+  pub saying : Saying
+  pub stands : slice_get (sayings mtu maximum conversation) m ≡ Some saying
+  pub more_is : more ≡ seen side saying
+  pub before : HasCome side mtu maximum conversation m link
+  pub now : HasCome side mtu maximum conversation (m + 1) further
+
+abbrev pub LinksComeFurther : Type 0
+LinksComeFurther =
+    (side : Side) (mtu maximum : ℕ) (conversation : Conversation) (m : ℕ) (link further : Link) (more : Talk) → talk further ≡ talk link ++ more ∷ []
+    → HasCome side mtu maximum conversation m further → CameFurther side mtu maximum conversation link further more

@@ -2,7 +2,7 @@
 
 ghost use Rattle.push_readings.specs.Laws.{PacketsAreRead, ObjectsAreRead, ExchangesAreRead, SentAreRead};
 ghost use Rattle.push_readings.specs.Laws.{ExchangesAreCauses, PutIsAnswered, FarewellGivesUp};
-ghost use Rattle.push_readings.specs.Laws.{OneSayingMore};
+ghost use Rattle.push_readings.specs.Laws.{OneSayingMore, LinksComeFurther};
 
 /// The payloads among what was said are the packets that are heard and spoken.
 pub fn packets_are_read()
@@ -42,4 +42,9 @@ pub fn farewell_gives_up()
 /// What one saying more adds to all of these.
 pub fn one_saying_more()
     ensures { OneSayingMore }
+{}
+
+/// A link on which one thing more was said has come one saying further.
+pub fn links_come_further()
+    ensures { LinksComeFurther }
 {}
