@@ -1,10 +1,9 @@
 -- The exchanges of a front of a conversation, and what one saying more adds to them.
-use Rattle.std.proofs.Common.{◌≡◌, ℕ, ◌+◌, ◌-◌, ◌<◌, ◌≤◌, zero, suc, Bool, true, false, cond, eqb, List, [], ◌∷◌, ◌++◌, map, Option, Some, None, inl, inr, refl, sym, ap, ◌∙◌, arith}
+use Rattle.std.proofs.Common.{◌≡◌, ℕ, ◌+◌, ◌-◌, ◌<◌, zero, suc, Bool, true, false, eqb, List, [], ◌∷◌, ◌++◌, map, Option, Some, None, inl, inr, refl, sym, ap, ◌∙◌, arith}
 use Rattle.std.specs.Prelude.{take, if◌then◌else◌}
 use Rattle.std.proofs.lemmas.Bool.{cases_lt, ne_eqb}
 use Rattle.bt_base.specs.Octets.{be16}
 use Rattle.obex_headers.specs.Packets.{bare, packet_octets}
-use Rattle.push_script.specs.declared.word.Side.{Side}
 use Rattle.capture.specs.Histories.{given_by}
 use Rattle.capture.specs.Exchanges.{Exchange, request_flow, exchanged}
 use Rattle.bt_host.specs.Pushing.{utf16, connect_packet, disconnect_packet, put_packet}

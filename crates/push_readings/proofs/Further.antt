@@ -1,5 +1,5 @@
 -- A link on which one thing more was said has come one saying further.
-use Rattle.std.proofs.Common.{◌≡◌, ℕ, ◌+◌, zero, suc, List, [], ◌∷◌, ◌++◌, length, map, Some, refl, sym, ap, ◌∙◌, arith}
+use Rattle.std.proofs.Common.{◌≡◌, ℕ, ◌+◌, zero, suc, List, [], ◌∷◌, ◌++◌, Some, refl, sym, ap, ◌∙◌, arith}
 use Rattle.std.specs.Prelude.{take, slice_get}
 use Rattle.push_talk.specs.Conversing.{Saying, seen, seen_all}
 use Rattle.capture.specs.Talk.{Talk, talk}

@@ -19,7 +19,7 @@ use Rattle.bt_host.specs.Pushing.{utf16, connect_packet, disconnect_packet, put_
 use Rattle.bt_host.proofs.SpelledLaws.{connect_is, put_spells_object}
 use Rattle.push_talk.specs.Conversing.{the_channel}
 use Rattle.push_talk.specs.Laws.{heard_by}
-use Rattle.push_course.specs.Conversations.{Conversation, payloads, IsSound}
+use Rattle.push_course.specs.Conversations.{Conversation, payloads}
 use Rattle.push_readings.specs.Fronts.{object_put, objects_said, objects_with}
 use Rattle.push_readings.specs.Laws.{ObjectsAreRead}
 use Rattle.push_readings.proofs.Fronts.{packets_are_read}

@@ -1,7 +1,6 @@
 -- Requests and responses in turn, and the exchanges that a capture reads off them.
 use Rattle.std.proofs.Common.{◌≡◌, ℕ, zero, suc, List, [], ◌∷◌, ◌++◌, filter, fold, map, refl, ap, ◌∙◌}
 use Rattle.std.specs.Prelude.{take, drop}
-use Rattle.std.proofs.lemmas.List.{append-nil}
 use Rattle.std.proofs.lemmas.List.Elements.{filter-append}
 use Rattle.std.proofs.lemmas.List.Sums.{fold-append}
 use Rattle.push_script.specs.declared.word.Side.{Side}
