@@ -1,5 +1,5 @@
 -- A packet comes into host a.
-use Rattle.std.proofs.Common.{◌≡◌, ℕ, List, [], ◌∷◌, ◌++◌, length, true, Option, Some, None, refl, sym, ap, ap₂, subst, ◌∙◌, inl, inr, arith}
+use Rattle.std.proofs.Common.{◌≡◌, ℕ, List, [], ◌∷◌, ◌++◌, length, true, Option, Some, None, refl, sym, ap, ap₂, subst, ◌∙◌, inl, inr, arith, true≢false}
 use Rattle.std.specs.Prelude.{is_some}
 use Rattle.h4_framing.specs.Packets.{Packet}
 use Rattle.push_script.specs.declared.word.Side.TheVariants as sides
@@ -32,7 +32,7 @@ use Rattle.push_course.proofs.Moving.{moved, count_of, known_of, GoesOn, complet
 use Rattle.push_course.proofs.Meets.{meets_of}
 use Rattle.push_course.proofs.HalfSteps.{AtMostOne, at_most_one}
 use Rattle.push_course.proofs.Coming.{GoesOnTold, PassesBy, Coming}
-use Rattle.push_course.proofs.ClientTakes.{Takes, takes_none, takes_awaits, none_sent, fair_given, stands_busy, takes_up, takes_down}
+use Rattle.push_course.proofs.ClientTakes.{Takes, takes_none, takes_awaits, none_sent, fair_given, stands_busy, stands_onward, takes_up, takes_down}
 use Rattle.push_course.proofs.ClientComing.{in_move, client_other, client_still, MeetsHere, client_silent, Hearkens, hearkens, client_talks, client_passes, client_up}
 use Rattle.push_course.proofs.Courses.{Wire, Converses, IsCourse, is_last}
 
@@ -141,9 +141,12 @@ module _ (read : SayingsAreRead) (mtu maximum : ℕ) (capable : IsCapable mtu ma
             let course_is = takes.course_is ∙ ap (λ n. (turn takes.given takes.then_given n course).course) told in
             let sent_is = takes.sent_is ∙ ap (λ n. sent_by (turn takes.given takes.then_given n course).first ++ sent_by (turn takes.given takes.then_given n course).second) told in
             let put_so = put_is ∙ (ap (λ n. put_heard n put ++ on_link link' sent) told ∙ ap (λ xs. put ++ xs) (on_some link' refl (subst (λ (l : Option ℕ). is_some l ≡ true) (sym same) some) ∙ sent_is)) in
+            let moves = moves_at (count_of known) refl in
+            let onward : is_onward (reach course'.stage) ≡ true = subst (λ (k : Course). is_onward (reach k.stage) ≡ true) (sym course_is) (stands_onward mtu maximum moves.place' moves.decided' _ moves.stands) in
+            let never_calls : course'.stage ≡ stages.Paging → ⊥ = λ calls. true≢false (sym onward ∙ ap (λ s. is_onward (reach s)) calls) in
             let able' : IsAble mtu maximum course' = subst (IsAble mtu maximum) (sym course_is) (moves_at (count_of known) refl).able in
             record {
-              is_course = record { mtu_is = able'.mtu_is; maximum_is = able'.maximum_is; able = λ busy. able'; awaited = takes_awaits news course course' sent takes };
+              is_course = record { mtu_is = able'.mtu_is; maximum_is = able'.maximum_is; able = λ busy. able'; awaited = takes_awaits news course course' sent takes; calling = λ calls. absurd (never_calls calls) };
               each = λ n. elim (is_last n (count_of known)) [
                 | inl last ↦
                     client_talks mtu maximum packet known known' link link' put put' b course course' served n goes (turn takes.given takes.then_given (pdu_news octets) course) some same octets found last course_is put_so
@@ -174,7 +177,7 @@ module _ (read : SayingsAreRead) (mtu maximum : ℕ) (capable : IsCapable mtu ma
           record {
             is_course = links.is_course';
             each = λ n.
-                client_up mtu maximum packet known known' link link' put put' b course course' served n up.begins (put_is ∙ (ap (λ n. put_heard n put ++ on_link link' sent) up.up ∙ (on ∙ links.sent_is))) links.stage (each n);
+                client_up mtu maximum packet known known' link link' put put' b course course' served n up.begins (put_is ∙ (ap (λ n. put_heard n put ++ on_link link' sent) up.up ∙ (on ∙ links.sent_is))) links.stage links.none (each n);
           }
         where
           on_there : (l : Option ℕ) → link' ≡ l → is_some l ≡ true → on_link link' sent ≡ sent

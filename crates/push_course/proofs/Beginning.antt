@@ -85,13 +85,14 @@ module _ (mtu maximum : ℕ) (name : List ℕ) (is_name : IsName name) (old : Co
       small = small;
     };
     awaited = refl;
+    calling = λ calls. refl;
   }
   begins_course None small idle =
       let next : Course = record old { outcome = Some ShelfFault } in
       let awaited : awaits next.stage ≡ true = is_course.awaited in
       let first = waits_where_awaited.waits given next awaited in
       let same : two_steps given then_given next ≡ next = ap (λ s. (next_step then_given s.1).1) first ∙ ap (λ s. s.1) (waits_where_awaited.waits then_given next awaited) in
-      subst (IsCourse mtu maximum) (sym same) (record { mtu_is = is_course.mtu_is; maximum_is = is_course.maximum_is; able = λ busy. absurd (true≢false (sym idle ∙ busy)); awaited = awaited })
+      subst (IsCourse mtu maximum) (sym same) (record { mtu_is = is_course.mtu_is; maximum_is = is_course.maximum_is; able = λ busy. absurd (true≢false (sym idle ∙ busy)); awaited = awaited; calling = λ calls. absurd (true≢false (sym idle ∙ ap is_idle calls)) })
 
 -- what the client has within then
 record Began (mtu maximum : ℕ) (inside' : Inside) : Type 0 where

@@ -194,8 +194,8 @@ module _ (mtu maximum : ℕ) (packet : Packet) (known known' : Linking) (link li
       with_half (count_ended known known' ends) converses
       (half_ended sides.A (all mtu maximum) ClientPlace (client_tail mtu maximum) known known' converses.decided n link link' put put' (StandsSo course converses.decided) (StandsSo course' converses.decided) ends none converses.half_a)
 
-  pub client_up : Begins known known' → put' ≡ own sides.A (Says sides.A 1 asks_connection ∷ []) → course'.stage ≡ stages.Connecting → Before → After
-  client_up begins same_put stage converses =
+  pub client_up : Begins known known' → put' ≡ own sides.A (Says sides.A 1 asks_connection ∷ []) → course'.stage ≡ stages.Connecting → course'.outcome ≡ None → Before → After
+  client_up begins same_put stage none converses =
       let more = count_begun known known' begins in
       -- on the new link nothing is decided; on each other one nothing changes
       elim (is_last n (count_of known')) [
@@ -209,7 +209,7 @@ module _ (mtu maximum : ℕ) (packet : Packet) (known known' : Linking) (link li
                 by = (refl, tt);
                 put_is = same_put;
                 follows = λ c agrees. refl;
-                stands_so = (stage, converses.fresh_a (omega (arith, more, last)));
+                stands_so = (stage, converses.fresh_a (omega (arith, more, last)), none);
               }) converses.half_a;
           half_b = converses.half_b;
           fresh_a = λ below. converses.fresh_a (omega (arith, below, more));

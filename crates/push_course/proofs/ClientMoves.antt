@@ -2,6 +2,9 @@
 use Rattle.std.proofs.Common.{◌≡◌, ℕ, ◌≤◌, ◌<◌, Bool, true, false, List, [], ◌∷◌, ◌++◌, length, Option, Some, None, refl, sym, ap, subst, ◌∙◌, inl, inr, ◌⊎◌, arith, true≢false}
 use Rattle.std.specs.Prelude.{◌==◌, slice_index}
 use Rattle.std.specs.List.{AllByRecursion}
+use Rattle.std.specs.Option.{option_or}
+use Rattle.push_script.specs.declared.outcome.Outcome.{Outcome}
+use Rattle.bt_host.specs.Events.{answered_outcome}
 use Rattle.std.specs.Str.{IsUtf8}
 use Rattle.push_script.specs.declared.word.Side.TheVariants as sides
 use Rattle.bt_host.specs.declared.stages.Stage.{Stage}
@@ -18,7 +21,7 @@ use Rattle.host_wire.specs.Sending.{sent_by}
 use Rattle.push_talk.specs.Conversing.{Saying, Says}
 use Rattle.push_talk.specs.Speaking.{pdu_of, told}
 use Rattle.push_talk.specs.ClientTurns.{Turn, turned, turn, puts, IsWithinBounds, says_packet, answers_packet, unwelcome, response, ClientTurns}
-use Rattle.push_course.specs.Conversations.{Conversation, code_of}
+use Rattle.push_course.specs.Conversations.{Conversation, code_of, outcome_by, outcome_of}
 use Rattle.push_course.proofs.Owning.{own, IsBy, IsNext, next_is, none_next}
 use Rattle.push_course.proofs.Deciding.{Delivery, Decisions, Agrees, IsFair, IsFairGiven, IsFairDelivery, filled, filled_agrees, told_none}
 use Rattle.push_course.proofs.Sizes.{turn_size}
@@ -127,6 +130,14 @@ module _ (mtu maximum : ℕ) where
         able = able';
       }
 
+    -- the first cause fixes the outcome
+    has_come : (cause : Outcome) → course.outcome ≡ None → {c : Outcome} → c ≡ cause → option_or course.outcome (Some cause) ≡ Some c
+    has_come cause none is = ap (λ o. option_or o (Some cause)) none ∙ ap (λ o. Some o) (sym is)
+
+    outcome_is : (c : Conversation) (octets : List ℕ) → c.greets ≡ true → c.given ≡ Some octets → (b : Bool) → c.stores ≡ b → outcome_of c ≡ answered_outcome (code_of b)
+    outcome_is c octets greets given b stores =
+        ap (λ g. outcome_by g c.given c.stores) greets ∙ (ap (λ g. outcome_by true g c.stores) given ∙ ap (λ s. answered_outcome (code_of s)) stores)
+
     -- lengths, name and size stay
     still_able : (next : Course) → next.mtu ≡ course.mtu → next.maximum ≡ course.maximum → next.name ≡ course.name → next.size ≡ course.size → IsAble mtu maximum next
     still_able next same_mtu same_maximum same_name same_size = record {
@@ -138,30 +149,30 @@ module _ (mtu maximum : ℕ) where
     }
 
     asking : (pdu : List ℕ) → ClientStands mtu maximum Asking decided course → IsNextAlways Asking pdu → Moves Asking pdu
-    asking pdu (stage, free) next =
+    asking pdu (stage, free, none) next =
         let one : Saying = Says sides.B 1 (grants_connection own_endpoint) in
         by_saying Asking pdu one _ (next_is sides.A one _ pdu (next some agreed)) (turns.connects given then_given course stage)
         (moves_on Asking _ one refl (Says sides.A 2 (asks_configuration own_endpoint mtu) ∷ []) (refl, tt) Agreeing (λ c agrees. refl)
-        (ap (λ n. pdu_of (Says sides.A 2 (asks_configuration own_endpoint n)) ∷ []) able.mtu_is) (refl, refl, free) (still_able _ refl refl refl refl))
+        (ap (λ n. pdu_of (Says sides.A 2 (asks_configuration own_endpoint n)) ∷ []) able.mtu_is) (refl, refl, free, none) (still_able _ refl refl refl refl))
 
     agreeing : (pdu : List ℕ) → ClientStands mtu maximum Agreeing decided course → IsNextAlways Agreeing pdu → Moves Agreeing pdu
-    agreeing pdu (stage, peer, free) next =
+    agreeing pdu (stage, peer, free, none) next =
         let one : Saying = Says sides.B 2 (grants_configuration own_endpoint) in
         by_saying Agreeing pdu one _ (next_is sides.A one _ pdu (next some agreed)) (turns.configures given then_given course stage)
-        (moves_on Agreeing _ one refl [] tt BeingAsked (λ c agrees. refl) refl (refl, peer, free) (still_able _ refl refl refl refl))
+        (moves_on Agreeing _ one refl [] tt BeingAsked (λ c agrees. refl) refl (refl, peer, free, none) (still_able _ refl refl refl refl))
 
     being_asked : (pdu : List ℕ) → ClientStands mtu maximum BeingAsked decided course → IsNextAlways BeingAsked pdu → Moves BeingAsked pdu
-    being_asked pdu (stage, peer, free) next =
+    being_asked pdu (stage, peer, free, none) next =
         let one : Saying = Says sides.B 1 (asks_configuration own_endpoint mtu) in
         by_saying BeingAsked pdu one _ (next_is sides.A one _ pdu (next some agreed)) (turns.agrees given then_given course mtu stage peer (let low = capable.mtu_low in omega (arith, low)) capable.mtu_high)
         (moves_on BeingAsked _ one refl (Says sides.A 1 (grants_configuration own_endpoint) ∷ says_packet (connect_packet maximum) ∷ []) (refl, (refl, tt)) BeingGreeted (λ c agrees. refl)
-        (ap (λ n. pdu_of (Says sides.A 1 (grants_configuration own_endpoint)) ∷ pdu_of (says_packet (connect_packet n)) ∷ []) able.maximum_is) (refl, peer, refl, free) (still_able _ refl refl refl refl))
+        (ap (λ n. pdu_of (Says sides.A 1 (grants_configuration own_endpoint)) ∷ pdu_of (says_packet (connect_packet n)) ∷ []) able.maximum_is) (refl, peer, refl, free, none) (still_able _ refl refl refl refl))
 
     being_closed : (pdu : List ℕ) → ClientStands mtu maximum BeingClosed decided course → IsNextAlways BeingClosed pdu → Moves BeingClosed pdu
-    being_closed pdu (stage, peer) next =
+    being_closed pdu (stage, peer, so) next =
         let one : Saying = Says sides.B 3 (grants_disconnection own_endpoint) in
         by_saying BeingClosed pdu one _ (next_is sides.A one _ pdu (next some agreed)) (turns.closes given then_given course stage peer)
-        (moves_on BeingClosed _ one refl [] tt Done (λ c agrees. refl) refl refl (still_able _ refl refl refl refl))
+        (moves_on BeingClosed _ one refl [] tt Done (λ c agrees. refl) refl (refl, so) (still_able _ refl refl refl refl))
 
     -- ---- responses
 
@@ -170,27 +181,27 @@ module _ (mtu maximum : ℕ) where
     code_small false = omega arith
 
     delivering : (pdu : List ℕ) → ClientStands mtu maximum Delivering decided course → IsNextAlways Delivering pdu → Moves Delivering pdu
-    delivering pdu (stage, peer) next =
+    delivering pdu (stage, peer, none, put) next =
         let is : (c : Conversation) → Agrees decided c → pdu ≡ pdu_of (answers_packet (response (code_of c.stores))) = λ c agrees. next_is sides.A _ _ pdu (next c agrees) in
         let one : Saying = answers_packet (response (code_of some.stores)) in
         by_saying Delivering pdu one _ (is some agreed) (turns.ends given then_given course (code_of some.stores) stage peer (let low = capable.low in let same = able.maximum_is in omega (arith, low, same)) (code_small some.stores))
         (moves_on Delivering _ one refl (says_packet disconnect_packet ∷ []) (refl, tt) TakingLeave
         (λ c agrees. ap (λ b. answers_packet (response (code_of b)) ∷ from_parting c) (response_is c.stores some.stores (sym (is c agrees) ∙ is some agreed)))
-        refl (refl, peer) (still_able _ refl refl refl refl))
+        refl (refl, peer, λ c agrees. has_come _ none (outcome_is c _ (put c agrees).1 (put c agrees).2 some.stores (response_is c.stores some.stores (sym (is c agrees) ∙ is some agreed)))) (still_able _ refl refl refl refl))
 
     leaving_by : (b : Bool) (pdu : List ℕ) → ClientStands mtu maximum TakingLeave decided course → ((c : Conversation) → Agrees decided c → c.parts ≡ b) → pdu ≡ pdu_of (answers_packet (response (code_of b))) → Moves TakingLeave pdu
-    leaving_by true pdu (stage, peer) parts is =
+    leaving_by true pdu (stage, peer, so) parts is =
         let one : Saying = answers_packet (response 0xA0) in
         by_saying TakingLeave pdu one _ is (turns.parts given then_given course stage peer (let low = capable.low in let same = able.maximum_is in omega (arith, low, same)))
         (moves_on TakingLeave _ one refl (Says sides.A 3 (asks_disconnection own_endpoint) ∷ []) (refl, tt) BeingClosed
         (λ c agrees. ap (λ b. answers_packet (response (code_of b)) ∷ parted b) (parts c agrees))
-        refl (refl, peer) (still_able _ refl refl refl refl))
-    leaving_by false pdu (stage, peer) parts is =
+        refl (refl, peer, so) (still_able _ refl refl refl refl))
+    leaving_by false pdu (stage, peer, so) parts is =
         let one : Saying = answers_packet (response 0xD0) in
         by_saying TakingLeave pdu one _ is (turns.breaks given then_given course 0xD0 stage (let low = capable.low in let same = able.maximum_is in omega (arith, low, same)) (omega arith) refl)
         (moves_on TakingLeave _ one refl [] tt Done
         (λ c agrees. ap (λ b. answers_packet (response (code_of b)) ∷ parted b) (parts c agrees))
-        refl refl (still_able _ refl refl refl refl))
+        refl (refl, so) (still_able _ refl refl refl refl))
 
     taking_leave : (pdu : List ℕ) → ClientStands mtu maximum TakingLeave decided course → IsNextAlways TakingLeave pdu → Moves TakingLeave pdu
     taking_leave pdu stands next =
@@ -233,24 +244,27 @@ module _ (mtu maximum : ℕ) where
             able = able';
           }
 
+    before_put : decided.put ≡ None → (c : Conversation) → Agrees delivered c → Agrees decided c
+    before_put free c agrees = record { put = told_none decided.put _ free; greets = agrees.greets; stores = agrees.stores; parts = agrees.parts }
+
     by_given : (g : Option (List ℕ)) → given ≡ g → IsFairGiven given → ClientStands mtu maximum BeingGreeted decided course → ((c : Conversation) → Agrees decided c → c.greets ≡ true)
         → ClientMoves mtu maximum decided BeingGreeted (pdu_of (answers_packet (unwelcome 0xA0 maximum))) (puts g course)
-    by_given (Some octets) is small (stage, peer, peer_mtu, free) greets =
+    by_given (Some octets) is small (stage, peer, peer_mtu, free, none) greets =
         decides free small _ (says_packet (put_packet (utf16 course.name) octets) ∷ []) (refl, tt) Delivering
         (λ c agrees.
         ap (λ b. greeted b c) (greets c (record { put = told_none decided.put _ free; greets = agrees.greets; stores = agrees.stores; parts = agrees.parts }))
         ∙ (ap (λ g. from_putting g c) (ap (λ (d : Delivery). d.given) agrees.put ∙ is) ∙ ap (λ (d : Delivery). says_packet (put_packet (utf16 d.name) octets) ∷ putting_tail c) agrees.put))
-        greets refl (refl, peer) (still_able _ refl refl refl refl)
-    by_given None is small (stage, peer, peer_mtu, free) greets =
+        greets refl (refl, peer, none, λ c agrees. (octets, greets c (before_put free c agrees), ap (λ (d : Delivery). d.given) agrees.put ∙ is)) (still_able _ refl refl refl refl)
+    by_given None is small (stage, peer, peer_mtu, free, none) greets =
         decides free small _ (says_packet disconnect_packet ∷ []) (refl, tt) TakingLeave
         (λ c agrees.
         ap (λ b. greeted b c) (greets c (record { put = told_none decided.put _ free; greets = agrees.greets; stores = agrees.stores; parts = agrees.parts }))
         ∙ ap (λ g. from_putting g c) (ap (λ (d : Delivery). d.given) agrees.put ∙ is))
-        greets refl (refl, peer) (still_able _ refl refl refl refl)
+        greets refl (refl, peer, λ c agrees. has_come _ none (ap (λ b. outcome_by b c.given c.stores) (greets c (before_put free c agrees)) ∙ ap (λ g. outcome_by true g c.stores) (ap (λ (d : Delivery). d.given) agrees.put ∙ is))) (still_able _ refl refl refl refl)
 
     greeted_by : (b : Bool) (pdu : List ℕ) → ClientStands mtu maximum BeingGreeted decided course → ((c : Conversation) → Agrees decided c → c.greets ≡ b)
         → pdu ≡ pdu_of (answers_packet (unwelcome (code_of b) maximum)) → ((after_news (pdu_news pdu) course).stage ≡ stages.Greeted → (after_news (pdu_news pdu) course).size ≡ course.size → IsFairGiven given) → Moves BeingGreeted pdu
-    greeted_by true pdu (stage, peer, peer_mtu, free) greets is shelf =
+    greeted_by true pdu (stage, peer, peer_mtu, free, none) greets is shelf =
         let one : Saying = answers_packet (unwelcome 0xA0 maximum) in
         let within : IsWithinBounds course = record { peer = peer; maximum = let low = capable.low in let same = able.maximum_is in omega (arith, low, same); name = able.few; size = able.small } in
         let mtu_low : 416 ≤ course.peer_mtu = let low = capable.mtu_low in omega (arith, low, peer_mtu) in
@@ -258,14 +272,14 @@ module _ (mtu maximum : ℕ) where
         let sized : (after_news (told one) course).size ≡ course.size = sym (turn_size given then_given (told one) course) ∙ (ap (λ (t : Turn). t.course.size) (all given then_given) ∙ puts_size given course) in
         let small : IsFairGiven given =
         shelf (subst (λ p. (after_news (pdu_news p) course).stage ≡ stages.Greeted) (sym is) (is_asked (told one) course all)) (subst (λ p. (after_news (pdu_news p) course).size ≡ course.size) (sym is) sized) in
-        by_saying BeingGreeted pdu one _ is (all given then_given) (by_given given refl small (stage, peer, peer_mtu, free) greets)
-    greeted_by false pdu (stage, peer, peer_mtu, free) greets is shelf =
+        by_saying BeingGreeted pdu one _ is (all given then_given) (by_given given refl small (stage, peer, peer_mtu, free, none) greets)
+    greeted_by false pdu (stage, peer, peer_mtu, free, none) greets is shelf =
         let one : Saying = answers_packet (unwelcome 0xD0 maximum) in
         by_saying BeingGreeted pdu one _ is
         (turns.is_refused given then_given course 0xD0 maximum stage peer (let low = capable.low in let same = able.maximum_is in omega (arith, low, same)) (let low = capable.low in omega (arith, low)) capable.high (omega arith) refl)
         (moves_on BeingGreeted _ one refl (Says sides.A 3 (asks_disconnection own_endpoint) ∷ []) (refl, tt) BeingClosed
         (λ c agrees. ap (λ b. answers_packet (unwelcome (code_of b) maximum) ∷ greeted b c) (greets c agrees))
-        refl (refl, peer) (still_able _ refl refl refl refl))
+        refl (refl, peer, λ c agrees. has_come _ none (ap (λ b. outcome_by b c.given c.stores) (greets c agrees))) (still_able _ refl refl refl refl))
 
     being_greeted : (pdu : List ℕ) → ClientStands mtu maximum BeingGreeted decided course → IsNextAlways BeingGreeted pdu → ((after_news (pdu_news pdu) course).stage ≡ stages.Greeted → (after_news (pdu_news pdu) course).size ≡ course.size → IsFairGiven given) → Moves BeingGreeted pdu
     being_greeted pdu stands next shelf =

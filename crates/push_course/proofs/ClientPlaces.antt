@@ -1,5 +1,5 @@
 -- Where a client stands in the conversation of its push, and where a move leads it.
-use Rattle.std.proofs.Common.{◌≡◌, ℕ, ◌≤◌, ◌^◌, ◌<◌, true, false, List, [], ◌∷◌, ◌++◌, length, None}
+use Rattle.std.proofs.Common.{◌≡◌, ℕ, ◌≤◌, ◌^◌, ◌<◌, true, false, List, [], ◌∷◌, ◌++◌, length, None, Some}
 use Rattle.std.specs.Str.{IsUtf8}
 use Rattle.bt_host.specs.declared.stages.Stage.TheVariants.{Connecting, Configuring, Greeting, Putting, Parting, Closing, Leaving}
 use Rattle.bt_host.specs.declared.stages.PeerRequest.TheVariants.{Awaited}
@@ -13,7 +13,7 @@ use Rattle.push_talk.specs.Conversing.{Saying}
 use Rattle.push_talk.specs.Speaking.{pdu_of}
 use Rattle.push_talk.specs.ClientTurns.{Turn}
 use Rattle.push_course.proofs.Owning.{own, IsBy}
-use Rattle.push_course.specs.Conversations.{Conversation}
+use Rattle.push_course.specs.Conversations.{Conversation, outcome_of}
 use Rattle.push_course.proofs.Deciding.{Decisions, Agrees, IsFair}
 use Rattle.push_course.proofs.Tails.{closed_tail, parting_tail, putting_tail, greeting_tail, asked_tail, configuring_tail, connecting_tail}
 
@@ -44,6 +44,14 @@ pub record IsAble (mtu maximum : ℕ) (course : Course) : Type 0 where
   pub few : length (utf16 course.name) ≤ 100
   pub small : course.size ≤ 200
 
+-- CONNECT succeeded, and the shelf gave the object
+abbrev pub IsDelivered : Decisions → Type 0
+IsDelivered decided = (c : Conversation) → Agrees decided c → (octets : List ℕ) × (c.greets ≡ true) × (c.given ≡ Some octets)
+
+-- the outcome is what the conversation makes of the push
+abbrev pub HasCome : Decisions → Course → Type 0
+HasCome decided course = (c : Conversation) → Agrees decided c → course.outcome ≡ Some (outcome_of c)
+
 module _ (mtu maximum : ℕ) where
   abbrev pub client_tail : ClientPlace → Conversation → List Saying
   client_tail Asking c = connecting_tail mtu maximum c
@@ -57,14 +65,14 @@ module _ (mtu maximum : ℕ) where
 
   -- the stage of its course there, and that the delivery is not yet decided
   abbrev pub ClientStands : ClientPlace → Decisions → Course → Type 0
-  ClientStands Asking decided course = (course.stage ≡ Connecting) × (decided.put ≡ None)
-  ClientStands Agreeing decided course = (course.stage ≡ Configuring false Awaited) × (course.peer ≡ own_endpoint) × (decided.put ≡ None)
-  ClientStands BeingAsked decided course = (course.stage ≡ Configuring true Awaited) × (course.peer ≡ own_endpoint) × (decided.put ≡ None)
-  ClientStands BeingGreeted decided course = (course.stage ≡ Greeting) × (course.peer ≡ own_endpoint) × (course.peer_mtu ≡ mtu) × (decided.put ≡ None)
-  ClientStands Delivering decided course = (course.stage ≡ Putting) × (course.peer ≡ own_endpoint)
-  ClientStands TakingLeave decided course = (course.stage ≡ Parting) × (course.peer ≡ own_endpoint)
-  ClientStands BeingClosed decided course = (course.stage ≡ Closing) × (course.peer ≡ own_endpoint)
-  ClientStands Done decided course = course.stage ≡ Leaving
+  ClientStands Asking decided course = (course.stage ≡ Connecting) × (decided.put ≡ None) × (course.outcome ≡ None)
+  ClientStands Agreeing decided course = (course.stage ≡ Configuring false Awaited) × (course.peer ≡ own_endpoint) × (decided.put ≡ None) × (course.outcome ≡ None)
+  ClientStands BeingAsked decided course = (course.stage ≡ Configuring true Awaited) × (course.peer ≡ own_endpoint) × (decided.put ≡ None) × (course.outcome ≡ None)
+  ClientStands BeingGreeted decided course = (course.stage ≡ Greeting) × (course.peer ≡ own_endpoint) × (course.peer_mtu ≡ mtu) × (decided.put ≡ None) × (course.outcome ≡ None)
+  ClientStands Delivering decided course = (course.stage ≡ Putting) × (course.peer ≡ own_endpoint) × (course.outcome ≡ None) × IsDelivered decided
+  ClientStands TakingLeave decided course = (course.stage ≡ Parting) × (course.peer ≡ own_endpoint) × HasCome decided course
+  ClientStands BeingClosed decided course = (course.stage ≡ Closing) × (course.peer ≡ own_endpoint) × HasCome decided course
+  ClientStands Done decided course = (course.stage ≡ Leaving) × HasCome decided course
 
   -- it was one saying, the same in all conversations that may be; what is said then, and where the client stands behind it
   pub record ClientMoves (decided : Decisions) (place : ClientPlace) (pdu : List ℕ) (taken : Turn) : Type 0 where

@@ -67,14 +67,24 @@ fair_given (Some octets) size small sized = let same = sized octets refl in omeg
 -- ---- stages
 
 pub stands_busy : (mtu maximum : ℕ) (place : ClientPlace) (decided : Decisions) (course : Course) → ClientStands mtu maximum place decided course → is_idle course.stage ≡ false
-stands_busy mtu maximum Asking decided course (stage, free) = ap is_idle stage
-stands_busy mtu maximum Agreeing decided course (stage, peer, free) = ap is_idle stage
-stands_busy mtu maximum BeingAsked decided course (stage, peer, free) = ap is_idle stage
-stands_busy mtu maximum BeingGreeted decided course (stage, peer, peer_mtu, free) = ap is_idle stage
-stands_busy mtu maximum Delivering decided course (stage, peer) = ap is_idle stage
-stands_busy mtu maximum TakingLeave decided course (stage, peer) = ap is_idle stage
-stands_busy mtu maximum BeingClosed decided course (stage, peer) = ap is_idle stage
-stands_busy mtu maximum Done decided course stage = ap is_idle stage
+stands_busy mtu maximum Asking decided course stands = ap is_idle stands.0
+stands_busy mtu maximum Agreeing decided course stands = ap is_idle stands.0
+stands_busy mtu maximum BeingAsked decided course stands = ap is_idle stands.0
+stands_busy mtu maximum BeingGreeted decided course stands = ap is_idle stands.0
+stands_busy mtu maximum Delivering decided course stands = ap is_idle stands.0
+stands_busy mtu maximum TakingLeave decided course stands = ap is_idle stands.0
+stands_busy mtu maximum BeingClosed decided course stands = ap is_idle stands.0
+stands_busy mtu maximum Done decided course stands = ap is_idle stands.0
+
+pub stands_onward : (mtu maximum : ℕ) (place : ClientPlace) (decided : Decisions) (course : Course) → ClientStands mtu maximum place decided course → is_onward (reach course.stage) ≡ true
+stands_onward mtu maximum Asking decided course stands = ap (λ s. is_onward (reach s)) stands.0
+stands_onward mtu maximum Agreeing decided course stands = ap (λ s. is_onward (reach s)) stands.0
+stands_onward mtu maximum BeingAsked decided course stands = ap (λ s. is_onward (reach s)) stands.0
+stands_onward mtu maximum BeingGreeted decided course stands = ap (λ s. is_onward (reach s)) stands.0
+stands_onward mtu maximum Delivering decided course stands = ap (λ s. is_onward (reach s)) stands.0
+stands_onward mtu maximum TakingLeave decided course stands = ap (λ s. is_onward (reach s)) stands.0
+stands_onward mtu maximum BeingClosed decided course stands = ap (λ s. is_onward (reach s)) stands.0
+stands_onward mtu maximum Done decided course stands = ap (λ s. is_onward (reach s)) stands.0
 
 pub apart_at : (stage : Stage) → awaits stage ≡ true → is_onward (reach stage) ≡ false → (stage ≡ stages.Idle) ⊎ (stage ≡ stages.Paging)
 apart_at stages.Idle awaited apart = inl refl
@@ -121,6 +131,7 @@ module _ (mtu maximum : ℕ) (course course' : Course) (sent : List (List ℕ)) 
   pub record LinksOn : Type 0 where
     pub sent_is : sent ≡ own sides.A (Says sides.A 1 asks_connection ∷ [])
     pub stage : course'.stage ≡ stages.Connecting
+    pub none : course'.outcome ≡ None
     pub is_course' : IsCourse mtu maximum course'
 
   able_at : (stage : Stage) → is_idle course.stage ≡ false → IsAble mtu maximum (at stage course)
@@ -137,7 +148,8 @@ module _ (mtu maximum : ℕ) (course course' : Course) (sent : List (List ℕ)) 
         record {
           sent_is = takes.sent_is ∙ ap (λ (t : Turn). sent_by t.first ++ sent_by t.second) links;
           stage = ap (λ (c : Course). c.stage) is;
-          is_course' = subst (IsCourse mtu maximum) (sym is) (record { mtu_is = is_course.mtu_is; maximum_is = is_course.maximum_is; able = λ busy. able_at stages.Connecting (ap is_idle paging); awaited = refl });
+          none = ap (λ (c : Course). c.outcome) is ∙ is_course.calling paging;
+          is_course' = subst (IsCourse mtu maximum) (sym is) (record { mtu_is = is_course.mtu_is; maximum_is = is_course.maximum_is; able = λ busy. able_at stages.Connecting (ap is_idle paging); awaited = refl; calling = λ calls. absurd cc });
         }
   ]
 
@@ -145,4 +157,4 @@ module _ (mtu maximum : ℕ) (course course' : Course) (sent : List (List ℕ)) 
   takes_down reason onward takes =
       let loses = client_turns.loses takes.given takes.then_given course reason (onward_busy course.stage onward) in
       subst (IsCourse mtu maximum) (sym (takes.course_is ∙ ap (λ (t : Turn). t.course) loses))
-      (record { mtu_is = is_course.mtu_is; maximum_is = is_course.maximum_is; able = λ busy. absurd (true≢false busy); awaited = refl })
+      (record { mtu_is = is_course.mtu_is; maximum_is = is_course.maximum_is; able = λ busy. absurd (true≢false busy); awaited = refl; calling = λ calls. absurd cc })

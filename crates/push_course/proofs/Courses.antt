@@ -12,6 +12,7 @@ use Rattle.capture.specs.Links.{Link, Linking, link_up}
 use Rattle.capture.specs.Pdus.{Pdu, same_flow, pdus}
 use Rattle.host_link.specs.Lines.{Line}
 use Rattle.bt_host.specs.Courses.{Course}
+use Rattle.bt_host.specs.declared.stages.Stage.TheVariants as stages
 use Rattle.bt_host.specs.Events.{is_idle}
 use Rattle.bt_host.specs.Laws.{awaits}
 use Rattle.bt_host.specs.Servers.{Served, Kept}
@@ -69,6 +70,8 @@ module _ (mtu maximum : ℕ) where
     pub maximum_is : course.maximum ≡ maximum
     pub able : is_idle course.stage ≡ false → IsAble mtu maximum course
     pub awaited : awaits course.stage ≡ true
+    -- a push that calls has come to nothing yet
+    pub calling : course.stage ≡ stages.Paging → course.outcome ≡ None
 
   -- what a server serves
   pub record IsServed (served : Served) : Type 0 where

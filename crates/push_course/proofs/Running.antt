@@ -82,7 +82,7 @@ first_stands size count mtu obex names shelf inbox = record {
   course = resting mtu obex;
   shelf = shelf;
   inside_a = refl;
-  is_course = record { mtu_is = refl; maximum_is = refl; able = λ busy. absurd (true≢false busy); awaited = refl };
+  is_course = record { mtu_is = refl; maximum_is = refl; able = λ busy. absurd (true≢false busy); awaited = refl; calling = λ calls. absurd cc };
   served = _;
   inbox = inbox;
   inside_b = refl;

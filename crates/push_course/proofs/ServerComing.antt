@@ -25,15 +25,15 @@ use Rattle.push_course.proofs.Courses.{Wire, all, ServerHalf, Converses, is_last
 
 -- ---- decisions of one host change nothing for the other
 
-client_keeps : (mtu maximum : ℕ) (decided decided' : Decisions) (course : Course) → decided'.put ≡ decided.put → (place : ClientPlace) → ClientStands mtu maximum place decided course → ClientStands mtu maximum place decided' course
-client_keeps mtu maximum decided decided' course put Asking (stage, free) = (stage, put ∙ free)
-client_keeps mtu maximum decided decided' course put Agreeing (stage, peer, free) = (stage, peer, put ∙ free)
-client_keeps mtu maximum decided decided' course put BeingAsked (stage, peer, free) = (stage, peer, put ∙ free)
-client_keeps mtu maximum decided decided' course put BeingGreeted (stage, peer, peer_mtu, free) = (stage, peer, peer_mtu, put ∙ free)
-client_keeps mtu maximum decided decided' course put Delivering stands = stands
-client_keeps mtu maximum decided decided' course put TakingLeave stands = stands
-client_keeps mtu maximum decided decided' course put BeingClosed stands = stands
-client_keeps mtu maximum decided decided' course put Done stands = stands
+client_keeps : (mtu maximum : ℕ) (decided decided' : Decisions) (course : Course) → decided'.put ≡ decided.put → ((c : Conversation) → Agrees decided' c → Agrees decided c) → (place : ClientPlace) → ClientStands mtu maximum place decided course → ClientStands mtu maximum place decided' course
+client_keeps mtu maximum decided decided' course put agrees Asking (stage, free, none) = (stage, put ∙ free, none)
+client_keeps mtu maximum decided decided' course put agrees Agreeing (stage, peer, free, none) = (stage, peer, put ∙ free, none)
+client_keeps mtu maximum decided decided' course put agrees BeingAsked (stage, peer, free, none) = (stage, peer, put ∙ free, none)
+client_keeps mtu maximum decided decided' course put agrees BeingGreeted (stage, peer, peer_mtu, free, none) = (stage, peer, peer_mtu, put ∙ free, none)
+client_keeps mtu maximum decided decided' course put agrees Delivering (stage, peer, none, is) = (stage, peer, none, λ c agree. is c (agrees c agree))
+client_keeps mtu maximum decided decided' course put agrees TakingLeave (stage, peer, so) = (stage, peer, λ c agree. so c (agrees c agree))
+client_keeps mtu maximum decided decided' course put agrees BeingClosed (stage, peer, so) = (stage, peer, λ c agree. so c (agrees c agree))
+client_keeps mtu maximum decided decided' course put agrees Done (stage, so) = (stage, λ c agree. so c (agrees c agree))
 
 module _ (mtu maximum : ℕ) (packet : Packet) (known known' : Linking) (link link' : Option ℕ) (put put' : List (List ℕ)) (a : Wire) (course : Course) (served served' : Served) (n : ℕ) where
   abbrev here : Wire
@@ -146,7 +146,7 @@ module _ (mtu maximum : ℕ) (packet : Packet) (known known' : Linking) (link li
           decided = decided';
           fair = fair';
           half_a = half_beside sides.A (all mtu maximum) ClientPlace (client_tail mtu maximum) a.known a.link a.put converses.decided decided' n (λ place. ClientStands mtu maximum place converses.decided course)
-              (λ place. ClientStands mtu maximum place decided' course) moves.agrees (client_keeps mtu maximum converses.decided decided' course moves.put_same) converses.half_a;
+              (λ place. ClientStands mtu maximum place decided' course) moves.agrees (client_keeps mtu maximum converses.decided decided' course moves.put_same moves.agrees) converses.half_a;
           half_b = record {
             done = done';
             moved_is = moved_one sides.B (all mtu maximum) ServerPlace (server_tail mtu maximum) known known' converses.decided n (into packet) octets moves.saying half.done goes last is half.moved_is

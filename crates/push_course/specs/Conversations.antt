@@ -1,10 +1,13 @@
 -- What the two hosts of a push say to each other on its link, as one conversation (this project's own).
-use Rattle.std.specs.Prelude.{ℕ, ◌^◌, ◌≡◌, ◌<◌, ◌≤◌, ◌||◌, not, Bool, true, false, min, take, List, [], ◌∷◌, ◌++◌, map, length, Option, Some, None, slice_get, IfSome, if◌then◌else◌}
+use Rattle.std.specs.Prelude.{ℕ, ◌+◌, ◌^◌, ◌≡◌, ◌⊎◌, is_some, ◌<◌, ◌≤◌, ◌||◌, not, Bool, true, false, min, take, List, [], ◌∷◌, ◌++◌, map, length, Option, Some, None, slice_get, IfSome, if◌then◌else◌}
 use Rattle.std.specs.List.{AllByRecursion}
 use Rattle.std.specs.Str.{IsUtf8}
 use Rattle.bt_base.specs.Octets.{be16}
 use Rattle.obex_headers.specs.Packets.{PlainPacket, bare, packet_octets}
 use Rattle.push_script.specs.Names.{IsName}
+use Rattle.push_script.specs.declared.outcome.Outcome.{Outcome}
+use Rattle.push_script.specs.declared.outcome.Outcome.TheVariants.{Refused, ShelfFault}
+use Rattle.bt_host.specs.Events.{answered_outcome}
 use Rattle.push_script.specs.declared.word.Side.{Side}
 use Rattle.push_script.specs.declared.word.Side.TheVariants as sides
 use Rattle.capture.specs.Entries.{Entry}
@@ -12,7 +15,7 @@ use Rattle.capture.specs.Links.{Link, links}
 use Rattle.capture.specs.Talk.{talk}
 use Rattle.bt_host.specs.Pushing.{utf16, connect_packet, disconnect_packet, put_packet}
 use Rattle.bt_host.specs.Servers.{Kept}
-use Rattle.world_model.specs.Insides.{Shelved}
+use Rattle.world_model.specs.Insides.{Shelved, came_of}
 use Rattle.world_model.specs.Moments.{Moment, first_moment}
 use Rattle.world_model.specs.Happenings.{Happening, Runs, all_entries}
 use Rattle.push_talk.specs.Conversing.{Saying, seen_all, Sent, opening, sends, closing}
@@ -63,6 +66,15 @@ abbrev pub sayings : (mtu maximum : ℕ) → Conversation → List Saying
 sayings mtu maximum conversation =
     opening mtu mtu ++ (map sends (payloads maximum conversation) ++ (if is_closed conversation then closing else []))
 
+-- what comes of a push by it
+abbrev pub outcome_by : (greets : Bool) → (given : Option (List ℕ)) → (stores : Bool) → Outcome
+outcome_by false given stores = Refused (code_of false)
+outcome_by true None stores = ShelfFault
+outcome_by true (Some octets) stores = answered_outcome (code_of stores)
+
+abbrev pub outcome_of : Conversation → Outcome
+outcome_of conversation = outcome_by conversation.greets conversation.given conversation.stores
+
 -- the host of a side has come so far in it on that link: all that it said and heard is what stands in front
 abbrev pub HasComeIn : Side → List Saying → Link → Type 0
 HasComeIn side all link = (m : ℕ) × (talk link ≡ seen_all side (take m all))
@@ -99,3 +111,17 @@ LinksConverse =
     (size count mtu obex : ℕ) (names : List (List ℕ)) (shelf : Shelved) (inbox : Kept) → IsSetting size count mtu obex names
     → (happenings : List Happening) (moment : Moment) → Runs happenings (first_moment size count mtu obex names shelf inbox) moment
     → (n : ℕ) → Converse (sayings mtu (min obex mtu)) (all_entries happenings) n
+
+-- On the last link of host a its push came to nothing yet, or to what the conversation there makes of it.
+pub record ComesSo (all : Conversation → List Saying) (past : List Entry) (moment : Moment) : Type 0 where
+  pub n : ℕ
+  pub last : length (links sides.A past) ≡ n + 1
+  pub converse : Converse all past n
+  pub came : (came_of moment.a.inside ≡ None) ⊎ (came_of moment.a.inside ≡ Some (outcome_of converse.conversation))
+
+-- So it is while host a knows of its link.
+abbrev pub OutcomesAreSaid : Type 0
+OutcomesAreSaid =
+    (size count mtu obex : ℕ) (names : List (List ℕ)) (shelf : Shelved) (inbox : Kept) → IsSetting size count mtu obex names
+    → (happenings : List Happening) (moment : Moment) → Runs happenings (first_moment size count mtu obex names shelf inbox) moment
+    → is_some moment.a.line.link ≡ true → ComesSo (sayings mtu (min obex mtu)) (all_entries happenings) moment
