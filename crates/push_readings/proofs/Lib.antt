@@ -7,3 +7,4 @@ pub mod Answering
 pub mod Objects
 pub mod OneMore
 pub mod Further
+pub mod Causes

@@ -3,6 +3,7 @@
 ghost use Rattle.push_readings.specs.Laws.{PacketsAreRead, ObjectsAreRead, ExchangesAreRead, SentAreRead};
 ghost use Rattle.push_readings.specs.Laws.{ExchangesAreCauses, PutIsAnswered, FarewellGivesUp};
 ghost use Rattle.push_readings.specs.Laws.{OneSayingMore, LinksComeFurther};
+ghost use Rattle.push_readings.specs.Causes.{FirstCauseIsOutcome};
 
 /// The payloads among what was said are the packets that are heard and spoken.
 pub fn packets_are_read()
@@ -47,4 +48,9 @@ pub fn one_saying_more()
 /// A link on which one thing more was said has come one saying further.
 pub fn links_come_further()
     ensures { LinksComeFurther }
+{}
+
+/// The first cause that a conversation shows is what it makes of the push.
+pub fn first_cause_is_outcome()
+    ensures { FirstCauseIsOutcome }
 {}
