@@ -2,6 +2,7 @@
 use Rattle.std.proofs.Common.{◌≡◌, ℕ, ◌+◌, zero, suc, Bool, true, false, eqb, leb, ◌||◌, ◌&&◌, not, List, [], ◌∷◌, Option, Some, None, inl, inr, refl, sym, ap, ◌∙◌, arith}
 use Rattle.std.specs.Prelude.{if◌then◌else◌}
 use Rattle.std.specs.List.{flat_map, list_any}
+use Rattle.std.proofs.Math.Bool.{and-or_distrib_right, or-false}
 use Rattle.std.proofs.lemmas.Bool.Decides.{eqb_tells}
 use Rattle.std.proofs.lemmas.List.{append-nil}
 use Rattle.std.proofs.lemmas.List.Folds.{list_any-append}
@@ -14,7 +15,7 @@ use Rattle.bt_host.specs.Pushing.{utf16, connect_packet, disconnect_packet, put_
 use Rattle.push_course.specs.Conversations.{Conversation, code_of}
 use Rattle.push_readings.specs.Fronts.{payloads_said, answered_pairs, greeting_exchange, put_exchange, farewell_exchange, exchanges_behind, exchanges_with, has_put, is_put_answered, refused_unless, done_or_refused, causes_behind, causes_with}
 use Rattle.push_readings.specs.Laws.{ExchangesAreCauses, PutIsAnswered}
-use Rattle.push_readings.proofs.Counting.{beyond_more, either_has, or_false}
+use Rattle.push_readings.proofs.Counting.{beyond_more}
 use Rattle.push_readings.proofs.Exchanges.{exchanges_are_read, one_pair_more, conversation_of}
 
 -- ---- causes
@@ -84,7 +85,7 @@ ends_at_nine : (code maximum : ℕ) (name : List ℕ) (given : Option (List ℕ)
     ≡ (has_put (conversation_of name given greets stores parts) && is_code (conversation_of name given greets stores parts) code)
 ends_at_nine code maximum name given false stores parts = refl
 ends_at_nine code maximum name None true stores parts = refl
-ends_at_nine code maximum name (Some octets) true stores parts = or_false (eqb (code_of stores) code)
+ends_at_nine code maximum name (Some octets) true stores parts = or-false (eqb (code_of stores) code)
 
 ends_next : (code maximum : ℕ) (conversation : Conversation) (m : ℕ) → list_any (ends_object_with code) (exchanges_with maximum conversation m) ≡ ((eqb m 9 && has_put conversation) && is_code conversation code)
 ends_next code maximum conversation m =
@@ -105,7 +106,8 @@ ends_more code maximum conversation m before =
     ap (list_any (ends_object_with code)) (one_pair_more maximum conversation m) ∙ list_any-append (ends_object_with code) pairs more
     ∙ ap (λ b. b || list_any (ends_object_with code) more) before
     ∙ ap (λ b. (is_put_answered conversation m && is_code conversation code) || b) (ends_next code maximum conversation m)
-    ∙ either_has (leb 10 m) (eqb m 9) (has_put conversation) (is_code conversation code)
+    ∙ sym (and-or_distrib_right (leb 10 m && has_put conversation) (eqb m 9 && has_put conversation) (is_code conversation code))
+    ∙ ap (λ b. b && is_code conversation code) (sym (and-or_distrib_right (leb 10 m) (eqb m 9) (has_put conversation)))
     ∙ ap (λ b. (b && has_put conversation) && is_code conversation code) (sym (beyond_more 9 m))
 
 ends_said : (code maximum : ℕ) (conversation : Conversation) (m : ℕ)

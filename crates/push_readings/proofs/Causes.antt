@@ -1,15 +1,13 @@
 -- The first cause that a conversation shows.
 use Rattle.std.proofs.Common.{◌≡◌, ℕ, ◌<◌, zero, suc, Bool, true, false, cond, eqb, ltb, List, [], ◌∷◌, ◌++◌, Option, Some, None, inl, inr, refl, sym, ap, ◌∙◌, arith}
 use Rattle.std.specs.Option.{option_or}
-use Rattle.std.proofs.lemmas.Bool.{cases_lt, lt-ltb, le-ltb, ne_eqb}
+use Rattle.std.proofs.lemmas.Bool.{cases_lt, lt-ltb, le-ltb}
 use Rattle.push_script.specs.declared.outcome.Outcome.{Outcome}
 use Rattle.capture.specs.Results.{first_of}
 use Rattle.push_course.specs.Conversations.{outcome_of}
 use Rattle.push_readings.specs.Causes.{shown_with, causes_shown, before_cause, FirstCauseIsOutcome}
+use Rattle.push_readings.proofs.Counting.{not_above}
 use Rattle.push_readings.proofs.Exchanges.{conversation_of}
-
-not_yet : (m n : ℕ) → m < n → eqb m n ≡ false
-not_yet m n below = ne_eqb m n (λ same. absurd (omega (arith, below, same)))
 
 nothing_else : (b : Bool) → cond {A = List Outcome} b [] [] ++ [] ≡ []
 nothing_else true = refl
@@ -17,10 +15,10 @@ nothing_else false = refl
 
 nothing_shown : (name : List ℕ) (given : Option (List ℕ)) (greets stores parts : Bool) (m : ℕ)
     → m < before_cause (conversation_of name given greets stores parts) → shown_with (conversation_of name given greets stores parts) m ≡ []
-nothing_shown name given false stores parts m below = rw (not_yet m 7 below) refl
-nothing_shown name None true stores parts m below = rw (not_yet m 9 (omega (arith, below)), not_yet m 8 below) (nothing_else (eqb m 7))
+nothing_shown name given false stores parts m below = rw (not_above m 7 below) refl
+nothing_shown name None true stores parts m below = rw (not_above m 9 (omega (arith, below)), not_above m 8 below) (nothing_else (eqb m 7))
 nothing_shown name (Some octets) true stores parts m below =
-    rw (not_yet m 9 below, not_yet m 11 (omega (arith, below)), not_yet m 10 (omega (arith, below))) (nothing_else (eqb m 7))
+    rw (not_above m 9 below, not_above m 11 (omega (arith, below)), not_above m 10 (omega (arith, below))) (nothing_else (eqb m 7))
 
 outcome_shown : (name : List ℕ) (given : Option (List ℕ)) (greets stores parts : Bool)
     → first_of (shown_with (conversation_of name given greets stores parts) (before_cause (conversation_of name given greets stores parts))) ≡ Some (outcome_of (conversation_of name given greets stores parts))

@@ -1,16 +1,23 @@
 -- Places in a conversation, as numbers are compared and lists are taken.
-use Rattle.std.proofs.Common.{◌≡◌, ℕ, ◌+◌, ◌-◌, zero, suc, Bool, true, false, cond, eqb, leb, ltb, ◌||◌, ◌&&◌, List, [], ◌∷◌, ◌++◌, inl, inr, refl, sym, ap, ◌∙◌, arith}
+use Rattle.std.proofs.Common.{◌≡◌, ℕ, ◌+◌, ◌-◌, ◌<◌, zero, suc, false, cond, eqb, leb, ltb, ◌||◌, List, [], ◌∷◌, ◌++◌, inl, inr, refl, sym, ap, ◌∙◌, arith}
 use Rattle.std.specs.Prelude.{take, drop}
 use Rattle.std.proofs.lemmas.Bool.{cases_lt, lt-leb, le-leb, lt-ltb, le-ltb, eq-eqb, ne_eqb, cond-true, cond-false}
 use Rattle.std.proofs.lemmas.List.{append-nil}
 use Rattle.push_course.specs.Conversations.{Conversation, payloads}
 use Rattle.push_readings.specs.Fronts.{payloads_said, next_payload}
 
+-- a number is none that stands below it or above it
+pub not_below : (m n : ℕ) → n < m → eqb m n ≡ false
+not_below m n below = ne_eqb m n (λ same. absurd (omega (arith, below, same)))
+
+pub not_above : (m n : ℕ) → m < n → eqb m n ≡ false
+not_above m n above = ne_eqb m n (λ same. absurd (omega (arith, above, same)))
+
 -- a number is beyond another if it was before, or if it comes to be now
 pub beyond_more : (n m : ℕ) → leb (suc n) (m + 1) ≡ (leb (suc n) m || eqb m n)
 beyond_more n m =
     elim (cases_lt m n) [
-      | inl below ↦ rw (lt-leb (suc n) (m + 1) (omega (arith, below)), lt-leb (suc n) m (omega (arith, below)), ne_eqb m n (λ same. absurd (omega (arith, below, same)))) refl
+      | inl below ↦ rw (lt-leb (suc n) (m + 1) (omega (arith, below)), lt-leb (suc n) m (omega (arith, below)), not_above m n below) refl
       | inr above ↦
           elim (cases_lt n m) [
             | inl beyond ↦ rw (le-leb (suc n) (m + 1) (omega (arith, beyond)), le-leb (suc n) m (omega (arith, beyond))) refl
@@ -22,32 +29,13 @@ beyond_more n m =
 pub from_place : {X : Type 0} (n m : ℕ) (xs : List X) → cond (leb (suc n) (m + 1)) xs [] ≡ cond (leb (suc n) m) xs [] ++ cond (eqb m n) xs []
 from_place n m xs =
     elim (cases_lt m n) [
-      | inl below ↦ rw (lt-leb (suc n) (m + 1) (omega (arith, below)), lt-leb (suc n) m (omega (arith, below)), ne_eqb m n (λ same. absurd (omega (arith, below, same)))) refl
+      | inl below ↦ rw (lt-leb (suc n) (m + 1) (omega (arith, below)), lt-leb (suc n) m (omega (arith, below)), not_above m n below) refl
       | inr above ↦
           elim (cases_lt n m) [
-            | inl beyond ↦ rw (le-leb (suc n) (m + 1) (omega (arith, beyond)), le-leb (suc n) m (omega (arith, beyond)), ne_eqb m n (λ same. absurd (omega (arith, beyond, same)))) (sym (append-nil xs))
+            | inl beyond ↦ rw (le-leb (suc n) (m + 1) (omega (arith, beyond)), le-leb (suc n) m (omega (arith, beyond)), not_below m n beyond) (sym (append-nil xs))
             | inr within ↦ rw (le-leb (suc n) (m + 1) (omega (arith, above)), lt-leb (suc n) m (omega (arith, within)), eq-eqb m n (omega (arith, above, within))) refl
           ]
     ]
-
--- ---- Booleans
-
-twice : (x : Bool) → (x || x) ≡ x
-twice true = refl
-twice false = refl
-
-pub or_false : (x : Bool) → (x || false) ≡ x
-or_false true = refl
-or_false false = refl
-
-pub either_has : (a b has is : Bool) → (((a && has) && is) || ((b && has) && is)) ≡ (((a || b) && has) && is)
-either_has false b has is = refl
-either_has true true has is = twice (has && is)
-either_has true false has is = or_false (has && is)
-
-pub has_either : (has a b : Bool) → ((has && a) || (has && b)) ≡ (has && (a || b))
-has_either true a b = refl
-has_either false a b = refl
 
 -- ---- one payload more
 

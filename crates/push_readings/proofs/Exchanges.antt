@@ -1,7 +1,7 @@
 -- The exchanges of a front of a conversation, and what one saying more adds to them.
 use Rattle.std.proofs.Common.{◌≡◌, ℕ, ◌+◌, ◌-◌, ◌<◌, zero, suc, Bool, true, false, eqb, List, [], ◌∷◌, ◌++◌, map, Option, Some, None, inl, inr, refl, sym, ap, ◌∙◌, arith}
 use Rattle.std.specs.Prelude.{take, if◌then◌else◌}
-use Rattle.std.proofs.lemmas.Bool.{cases_lt, ne_eqb}
+use Rattle.std.proofs.lemmas.Bool.{cases_lt}
 use Rattle.bt_base.specs.Octets.{be16}
 use Rattle.obex_headers.specs.Packets.{bare, packet_octets}
 use Rattle.capture.specs.Histories.{given_by}
@@ -13,6 +13,7 @@ use Rattle.push_course.specs.Conversations.{Conversation, code_of, delivery, pay
 use Rattle.push_readings.specs.Fronts.{payloads_said, answered_pairs, exchanges_behind, exchanges_with}
 use Rattle.push_readings.specs.Laws.{ExchangesAreRead}
 use Rattle.push_readings.proofs.Fronts.{packets_are_read}
+use Rattle.push_readings.proofs.Counting.{not_below, not_above}
 use Rattle.push_readings.proofs.Turns.{asks, answers, turns, take_turns, pairs_answer, completed, pairs_more}
 
 -- ---- the payloads are requests and responses in turn
@@ -66,21 +67,18 @@ no_exchange maximum conversation m seven nine eleven = rw seven (if_none convers
 abbrev pub conversation_of : List ℕ → Option (List ℕ) → (greets stores parts : Bool) → Conversation
 conversation_of name given greets stores parts = record { name = name; given = given; greets = greets; stores = stores; parts = parts }
 
-pub not_at : (m n : ℕ) → n < m → eqb m n ≡ false
-not_at m n below = ne_eqb m n (λ same. absurd (omega (arith, below, same)))
-
 table : (maximum : ℕ) (name : List ℕ) (given : Option (List ℕ)) (greets stores parts : Bool) (k : ℕ)
     → exchanges_with maximum (conversation_of name given greets stores parts) (6 + k) ≡ completed (all_packets maximum (conversation_of name given greets stores parts)) k
 table maximum name given false stores parts zero = refl
 table maximum name given false stores parts (suc zero) = refl
-table maximum name given false stores parts (suc (suc k)) = rw (not_at (6 + suc (suc k)) 7 (omega arith)) refl
+table maximum name given false stores parts (suc (suc k)) = rw (not_below (6 + suc (suc k)) 7 (omega arith)) refl
 table maximum name None true stores parts zero = refl
 table maximum name None true stores parts (suc zero) = refl
 table maximum name None true stores parts (suc (suc zero)) = refl
 table maximum name None true stores parts (suc (suc (suc zero))) = refl
 table maximum name None true stores parts (suc (suc (suc (suc k)))) =
     let m : ℕ = 6 + suc (suc (suc (suc k))) in
-    rw (not_at m 7 (omega arith), not_at m 9 (omega arith)) refl
+    rw (not_below m 7 (omega arith), not_below m 9 (omega arith)) refl
 table maximum name (Some octets) true stores parts zero = refl
 table maximum name (Some octets) true stores parts (suc zero) = refl
 table maximum name (Some octets) true stores parts (suc (suc zero)) = refl
@@ -89,13 +87,13 @@ table maximum name (Some octets) true stores parts (suc (suc (suc (suc zero)))) 
 table maximum name (Some octets) true stores parts (suc (suc (suc (suc (suc zero))))) = refl
 table maximum name (Some octets) true stores parts (suc (suc (suc (suc (suc (suc k)))))) =
     let m : ℕ = 6 + suc (suc (suc (suc (suc (suc k))))) in
-    rw (not_at m 7 (omega arith), not_at m 9 (omega arith), not_at m 11 (omega arith)) refl
+    rw (not_below m 7 (omega arith), not_below m 9 (omega arith), not_below m 11 (omega arith)) refl
 
 -- ---- one saying more
 
 early : (maximum : ℕ) (conversation : Conversation) (m : ℕ) → m < 6 → exchanges_with maximum conversation m ≡ []
 early maximum conversation m below =
-    no_exchange maximum conversation m (ne_eqb m 7 (λ same. absurd (omega (arith, below, same)))) (ne_eqb m 9 (λ same. absurd (omega (arith, below, same)))) (ne_eqb m 11 (λ same. absurd (omega (arith, below, same))))
+    no_exchange maximum conversation m (not_above m 7 (omega (arith, below))) (not_above m 9 (omega (arith, below))) (not_above m 11 (omega (arith, below)))
 
 pairs_behind : (maximum : ℕ) (conversation : Conversation) (k : ℕ)
     → answered_pairs (take (suc k) (payloads maximum conversation)) ≡ answered_pairs (take k (payloads maximum conversation)) ++ exchanges_with maximum conversation (6 + k)

@@ -17,6 +17,7 @@ use Rattle.capture.specs.Hearing.{Heard}
 use Rattle.capture.specs.Spelled.{behind, spelled_with}
 use Rattle.bt_host.specs.Pushing.{utf16, connect_packet, disconnect_packet, put_packet}
 use Rattle.bt_host.proofs.SpelledLaws.{connect_is, put_spells_object}
+use Rattle.push_talk.proofs.Serving.{disconnect_is}
 use Rattle.push_talk.specs.Conversing.{the_channel}
 use Rattle.push_talk.specs.Laws.{heard_by}
 use Rattle.push_course.specs.Conversations.{Conversation, payloads}
@@ -35,13 +36,6 @@ no_put packet sound other =
     let spells : Spells Request 65535 (packet_octets packet) packet = record { sound = sound; within = omega (arith, len, within); spelling = refl } in
     ap put_of (packet_again Request 65535 (packet_octets packet) packet spells) ∙ ap (λ b. cond b (Some packet) None) other
 
-is_farewell : IsPacket Request disconnect_packet
-is_farewell = record {
-  fields = record { code_fits = omega arith; len = refl; version = λ no. absurd (let never : false ≡ true = no in cc); maximum = λ no. absurd (let never : false ≡ true = no in cc) };
-  headers = tt;
-  len = omega arith;
-}
-
 skipped : (octets : List ℕ) (others : List (List ℕ)) → put_in octets ≡ None → spelled (octets ∷ others) ≡ spelled others
 skipped octets others none = ap (λ (first : Option PlainPacket). objects_from [] (first ∷ heard others)) none
 
@@ -49,7 +43,7 @@ connect_skipped : (maximum : ℕ) (others : List (List ℕ)) → 255 ≤ maximum
 connect_skipped maximum others low high = skipped (packet_octets (connect_packet maximum)) others (no_put (connect_packet maximum) (connect_is maximum low high) refl)
 
 farewell_skipped : (others : List (List ℕ)) → spelled (packet_octets disconnect_packet ∷ others) ≡ spelled others
-farewell_skipped others = skipped (packet_octets disconnect_packet) others (no_put disconnect_packet is_farewell refl)
+farewell_skipped others = skipped (packet_octets disconnect_packet) others (no_put disconnect_packet disconnect_is refl)
 
 -- ---- packets that are heard one after the other
 

@@ -2,7 +2,8 @@
 use Rattle.std.proofs.Common.{◌≡◌, ℕ, ◌+◌, ◌-◌, ◌<◌, zero, suc, Bool, true, false, eqb, ltb, ◌||◌, ◌&&◌, List, [], ◌∷◌, ◌++◌, map, Option, Some, None, inl, inr, refl, sym, ap, ◌∙◌, arith}
 use Rattle.std.specs.Prelude.{take, drop}
 use Rattle.std.specs.List.{filter_map, cons_option, flat_map, list_any}
-use Rattle.std.proofs.lemmas.Bool.{cases_lt, ne_eqb, lt-ltb, le-ltb, cond-true, cond-false}
+use Rattle.std.proofs.Math.Bool.{and-or_distrib_left}
+use Rattle.std.proofs.lemmas.Bool.{cases_lt, lt-ltb, le-ltb, cond-true, cond-false}
 use Rattle.std.proofs.lemmas.Grind.{flat_map-append}
 use Rattle.std.proofs.lemmas.List.Folds.{list_any-append}
 use Rattle.push_script.specs.declared.word.Side.{Side}
@@ -17,8 +18,8 @@ use Rattle.push_course.specs.Conversations.{Conversation, payloads}
 use Rattle.push_readings.specs.Fronts.{payloads_said, next_payload, out_only, sent_by, before_farewell, has_farewell, is_farewell}
 use Rattle.push_readings.specs.Laws.{SentAreRead, FarewellGivesUp}
 use Rattle.push_readings.proofs.Fronts.{packets_are_read}
-use Rattle.push_readings.proofs.Counting.{beyond_more, has_either, one_payload}
-use Rattle.push_readings.proofs.Exchanges.{conversation_of, not_at}
+use Rattle.push_readings.proofs.Counting.{beyond_more, not_below, not_above, one_payload}
+use Rattle.push_readings.proofs.Exchanges.{conversation_of}
 
 -- ---- of all that is spoken, what goes out
 
@@ -58,7 +59,7 @@ farewell_place maximum name None true stores parts (suc zero) = refl
 farewell_place maximum name None true stores parts (suc (suc zero)) = refl
 farewell_place maximum name None true stores parts (suc (suc (suc zero))) = refl
 farewell_place maximum name None true stores parts (suc (suc (suc (suc zero)))) = refl
-farewell_place maximum name None true stores parts (suc (suc (suc (suc (suc k))))) = rw (not_at (6 + suc (suc (suc (suc (suc k))))) 8 (omega arith)) refl
+farewell_place maximum name None true stores parts (suc (suc (suc (suc (suc k))))) = rw (not_below (6 + suc (suc (suc (suc (suc k))))) 8 (omega arith)) refl
 farewell_place maximum name (Some octets) true stores parts zero = refl
 farewell_place maximum name (Some octets) true stores parts (suc zero) = refl
 farewell_place maximum name (Some octets) true stores parts (suc (suc zero)) = refl
@@ -66,12 +67,12 @@ farewell_place maximum name (Some octets) true stores parts (suc (suc (suc zero)
 farewell_place maximum name (Some octets) true stores parts (suc (suc (suc (suc zero)))) = refl
 farewell_place maximum name (Some octets) true stores parts (suc (suc (suc (suc (suc zero))))) = refl
 farewell_place maximum name (Some octets) true stores parts (suc (suc (suc (suc (suc (suc zero)))))) = refl
-farewell_place maximum name (Some octets) true stores parts (suc (suc (suc (suc (suc (suc (suc k))))))) = rw (not_at (6 + suc (suc (suc (suc (suc (suc (suc k))))))) 10 (omega arith)) refl
+farewell_place maximum name (Some octets) true stores parts (suc (suc (suc (suc (suc (suc (suc k))))))) = rw (not_below (6 + suc (suc (suc (suc (suc (suc (suc k))))))) 10 (omega arith)) refl
 
 not_early : (greets : Bool) (given : Option (List ℕ)) (m : ℕ) → m < 6 → (greets && eqb m (before_farewell given)) ≡ false
 not_early false given m below = refl
-not_early true None m below = ne_eqb m 8 (λ same. absurd (omega (arith, below, same)))
-not_early true (Some octets) m below = ne_eqb m 10 (λ same. absurd (omega (arith, below, same)))
+not_early true None m below = not_above m 8 (omega (arith, below))
+not_early true (Some octets) m below = not_above m 10 (omega (arith, below))
 
 farewell_next : (maximum : ℕ) (conversation : Conversation) (m : ℕ) → give_up_in (next_payload maximum conversation m) ≡ is_farewell conversation m
 farewell_next maximum conversation m =
@@ -98,7 +99,7 @@ gave_up_more maximum conversation m before =
     let at = before_farewell conversation.given in
     ap (list_any gives_up) (one_sent_more sides.A maximum conversation m) ∙ list_any-append gives_up sent more
     ∙ ap (λ b. b || list_any gives_up more) before ∙ ap (λ b. has_farewell conversation m || b) (farewell_next maximum conversation m)
-    ∙ has_either conversation.greets (ltb at m) (eqb m at)
+    ∙ sym (and-or_distrib_left conversation.greets (ltb at m) (eqb m at))
     ∙ ap (λ b. conversation.greets && b) (sym (beyond_more at m))
 
 gave_up : (maximum : ℕ) (conversation : Conversation) (m : ℕ) → give_up_in (payloads_said maximum conversation m) ≡ has_farewell conversation m
