@@ -1,14 +1,14 @@
 -- What the inbox gained in a play.
-use Rattle.std.proofs.Common.{◌≡◌, ℕ, ◌-◌, ◌^◌, min, List, [], ◌++◌, length, Bool, true, false, Option, Some, None, refl, sym, ap, subst, ◌∙◌}
+use Rattle.std.proofs.Common.{◌≡◌, ℕ, min, List, [], Bool, true, false, Option, Some, None, refl, sym, ap, subst, ◌∙◌}
 use Rattle.std.specs.Prelude.{is_some, IfSome}
 use Rattle.std.proofs.lemmas.List.{append-nil}
-use Rattle.bt_base.specs.Objects.{Object, Contents}
+use Rattle.bt_base.specs.Objects.{Contents}
 use Rattle.push_script.specs.declared.word.Word.{Word}
 use Rattle.capture.specs.Entries.{Entry}
 use Rattle.obex_session.specs.declared.ruling.Progress.TheVariants.{Unnamed}
 use Rattle.bt_host.specs.Channels.{fresh}
 use Rattle.bt_host.specs.Servers.{Served, Kept}
-use Rattle.world_model.specs.Insides.{Inside, Shelved, Serving}
+use Rattle.world_model.specs.Insides.{Shelved, Serving}
 use Rattle.world_model.specs.Moments.{Moment, first_moment}
 use Rattle.world_model.specs.Happenings.{Plays, EndsScript}
 use Rattle.push_store.specs.Gaining as store
@@ -43,7 +43,7 @@ pub play_gains : (size count mtu obex : ℕ) (names : List (List ℕ)) (shelf : 
     → Gains inbox.content kept inbox'.content
 play_gains size count mtu obex names shelf inbox inbox' script last entries served kept pending none told plays server counted =
     by_content inbox.content kept inbox'.content (λ before is.
-        let first : Moment = first_moment size count mtu obex names shelf inbox in
-        let gains = keeps_what_is_stored before.stored plays.happenings first plays.before plays.runs (at_first size count mtu obex names shelf inbox before is (told_at_first inbox.content pending none told before is)) in
-        let at_end : store.Gains before.stored (Serving served inbox') = subst (store.Gains before.stored) (sym (ends_same plays.before.scene.pushes.going plays.before last plays.ended plays.ends) ∙ server) gains in
-        gained_in before served inbox'.content kept counted at_end)
+    let first : Moment = first_moment size count mtu obex names shelf inbox in
+    let gains = keeps_what_is_stored before.stored plays.happenings first plays.before plays.runs (at_first size count mtu obex names shelf inbox before is (told_at_first inbox.content pending none told before is)) in
+    let at_end : store.Gains before.stored (Serving served inbox') = subst (store.Gains before.stored) (sym (ends_same plays.before.scene.pushes.going plays.before last plays.ended plays.ends) ∙ server) gains in
+    gained_in before served inbox'.content kept counted at_end)

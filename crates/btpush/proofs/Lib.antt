@@ -6,3 +6,4 @@ pub mod Gained
 pub mod Ordered
 pub mod Fronts
 pub mod Short
+pub mod Conversed

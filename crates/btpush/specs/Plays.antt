@@ -1,5 +1,5 @@
 -- What a run of a scenario comes to (this project's own).
-use Rattle.std.specs.Prelude.{ℕ, ◌++◌, replicate, ◌≡◌, ◌-◌, ◌^◌, min, List, length, Option, Some, None, IfSome}
+use Rattle.std.specs.Prelude.{ℕ, ◌++◌, replicate, ◌≡◌, ◌-◌, ◌^◌, ◌≤◌, min, List, length, slice_get, Option, Some, None, IfSome}
 use Rattle.std.specs.List.{AllByRecursion}
 use Rattle.bt_base.specs.Objects.{Object, Contents}
 use Rattle.bt_base.specs.Streams.{gained}
@@ -9,6 +9,9 @@ use Rattle.push_script.specs.declared.word.Side.TheVariants as sides
 use Rattle.capture.specs.Pushes.{InTurn}
 use Rattle.capture.specs.Entries.{Entry, IsEntry, capture_octets}
 use Rattle.capture.specs.Air.{Obeys, words_of}
+use Rattle.capture.specs.Links.{Link, links}
+use Rattle.capture.specs.Spelled.{link_objects}
+use Rattle.push_course.specs.Conversations.{Converse, sayings}
 use Rattle.capture.specs.Buffers.{KeepsWithin}
 use Rattle.capture.specs.Peaks.{buffers_peak}
 use Rattle.bt_host.specs.Courses.{Course}
@@ -49,6 +52,11 @@ abbrev pub Gains : (before : Option Contents) → (kept : ℕ) → (after : Opti
 Gains None kept after = Unit {0}
 Gains (Some before) kept after = IfSome after (IsGained before kept)
 
+-- On each link both hosts are the two ends of one conversation of a push, and host b hears one object there at most.
+pub record Speaks (mtu maximum : ℕ) (entries : List Entry) : Type 0 where
+  pub converse : (n : ℕ) → Converse (sayings mtu maximum) entries n
+  pub one_object : (n : ℕ) (link : Link) → slice_get (links sides.B entries) n ≡ Some link → length (link_objects link) ≤ 1
+
 -- A scenario was played, and the trace gained the capture of what happened: the air obeyed the words of the script,
 -- both hosts kept within the buffers of their controllers at each moment, and the peaks are those of the capture. No
 -- frame of an enhanced channel and no credit is there yet. Each object has its outcome, and the pushes are in turn: each
@@ -69,6 +77,8 @@ pub record Plays (scenario : Scenario) (played : Played) (stock stock' : Stocked
   pub credits_b : played.peaks.credits_b ≡ 0
   pub outcomes : length played.outcomes.items ≡ length scenario.names
   pub in_turn : InTurn played.outcomes.items entries
+  -- where MTU and longest OBEX packet have room for the PUT of each object
+  pub speaks : 416 ≤ scenario.settings.mtu → 416 ≤ scenario.settings.obex → Speaks scenario.settings.mtu (min scenario.settings.obex scenario.settings.mtu) entries
   pub last : Moment
   pub happened : world.Plays (words_of scenario.script) (beginning scenario stock.shelf stock.inbox) last entries
   pub ends : EndsWith scenario.names played last stock'

@@ -45,8 +45,6 @@ pub(crate) fn play<F: Shelf, B: Inbox, T: Sink>(
     ensures inbox { KeepsCounts (B.faults inbox.old) (B.faults inbox.new) (B.shortages inbox.old) (B.shortages inbox.new) result }
     ensures built { IsErrOf result WorldFault.NotBuilt → IsNotBuilt (F.content shelf.old) scenario.now.names scenario.now.script }
 {
-    // That they are 64 at most is what a clause of the length says.
-    let _few = scenario.names.len();
     let mut world = World::new(alloc, scenario)?;
     world.play(scenario, trace, shelf, inbox)?;
     Ok(Played {

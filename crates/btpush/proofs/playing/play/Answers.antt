@@ -1,4 +1,4 @@
-use Rattle.std.proofs.Common.{rules}
+use Rattle.std.proofs.Common.{rules, arith}
 use Rattle.std.proofs.lemmas.Result.{err_from_is_err_and}
 use Rattle.radio_world.proofs.Blaming.{blames_err, keeps_err}
 use Rattle.btpush.proofs.Played.{Tells, plays_of}
@@ -19,7 +19,19 @@ returns-clause-plays g c =
       credits_a = search rules;
       credits_b = search rules;
     } in
-    plays_of c.args.scenario.now c.play.new.self _ _ _ _ _ tells c.in_ok-play.ensures.each (record { size_low = c.args.scenario.now.acl_length_low; size_high = c.args.scenario.now.acl_length_high; count_low = c.args.scenario.now.acl_count_low; count_high = c.args.scenario.now.acl_count_high; few = c.len-few.ensures.few }) (g.B.Inbox.is_pending c.args.inbox.now) c.requires.pending (g.met.B.Inbox.told c.args.inbox.now) c.in_ok-play.ensures.happens
+    plays_of c.args.scenario.now c.play.new.self _ _ _ _ _ tells c.in_ok-play.ensures.each (record { size_low = c.args.scenario.now.acl_length_low; size_high = c.args.scenario.now.acl_length_high; count_low = c.args.scenario.now.acl_count_low; count_high = c.args.scenario.now.acl_count_high; few = c.args.scenario.now.few })
+    (λ mtu obex. record {
+      size_low = c.args.scenario.now.acl_length_low;
+      size_high = c.args.scenario.now.acl_length_high;
+      count_low = c.args.scenario.now.acl_count_low;
+      count_high = c.args.scenario.now.acl_count_high;
+      mtu_low = mtu;
+      mtu_high = let high = c.args.scenario.now.settings.mtu_high in omega (arith, high);
+      obex_low = obex;
+      obex_high = let high = c.args.scenario.now.settings.obex_high in omega (arith, high);
+      few = c.args.scenario.now.few;
+      each = c.args.scenario.now.named;
+    }) (g.B.Inbox.is_pending c.args.inbox.now) c.requires.pending (g.met.B.Inbox.told c.args.inbox.now) c.in_ok-play.ensures.happens
 
 pub returns-in_err-play-clause-blame : goal.returns-in_err-play-clause-blame
 returns-in_err-play-clause-blame g c =
