@@ -1,5 +1,6 @@
 pub mod Owning
 pub mod Deciding
+pub mod Parts
 pub mod Tails
 pub mod ClientPlaces
 pub mod ClientMoves
