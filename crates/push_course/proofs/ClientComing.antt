@@ -221,8 +221,8 @@ module _ (mtu maximum : ℕ) (packet : Packet) (known known' : Linking) (link li
           half_b = converses.half_b;
           fresh_a = λ below. converses.fresh_a (omega (arith, below, more));
           fresh_b = converses.fresh_b;
-    is_part = converses.is_part;
-    put_heard = converses.put_heard;
+          is_part = converses.is_part;
+          put_heard = converses.put_heard;
         }
         | inr apart ↦ record {
           decided = converses.decided;
@@ -237,7 +237,7 @@ module _ (mtu maximum : ℕ) (packet : Packet) (known known' : Linking) (link li
           half_b = converses.half_b;
           fresh_a = λ below. converses.fresh_a (omega (arith, below, more));
           fresh_b = converses.fresh_b;
-    is_part = converses.is_part;
-    put_heard = converses.put_heard;
+          is_part = converses.is_part;
+          put_heard = converses.put_heard;
         }
       ]

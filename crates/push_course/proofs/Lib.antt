@@ -30,3 +30,4 @@ pub mod ArrivedB
 pub mod Beginning
 pub mod Running
 pub mod LinksConverse
+pub mod InboxGains

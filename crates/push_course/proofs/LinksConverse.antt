@@ -1,6 +1,7 @@
 -- What the two hosts say to each other on each link is a front of one conversation, and what comes of the push.
 use Rattle.std.proofs.Common.{[], ◌∷◌, ◌≡◌, ℕ, suc, min, List, ◌++◌, length, take, map, Some, sym, ap, subst, ◌∙◌, ◌+◌, inl, inr, ◌⊎◌, refl, arith, length-append, true}
 use Rattle.std.specs.Prelude.{slice_get, ◌≤◌, Option, None, IfSome, is_some}
+use Rattle.std.proofs.lemmas.List.{length-map}
 use Rattle.std.specs.List.{flat_map, AllByRecursion}
 use Rattle.std.proofs.Math.Seq.{take-append_seam}
 use Rattle.push_script.specs.declared.word.Side.{Side}
@@ -53,6 +54,20 @@ converse_of mtu maximum capable outset past moment stands n =
       at_a = come_in mtu maximum capable converses.decided converses.fair sides.A past n converses.half_a.done converses.half_a.moved_is converses.half_a.front;
       at_b = come_in mtu maximum capable converses.decided converses.fair sides.B past n converses.half_b.done converses.half_b.moved_is converses.half_b.front;
     }
+
+-- the conversation is what is decided
+pub decided_is : (mtu maximum : ℕ) (capable : IsCapable mtu maximum) (outset : Outset) (past : List Entry) (moment : Moment) (stands : Stands mtu maximum outset past moment) (n : ℕ)
+    → (converse_of mtu maximum capable outset past moment stands n).conversation ≡ filled (stands.each (suc n)).decided
+unfolding converse_of
+decided_is mtu maximum capable outset past moment stands n = refl
+
+-- host b came as far as PDUs moved on its link
+pub come_so_far : (mtu maximum : ℕ) (capable : IsCapable mtu maximum) (outset : Outset) (past : List Entry) (moment : Moment) (stands : Stands mtu maximum outset past moment) (n : ℕ)
+    (link : Link) (here : slice_get (links sides.B past) n ≡ Some link) → ((converse_of mtu maximum capable outset past moment stands n).at_b link here).0 ≡ length (moved (known_of sides.B past) (suc n))
+unfolding converse_of come_in
+come_so_far mtu maximum capable outset past moment stands n link here =
+    let half = (stands.each (suc n)).half_b in
+    sym (ap length half.moved_is ∙ length-map half.done (pdu_at sides.B))
 
 pub links_converse : LinksConverse
 links_converse size count mtu obex names shelf inbox setting happenings moment runs n =

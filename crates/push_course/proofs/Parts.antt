@@ -7,7 +7,8 @@ use Rattle.bt_base.specs.Objects.{Object, Contents, aborted}
 use Rattle.std.specs.Option.{option_map}
 use Rattle.obex_session.specs.PushReplies.{storing}
 use Rattle.bt_host.specs.Servers.{Kept}
-use Rattle.push_course.specs.Conversations.{Conversation, object_where, gained_on}
+use Rattle.push_course.specs.Conversations.{Conversation}
+use Rattle.push_course.specs.Gains.{object_where, gained_on}
 use Rattle.push_course.proofs.Deciding.{Decisions, Agrees}
 
 -- what is decided of the PUT, and the objects that were stored by it
@@ -164,8 +165,7 @@ module _ (first inbox inbox' : Kept) (parts : ℕ → Part) (last : ℕ) (part :
   grown_to : (top : ℕ) → ((n : ℕ) → top < n → (parts' n).objects ≡ []) → ((n : ℕ) → top < n → (parts n).objects ≡ []) × (gained_on top (each_after parts') ≡ gained_on top (each_after parts) ++ grows.more)
   grown_to top none = elim (cases_lt top last) [
     | inl less ↦
-        let nothing = no_more (parts last).objects grows.more (sym grows.objects_are ∙ (ap (λ (p : Part). p.objects) (sym (part_at last part parts last refl)) ∙ none last less)) in
-        (
+        let nothing = no_more (parts last).objects grows.more (sym grows.objects_are ∙ (ap (λ (p : Part). p.objects) (sym (part_at last part parts last refl)) ∙ none last less)) in (
           λ n above. elim (cases_Bool (eqb n last)) [
             | inl here ↦ ap (λ k. (parts k).objects) (eqb-true n last here) ∙ nothing.0
             | inr other ↦ ap (λ (p : Part). p.objects) (sym (part_beside last part parts n (eqb-false n last other))) ∙ none n above
@@ -179,8 +179,7 @@ module _ (first inbox inbox' : Kept) (parts : ℕ → Part) (last : ℕ) (part :
       → (before : Contents) × (first.content ≡ Some before) × ((top : ℕ) → ((n : ℕ) → top < n → (parts' n).objects ≡ []) → now.stored ≡ before.stored ++ gained_on top (each_after parts'))
   told_grown now is gained =
       let mid = grows.tells now is in
-      let old = gained.tells mid.0 mid.1 in
-      (
+      let old = gained.tells mid.0 mid.1 in (
         old.0,
         old.1,
         λ top none.

@@ -1,5 +1,5 @@
 -- A packet comes into a server, and the conversation on each of its links behind it.
-use Rattle.std.proofs.Common.{◌≡◌, ℕ, ◌+◌, ◌<◌, ◌≤◌, length, length-append, Bool, List, [], ◌∷◌, ◌++◌, map, true, Option, None, refl, sym, ap, ap₂, subst, ◌∙◌, append_assoc, inl, inr, ◌⊎◌, arith}
+use Rattle.std.proofs.Common.{◌≡◌, ℕ, ◌+◌, ◌<◌, ◌≤◌, length, length-append, List, [], ◌∷◌, ◌++◌, map, true, Option, None, refl, sym, ap, ap₂, subst, ◌∙◌, append_assoc, inl, inr, ◌⊎◌, arith}
 use Rattle.std.specs.Prelude.{is_some}
 use Rattle.std.proofs.lemmas.List.{append-nil, length-map}
 use Rattle.h4_framing.specs.Packets.{Packet}
@@ -214,8 +214,8 @@ module _ (mtu maximum : ℕ) (packet : Packet) (known known' : Linking) (link li
               record { place = Fresh; mine = []; by = tt; put_is = same_put; follows = λ c agrees. refl; stands_so = (stage, free.0, free.1, free.2) }) converses.half_b;
           fresh_a = converses.fresh_a;
           fresh_b = λ below. converses.fresh_b (omega (arith, below, more));
-    is_part = converses.is_part;
-    put_heard = λ done is. let before = converses.put_heard done is in let same = ap length (moved_begun known known' begins n) in omega (arith, before, same);
+          is_part = converses.is_part;
+          put_heard = λ done is. let before = converses.put_heard done is in let same = ap length (moved_begun known known' begins n) in omega (arith, before, same);
         }
         | inr apart ↦ record {
           decided = converses.decided;
@@ -230,7 +230,7 @@ module _ (mtu maximum : ℕ) (packet : Packet) (known known' : Linking) (link li
           };
           fresh_a = converses.fresh_a;
           fresh_b = λ below. converses.fresh_b (omega (arith, below, more));
-    is_part = converses.is_part;
-    put_heard = λ done is. let before = converses.put_heard done is in let same = ap length (moved_begun known known' begins n) in omega (arith, before, same);
+          is_part = converses.is_part;
+          put_heard = λ done is. let before = converses.put_heard done is in let same = ap length (moved_begun known known' begins n) in omega (arith, before, same);
         }
       ]

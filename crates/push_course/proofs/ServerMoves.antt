@@ -19,7 +19,8 @@ use Rattle.push_talk.specs.Speaking.{pdu_of, told}
 use Rattle.push_talk.specs.ClientTurns.{says_packet, answers_packet, unwelcome, response}
 use Rattle.push_talk.specs.ServerTurns as serving
 use Rattle.push_talk.specs.ServerTurns.{Turn, steps, behind, turn, ChannelTurns, SessionTurns, PushIsServed, IsReady, Replies}
-use Rattle.push_course.specs.Conversations.{Conversation, code_of, object_put, object_where}
+use Rattle.push_course.specs.Conversations.{Conversation, code_of}
+use Rattle.push_course.specs.Gains.{object_put, object_where}
 use Rattle.push_course.proofs.Owning.{own, IsBy, IsNext, next_is, none_next}
 use Rattle.push_course.proofs.Deciding.{Delivery, Decisions, Agrees, IsFair, IsFairGiven, IsFairDelivery, filled, filled_agrees, open_agrees, told_none, told_is}
 use Rattle.push_course.proofs.Parts.{Part, IsPart, PartGrows, none_stored, put_stored, put_failed}
@@ -96,25 +97,31 @@ module _ (mtu maximum : ℕ) where
 
     let_go : (one : Saying) (second third : Option (List ℕ)) (channel : Channel) → LetsGo (behind one old.channel) old inbox inbox' noted response'
         → turn one old.channel ≡ record { first = second; second = third; channel = channel } → NotesSo one None second third channel × (inbox' ≡ inbox)
-    let_go one second third channel goes taken = (record {
-      responds = goes.no_response;
-      noted_channel = behind one old.channel;
-      noted_is = ap (λ (s : Served). s.channel) goes.served_is;
-      taken = taken;
-      maximum_is = ap (λ (s : Serving). s.maximum) goes.session_goes.session_is ∙ readied.maximum_is;
-      rests = ap (λ (s : Serving). s.progress) goes.session_goes.session_is;
-    }, goes.rests (ap is_under_way readied.rests))
+    let_go one second third channel goes taken = (
+      record {
+        responds = goes.no_response;
+        noted_channel = behind one old.channel;
+        noted_is = ap (λ (s : Served). s.channel) goes.served_is;
+        taken = taken;
+        maximum_is = ap (λ (s : Serving). s.maximum) goes.session_goes.session_is ∙ readied.maximum_is;
+        rests = ap (λ (s : Serving). s.progress) goes.session_goes.session_is;
+      },
+      goes.rests (ap is_under_way readied.rests),
+    )
 
     left : (one : Saying) (second third : Option (List ℕ)) (channel : Channel) → LeavesSession (behind one old.channel) old inbox inbox' noted response'
         → turn one old.channel ≡ record { first = second; second = third; channel = channel } → NotesSo one None second third channel × (inbox' ≡ inbox)
-    left one second third channel leaves taken = (record {
-      responds = leaves.no_response;
-      noted_channel = behind one old.channel;
-      noted_is = ap (λ (s : Served). s.channel) leaves.served_is;
-      taken = taken;
-      maximum_is = ap (λ (s : Served). s.session.maximum) leaves.served_is ∙ readied.maximum_is;
-      rests = ap (λ (s : Served). s.session.progress) leaves.served_is ∙ readied.rests;
-    }, leaves.inbox_same)
+    left one second third channel leaves taken = (
+      record {
+        responds = leaves.no_response;
+        noted_channel = behind one old.channel;
+        noted_is = ap (λ (s : Served). s.channel) leaves.served_is;
+        taken = taken;
+        maximum_is = ap (λ (s : Served). s.session.maximum) leaves.served_is ∙ readied.maximum_is;
+        rests = ap (λ (s : Served). s.session.progress) leaves.served_is ∙ readied.rests;
+      },
+      leaves.inbox_same,
+    )
 
     abbrev NotesPdu : List ℕ → Type 0
     NotesPdu pdu = Notes false (pdu_news pdu) old inbox inbox' noted response'
@@ -183,14 +190,17 @@ module _ (mtu maximum : ℕ) where
 
     -- the session answers with success, and asks nothing of the inbox
     agreed_to : (reply : PlainPacket) (one : Saying) → old.channel.stage ≡ stages.Open → serving.Agrees reply old noted inbox inbox' response' → NotesSo one (Some (pdu_of (answers_packet reply))) None None old.channel × (inbox' ≡ inbox)
-    agreed_to reply one stage agrees = (record {
-      responds = agrees.responds;
-      noted_channel = old.channel;
-      noted_is = ap (λ (s : Served). s.channel) agrees.served_same;
-      taken = channels.rests old.channel stage;
-      maximum_is = ap (λ (s : Served). s.session.maximum) agrees.served_same ∙ readied.maximum_is;
-      rests = ap (λ (s : Served). s.session.progress) agrees.served_same ∙ readied.rests;
-    }, agrees.inbox_same)
+    agreed_to reply one stage agrees = (
+      record {
+        responds = agrees.responds;
+        noted_channel = old.channel;
+        noted_is = ap (λ (s : Served). s.channel) agrees.served_same;
+        taken = channels.rests old.channel stage;
+        maximum_is = ap (λ (s : Served). s.session.maximum) agrees.served_same ∙ readied.maximum_is;
+        rests = ap (λ (s : Served). s.session.progress) agrees.served_same ∙ readied.rests;
+      },
+      agrees.inbox_same,
+    )
 
     ready : old.channel.peer ≡ own_endpoint → IsReady old
     ready peer = record { rests = readied.rests; peer = peer }
@@ -208,11 +218,11 @@ module _ (mtu maximum : ℕ) where
         (let notes' = agreed_to _ one stage (served_so.connects maximum old noted inbox inbox' response' low capable.high (ready peer) room (heard (connect_packet maximum) pdu stage is notes)) in
         let before : (c : Conversation) → Agrees (record decided { greets = Some true }) c → Agrees decided c = λ c agrees. record { put = agrees.put; greets = told_none decided.greets _ greets; stores = agrees.stores; parts = agrees.parts } in
         moves_to (record decided { greets = Some true }) refl before
-            Listening one refl (answers_packet (unwelcome 0xA0 maximum) ∷ []) (refl, tt) Welcoming
-            (λ c agrees. ap (λ b. one ∷ answers_packet (unwelcome (code_of b) maximum) ∷ greeted c.greets c) agrees.greets)
-            _ _ _ _ notes'.0
-            (ap (λ n. pdu_of (answers_packet (unwelcome 0xA0 n)) ∷ []) readied.maximum_is) readied.mtu_is (stage, peer, refl, stores, parts)
-            (part_stays decided (record decided { greets = Some true }) Listening inbox inbox' part refl before notes'.1 is_part))
+        Listening one refl (answers_packet (unwelcome 0xA0 maximum) ∷ []) (refl, tt) Welcoming
+        (λ c agrees. ap (λ b. one ∷ answers_packet (unwelcome (code_of b) maximum) ∷ greeted c.greets c) agrees.greets)
+        _ _ _ _ notes'.0
+        (ap (λ n. pdu_of (answers_packet (unwelcome 0xA0 n)) ∷ []) readied.maximum_is) readied.mtu_is (stage, peer, refl, stores, parts)
+        (part_stays decided (record decided { greets = Some true }) Listening inbox inbox' part refl before notes'.1 is_part))
 
     -- DISCONNECT
     parts_by : (place : ServerPlace) (b : Bool) → old.channel.stage ≡ stages.Open → old.channel.peer ≡ own_endpoint → decided.parts ≡ None
@@ -234,7 +244,7 @@ module _ (mtu maximum : ℕ) where
         let room : 3 ≤ old.session.maximum = let low = capable.low in let same = readied.maximum_is in omega (arith, low, same) in
         by_saying place pdu one is
         (parts_by place true stage peer free tails
-            (agreed_to _ one stage (served_so.disconnects old noted inbox inbox' response' (ready peer) room (heard disconnect_packet pdu stage is notes))))
+        (agreed_to _ one stage (served_so.disconnects old noted inbox inbox' response' (ready peer) room (heard disconnect_packet pdu stage is notes))))
 
     -- ---- the object
 

@@ -1,5 +1,5 @@
 -- Where a server stands in the conversation of a push, and where a move leads it.
-use Rattle.std.proofs.Common.{◌≡◌, ℕ, Bool, List, [], ◌∷◌, ◌++◌, Some, None, true, false, ◌⊎◌, inl, ap, refl}
+use Rattle.std.proofs.Common.{◌≡◌, ℕ, Bool, List, [], ◌∷◌, ◌++◌, Some, None, true, false, ◌⊎◌, inl}
 use Rattle.obex_session.specs.declared.ruling.Progress.TheVariants.{Unnamed}
 use Rattle.bt_host.specs.declared.channel_stages.ChannelStage.TheVariants as stages
 use Rattle.bt_host.specs.Pdus.{own_endpoint}

@@ -1,8 +1,7 @@
 -- What the two hosts of a push say to each other on its link, as one conversation (this project's own).
-use Rattle.std.specs.Prelude.{ℕ, zero, suc, ◌+◌, ◌^◌, ◌≡◌, ◌⊎◌, is_some, ◌<◌, ◌≤◌, ◌||◌, not, Bool, true, false, min, take, List, [], ◌∷◌, ◌++◌, map, length, Option, Some, None, slice_get, IfSome, if◌then◌else◌}
+use Rattle.std.specs.Prelude.{ℕ, ◌+◌, ◌^◌, ◌≡◌, ◌⊎◌, is_some, ◌<◌, ◌≤◌, ◌||◌, not, Bool, true, false, min, take, List, [], ◌∷◌, ◌++◌, map, length, Option, Some, None, slice_get, IfSome, if◌then◌else◌}
 use Rattle.std.specs.List.{AllByRecursion}
 use Rattle.std.specs.Str.{IsUtf8}
-use Rattle.bt_base.specs.Objects.{Object, Contents}
 use Rattle.bt_base.specs.Octets.{be16}
 use Rattle.obex_headers.specs.Packets.{PlainPacket, bare, packet_octets}
 use Rattle.push_script.specs.Names.{IsName}
@@ -126,24 +125,3 @@ OutcomesAreSaid =
     (size count mtu obex : ℕ) (names : List (List ℕ)) (shelf : Shelved) (inbox : Kept) → IsSetting size count mtu obex names
     → (happenings : List Happening) (moment : Moment) → Runs happenings (first_moment size count mtu obex names shelf inbox) moment
     → is_some moment.a.line.link ≡ true → ComesSo (sayings mtu (min obex mtu)) (all_entries happenings) moment
-
--- ---- what the inbox holds
-
--- the object that a PUT brings, where one is sent
-abbrev pub object_put : (greets : Bool) → (given : Option (List ℕ)) → (name : List ℕ) → List Object
-object_put false given name = []
-object_put true None name = []
-object_put true (Some octets) name = record { name = utf16 name; octets = octets } ∷ []
-
--- what is stored, where success is the response to the PUT, or not
-abbrev pub object_where : (stores : Bool) → Conversation → List Object
-object_where true conversation = object_put conversation.greets conversation.given conversation.name
-object_where false conversation = []
-
-abbrev pub object_of : Conversation → List Object
-object_of conversation = object_where conversation.stores conversation
-
--- one list after the other, so many
-abbrev pub gained_on : ℕ → (ℕ → List Object) → List Object
-gained_on zero each = []
-gained_on (suc n) each = gained_on n each ++ each n
