@@ -30,4 +30,5 @@ pub mod ArrivedB
 pub mod Beginning
 pub mod Running
 pub mod LinksConverse
+pub mod Responses
 pub mod InboxGains

@@ -1,5 +1,6 @@
 -- What the inbox of a push gains by the conversations on its links (this project's own).
 use Rattle.std.specs.Prelude.{ℕ, zero, suc, ◌≡◌, ◌≤◌, Bool, true, false, min, List, [], ◌∷◌, ◌++◌, length, Option, Some, None, slice_get}
+use Rattle.bt_base.specs.Counts.{HasRisen}
 use Rattle.bt_base.specs.Objects.{Object, Contents}
 use Rattle.push_script.specs.declared.word.Side.TheVariants as sides
 use Rattle.capture.specs.Entries.{Entry}
@@ -35,6 +36,10 @@ gained_on (suc n) each = gained_on n each ++ each n
 abbrev pub place_of_put : ℕ
 place_of_put = 9
 
+-- and that of the response to it
+abbrev pub place_of_response : ℕ
+place_of_response = 10
+
 -- the conversation on link number n; an object is stored by it only where host b heard the PUT
 pub record GainOn (all : Conversation → List Saying) (past : List Entry) (n : ℕ) : Type 0 where
   pub converse : Converse all past n
@@ -45,6 +50,9 @@ pub record GainsSo (all : Conversation → List Saying) (past : List Entry) (fir
   pub each : (n : ℕ) → GainOn all past n
   pub stored : (now : Contents) → last.content ≡ Some now
       → (before : Contents) × (first.content ≡ Some before) × (now.stored ≡ before.stored ++ gained_on (length (links sides.B past)) (λ n. object_of (each n).converse.conversation))
+  -- where host b said that it failed, its inbox counted a fault
+  pub failed : (n : ℕ) (link : Link) (here : slice_get (links sides.B past) n ≡ Some link) (object : Object) → object_where true (each n).converse.conversation ≡ object ∷ []
+      → place_of_response ≤ ((each n).converse.at_b link here).0 → (each n).converse.conversation.stores ≡ false → HasRisen first.faults last.faults
 
 -- So it is after whatever happened in a world.
 abbrev pub GainIsSaid : Type 0
