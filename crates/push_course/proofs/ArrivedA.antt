@@ -26,14 +26,14 @@ use Rattle.push_course.proofs.Moving.{known_of, known_more, known_same, Led, led
 use Rattle.push_course.proofs.Meeting.{answer_on}
 use Rattle.push_course.proofs.Coming.{Coming, coming}
 use Rattle.push_course.proofs.ArrivingA.{told_inside, takes_of, linked_so, Behind, behind_a}
-use Rattle.push_course.proofs.Courses.{Wire, Converses, Stands, Grounds}
+use Rattle.push_course.proofs.Courses.{Outset, Wire, Converses, Stands, Grounds}
 use Rattle.push_course.proofs.Next.{stands_next}
 
-module _ (read : SayingsAreRead) (mtu maximum : ℕ) (capable : IsCapable mtu maximum) (names : List (List ℕ)) (past : List Entry) (packet : Packet) (old new : Moment) where
+module _ (read : SayingsAreRead) (mtu maximum : ℕ) (capable : IsCapable mtu maximum) (outset : Outset) (past : List Entry) (packet : Packet) (old new : Moment) where
   abbrev past' : List Entry
   past' = past ++ Moved sides.A Into packet ∷ []
 
-  pub arrives_a : Arrives sides.A packet old new → Grounds past old → Grounds past' new → Stands mtu maximum names past old → Stands mtu maximum names past' new
+  pub arrives_a : Arrives sides.A packet old new → Grounds past old → Grounds past' new → Stands mtu maximum outset past old → Stands mtu maximum outset past' new
   arrives_a does grounds grounds' stands =
       let holds : Holds past old = grounds.piping.holds in
       let face : Face = does.face in
@@ -60,14 +60,14 @@ module _ (read : SayingsAreRead) (mtu maximum : ℕ) (capable : IsCapable mtu ma
       subst (λ p. Led does.answer (into p) known (after_move known (into p))) (sym does.packet_is) (led sides.A does.answer known (answer_on sides.A past old.scene.medium.radio does.answer does.rest does.owed holds.shows)) in
       let comes : Coming packet known known' line.link face.line.link news = coming sides.A past past' packet does.answer line heard_line face.line put put' known' wires wires_face is_a same turns leads in
       let b : Wire = record { known = known_of sides.B past; link = old.b.line.link; put = stands.put_b } in
-      let each : (n : ℕ) → Converses mtu maximum (record { known = known; link = line.link; put = put }) b stands.course stands.served n = λ n.
-      subst (λ l. Converses mtu maximum (record { known = known; link = l; put = put }) b stands.course stands.served n) (sym again) (stands.each n) in
+      let each : (n : ℕ) → Converses mtu maximum (record { known = known; link = line.link; put = put }) b stands.course stands.served (stands.part n) n = λ n.
+      subst (λ l. Converses mtu maximum (record { known = known; link = l; put = put }) b stands.course stands.served (stands.part n) n) (sym again) (stands.each n) in
       let inside' = ap (λ (f : Face). f.inside) face_is ∙ told.is in
       let linked = ap is_some again ∙ linked_so past old stands.course stands.shelf grounds.upholds stands.inside_a in
       let linked' = sym (ap (λ (f : Face). is_some f.line.link) face_is) ∙ linked_so past' new told.course' told.shelf' grounds'.upholds inside' in
-      let behind : Behind read mtu maximum capable past past' packet new grounds'.piping known known' line.link face.line.link put put' sent b stands.course told.course' stands.served news =
-      behind_a read mtu maximum capable past past' packet new grounds'.piping known known' line.link face.line.link put put' sent b stands.course told.course' stands.served news stands.is_course each
+      let behind : Behind read mtu maximum capable past past' packet new grounds'.piping known known' line.link face.line.link put put' sent b stands.course told.course' stands.served stands.part news =
+      behind_a read mtu maximum capable past past' packet new grounds'.piping known known' line.link face.line.link put put' sent b stands.course told.course' stands.served stands.part news stands.is_course each
       (takes_of packet line stands.course face.inside sent told) (ap (λ l. put_heard news put ++ on_link l sent) same) is_a is_b linked linked' comes in
-      stands_next mtu maximum names past' new told.course' told.shelf' stands.served stands.inbox put' stands.put_b
+      stands_next mtu maximum outset past' new told.course' told.shelf' stands.served stands.inbox stands.part put' stands.put_b
       inside' behind.is_course (ap (λ (m : Moment). m.b.inside) does.new_is ∙ stands.inside_b) stands.is_served (ap (λ (m : Moment). m.scene.pushes.names) does.new_is ∙ stands.named)
-      wires' wires_b' known' (known_of sides.B past) face.line.link old.b.line.link is_a (ap (λ (f : Face). f.line.link) face_is) is_b (ap (λ (m : Moment). m.b.line.link) does.new_is) behind.each
+      wires' wires_b' known' (known_of sides.B past) face.line.link old.b.line.link is_a (ap (λ (f : Face). f.line.link) face_is) is_b (ap (λ (m : Moment). m.b.line.link) does.new_is) behind.each stands.gained

@@ -34,7 +34,7 @@ use Rattle.push_course.proofs.Moving.{moved, count_of, known_of, known_more, kno
 use Rattle.push_course.proofs.Meeting.{answer_on}
 use Rattle.push_course.proofs.Coming.{Coming, coming}
 use Rattle.push_course.proofs.ArrivingB.{told_inside, takes_of, Behind, behind_b}
-use Rattle.push_course.proofs.Courses.{Wire, Converses, Stands, Grounds, moved_up, filter_both, nothing_put, frames_of}
+use Rattle.push_course.proofs.Courses.{Outset, Wire, Converses, Stands, Grounds, moved_up, filter_both, nothing_put, frames_of}
 use Rattle.push_course.proofs.Next.{stands_next}
 
 -- on a link of which all PDUs moved
@@ -45,11 +45,11 @@ empty_by past line put wires big frames (Some handle) known some all =
     let there = link_is_known sides.B past line put wires handle known in
     nothing_waits sides.B past line put wires there.0 there.1 big frames (sym (filter_both (pdus there.0)) ∙ (ap (filter_map (octets_in Out)) (sym (moved_up (known_of sides.B past) there.0 there.1)) ∙ all))
 
-module _ (read : SayingsAreRead) (mtu maximum : ℕ) (capable : IsCapable mtu maximum) (names : List (List ℕ)) (past : List Entry) (packet : Packet) (old new : Moment) where
+module _ (read : SayingsAreRead) (mtu maximum : ℕ) (capable : IsCapable mtu maximum) (outset : Outset) (past : List Entry) (packet : Packet) (old new : Moment) where
   abbrev past' : List Entry
   past' = past ++ Moved sides.B Into packet ∷ []
 
-  pub arrives_b : Arrives sides.B packet old new → Grounds past old → Grounds past' new → Stands mtu maximum names past old → Stands mtu maximum names past' new
+  pub arrives_b : Arrives sides.B packet old new → Grounds past old → Grounds past' new → Stands mtu maximum outset past old → Stands mtu maximum outset past' new
   arrives_b does grounds grounds' stands =
       let holds : Holds past old = grounds.piping.holds in
       let face : Face = does.face in
@@ -76,8 +76,8 @@ module _ (read : SayingsAreRead) (mtu maximum : ℕ) (capable : IsCapable mtu ma
       subst (λ p. Led does.answer (into p) known (after_move known (into p))) (sym does.packet_is) (led sides.B does.answer known (answer_on sides.B past old.scene.medium.radio does.answer does.rest does.owed holds.shows)) in
       let comes : Coming packet known known' line.link face.line.link news = coming sides.B past past' packet does.answer line heard_line face.line put put' known' wires wires_face is_b same turns leads in
       let a : Wire = record { known = known_of sides.A past; link = old.a.line.link; put = stands.put_a } in
-      let each : (n : ℕ) → Converses mtu maximum a (record { known = known; link = line.link; put = put }) stands.course stands.served n = λ n.
-      subst (λ l. Converses mtu maximum a (record { known = known; link = l; put = put }) stands.course stands.served n) (sym again) (stands.each n) in
+      let each : (n : ℕ) → Converses mtu maximum a (record { known = known; link = line.link; put = put }) stands.course stands.served (stands.part n) n = λ n.
+      subst (λ l. Converses mtu maximum a (record { known = known; link = l; put = put }) stands.course stands.served (stands.part n) n) (sym again) (stands.each n) in
       let inside' = ap (λ (f : Face). f.inside) face_is ∙ told.is in
       -- all that it let wait has moved: none of it waits
       let both = wires_again sides.B old.scene.medium.radio.count past put does.hears.times old.b.line (holds.host_b, stands.wires_b) in
@@ -85,9 +85,9 @@ module _ (read : SayingsAreRead) (mtu maximum : ℕ) (capable : IsCapable mtu ma
       let frames = frames_of read mtu maximum capable sides.B known line.link put last.decided last.fair ServerPlace (server_tail mtu maximum) (λ place. ServerStands mtu maximum place last.decided stands.served.channel)
       (nothing_put sides.B past line put wires) last.half_b in
       let empties : is_some line.link ≡ true → filter_map (octets_in Out) (moved known (count_of known)) ≡ put → is_waiting line ≡ false = λ some moved_all. empty_by past line put wires both.0.sound.long frames line.link refl some moved_all in
-      let behind : Behind read mtu maximum capable past past' packet new grounds'.piping known known' line.link face.line.link put put' sent a stands.course stands.served told.served' stands.inbox (is_waiting line) news =
-      behind_b read mtu maximum capable past past' packet new grounds'.piping known known' line.link face.line.link put put' sent a stands.course stands.served told.served' stands.inbox (is_waiting line) news stands.is_served each
+      let behind : Behind read mtu maximum capable past past' packet new grounds'.piping known known' line.link face.line.link put put' sent a stands.course stands.served told.served' stands.inbox told.inbox' stands.part (is_waiting line) news =
+      behind_b read mtu maximum capable past past' packet new grounds'.piping known known' line.link face.line.link put put' sent a stands.course stands.served told.served' stands.inbox told.inbox' stands.part (is_waiting line) news stands.is_served each
       (takes_of packet line stands.served stands.inbox face.inside sent told) (ap (λ l. put_heard news put ++ on_link l sent) same) empties is_a is_b comes in
-      stands_next mtu maximum names past' new stands.course stands.shelf told.served' told.inbox' stands.put_a put'
+      stands_next mtu maximum outset past' new stands.course stands.shelf told.served' told.inbox' behind.part' stands.put_a put'
       (ap (λ (m : Moment). m.a.inside) does.new_is ∙ stands.inside_a) stands.is_course inside' behind.is_served (ap (λ (m : Moment). m.scene.pushes.names) does.new_is ∙ stands.named)
-      wires_a' wires' (known_of sides.A past) known' old.a.line.link face.line.link is_a (ap (λ (m : Moment). m.a.line.link) does.new_is) is_b (ap (λ (f : Face). f.line.link) face_is) behind.each
+      wires_a' wires' (known_of sides.A past) known' old.a.line.link face.line.link is_a (ap (λ (m : Moment). m.a.line.link) does.new_is) is_b (ap (λ (f : Face). f.line.link) face_is) behind.each (behind.gains outset.first stands.gained)

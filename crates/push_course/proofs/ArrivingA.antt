@@ -34,6 +34,7 @@ use Rattle.push_course.proofs.HalfSteps.{AtMostOne, at_most_one}
 use Rattle.push_course.proofs.Coming.{GoesOnTold, PassesBy, Coming}
 use Rattle.push_course.proofs.ClientTakes.{Takes, takes_none, takes_awaits, none_sent, fair_given, stands_busy, stands_onward, takes_up, takes_down}
 use Rattle.push_course.proofs.ClientComing.{in_move, client_other, client_still, MeetsHere, client_silent, Hearkens, hearkens, client_talks, client_passes, client_up}
+use Rattle.push_course.proofs.Parts.{Part}
 use Rattle.push_course.proofs.Courses.{Wire, Converses, IsCourse, is_last}
 
 -- ---- news that it takes
@@ -63,12 +64,12 @@ some_there move None found is = absurd cc
 some_there move (Some link) found is = refl
 
 module _ (read : SayingsAreRead) (mtu maximum : ℕ) (capable : IsCapable mtu maximum) (past past' : List Entry) (packet : Packet) (new : Moment) (piping : IsPiping past' new)
-    (known known' : Linking) (link link' : Option ℕ) (put put' sent : List (List ℕ)) (b : Wire) (course course' : Course) (served : Served) (news : PlainNews) where
+    (known known' : Linking) (link link' : Option ℕ) (put put' sent : List (List ℕ)) (b : Wire) (course course' : Course) (served : Served) (part : ℕ → Part) (news : PlainNews) where
   abbrev pub Before : ℕ → Type 0
-  Before n = Converses mtu maximum (record { known = known; link = link; put = put }) b course served n
+  Before n = Converses mtu maximum (record { known = known; link = link; put = put }) b course served (part n) n
 
   abbrev pub After : ℕ → Type 0
-  After n = Converses mtu maximum (record { known = known'; link = link'; put = put' }) b course' served n
+  After n = Converses mtu maximum (record { known = known'; link = link'; put = put' }) b course' served (part n) n
 
   -- what comes to be true of the client and of each conversation
   pub record Behind : Type 0 where
@@ -88,19 +89,19 @@ module _ (read : SayingsAreRead) (mtu maximum : ℕ) (capable : IsCapable mtu ma
         let stays = stays_so nothing in
         record {
           is_course = subst (IsCourse mtu maximum) (sym stays.0) is_course;
-          each = λ n. client_still mtu maximum packet known known' link link' put put' b course course' served n goes same stays.1 stays.0 none (each n);
+          each = λ n. client_still mtu maximum packet known known' link link' put put' b course course' served (part n) n goes same stays.1 stays.0 none (each n);
         }
 
     passes : PassesBy known known' link link' news → Behind
     passes passes_by = record {
       is_course = subst (IsCourse mtu maximum) (sym (stays_so passes_by.nothing).0) is_course;
-      each = λ n. client_passes mtu maximum packet known known' link link' put put' b course course' served n passes_by.change passes_by.unknown' (each n);
+      each = λ n. client_passes mtu maximum packet known known' link link' put put' b course course' served (part n) n passes_by.change passes_by.unknown' (each n);
     }
 
     -- ---- a PDU
 
     module _ (is_a : known_of sides.A past' ≡ known') (is_b : known_of sides.B past' ≡ b.known) (goes : GoesOn (into packet) known known') (octets : List ℕ) (found : given_last (completes (into packet)) known.up ≡ in_move octets ∷ []) where
-      meets : (n : ℕ) → n ≡ count_of known → (converses : Before n) → MeetsHere mtu maximum packet known known' link link' put put' b course course' served n goes converses octets
+      meets : (n : ℕ) → n ≡ count_of known → (converses : Before n) → MeetsHere mtu maximum packet known known' link link' put put' b course course' served (part n) n goes converses octets
       meets n last converses =
           meets_of read mtu maximum capable sides.A past' new piping n converses.decided converses.fair converses.half_a.done converses.half_b.done octets converses.half_a.front converses.half_b.front
           (ap (λ k. moved k n) is_a ∙ (ap (moved known') last ∙ (moved_last (into packet) known known' goes ∙ ap₂ (λ xs ys. xs ++ ys) (ap (moved known) (sym last) ∙ converses.half_a.moved_is) found)))
@@ -113,14 +114,14 @@ module _ (read : SayingsAreRead) (mtu maximum : ℕ) (capable : IsCapable mtu ma
             is_course = subst (IsCourse mtu maximum) (sym stays.0) is_course;
             each = λ n. elim (is_last n (count_of known)) [
               | inl last ↦
-                  client_silent mtu maximum packet known known' link link' put put' b course course' served n goes none (same ∙ none) octets found last (some_there (into packet) known.up (in_move octets) found) (each n) (meets n last (each n))
-              | inr apart ↦ client_other mtu maximum packet known known' link link' put put' b course course' served n goes apart (each n)
+                  client_silent mtu maximum packet known known' link link' put put' b course course' served (part n) n goes none (same ∙ none) octets found last (some_there (into packet) known.up (in_move octets) found) (each n) (meets n last (each n))
+              | inr apart ↦ client_other mtu maximum packet known known' link link' put put' b course course' served (part n) n goes apart (each n)
             ];
           }
 
       module _ (some : is_some link ≡ true) (same : link' ≡ link) (told : news ≡ pdu_news octets) where
-        hears_at : (n : ℕ) → n ≡ count_of known → Hearkens mtu maximum packet known known' link link' put put' b course course' served n goes (each n) octets
-        hears_at n last = hearkens mtu maximum packet known known' link link' put put' b course course' served n goes some last octets (each n) (meets n last (each n))
+        hears_at : (n : ℕ) → n ≡ count_of known → Hearkens mtu maximum packet known known' link link' put put' b course course' served (part n) n goes (each n) octets
+        hears_at n last = hearkens mtu maximum packet known known' link link' put put' b course course' served (part n) n goes some last octets (each n) (meets n last (each n))
 
         moves_at : (n : ℕ) (last : n ≡ count_of known) → ClientMoves mtu maximum (each n).decided (hears_at n last).talks.place octets (turn takes.given takes.then_given (pdu_news octets) course)
         moves_at n last =
@@ -149,9 +150,9 @@ module _ (read : SayingsAreRead) (mtu maximum : ℕ) (capable : IsCapable mtu ma
               is_course = record { mtu_is = able'.mtu_is; maximum_is = able'.maximum_is; able = λ busy. able'; awaited = takes_awaits news course course' sent takes; calling = λ calls. absurd (never_calls calls) };
               each = λ n. elim (is_last n (count_of known)) [
                 | inl last ↦
-                    client_talks mtu maximum packet known known' link link' put put' b course course' served n goes (turn takes.given takes.then_given (pdu_news octets) course) some same octets found last course_is put_so
+                    client_talks mtu maximum packet known known' link link' put put' b course course' served (part n) n goes (turn takes.given takes.then_given (pdu_news octets) course) some same octets found last course_is put_so
                     (each n) (hears_at n last) (moves_at n last)
-                | inr apart ↦ client_other mtu maximum packet known known' link link' put put' b course course' served n goes apart (each n)
+                | inr apart ↦ client_other mtu maximum packet known known' link link' put put' b course course' served (part n) n goes apart (each n)
               ];
             }
 
@@ -177,7 +178,7 @@ module _ (read : SayingsAreRead) (mtu maximum : ℕ) (capable : IsCapable mtu ma
           record {
             is_course = links.is_course';
             each = λ n.
-                client_up mtu maximum packet known known' link link' put put' b course course' served n up.begins (put_is ∙ (ap (λ n. put_heard n put ++ on_link link' sent) up.up ∙ (on ∙ links.sent_is))) links.stage links.none (each n);
+                client_up mtu maximum packet known known' link link' put put' b course course' served (part n) n up.begins (put_is ∙ (ap (λ n. put_heard n put ++ on_link link' sent) up.up ∙ (on ∙ links.sent_is))) links.stage links.none (each n);
           }
         where
           on_there : (l : Option ℕ) → link' ≡ l → is_some l ≡ true → on_link link' sent ≡ sent
@@ -185,5 +186,5 @@ module _ (read : SayingsAreRead) (mtu maximum : ℕ) (capable : IsCapable mtu ma
           on_there (Some handle) is there = ap (λ l. on_link l sent) is
       behind_a linked linked' (inr (inr (inr down))) = record {
         is_course = takes_down mtu maximum course course' sent is_course down.reason (sym linked ∙ down.there) (subst (λ n. Takes n course course' sent) down.down takes);
-        each = λ n. client_passes mtu maximum packet known known' link link' put put' b course course' served n (inr down.ends) down.unknown' (each n);
+        each = λ n. client_passes mtu maximum packet known known' link link' put put' b course course' served (part n) n (inr down.ends) down.unknown' (each n);
       }

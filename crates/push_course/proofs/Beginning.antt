@@ -30,7 +30,8 @@ use Rattle.host_wire.proofs.Stepping.{wires_step}
 use Rattle.push_course.proofs.Turning.{course_of}
 use Rattle.push_course.proofs.Moving.{known_of, known_same}
 use Rattle.push_course.proofs.HalfSteps.{none_some}
-use Rattle.push_course.proofs.Courses.{Wire, Converses, IsCourse, Stands, Grounds, unlinked}
+use Rattle.push_course.proofs.Parts.{Part}
+use Rattle.push_course.proofs.Courses.{Outset, Wire, Converses, IsCourse, Stands, Grounds, unlinked}
 use Rattle.push_course.proofs.Next.{stands_next}
 
 -- ---- the name of the object
@@ -119,9 +120,9 @@ begins_inside mtu maximum name is_name line line' course shelf (Pushing c s) (Pu
 
 -- ---- no link is up
 
-unlinked_converses : (mtu maximum : ℕ) (known : Linking) (link link' : Option ℕ) (put put' : List (List ℕ)) (b : Wire) (course course' : Course) (served : Served) (n : ℕ) → known.up ≡ None → link' ≡ None
-    → Converses mtu maximum (record { known = known; link = link; put = put }) b course served n → Converses mtu maximum (record { known = known; link = link'; put = put' }) b course' served n
-unlinked_converses mtu maximum known link link' put put' b course course' served n down none converses = record {
+unlinked_converses : (mtu maximum : ℕ) (known : Linking) (link link' : Option ℕ) (put put' : List (List ℕ)) (b : Wire) (course course' : Course) (served : Served) (part : Part) (n : ℕ) → known.up ≡ None → link' ≡ None
+    → Converses mtu maximum (record { known = known; link = link; put = put }) b course served part n → Converses mtu maximum (record { known = known; link = link'; put = put' }) b course' served part n
+unlinked_converses mtu maximum known link link' put put' b course course' served part n down none converses = record {
   decided = converses.decided;
   fair = converses.fair;
   half_a = record {
@@ -134,15 +135,17 @@ unlinked_converses mtu maximum known link link' put put' b course course' served
   half_b = converses.half_b;
   fresh_a = converses.fresh_a;
   fresh_b = converses.fresh_b;
+  is_part = converses.is_part;
+  put_heard = converses.put_heard;
 }
 
-module _ (mtu maximum : ℕ) (names : List (List ℕ)) (each_named : AllByRecursion IsName names) (past : List Entry) (push : ℕ) (old new : Moment) where
-  pub opens : Opens push old new → Grounds past old → Stands mtu maximum names past old → Stands mtu maximum names (past ++ Begun push ∷ []) new
+module _ (mtu maximum : ℕ) (outset : Outset) (each_named : AllByRecursion IsName outset.names) (past : List Entry) (push : ℕ) (old new : Moment) where
+  pub opens : Opens push old new → Grounds past old → Stands mtu maximum outset past old → Stands mtu maximum outset (past ++ Begun push ∷ []) new
   opens does grounds stands =
       let past' : List Entry = past ++ Begun push ∷ [] in
       let holds : Holds past old = grounds.piping.holds in
       let next = next_by old.scene.pushes.going (slice_get old.scene.pushes.names old.scene.pushes.begun) does.name does.next in
-      let is_name : IsName does.name = named_in names old.scene.pushes.begun does.name (ap (λ ns. slice_get ns old.scene.pushes.begun) (sym stands.named) ∙ next.1) each_named in
+      let is_name : IsName does.name = named_in outset.names old.scene.pushes.begun does.name (ap (λ ns. slice_get ns old.scene.pushes.begun) (sym stands.named) ∙ next.1) each_named in
       let down : link_up sides.A past ≡ None = ((facts_of past old holds.shows grounds.upholds).outside_a next.0).down in
       let is_a : known_of sides.A past' ≡ known_of sides.A past = known_same sides.A past (Begun push) refl in
       let is_b : known_of sides.B past' ≡ known_of sides.B past = known_same sides.B past (Begun push) refl in
@@ -152,7 +155,7 @@ module _ (mtu maximum : ℕ) (names : List (List ℕ)) (each_named : AllByRecurs
       let none : new.a.line.link ≡ None = unlinked sides.A past' new.a.line put' wires' (ap (λ (k : Linking). k.up) is_a ∙ down) in
       let began : Began mtu maximum does.face.inside =
       begins_inside mtu maximum does.name is_name old.a.line does.face.line stands.course stands.shelf old.a.inside does.face.inside stands.inside_a stands.is_course does.idle does.starts in
-      stands_next mtu maximum names past' new began.course' began.shelf' stands.served stands.inbox put' stands.put_b
+      stands_next mtu maximum outset past' new began.course' began.shelf' stands.served stands.inbox stands.part put' stands.put_b
       (ap (λ (m : Moment). m.a.inside) does.new_is ∙ began.is) began.is_course (ap (λ (m : Moment). m.b.inside) does.new_is ∙ stands.inside_b) stands.is_served (ap (λ (m : Moment). m.scene.pushes.names) does.new_is ∙ stands.named)
       wires' wires_b' (known_of sides.A past) (known_of sides.B past) new.a.line.link old.b.line.link is_a refl is_b (ap (λ (m : Moment). m.b.line.link) does.new_is)
-      (λ n. unlinked_converses mtu maximum (known_of sides.A past) old.a.line.link new.a.line.link stands.put_a put' _ stands.course began.course' stands.served n down none (stands.each n))
+      (λ n. unlinked_converses mtu maximum (known_of sides.A past) old.a.line.link new.a.line.link stands.put_a put' _ stands.course began.course' stands.served (stands.part n) n down none (stands.each n)) stands.gained

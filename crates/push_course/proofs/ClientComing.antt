@@ -26,6 +26,7 @@ use Rattle.push_course.proofs.ServerPlaces.{ServerPlace, Fresh, Taken, Agreeing 
 use Rattle.push_course.proofs.Moving.{count_of, GoesOn, completes, count_on, Begins, count_begun, moved_begun, Ends, count_ended}
 use Rattle.push_course.proofs.Halves.{Talks, other_pdu, Meets, next_for}
 use Rattle.push_course.proofs.HalfSteps.{none_some, half_beside, half_other, half_still, moved_one, half_begun, half_ended, BeginsSo, StaysSilent, stays_silent}
+use Rattle.push_course.proofs.Parts.{Part, part_on}
 use Rattle.push_course.proofs.Courses.{Wire, all, ClientHalf, Converses, is_last}
 
 -- ---- decisions of one host change nothing for the other
@@ -50,7 +51,7 @@ begins_so mtu maximum c = (_, refl)
 abbrev pub in_move : List ℕ → Pdu
 in_move octets = record { flow = Into; octets = octets }
 
-module _ (mtu maximum : ℕ) (packet : Packet) (known known' : Linking) (link link' : Option ℕ) (put put' : List (List ℕ)) (b : Wire) (course course' : Course) (served : Served) (n : ℕ) where
+module _ (mtu maximum : ℕ) (packet : Packet) (known known' : Linking) (link link' : Option ℕ) (put put' : List (List ℕ)) (b : Wire) (course course' : Course) (served : Served) (part : Part) (n : ℕ) where
   abbrev here : Wire
   here = record { known = known; link = link; put = put }
 
@@ -58,10 +59,10 @@ module _ (mtu maximum : ℕ) (packet : Packet) (known known' : Linking) (link li
   here' = record { known = known'; link = link'; put = put' }
 
   abbrev Before : Type 0
-  Before = Converses mtu maximum here b course served n
+  Before = Converses mtu maximum here b course served part n
 
   abbrev After : Type 0
-  After = Converses mtu maximum here' b course' served n
+  After = Converses mtu maximum here' b course' served part n
 
   abbrev StandsSo : Course → Decisions → ClientPlace → Type 0
   StandsSo course decided place = ClientStands mtu maximum place decided course
@@ -75,6 +76,8 @@ module _ (mtu maximum : ℕ) (packet : Packet) (known known' : Linking) (link li
     half_b = converses.half_b;
     fresh_a = λ below. converses.fresh_a (subst (λ k. k < n) count below);
     fresh_b = converses.fresh_b;
+    is_part = converses.is_part;
+    put_heard = converses.put_heard;
   }
 
   -- ---- the link that is up goes on
@@ -173,6 +176,8 @@ module _ (mtu maximum : ℕ) (packet : Packet) (known known' : Linking) (link li
               (server_still mtu maximum converses.decided decided' served.channel moves.greets_same moves.stores_same moves.parts_same) converses.half_b;
           fresh_a = λ below. absurd (let count = count_on (into packet) known known' goes in omega (arith, below, last, count));
           fresh_b = λ below. let free = converses.fresh_b below in (moves.greets_same ∙ free.0, moves.stores_same ∙ free.1, moves.parts_same ∙ free.2);
+          is_part = part_on converses.decided decided' part moves.stores_same moves.agrees converses.is_part;
+          put_heard = converses.put_heard;
         }
       where
         none_own : (one : Saying) → speaker one ≡ sides.B → own sides.A (one ∷ []) ≡ []
@@ -189,6 +194,8 @@ module _ (mtu maximum : ℕ) (packet : Packet) (known known' : Linking) (link li
     half_b = converses.half_b;
     fresh_a = λ below. converses.fresh_a (let more = count_begun known known' begins in omega (arith, below, more));
     fresh_b = converses.fresh_b;
+    is_part = converses.is_part;
+    put_heard = converses.put_heard;
   }
   client_passes (inr ends) none converses =
       with_half (count_ended known known' ends) converses
@@ -214,6 +221,8 @@ module _ (mtu maximum : ℕ) (packet : Packet) (known known' : Linking) (link li
           half_b = converses.half_b;
           fresh_a = λ below. converses.fresh_a (omega (arith, below, more));
           fresh_b = converses.fresh_b;
+          is_part = converses.is_part;
+          put_heard = converses.put_heard;
         }
         | inr apart ↦ record {
           decided = converses.decided;
@@ -228,5 +237,7 @@ module _ (mtu maximum : ℕ) (packet : Packet) (known known' : Linking) (link li
           half_b = converses.half_b;
           fresh_a = λ below. converses.fresh_a (omega (arith, below, more));
           fresh_b = converses.fresh_b;
+          is_part = converses.is_part;
+          put_heard = converses.put_heard;
         }
       ]

@@ -31,7 +31,7 @@ use Rattle.push_course.proofs.ClientPlaces.{ClientPlace, Asking, Agreeing, Being
 -- ---- what was said is what stands next
 
 -- responses with other codes are others
-response_is : (one other : Bool) → pdu_of (answers_packet (response (code_of one))) ≡ pdu_of (answers_packet (response (code_of other))) → one ≡ other
+pub response_is : (one other : Bool) → pdu_of (answers_packet (response (code_of one))) ≡ pdu_of (answers_packet (response (code_of other))) → one ≡ other
 response_is true true same = refl
 response_is true false same = absurd (true≢false (ap (λ pdu. slice_index pdu 4 == 0xA0) same))
 response_is false true same = absurd (true≢false (sym (ap (λ pdu. slice_index pdu 4 == 0xA0) same)))

@@ -1,5 +1,5 @@
 -- What is true of a push, its two hosts and the conversations on their links at each moment.
-use Rattle.std.proofs.Common.{◌≡◌, ℕ, suc, ◌+◌, ◌<◌, List, [], ◌∷◌, ◌++◌, map, filter, length, Bool, true, false, cond, eqb, Option, Some, None, refl, sym, ap, subst, ◌∙◌, append_assoc, inl, inr, ◌⊎◌, arith, length-append}
+use Rattle.std.proofs.Common.{◌≡◌, ℕ, suc, ◌+◌, ◌<◌, ◌≤◌, List, [], ◌∷◌, ◌++◌, map, filter, length, Bool, true, false, cond, eqb, Option, Some, None, refl, sym, ap, subst, ◌∙◌, append_assoc, inl, inr, ◌⊎◌, arith, length-append}
 use Rattle.std.specs.Prelude.{is_some}
 use Rattle.std.specs.List.{filter_map, cons_option, AllByRecursion}
 use Rattle.std.proofs.lemmas.Bool.{cases_Bool, eqb-true, eqb-false}
@@ -31,6 +31,7 @@ use Rattle.push_talk.specs.Speaking.{CanBeSaid, SayingsAreRead}
 use Rattle.push_talk.specs.ServerTurns.{steps}
 use Rattle.push_course.specs.Conversations.{Conversation}
 use Rattle.push_course.proofs.Deciding.{Decisions, IsFair, filled, filled_agrees}
+use Rattle.push_course.proofs.Parts.{Part, IsPart, HasGainedAll}
 use Rattle.push_course.proofs.Tails.{from_connecting}
 use Rattle.push_course.proofs.Lengths.{some_can, front_can, own_frames}
 use Rattle.push_course.proofs.ClientPlaces.{ClientPlace, IsCapable, IsAble, client_tail, ClientStands}
@@ -44,6 +45,11 @@ pub record Wire : Type 0 where
   pub link : Option ℕ
   pub put : List (List ℕ)
 
+-- what there was at first: the names, and the inbox
+pub record Outset : Type 0 where
+  pub names : List (List ℕ)
+  pub first : Kept
+
 module _ (mtu maximum : ℕ) where
   abbrev pub all : Conversation → List Saying
   all c = from_connecting mtu maximum c
@@ -55,7 +61,7 @@ module _ (mtu maximum : ℕ) where
   ServerHalf wire served decided n = Half sides.B wire.known wire.link wire.put all decided n ServerPlace (server_tail mtu maximum) (λ place. ServerStands mtu maximum place decided served.channel)
 
   -- the conversation on link number n
-  pub record Converses (a b : Wire) (course : Course) (served : Served) (n : ℕ) : Type 0 where
+  pub record Converses (a b : Wire) (course : Course) (served : Served) (part : Part) (n : ℕ) : Type 0 where
     pub decided : Decisions
     pub fair : IsFair decided
     pub half_a : ClientHalf a course decided n
@@ -63,6 +69,9 @@ module _ (mtu maximum : ℕ) where
     -- on a link that a host was not told of it decided nothing
     pub fresh_a : count_of a.known < n → decided.put ≡ None
     pub fresh_b : count_of b.known < n → (decided.greets ≡ None) × (decided.stores ≡ None) × (decided.parts ≡ None)
+    -- what was stored by it; a PUT is heard before
+    pub is_part : IsPart decided part
+    pub put_heard : (done : Bool) → part.stores ≡ Some done → 9 ≤ length (moved b.known n)
 
   -- the course of the push
   pub record IsCourse (course : Course) : Type 0 where
@@ -78,7 +87,7 @@ module _ (mtu maximum : ℕ) where
     pub readied : IsReadied mtu maximum served
     pub rests : steps served.channel ≡ record { first = None; second = None; channel = served.channel }
 
-  pub record Stands (names : List (List ℕ)) (past : List Entry) (moment : Moment) : Type 0 where
+  pub record Stands (outset : Outset) (past : List Entry) (moment : Moment) : Type 0 where
     pub course : Course
     pub shelf : Shelved
     pub inside_a : moment.a.inside ≡ Pushing course shelf
@@ -87,13 +96,16 @@ module _ (mtu maximum : ℕ) where
     pub inbox : Kept
     pub inside_b : moment.b.inside ≡ Serving served inbox
     pub is_served : IsServed served
-    pub named : moment.scene.pushes.names ≡ names
+    pub named : moment.scene.pushes.names ≡ outset.names
+    pub part : ℕ → Part
     pub put_a : List (List ℕ)
     pub put_b : List (List ℕ)
     pub wires_a : Wires sides.A past moment.a.line put_a
     pub wires_b : Wires sides.B past moment.b.line put_b
     pub each : (n : ℕ) → Converses
-        (record { known = known_of sides.A past; link = moment.a.line.link; put = put_a }) (record { known = known_of sides.B past; link = moment.b.line.link; put = put_b }) course served n
+        (record { known = known_of sides.A past; link = moment.a.line.link; put = put_a }) (record { known = known_of sides.B past; link = moment.b.line.link; put = put_b }) course served (part n) n
+    -- the inbox, since the beginning
+    pub gained : HasGainedAll outset.first inbox part
 
 -- what is true of the links beside it
 pub record Grounds (past : List Entry) (moment : Moment) : Type 0 where

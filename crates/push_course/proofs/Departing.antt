@@ -1,5 +1,5 @@
 -- A packet of a host moves, and everything that changes neither host.
-use Rattle.std.proofs.Common.{◌≡◌, ℕ, ◌<◌, List, [], ◌∷◌, ◌++◌, true, Option, Some, None, option_map, refl, sym, ap, subst, ◌∙◌, inl, inr}
+use Rattle.std.proofs.Common.{arith, ◌≡◌, ℕ, ◌<◌, List, [], ◌∷◌, ◌++◌, true, Option, Some, None, option_map, refl, sym, ap, subst, ◌∙◌, inl, inr}
 use Rattle.std.specs.Prelude.{is_some}
 use Rattle.std.specs.List.{filter_map}
 use Rattle.h4_framing.specs.Packets.{Packet}
@@ -20,9 +20,10 @@ use Rattle.host_wire.proofs.Stepping.{wires_step}
 use Rattle.push_talk.specs.Speaking.{SayingsAreRead}
 use Rattle.push_course.proofs.ClientPlaces.{ClientPlace, IsCapable, client_tail, ClientStands}
 use Rattle.push_course.proofs.ServerPlaces.{ServerPlace, server_tail, ServerStands}
-use Rattle.push_course.proofs.Moving.{moved, count_of, known_of, known_more, known_same, GoesOn, goes_out, count_on}
+use Rattle.push_course.proofs.Moving.{moved_grows, moved, count_of, known_of, known_more, known_same, GoesOn, goes_out, count_on}
 use Rattle.push_course.proofs.HalfSteps.{at_most_one, half_other, half_out}
-use Rattle.push_course.proofs.Courses.{Wire, all, Converses, Stands, front_of_put, nothing_put, frames_of, is_last}
+use Rattle.push_course.proofs.Parts.{Part}
+use Rattle.push_course.proofs.Courses.{Outset, Wire, all, Converses, Stands, front_of_put, nothing_put, frames_of, is_last}
 use Rattle.push_course.proofs.Next.{stands_next}
 
 abbrev out_move : Packet → Move
@@ -37,9 +38,9 @@ abbrev Fronts : Linking → Linking → List (List ℕ) → Type 0
 Fronts old new put = is_some old.up ≡ true → IsFront (filter_map (octets_in Out) (moved new (count_of new))) put
 
 module _ (mtu maximum : ℕ) (packet : Packet) where
-  out_a : (known known' : Linking) (link : Option ℕ) (put : List (List ℕ)) (b : Wire) (course : Course) (served : Served) (n : ℕ) → GoesOn (out_move packet) known known' → (link ≡ None → put ≡ []) → Fronts known known' put
-      → Converses mtu maximum (record { known = known; link = link; put = put }) b course served n → Converses mtu maximum (record { known = known'; link = link; put = put }) b course served n
-  out_a known known' link put b course served n goes none front converses = record {
+  out_a : (known known' : Linking) (link : Option ℕ) (put : List (List ℕ)) (b : Wire) (course : Course) (served : Served) (part : Part) (n : ℕ) → GoesOn (out_move packet) known known' → (link ≡ None → put ≡ []) → Fronts known known' put
+      → Converses mtu maximum (record { known = known; link = link; put = put }) b course served part n → Converses mtu maximum (record { known = known'; link = link; put = put }) b course served part n
+  out_a known known' link put b course served part n goes none front converses = record {
     decided = converses.decided;
     fair = converses.fair;
     half_a = elim (is_last n (count_of known)) [
@@ -53,11 +54,13 @@ module _ (mtu maximum : ℕ) (packet : Packet) where
     half_b = converses.half_b;
     fresh_a = λ below. converses.fresh_a (subst (λ k. k < n) (count_on (out_move packet) known known' goes) below);
     fresh_b = converses.fresh_b;
+    is_part = converses.is_part;
+    put_heard = converses.put_heard;
   }
 
-  out_b : (known known' : Linking) (link : Option ℕ) (put : List (List ℕ)) (a : Wire) (course : Course) (served : Served) (n : ℕ) → GoesOn (out_move packet) known known' → (link ≡ None → put ≡ []) → Fronts known known' put
-      → Converses mtu maximum a (record { known = known; link = link; put = put }) course served n → Converses mtu maximum a (record { known = known'; link = link; put = put }) course served n
-  out_b known known' link put a course served n goes none front converses = record {
+  out_b : (known known' : Linking) (link : Option ℕ) (put : List (List ℕ)) (a : Wire) (course : Course) (served : Served) (part : Part) (n : ℕ) → GoesOn (out_move packet) known known' → (link ≡ None → put ≡ []) → Fronts known known' put
+      → Converses mtu maximum a (record { known = known; link = link; put = put }) course served part n → Converses mtu maximum a (record { known = known'; link = link; put = put }) course served part n
+  out_b known known' link put a course served part n goes none front converses = record {
     decided = converses.decided;
     fair = converses.fair;
     half_a = converses.half_a;
@@ -71,10 +74,12 @@ module _ (mtu maximum : ℕ) (packet : Packet) where
     ];
     fresh_a = converses.fresh_a;
     fresh_b = λ below. converses.fresh_b (subst (λ k. k < n) (count_on (out_move packet) known known' goes) below);
+    is_part = converses.is_part;
+    put_heard = λ done is. let before = converses.put_heard done is in let more = moved_grows (out_move packet) known known' goes n in omega (arith, before, more);
   }
 
-module _ (read : SayingsAreRead) (mtu maximum : ℕ) (capable : IsCapable mtu maximum) (names : List (List ℕ)) (past : List Entry) (packet : Packet) (old new : Moment) where
-  pub departs_a : (does : Departs sides.A packet old new) → Holds past old → Holds (past ++ Moved sides.A Out packet ∷ []) new → Stands mtu maximum names past old → Stands mtu maximum names (past ++ Moved sides.A Out packet ∷ []) new
+module _ (read : SayingsAreRead) (mtu maximum : ℕ) (capable : IsCapable mtu maximum) (outset : Outset) (past : List Entry) (packet : Packet) (old new : Moment) where
+  pub departs_a : (does : Departs sides.A packet old new) → Holds past old → Holds (past ++ Moved sides.A Out packet ∷ []) new → Stands mtu maximum outset past old → Stands mtu maximum outset (past ++ Moved sides.A Out packet ∷ []) new
   departs_a does holds holds' stands =
       let past' : List Entry = past ++ Moved sides.A Out packet ∷ [] in
       let known : Linking = known_of sides.A past in
@@ -90,13 +95,13 @@ module _ (read : SayingsAreRead) (mtu maximum : ℕ) (capable : IsCapable mtu ma
       subst (λ k. IsFront (filter_map (octets_in Out) (moved k (count_of k))) put) is
       (front_of_put sides.A past' new put holds' wires' frames
       (subst (λ (k : Linking). is_some k.up ≡ true) (sym is) (subst (λ (u : Option Link). is_some u ≡ true) (sym goes.up_is) (up_on known.up (out_move packet) some)))) in
-      stands_next mtu maximum names past' new stands.course stands.shelf stands.served stands.inbox put stands.put_b
+      stands_next mtu maximum outset past' new stands.course stands.shelf stands.served stands.inbox stands.part put stands.put_b
       (ap (λ (m : Moment). m.a.inside) does.new_is ∙ stands.inside_a) stands.is_course (ap (λ (m : Moment). m.b.inside) does.new_is ∙ stands.inside_b) stands.is_served (ap (λ (m : Moment). m.scene.pushes.names) does.new_is ∙ stands.named)
       wires' (wires_step past (Departure sides.A packet) old new does holds sides.B stands.put_b stands.wires_b)
       known' (known_of sides.B past) old.a.line.link old.b.line.link is (ap (λ (m : Moment). m.a.line.link) does.new_is) (known_same sides.B past (Moved sides.A Out packet) refl) (ap (λ (m : Moment). m.b.line.link) does.new_is)
-      (λ n. out_a mtu maximum packet known known' old.a.line.link put _ stands.course stands.served n goes none front (stands.each n))
+      (λ n. out_a mtu maximum packet known known' old.a.line.link put _ stands.course stands.served (stands.part n) n goes none front (stands.each n)) stands.gained
 
-  pub departs_b : (does : Departs sides.B packet old new) → Holds past old → Holds (past ++ Moved sides.B Out packet ∷ []) new → Stands mtu maximum names past old → Stands mtu maximum names (past ++ Moved sides.B Out packet ∷ []) new
+  pub departs_b : (does : Departs sides.B packet old new) → Holds past old → Holds (past ++ Moved sides.B Out packet ∷ []) new → Stands mtu maximum outset past old → Stands mtu maximum outset (past ++ Moved sides.B Out packet ∷ []) new
   departs_b does holds holds' stands =
       let past' : List Entry = past ++ Moved sides.B Out packet ∷ [] in
       let known : Linking = known_of sides.B past in
@@ -112,18 +117,18 @@ module _ (read : SayingsAreRead) (mtu maximum : ℕ) (capable : IsCapable mtu ma
       subst (λ k. IsFront (filter_map (octets_in Out) (moved k (count_of k))) put) is
       (front_of_put sides.B past' new put holds' wires' frames
       (subst (λ (k : Linking). is_some k.up ≡ true) (sym is) (subst (λ (u : Option Link). is_some u ≡ true) (sym goes.up_is) (up_on known.up (out_move packet) some)))) in
-      stands_next mtu maximum names past' new stands.course stands.shelf stands.served stands.inbox stands.put_a put
+      stands_next mtu maximum outset past' new stands.course stands.shelf stands.served stands.inbox stands.part stands.put_a put
       (ap (λ (m : Moment). m.a.inside) does.new_is ∙ stands.inside_a) stands.is_course (ap (λ (m : Moment). m.b.inside) does.new_is ∙ stands.inside_b) stands.is_served (ap (λ (m : Moment). m.scene.pushes.names) does.new_is ∙ stands.named)
       (wires_step past (Departure sides.B packet) old new does holds sides.A stands.put_a stands.wires_a) wires'
       (known_of sides.A past) known' old.a.line.link old.b.line.link (known_same sides.A past (Moved sides.B Out packet) refl) (ap (λ (m : Moment). m.a.line.link) does.new_is) is (ap (λ (m : Moment). m.b.line.link) does.new_is)
-      (λ n. out_b mtu maximum packet known known' old.b.line.link put _ stands.course stands.served n goes none front (stands.each n))
+      (λ n. out_b mtu maximum packet known known' old.b.line.link put _ stands.course stands.served (stands.part n) n goes none front (stands.each n)) stands.gained
 
 -- ---- both hosts stay as they are
 
-module _ (mtu maximum : ℕ) (names : List (List ℕ)) (past past' : List Entry) (old new : Moment) where
+module _ (mtu maximum : ℕ) (outset : Outset) (past past' : List Entry) (old new : Moment) where
   pub stays : known_of sides.A past' ≡ known_of sides.A past → known_of sides.B past' ≡ known_of sides.B past → new.a ≡ old.a → new.b ≡ old.b → new.scene.pushes.names ≡ old.scene.pushes.names
-      → (stands : Stands mtu maximum names past old) → Wires sides.A past' new.a.line stands.put_a → Wires sides.B past' new.b.line stands.put_b → Stands mtu maximum names past' new
+      → (stands : Stands mtu maximum outset past old) → Wires sides.A past' new.a.line stands.put_a → Wires sides.B past' new.b.line stands.put_b → Stands mtu maximum outset past' new
   stays is_a is_b same_a same_b same_names stands wires_a wires_b =
-      stands_next mtu maximum names past' new stands.course stands.shelf stands.served stands.inbox stands.put_a stands.put_b
+      stands_next mtu maximum outset past' new stands.course stands.shelf stands.served stands.inbox stands.part stands.put_a stands.put_b
       (ap (λ (f : Face). f.inside) same_a ∙ stands.inside_a) stands.is_course (ap (λ (f : Face). f.inside) same_b ∙ stands.inside_b) stands.is_served (same_names ∙ stands.named)
-      wires_a wires_b (known_of sides.A past) (known_of sides.B past) old.a.line.link old.b.line.link is_a (ap (λ (f : Face). f.line.link) same_a) is_b (ap (λ (f : Face). f.line.link) same_b) stands.each
+      wires_a wires_b (known_of sides.A past) (known_of sides.B past) old.a.line.link old.b.line.link is_a (ap (λ (f : Face). f.line.link) same_a) is_b (ap (λ (f : Face). f.line.link) same_b) stands.each stands.gained

@@ -1,5 +1,6 @@
 pub mod Owning
 pub mod Deciding
+pub mod Parts
 pub mod Tails
 pub mod ClientPlaces
 pub mod ClientMoves
@@ -29,3 +30,5 @@ pub mod ArrivedB
 pub mod Beginning
 pub mod Running
 pub mod LinksConverse
+pub mod Responses
+pub mod InboxGains

@@ -1,6 +1,7 @@
 -- What the two hosts say to each other on each link is a front of one conversation, and what comes of the push.
 use Rattle.std.proofs.Common.{[], ◌∷◌, ◌≡◌, ℕ, suc, min, List, ◌++◌, length, take, map, Some, sym, ap, subst, ◌∙◌, ◌+◌, inl, inr, ◌⊎◌, refl, arith, length-append, true}
 use Rattle.std.specs.Prelude.{slice_get, ◌≤◌, Option, None, IfSome, is_some}
+use Rattle.std.proofs.lemmas.List.{length-map}
 use Rattle.std.specs.List.{flat_map, AllByRecursion}
 use Rattle.std.proofs.Math.Seq.{take-append_seam}
 use Rattle.push_script.specs.declared.word.Side.{Side}
@@ -25,7 +26,7 @@ use Rattle.world_model.specs.Insides.{came_of}
 use Rattle.world_model.specs.Moments.{Moment}
 use Rattle.host_wire.proofs.News.{link_is_known}
 use Rattle.push_course.proofs.Moving.{moved, known_of}
-use Rattle.push_course.proofs.Courses.{all, Stands}
+use Rattle.push_course.proofs.Courses.{all, Outset, Stands}
 use Rattle.push_course.proofs.Running.{stood, capable_in}
 
 module _ (mtu maximum : ℕ) (capable : IsCapable mtu maximum) (decided : Decisions) (fair : IsFair decided) where
@@ -43,8 +44,8 @@ given_so : (given : Option (List ℕ)) → IsFairGiven given → IfSome given (�
 given_so None small = tt
 given_so (Some octets) small = small
 
-pub converse_of : (mtu maximum : ℕ) → IsCapable mtu maximum → (names : List (List ℕ)) (past : List Entry) (moment : Moment) → Stands mtu maximum names past moment → (n : ℕ) → Converse (sayings mtu maximum) past n
-converse_of mtu maximum capable names past moment stands n =
+pub converse_of : (mtu maximum : ℕ) → IsCapable mtu maximum → (outset : Outset) (past : List Entry) (moment : Moment) → Stands mtu maximum outset past moment → (n : ℕ) → Converse (sayings mtu maximum) past n
+converse_of mtu maximum capable outset past moment stands n =
     let converses = stands.each (suc n) in
     let fair = some_fair sayings_are_read mtu maximum capable converses.decided converses.fair in
     record {
@@ -54,10 +55,24 @@ converse_of mtu maximum capable names past moment stands n =
       at_b = come_in mtu maximum capable converses.decided converses.fair sides.B past n converses.half_b.done converses.half_b.moved_is converses.half_b.front;
     }
 
+-- the conversation is what is decided
+pub decided_is : (mtu maximum : ℕ) (capable : IsCapable mtu maximum) (outset : Outset) (past : List Entry) (moment : Moment) (stands : Stands mtu maximum outset past moment) (n : ℕ)
+    → (converse_of mtu maximum capable outset past moment stands n).conversation ≡ filled (stands.each (suc n)).decided
+unfolding converse_of
+decided_is mtu maximum capable outset past moment stands n = refl
+
+-- host b came as far as PDUs moved on its link
+pub come_so_far : (mtu maximum : ℕ) (capable : IsCapable mtu maximum) (outset : Outset) (past : List Entry) (moment : Moment) (stands : Stands mtu maximum outset past moment) (n : ℕ)
+    (link : Link) (here : slice_get (links sides.B past) n ≡ Some link) → ((converse_of mtu maximum capable outset past moment stands n).at_b link here).0 ≡ length (moved (known_of sides.B past) (suc n))
+unfolding converse_of come_in
+come_so_far mtu maximum capable outset past moment stands n link here =
+    let half = (stands.each (suc n)).half_b in
+    sym (ap length half.moved_is ∙ length-map half.done (pdu_at sides.B))
+
 pub links_converse : LinksConverse
 links_converse size count mtu obex names shelf inbox setting happenings moment runs n =
     let there = stood size count mtu obex names shelf inbox setting happenings moment runs in
-    converse_of mtu (min obex mtu) (capable_in size count mtu obex names setting) names (all_entries happenings) moment there.stands n
+    converse_of mtu (min obex mtu) (capable_in size count mtu obex names setting) (record { names = names; first = inbox }) (all_entries happenings) moment there.stands n
 
 -- ---- what comes of a push
 
@@ -73,11 +88,11 @@ came_so mtu maximum TakingLeave decided course (stage, peer, so) = inr (so (fill
 came_so mtu maximum BeingClosed decided course (stage, peer, so) = inr (so (filled decided) (filled_agrees decided))
 came_so mtu maximum Done decided course (stage, so) = inr (so (filled decided) (filled_agrees decided))
 
-comes_so : (mtu maximum : ℕ) → IsCapable mtu maximum → (names : List (List ℕ)) (past : List Entry) (moment : Moment) → Stands mtu maximum names past moment → (own : Option ℕ) → moment.a.line.link ≡ own → is_some own ≡ true
+comes_so : (mtu maximum : ℕ) → IsCapable mtu maximum → (outset : Outset) (past : List Entry) (moment : Moment) → Stands mtu maximum outset past moment → (own : Option ℕ) → moment.a.line.link ≡ own → is_some own ≡ true
     → ComesSo (sayings mtu maximum) past moment
 unfolding converse_of
-comes_so mtu maximum capable names past moment stands None known some = absurd cc
-comes_so mtu maximum capable names past moment stands (Some handle) known some =
+comes_so mtu maximum capable outset past moment stands None known some = absurd cc
+comes_so mtu maximum capable outset past moment stands (Some handle) known some =
     let known_links = known_of sides.A past in
     let there = link_is_known sides.A past moment.a.line stands.put_a stands.wires_a handle known in
     let n : ℕ = length known_links.past in
@@ -88,11 +103,11 @@ comes_so mtu maximum capable names past moment stands (Some handle) known some =
     record {
       n = n;
       last = more;
-      converse = converse_of mtu maximum capable names past moment stands n;
+      converse = converse_of mtu maximum capable outset past moment stands n;
       came = elim (came_so mtu maximum talks.place converses.decided stands.course talks.stands_so) [ inl none ↦ inl (inside ∙ none) | inr so ↦ inr (inside ∙ so) ];
     }
 
 pub outcomes_are_said : OutcomesAreSaid
 outcomes_are_said size count mtu obex names shelf inbox setting happenings moment runs some =
     let there = stood size count mtu obex names shelf inbox setting happenings moment runs in
-    comes_so mtu (min obex mtu) (capable_in size count mtu obex names setting) names (all_entries happenings) moment there.stands moment.a.line.link refl some
+    comes_so mtu (min obex mtu) (capable_in size count mtu obex names setting) (record { names = names; first = inbox }) (all_entries happenings) moment there.stands moment.a.line.link refl some

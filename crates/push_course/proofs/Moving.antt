@@ -1,7 +1,8 @@
 -- The PDUs that moved on each link of a host, by the number of the link, and what a packet more changes of them.
-use Rattle.std.proofs.Common.{◌≡◌, ℕ, ◌+◌, List, [], ◌∷◌, ◌++◌, length, Bool, true, false, cond, Option, Some, None, option_map, refl, sym, ap, ap₂, subst, ◌∙◌, inl, inr, ◌⊎◌, arith, length-append}
+use Rattle.std.proofs.Common.{◌≡◌, ℕ, ◌+◌, ◌<◌, ◌≤◌, eqb, List, [], ◌∷◌, ◌++◌, length, Bool, true, false, cond, Option, Some, None, option_map, refl, sym, ap, ap₂, subst, ◌∙◌, inl, inr, ◌⊎◌, arith, length-append}
+use Rattle.std.specs.Prelude.{is_some}
 use Rattle.std.proofs.lemmas.List.{append-nil}
-use Rattle.std.proofs.lemmas.Bool.{eq-eqb}
+use Rattle.std.proofs.lemmas.Bool.{eq-eqb, cases_Bool, eqb-true, eqb-false}
 use Rattle.h4_framing.specs.Packets.{Packet, Command, Acl, Sync, Event}
 use Rattle.push_script.specs.declared.word.Side.{Side}
 use Rattle.capture.specs.declared.flow.Flow.TheVariants.{Out}
@@ -59,6 +60,25 @@ module _ (move : Move) (old new : Linking) (goes : GoesOn move old new) where
 
   pub moved_last : moved new (count_of old) ≡ moved old (count_of old) ++ given_last (completes move) old.up
   moved_last = ap (λ links. numbered pdus links (count_of old)) links_on ∙ changed-last pdus (completes move) (longer move) (λ link. pdus-more link move) old.past old.up
+
+-- no fewer move
+pub moved_grows : (move : Move) (old new : Linking) → GoesOn move old new → (n : ℕ) → length (moved old n) ≤ length (moved new n)
+moved_grows move old new goes n = elim (cases_Bool (eqb n (count_of old))) [
+  | inl same ↦
+      let last : n ≡ count_of old = eqb-true n (count_of old) same in
+      let more = ap length (ap (moved new) last ∙ moved_last move old new goes) ∙ length-append (moved old (count_of old)) (given_last (completes move) old.up) in
+      let before = ap (λ k. length (moved old k)) last in
+      omega (arith, more, before)
+  | inr other ↦ let same = ap length (moved_other move old new goes n (eqb-false n (count_of old) other)) in omega (arith, same)
+]
+
+-- a host with a link has one at least
+pub some_links : (known : Linking) → is_some known.up ≡ true → 0 < count_of known
+some_links known some = by_up known.past known.up some
+  where
+    by_up : (past : List Link) (up : Option Link) → is_some up ≡ true → 0 < length (with_last past up)
+    by_up past None some = absurd cc
+    by_up past (Some link) some = let more = length-append past (link ∷ []) in omega (arith, more)
 
 pub goes_out : (packet : Packet) (known : Linking) → GoesOn (record { flow = Out; packet = packet }) known (after_move known (record { flow = Out; packet = packet }))
 goes_out (Command opcode params) known = asks _

@@ -22,7 +22,8 @@ use Rattle.push_course.specs.Conversations.{IsSetting}
 use Rattle.push_course.proofs.Deciding.{undecided}
 use Rattle.push_course.proofs.ClientPlaces.{IsCapable}
 use Rattle.push_course.proofs.Moving.{moved, known_of, known_same}
-use Rattle.push_course.proofs.Courses.{Stands, Grounds}
+use Rattle.push_course.proofs.Parts.{no_part, gained_first}
+use Rattle.push_course.proofs.Courses.{Outset, Stands, Grounds}
 use Rattle.push_course.proofs.Departing.{departs_a, departs_b, stays}
 use Rattle.push_course.proofs.ArrivedA.{arrives_a}
 use Rattle.push_course.proofs.ArrivedB.{arrives_b}
@@ -33,34 +34,34 @@ use Rattle.push_course.proofs.Beginning.{opens}
 grounds_on : (past : List Entry) (happening : Happening) (old new : Moment) → Does happening old new → Grounds past old → Grounds (past ++ entries_of happening) new
 grounds_on past happening old new does grounds = record { piping = piping_on past happening old new does grounds.piping; upholds = upholds_on past happening old new does grounds.piping.holds grounds.upholds }
 
-module _ (mtu maximum : ℕ) (capable : IsCapable mtu maximum) (names : List (List ℕ)) (each_named : AllByRecursion IsName names) (past : List Entry) (old new : Moment) where
+module _ (mtu maximum : ℕ) (capable : IsCapable mtu maximum) (outset : Outset) (each_named : AllByRecursion IsName outset.names) (past : List Entry) (old new : Moment) where
   -- nothing is captured
   same_past : (side : Side) → known_of side (past ++ []) ≡ known_of side past
   same_past side = ap (known_of side) (append-nil past)
 
-  pub stands_on : (happening : Happening) → Does happening old new → Grounds past old → Stands mtu maximum names past old → Stands mtu maximum names (past ++ entries_of happening) new
+  pub stands_on : (happening : Happening) → Does happening old new → Grounds past old → Stands mtu maximum outset past old → Stands mtu maximum outset (past ++ entries_of happening) new
   stands_on (Departure sides.A packet) does grounds stands =
-      departs_a sayings_are_read mtu maximum capable names past packet old new does grounds.piping.holds (grounds_on past (Departure sides.A packet) old new does grounds).piping.holds stands
+      departs_a sayings_are_read mtu maximum capable outset past packet old new does grounds.piping.holds (grounds_on past (Departure sides.A packet) old new does grounds).piping.holds stands
   stands_on (Departure sides.B packet) does grounds stands =
-      departs_b sayings_are_read mtu maximum capable names past packet old new does grounds.piping.holds (grounds_on past (Departure sides.B packet) old new does grounds).piping.holds stands
+      departs_b sayings_are_read mtu maximum capable outset past packet old new does grounds.piping.holds (grounds_on past (Departure sides.B packet) old new does grounds).piping.holds stands
   stands_on (Arrival sides.A packet) does grounds stands =
-      arrives_a sayings_are_read mtu maximum capable names past packet old new does grounds (grounds_on past (Arrival sides.A packet) old new does grounds) stands
+      arrives_a sayings_are_read mtu maximum capable outset past packet old new does grounds (grounds_on past (Arrival sides.A packet) old new does grounds) stands
   stands_on (Arrival sides.B packet) does grounds stands =
-      arrives_b sayings_are_read mtu maximum capable names past packet old new does grounds (grounds_on past (Arrival sides.B packet) old new does grounds) stands
+      arrives_b sayings_are_read mtu maximum capable outset past packet old new does grounds (grounds_on past (Arrival sides.B packet) old new does grounds) stands
   stands_on (GivingBack side) does grounds stands =
-      stays mtu maximum names past (past ++ []) old new (same_past sides.A) (same_past sides.B) (ap (λ (m : Moment). m.a) does.new_is) (ap (λ (m : Moment). m.b) does.new_is) (ap (λ (m : Moment). m.scene.pushes.names) does.new_is) stands
+      stays mtu maximum outset past (past ++ []) old new (same_past sides.A) (same_past sides.B) (ap (λ (m : Moment). m.a) does.new_is) (ap (λ (m : Moment). m.b) does.new_is) (ap (λ (m : Moment). m.scene.pushes.names) does.new_is) stands
       (wires_step past (GivingBack side) old new does grounds.piping.holds sides.A stands.put_a stands.wires_a) (wires_step past (GivingBack side) old new does grounds.piping.holds sides.B stands.put_b stands.wires_b)
-  stands_on (Opening push) does grounds stands = opens mtu maximum names each_named past push old new does grounds stands
+  stands_on (Opening push) does grounds stands = opens mtu maximum outset each_named past push old new does grounds stands
   stands_on (Closing push outcome) does grounds stands =
-      stays mtu maximum names past (past ++ Ended push outcome ∷ []) old new (known_same sides.A past (Ended push outcome) refl) (known_same sides.B past (Ended push outcome) refl) (ap (λ (m : Moment). m.a) does.new_is)
+      stays mtu maximum outset past (past ++ Ended push outcome ∷ []) old new (known_same sides.A past (Ended push outcome) refl) (known_same sides.B past (Ended push outcome) refl) (ap (λ (m : Moment). m.a) does.new_is)
       (ap (λ (m : Moment). m.b) does.new_is) (ap (λ (m : Moment). m.scene.pushes.names) does.new_is) stands
       (wires_step past (Closing push outcome) old new does grounds.piping.holds sides.A stands.put_a stands.wires_a) (wires_step past (Closing push outcome) old new does grounds.piping.holds sides.B stands.put_b stands.wires_b)
   stands_on (Deed ordinal word) does grounds stands =
-      stays mtu maximum names past (past ++ Acted ordinal word ∷ []) old new (known_same sides.A past (Acted ordinal word) refl) (known_same sides.B past (Acted ordinal word) refl) (ap (λ (m : Moment). m.a) does.new_is)
+      stays mtu maximum outset past (past ++ Acted ordinal word ∷ []) old new (known_same sides.A past (Acted ordinal word) refl) (known_same sides.B past (Acted ordinal word) refl) (ap (λ (m : Moment). m.a) does.new_is)
       (ap (λ (m : Moment). m.b) does.new_is) (ap (λ (m : Moment). m.scene.pushes.names) does.new_is) stands
       (wires_step past (Deed ordinal word) old new does grounds.piping.holds sides.A stands.put_a stands.wires_a) (wires_step past (Deed ordinal word) old new does grounds.piping.holds sides.B stands.put_b stands.wires_b)
   stands_on (Miss word) does grounds stands =
-      stays mtu maximum names past (past ++ []) old new (same_past sides.A) (same_past sides.B) (ap (λ (m : Moment). m.a) does.new_is) (ap (λ (m : Moment). m.b) does.new_is) (ap (λ (m : Moment). m.scene.pushes.names) does.new_is) stands
+      stays mtu maximum outset past (past ++ []) old new (same_past sides.A) (same_past sides.B) (ap (λ (m : Moment). m.a) does.new_is) (ap (λ (m : Moment). m.b) does.new_is) (ap (λ (m : Moment). m.scene.pushes.names) does.new_is) stands
       (wires_step past (Miss word) old new does grounds.piping.holds sides.A stands.put_a stands.wires_a) (wires_step past (Miss word) old new does grounds.piping.holds sides.B stands.put_b stands.wires_b)
 
 -- ---- at first
@@ -77,7 +78,7 @@ capable_of size count mtu obex names setting =
     let high = setting.obex_high in
     record { mtu_low = mtu_low; mtu_high = mtu_high; low = omega (arith, mtu_low, low); high = omega (arith, mtu_high, high) }
 
-first_stands : (size count mtu obex : ℕ) (names : List (List ℕ)) (shelf : Shelved) (inbox : Kept) → Stands mtu (min obex mtu) names [] (first_moment size count mtu obex names shelf inbox)
+first_stands : (size count mtu obex : ℕ) (names : List (List ℕ)) (shelf : Shelved) (inbox : Kept) → Stands mtu (min obex mtu) (record { names = names; first = inbox }) [] (first_moment size count mtu obex names shelf inbox)
 first_stands size count mtu obex names shelf inbox = record {
   course = resting mtu obex;
   shelf = shelf;
@@ -88,6 +89,8 @@ first_stands size count mtu obex names shelf inbox = record {
   inside_b = refl;
   is_served = record { readied = record { mtu_is = refl; maximum_is = refl; rests = refl }; rests = refl };
   named = refl;
+  part = λ n. no_part;
+  gained = gained_first inbox;
   put_a = [];
   put_b = [];
   wires_a = wires_at_first size count mtu obex names shelf inbox sides.A;
@@ -99,22 +102,24 @@ first_stands size count mtu obex names shelf inbox = record {
     half_b = record { done = []; moved_is = none_at n; front = λ c agrees. (_, refl); silent = λ last none some. absurd cc; talks = λ last some. absurd cc };
     fresh_a = λ below. refl;
     fresh_b = λ below. (refl, refl, refl);
+    is_part = record { stores_is = refl; objects_are = λ c agrees. refl };
+    put_heard = λ done is. absurd cc;
   };
 }
 
 -- ---- along each run
 
-pub record Stood (mtu maximum : ℕ) (names : List (List ℕ)) (past : List Entry) (moment : Moment) : Type 0 where
+pub record Stood (mtu maximum : ℕ) (outset : Outset) (past : List Entry) (moment : Moment) : Type 0 where
   pub grounds : Grounds past moment
-  pub stands : Stands mtu maximum names past moment
+  pub stands : Stands mtu maximum outset past moment
 
 pub stood : (size count mtu obex : ℕ) (names : List (List ℕ)) (shelf : Shelved) (inbox : Kept) → IsSetting size count mtu obex names → (happenings : List Happening) (moment : Moment)
-    → Runs happenings (first_moment size count mtu obex names shelf inbox) moment → Stood mtu (min obex mtu) names (all_entries happenings) moment
+    → Runs happenings (first_moment size count mtu obex names shelf inbox) moment → Stood mtu (min obex mtu) (record { names = names; first = inbox }) (all_entries happenings) moment
 stood size count mtu obex names shelf inbox setting happenings moment runs =
-    kept_along (Stood mtu (min obex mtu) names)
+    kept_along (Stood mtu (min obex mtu) (record { names = names; first = inbox }))
     (λ past happening old new does before. record {
       grounds = grounds_on past happening old new does before.grounds;
-      stands = stands_on mtu (min obex mtu) (capable_of size count mtu obex names setting) names setting.each past old new happening does before.grounds before.stands;
+      stands = stands_on mtu (min obex mtu) (capable_of size count mtu obex names setting) (record { names = names; first = inbox }) setting.each past old new happening does before.grounds before.stands;
     })
     happenings [] (first_moment size count mtu obex names shelf inbox) moment runs
     (record {

@@ -1,14 +1,14 @@
 -- A packet comes into a server, and the conversation on each of its links behind it.
-use Rattle.std.proofs.Common.{◌≡◌, ℕ, ◌<◌, List, [], ◌∷◌, ◌++◌, map, true, Option, None, refl, sym, ap, ap₂, subst, ◌∙◌, append_assoc, inl, inr, ◌⊎◌, arith}
+use Rattle.std.proofs.Common.{◌≡◌, ℕ, ◌+◌, ◌<◌, ◌≤◌, length, length-append, List, [], ◌∷◌, ◌++◌, map, true, Option, None, refl, sym, ap, ap₂, subst, ◌∙◌, append_assoc, inl, inr, ◌⊎◌, arith}
 use Rattle.std.specs.Prelude.{is_some}
-use Rattle.std.proofs.lemmas.List.{append-nil}
+use Rattle.std.proofs.lemmas.List.{append-nil, length-map}
 use Rattle.h4_framing.specs.Packets.{Packet}
 use Rattle.push_script.specs.declared.word.Side.TheVariants as sides
 use Rattle.capture.specs.Links.{Linking}
 use Rattle.host_link.specs.Stands.{into}
 use Rattle.bt_host.specs.declared.channel_stages.ChannelStage.TheVariants as stages
 use Rattle.bt_host.specs.Courses.{Course}
-use Rattle.bt_host.specs.Servers.{Served}
+use Rattle.bt_host.specs.Servers.{Served, Kept}
 use Rattle.link_pipe.proofs.Numbers.{given_last}
 use Rattle.push_talk.specs.Conversing.{Saying}
 use Rattle.push_talk.specs.Speaking.{pdu_of, speaker}
@@ -18,9 +18,11 @@ use Rattle.push_course.proofs.Deciding.{Decisions, Agrees, IsFair, filled, fille
 use Rattle.push_course.proofs.ClientPlaces.{ClientPlace, Asking, Agreeing, BeingAsked, BeingGreeted, Delivering, TakingLeave, BeingClosed, Done, client_tail, ClientStands}
 use Rattle.push_course.proofs.ClientComing.{in_move, begins_so}
 use Rattle.push_course.proofs.ServerPlaces.{ServerPlace, Fresh, server_tail, ServerStands, ServerMoves}
-use Rattle.push_course.proofs.Moving.{count_of, GoesOn, completes, count_on, Begins, count_begun, moved_begun, Ends, count_ended}
+use Rattle.push_course.proofs.Moving.{moved, moved_grows, count_of, GoesOn, completes, count_on, Begins, count_begun, moved_begun, Ends, count_ended, moved_ended}
 use Rattle.push_course.proofs.Halves.{Talks, other_pdu, Meets, next_for}
 use Rattle.push_course.proofs.HalfSteps.{none_some, half_beside, half_other, half_still, moved_one, half_begun, half_ended, StaysSilent, stays_silent}
+use Rattle.push_course.proofs.Parts.{Part}
+use Rattle.push_course.proofs.Tails.{greeted}
 use Rattle.push_course.proofs.Courses.{Wire, all, ServerHalf, Converses, is_last}
 
 -- ---- decisions of one host change nothing for the other
@@ -35,7 +37,7 @@ client_keeps mtu maximum decided decided' course put agrees TakingLeave (stage, 
 client_keeps mtu maximum decided decided' course put agrees BeingClosed (stage, peer, so) = (stage, peer, λ c agree. so c (agrees c agree))
 client_keeps mtu maximum decided decided' course put agrees Done (stage, so) = (stage, λ c agree. so c (agrees c agree))
 
-module _ (mtu maximum : ℕ) (packet : Packet) (known known' : Linking) (link link' : Option ℕ) (put put' : List (List ℕ)) (a : Wire) (course : Course) (served served' : Served) (n : ℕ) where
+module _ (mtu maximum : ℕ) (packet : Packet) (known known' : Linking) (link link' : Option ℕ) (put put' : List (List ℕ)) (a : Wire) (course : Course) (served served' : Served) (part : Part) (n : ℕ) where
   abbrev here : Wire
   here = record { known = known; link = link; put = put }
 
@@ -43,23 +45,25 @@ module _ (mtu maximum : ℕ) (packet : Packet) (known known' : Linking) (link li
   here' = record { known = known'; link = link'; put = put' }
 
   abbrev Before : Type 0
-  Before = Converses mtu maximum a here course served n
+  Before = Converses mtu maximum a here course served part n
 
   abbrev After : Type 0
-  After = Converses mtu maximum a here' course served' n
+  After = Converses mtu maximum a here' course served' part n
 
   abbrev StandsSo : Served → Decisions → ServerPlace → Type 0
   StandsSo served decided place = ServerStands mtu maximum place decided served.channel
 
   -- with another half, and as many links as before
-  with_half : (count_of known' ≡ count_of known) → (converses : Before) → ServerHalf mtu maximum here' served' converses.decided n → After
-  with_half count converses half = record {
+  with_half : (count_of known' ≡ count_of known) → length (moved known n) ≤ length (moved known' n) → (converses : Before) → ServerHalf mtu maximum here' served' converses.decided n → After
+  with_half count grows converses half = record {
     decided = converses.decided;
     fair = converses.fair;
     half_a = converses.half_a;
     half_b = half;
     fresh_a = converses.fresh_a;
     fresh_b = λ below. converses.fresh_b (subst (λ k. k < n) count below);
+    is_part = converses.is_part;
+    put_heard = λ done is. let before = converses.put_heard done is in omega (arith, before, grows);
   }
 
   -- ---- the link that is up goes on
@@ -67,13 +71,13 @@ module _ (mtu maximum : ℕ) (packet : Packet) (known known' : Linking) (link li
   module _ (goes : GoesOn (into packet) known known') where
     pub server_other : (n ≡ count_of known → ⊥) → Before → After
     server_other apart converses =
-        with_half (count_on (into packet) known known' goes) converses
+        with_half (count_on (into packet) known known' goes) (moved_grows (into packet) known known' goes n) converses
         (half_other sides.B (all mtu maximum) ServerPlace (server_tail mtu maximum) known known' converses.decided n (into packet) link link' put put' (StandsSo served converses.decided) (StandsSo served' converses.decided) goes apart converses.half_b)
 
     pub server_still : link' ≡ link → put' ≡ put → served'.channel ≡ served.channel → given_last (completes (into packet)) known.up ≡ [] → Before → After
     server_still same_link same_put same_served none converses = elim (is_last n (count_of known)) [
       | inl last ↦
-          with_half (count_on (into packet) known known' goes) converses
+          with_half (count_on (into packet) known known' goes) (moved_grows (into packet) known known' goes n) converses
           (half_still sides.B (all mtu maximum) ServerPlace (server_tail mtu maximum) known known' converses.decided n (into packet) link link' put put' (StandsSo served converses.decided) (StandsSo served' converses.decided) goes last none same_link same_put
           (λ place so. subst (λ channel. ServerStands mtu maximum place converses.decided channel) (sym same_served) so) converses.half_b)
       | inr apart ↦ server_other apart converses
@@ -92,7 +96,7 @@ module _ (mtu maximum : ℕ) (packet : Packet) (known known' : Linking) (link li
         let next = next_for sides.B (all mtu maximum) decided half.done octets meets in
         let stays : StaysSilent sides.B (all mtu maximum) decided half.done octets =
         stays_silent sides.B (all mtu maximum) decided (filled decided) (filled_agrees decided) (begins_so mtu maximum) half.done octets (half.silent last none some) next in
-        with_half (count_on (into packet) known known' goes) converses (record {
+        with_half (count_on (into packet) known known' goes) (moved_grows (into packet) known known' goes n) converses (record {
           done = half.done ++ stays.one ∷ [];
           moved_is = moved_one sides.B (all mtu maximum) ServerPlace (server_tail mtu maximum) known known' decided n (into packet) octets stays.one half.done goes last is half.moved_is stays.pdu_is;
           front = stays.front;
@@ -116,9 +120,9 @@ module _ (mtu maximum : ℕ) (packet : Packet) (known known' : Linking) (link li
         (next_for sides.B (all mtu maximum) converses.decided converses.half_b.done octets meets c agrees (talks.mine ++ server_tail mtu maximum talks.place c) (talks.follows c agrees)) in
         record { talks = talks; none = (next (filled converses.decided) (filled_agrees converses.decided)).0; next = λ c agrees. (next c agrees).1 }
 
-    pub server_talks : (sent : List (List ℕ)) → is_some link ≡ true → link' ≡ link → (octets : List ℕ) → given_last (completes (into packet)) known.up ≡ in_move octets ∷ [] → n ≡ count_of known → put' ≡ put ++ sent
-        → (converses : Before) (hears : Hearkens converses octets) → ServerMoves mtu maximum converses.decided hears.talks.place octets sent served' → After
-    server_talks sent some same_link octets is last same_put converses hears moves =
+    pub server_talks : (inbox inbox' : Kept) (sent : List (List ℕ)) → is_some link ≡ true → link' ≡ link → (octets : List ℕ) → given_last (completes (into packet)) known.up ≡ in_move octets ∷ [] → n ≡ count_of known → put' ≡ put ++ sent
+        → (converses : Before) (hears : Hearkens converses octets) → (moves : ServerMoves mtu maximum converses.decided hears.talks.place octets sent served' inbox inbox' part) → Converses mtu maximum a here' course served' moves.parts.part' n
+    server_talks inbox inbox' sent some same_link octets is last same_put converses hears moves =
         let half = converses.half_b in
         let decided' : Decisions = moves.decided' in
         let fair' : IsFair decided' = λ delivery put. converses.fair delivery (sym moves.put_same ∙ put) in
@@ -157,6 +161,21 @@ module _ (mtu maximum : ℕ) (packet : Packet) (known known' : Linking) (link li
           };
           fresh_a = λ below. moves.put_same ∙ converses.fresh_a below;
           fresh_b = λ below. absurd (let count = count_on (into packet) known known' goes in omega (arith, below, last, count));
+          is_part = moves.parts.is_part;
+          put_heard = λ b now. elim (moves.parts.at_put b now) [
+            | inl before ↦ let heard = converses.put_heard b before in let grows = moved_grows (into packet) known known' goes n in omega (arith, heard, grows)
+            | inr at_welcome ↦
+                let c : Conversation = filled decided' in
+                let agreed = filled_agrees decided' in
+                let moved_is = moved_one sides.B (all mtu maximum) ServerPlace (server_tail mtu maximum) known known' converses.decided n (into packet) octets moves.saying half.done goes last is half.moved_is
+                (other_pdu sides.B moves.saying octets moves.by moves.pdu_is) in
+                let so_many = ap length moved_is ∙ (length-map done' (pdu_at sides.B) ∙ length-append half.done (moves.saying ∷ [])) in
+                let front = hears.talks.follows c (moves.agrees c agreed) ∙ ap (λ xs. half.done ++ (xs ++ server_tail mtu maximum hears.talks.place c)) hears.none in
+                let front' : all mtu maximum c ≡ half.done ++ greeted c.greets c = front ∙ ap (λ p. half.done ++ server_tail mtu maximum p c) at_welcome in
+                let lengths = ap length front' ∙ length-append half.done (greeted c.greets c) in
+                let whole : length (all mtu maximum c) ≡ 8 + length (greeted c.greets c) = omega arith in
+                omega (arith, so_many, lengths, whole)
+          ];
         }
       where
         none_own : (one : Saying) → speaker one ≡ sides.A → own sides.B (one ∷ []) ≡ []
@@ -173,9 +192,11 @@ module _ (mtu maximum : ℕ) (packet : Packet) (known known' : Linking) (link li
         (λ some. absurd (none_some link' none some)) converses.half_b;
     fresh_a = converses.fresh_a;
     fresh_b = λ below. converses.fresh_b (let more = count_begun known known' begins in omega (arith, below, more));
+    is_part = converses.is_part;
+    put_heard = λ done is. let before = converses.put_heard done is in let same = ap length (moved_begun known known' begins n) in omega (arith, before, same);
   }
   server_passes (inr ends) none converses =
-      with_half (count_ended known known' ends) converses
+      with_half (count_ended known known' ends) (let same = ap length (moved_ended known known' ends n) in omega (arith, same)) converses
       (half_ended sides.B (all mtu maximum) ServerPlace (server_tail mtu maximum) known known' converses.decided n link link' put put' (StandsSo served converses.decided) (StandsSo served' converses.decided) ends none converses.half_b)
 
   pub server_up : Begins known known' → put' ≡ [] → served'.channel.stage ≡ stages.Free → Before → After
@@ -193,6 +214,8 @@ module _ (mtu maximum : ℕ) (packet : Packet) (known known' : Linking) (link li
               record { place = Fresh; mine = []; by = tt; put_is = same_put; follows = λ c agrees. refl; stands_so = (stage, free.0, free.1, free.2) }) converses.half_b;
           fresh_a = converses.fresh_a;
           fresh_b = λ below. converses.fresh_b (omega (arith, below, more));
+          is_part = converses.is_part;
+          put_heard = λ done is. let before = converses.put_heard done is in let same = ap length (moved_begun known known' begins n) in omega (arith, before, same);
         }
         | inr apart ↦ record {
           decided = converses.decided;
@@ -207,5 +230,7 @@ module _ (mtu maximum : ℕ) (packet : Packet) (known known' : Linking) (link li
           };
           fresh_a = converses.fresh_a;
           fresh_b = λ below. converses.fresh_b (omega (arith, below, more));
+          is_part = converses.is_part;
+          put_heard = λ done is. let before = converses.put_heard done is in let same = ap length (moved_begun known known' begins n) in omega (arith, before, same);
         }
       ]

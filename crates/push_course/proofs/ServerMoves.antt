@@ -2,11 +2,12 @@
 use Rattle.std.proofs.Common.{◌≡◌, ℕ, ◌≤◌, Bool, true, false, List, [], ◌∷◌, ◌++◌, Option, Some, None, option_to_list, refl, sym, ap, ap₂, subst, ◌∙◌, inl, inr, arith, true≢false}
 use Rattle.std.specs.Prelude.{◌==◌, slice_index}
 use Rattle.std.specs.List.{AllByRecursion}
-use Rattle.bt_base.specs.Objects.{Contents}
+use Rattle.bt_base.specs.Objects.{Object, Contents}
 use Rattle.push_script.specs.declared.word.Side.TheVariants as sides
 use Rattle.obex_headers.specs.Packets.{PlainPacket, packet_octets}
 use Rattle.obex_session.specs.declared.ruling.Progress.TheVariants.{Unnamed}
 use Rattle.obex_session.specs.Past.{Serving}
+use Rattle.obex_session.specs.Rules.{is_under_way}
 use Rattle.bt_host.specs.declared.channel_stages.ChannelStage.TheVariants as stages
 use Rattle.bt_host.specs.Pdus.{own_endpoint, asks_connection, grants_connection, asks_configuration, grants_configuration, asks_disconnection, grants_disconnection}
 use Rattle.bt_host.specs.Pushing.{utf16, connect_packet, disconnect_packet, put_packet}
@@ -19,12 +20,14 @@ use Rattle.push_talk.specs.ClientTurns.{says_packet, answers_packet, unwelcome, 
 use Rattle.push_talk.specs.ServerTurns as serving
 use Rattle.push_talk.specs.ServerTurns.{Turn, steps, behind, turn, ChannelTurns, SessionTurns, PushIsServed, IsReady, Replies}
 use Rattle.push_course.specs.Conversations.{Conversation, code_of}
+use Rattle.push_course.specs.Gains.{object_put, object_where}
 use Rattle.push_course.proofs.Owning.{own, IsBy, IsNext, next_is, none_next}
 use Rattle.push_course.proofs.Deciding.{Delivery, Decisions, Agrees, IsFair, IsFairGiven, IsFairDelivery, filled, filled_agrees, open_agrees, told_none, told_is}
+use Rattle.push_course.proofs.Parts.{Part, IsPart, PartGrows, none_stored, put_stored, put_failed}
 use Rattle.push_course.proofs.Tails.{parted, from_closing, from_parting, putting_tail, greeted, from_putting}
 use Rattle.push_course.proofs.ClientPlaces.{IsCapable}
 use Rattle.push_course.proofs.ClientMoves.{pdu_news}
-use Rattle.push_course.proofs.ServerPlaces.{ServerPlace, Fresh, Taken, Agreeing, Listening, Welcoming, Refusing, Stored, Parting, Closed, IsReadied, server_tail, ServerStands, ServerMoves}
+use Rattle.push_course.proofs.ServerPlaces.{ServerPlace, Fresh, Taken, Agreeing, Listening, Welcoming, Refusing, Stored, Parting, Closed, IsReadied, server_tail, ServerStands, PartMoves, part_stays, ServerMoves}
 
 -- what was noted, and the channel behind what it sent
 abbrev pub served_behind : Served → Served
@@ -32,12 +35,12 @@ served_behind noted = record noted { channel = (steps noted.channel).channel }
 
 module _ (mtu maximum : ℕ) where
   module _ (channels : ChannelTurns) (sessions : SessionTurns) (served_so : PushIsServed) (capable : IsCapable mtu maximum) (old noted : Served) (inbox inbox' : Kept) (response' : Option (List ℕ))
-      (readied : IsReadied mtu maximum old) (decided : Decisions) (fair : IsFair decided) where
+      (readied : IsReadied mtu maximum old) (decided : Decisions) (fair : IsFair decided) (part : Part) (is_part : IsPart decided part) where
     abbrev sent_now : List (List ℕ)
     sent_now = sent_in_answer response' noted.channel
 
     abbrev Moves : ServerPlace → List ℕ → Type 0
-    Moves place pdu = ServerMoves mtu maximum decided place pdu sent_now (served_behind noted)
+    Moves place pdu = ServerMoves mtu maximum decided place pdu sent_now (served_behind noted) inbox inbox' part
 
     abbrev IsNextAlways : ServerPlace → List ℕ → Type 0
     IsNextAlways place pdu = (c : Conversation) → Agrees decided c → IsNext sides.B (server_tail mtu maximum place c) pdu
@@ -72,8 +75,9 @@ module _ (mtu maximum : ℕ) where
         → (place : ServerPlace) (one : Saying) → IsBy sides.A one → (mine : List Saying) → AllByRecursion (IsBy sides.B) mine → (place' : ServerPlace)
         → ((c : Conversation) → Agrees decided' c → server_tail mtu maximum place c ≡ one ∷ (mine ++ server_tail mtu maximum place' c))
         → (first second third : Option (List ℕ)) (channel : Channel) → NotesSo one first second third channel → option_to_list first ++ (option_to_list second ++ option_to_list third) ≡ own sides.B mine
-        → channel.mtu ≡ mtu → ServerStands mtu maximum place' decided' channel → Moves place (pdu_of one)
-    moves_to decided' same agrees place one by mine by_mine place' follows first second third channel notes sends mtu_is stands = record {
+        → channel.mtu ≡ mtu → ServerStands mtu maximum place' decided' channel → PartMoves decided' place inbox inbox' part → Moves place (pdu_of one)
+    moves_to decided' same agrees place one by mine by_mine place' follows first second third channel notes sends mtu_is stands parts = record {
+      parts = parts;
       decided' = decided';
       put_same = same;
       agrees = agrees;
@@ -92,26 +96,32 @@ module _ (mtu maximum : ℕ) where
     -- ---- signals
 
     let_go : (one : Saying) (second third : Option (List ℕ)) (channel : Channel) → LetsGo (behind one old.channel) old inbox inbox' noted response'
-        → turn one old.channel ≡ record { first = second; second = third; channel = channel } → NotesSo one None second third channel
-    let_go one second third channel goes taken = record {
-      responds = goes.no_response;
-      noted_channel = behind one old.channel;
-      noted_is = ap (λ (s : Served). s.channel) goes.served_is;
-      taken = taken;
-      maximum_is = ap (λ (s : Serving). s.maximum) goes.session_goes.session_is ∙ readied.maximum_is;
-      rests = ap (λ (s : Serving). s.progress) goes.session_goes.session_is;
-    }
+        → turn one old.channel ≡ record { first = second; second = third; channel = channel } → NotesSo one None second third channel × (inbox' ≡ inbox)
+    let_go one second third channel goes taken = (
+      record {
+        responds = goes.no_response;
+        noted_channel = behind one old.channel;
+        noted_is = ap (λ (s : Served). s.channel) goes.served_is;
+        taken = taken;
+        maximum_is = ap (λ (s : Serving). s.maximum) goes.session_goes.session_is ∙ readied.maximum_is;
+        rests = ap (λ (s : Serving). s.progress) goes.session_goes.session_is;
+      },
+      goes.rests (ap is_under_way readied.rests),
+    )
 
     left : (one : Saying) (second third : Option (List ℕ)) (channel : Channel) → LeavesSession (behind one old.channel) old inbox inbox' noted response'
-        → turn one old.channel ≡ record { first = second; second = third; channel = channel } → NotesSo one None second third channel
-    left one second third channel leaves taken = record {
-      responds = leaves.no_response;
-      noted_channel = behind one old.channel;
-      noted_is = ap (λ (s : Served). s.channel) leaves.served_is;
-      taken = taken;
-      maximum_is = ap (λ (s : Served). s.session.maximum) leaves.served_is ∙ readied.maximum_is;
-      rests = ap (λ (s : Served). s.session.progress) leaves.served_is ∙ readied.rests;
-    }
+        → turn one old.channel ≡ record { first = second; second = third; channel = channel } → NotesSo one None second third channel × (inbox' ≡ inbox)
+    left one second third channel leaves taken = (
+      record {
+        responds = leaves.no_response;
+        noted_channel = behind one old.channel;
+        noted_is = ap (λ (s : Served). s.channel) leaves.served_is;
+        taken = taken;
+        maximum_is = ap (λ (s : Served). s.session.maximum) leaves.served_is ∙ readied.maximum_is;
+        rests = ap (λ (s : Served). s.session.progress) leaves.served_is ∙ readied.rests;
+      },
+      leaves.inbox_same,
+    )
 
     abbrev NotesPdu : List ℕ → Type 0
     NotesPdu pdu = Notes false (pdu_news pdu) old inbox inbox' noted response'
@@ -123,10 +133,11 @@ module _ (mtu maximum : ℕ) where
     -- nothing is decided by it
     abbrev signalled : (place : ServerPlace) (one : Saying) → IsBy sides.A one → (mine : List Saying) → AllByRecursion (IsBy sides.B) mine → (place' : ServerPlace)
         → ((c : Conversation) → Agrees decided c → server_tail mtu maximum place c ≡ one ∷ (mine ++ server_tail mtu maximum place' c))
-        → (second third : Option (List ℕ)) (channel : Channel) → NotesSo one None second third channel → option_to_list second ++ option_to_list third ≡ own sides.B mine
+        → (second third : Option (List ℕ)) (channel : Channel) → NotesSo one None second third channel × (inbox' ≡ inbox) → option_to_list second ++ option_to_list third ≡ own sides.B mine
         → channel.mtu ≡ mtu → ServerStands mtu maximum place' decided channel → Moves place (pdu_of one)
     signalled place one by mine by_mine place' follows second third channel notes sends same stands =
-        moves_to decided refl (λ c agrees. agrees) place one by mine by_mine place' follows None second third channel notes sends same stands
+        moves_to decided refl (λ c agrees. agrees) place one by mine by_mine place' follows None second third channel notes.0 sends same stands
+        (part_stays decided decided place inbox inbox' part refl (λ c agrees. agrees) notes.1 is_part)
 
     being_fresh : (pdu : List ℕ) → ServerStands mtu maximum Fresh decided old.channel → IsNextAlways Fresh pdu → NotesPdu pdu → Moves Fresh pdu
     being_fresh pdu (stage, greets, stores, parts) next notes =
@@ -178,15 +189,18 @@ module _ (mtu maximum : ℕ) where
     }
 
     -- the session answers with success, and asks nothing of the inbox
-    agreed_to : (reply : PlainPacket) (one : Saying) → old.channel.stage ≡ stages.Open → serving.Agrees reply old noted inbox inbox' response' → NotesSo one (Some (pdu_of (answers_packet reply))) None None old.channel
-    agreed_to reply one stage agrees = record {
-      responds = agrees.responds;
-      noted_channel = old.channel;
-      noted_is = ap (λ (s : Served). s.channel) agrees.served_same;
-      taken = channels.rests old.channel stage;
-      maximum_is = ap (λ (s : Served). s.session.maximum) agrees.served_same ∙ readied.maximum_is;
-      rests = ap (λ (s : Served). s.session.progress) agrees.served_same ∙ readied.rests;
-    }
+    agreed_to : (reply : PlainPacket) (one : Saying) → old.channel.stage ≡ stages.Open → serving.Agrees reply old noted inbox inbox' response' → NotesSo one (Some (pdu_of (answers_packet reply))) None None old.channel × (inbox' ≡ inbox)
+    agreed_to reply one stage agrees = (
+      record {
+        responds = agrees.responds;
+        noted_channel = old.channel;
+        noted_is = ap (λ (s : Served). s.channel) agrees.served_same;
+        taken = channels.rests old.channel stage;
+        maximum_is = ap (λ (s : Served). s.session.maximum) agrees.served_same ∙ readied.maximum_is;
+        rests = ap (λ (s : Served). s.session.progress) agrees.served_same ∙ readied.rests;
+      },
+      agrees.inbox_same,
+    )
 
     ready : old.channel.peer ≡ own_endpoint → IsReady old
     ready peer = record { rests = readied.rests; peer = peer }
@@ -201,15 +215,18 @@ module _ (mtu maximum : ℕ) where
         let low : 255 ≤ maximum = let low = capable.low in omega (arith, low) in
         let room : 7 ≤ old.session.maximum = let same = readied.maximum_is in omega (arith, low, same) in
         by_saying Listening pdu one is
-        (moves_to (record decided { greets = Some true }) refl (λ c agrees. record { put = agrees.put; greets = told_none decided.greets _ greets; stores = agrees.stores; parts = agrees.parts })
-            Listening one refl (answers_packet (unwelcome 0xA0 maximum) ∷ []) (refl, tt) Welcoming
-            (λ c agrees. ap (λ b. one ∷ answers_packet (unwelcome (code_of b) maximum) ∷ greeted c.greets c) agrees.greets)
-            _ _ _ _ (agreed_to _ one stage (served_so.connects maximum old noted inbox inbox' response' low capable.high (ready peer) room (heard (connect_packet maximum) pdu stage is notes)))
-            (ap (λ n. pdu_of (answers_packet (unwelcome 0xA0 n)) ∷ []) readied.maximum_is) readied.mtu_is (stage, peer, refl, stores, parts))
+        (let notes' = agreed_to _ one stage (served_so.connects maximum old noted inbox inbox' response' low capable.high (ready peer) room (heard (connect_packet maximum) pdu stage is notes)) in
+        let before : (c : Conversation) → Agrees (record decided { greets = Some true }) c → Agrees decided c = λ c agrees. record { put = agrees.put; greets = told_none decided.greets _ greets; stores = agrees.stores; parts = agrees.parts } in
+        moves_to (record decided { greets = Some true }) refl before
+        Listening one refl (answers_packet (unwelcome 0xA0 maximum) ∷ []) (refl, tt) Welcoming
+        (λ c agrees. ap (λ b. one ∷ answers_packet (unwelcome (code_of b) maximum) ∷ greeted c.greets c) agrees.greets)
+        _ _ _ _ notes'.0
+        (ap (λ n. pdu_of (answers_packet (unwelcome 0xA0 n)) ∷ []) readied.maximum_is) readied.mtu_is (stage, peer, refl, stores, parts)
+        (part_stays decided (record decided { greets = Some true }) Listening inbox inbox' part refl before notes'.1 is_part))
 
     -- DISCONNECT
     parts_by : (place : ServerPlace) (b : Bool) → old.channel.stage ≡ stages.Open → old.channel.peer ≡ own_endpoint → decided.parts ≡ None
-        → ((c : Conversation) → Agrees decided c → server_tail mtu maximum place c ≡ from_parting c) → NotesSo (says_packet disconnect_packet) (Some (pdu_of (answers_packet (response (code_of b))))) None None old.channel
+        → ((c : Conversation) → Agrees decided c → server_tail mtu maximum place c ≡ from_parting c) → NotesSo (says_packet disconnect_packet) (Some (pdu_of (answers_packet (response (code_of b))))) None None old.channel × (inbox' ≡ inbox)
         → Moves place (pdu_of (says_packet disconnect_packet))
     parts_by place b stage peer free tails notes =
         let one : Saying = says_packet disconnect_packet in
@@ -217,7 +234,7 @@ module _ (mtu maximum : ℕ) where
         λ c agrees. record { put = agrees.put; greets = agrees.greets; stores = agrees.stores; parts = told_none decided.parts _ free } in
         moves_to (record decided { parts = Some b }) refl before place one refl (answers_packet (response (code_of b)) ∷ []) (refl, tt) Parting
         (λ c agrees. tails c (before c agrees) ∙ ap (λ b. one ∷ answers_packet (response (code_of b)) ∷ parted c.parts) agrees.parts)
-        _ _ _ _ notes refl readied.mtu_is (stage, peer, b, refl)
+        _ _ _ _ notes.0 refl readied.mtu_is (stage, peer, b, refl) (part_stays decided (record decided { parts = Some b }) place inbox inbox' part refl before notes.1 is_part)
 
     departing : (place : ServerPlace) (pdu : List ℕ) → old.channel.stage ≡ stages.Open → old.channel.peer ≡ own_endpoint → decided.parts ≡ None
         → ((c : Conversation) → Agrees decided c → server_tail mtu maximum place c ≡ from_parting c) → IsNextAlways place pdu → NotesPdu pdu → Moves place pdu
@@ -227,7 +244,7 @@ module _ (mtu maximum : ℕ) where
         let room : 3 ≤ old.session.maximum = let low = capable.low in let same = readied.maximum_is in omega (arith, low, same) in
         by_saying place pdu one is
         (parts_by place true stage peer free tails
-            (agreed_to _ one stage (served_so.disconnects old noted inbox inbox' response' (ready peer) room (heard disconnect_packet pdu stage is notes))))
+        (agreed_to _ one stage (served_so.disconnects old noted inbox inbox' response' (ready peer) room (heard disconnect_packet pdu stage is notes))))
 
     -- ---- the object
 
@@ -240,17 +257,40 @@ module _ (mtu maximum : ℕ) where
       named : (octets : List ℕ) (c : Conversation) → Agrees decided c → from_putting (Some octets) c ≡ says_packet (put_packet (utf16 delivery.name) octets) ∷ putting_tail c
       named octets c agrees = ap (λ (d : Delivery). says_packet (put_packet (utf16 d.name) octets) ∷ putting_tail c) (told_is decided.put _ delivery is_put agrees.put)
 
+      -- what is stored where success is the response, or not
+      abbrev kept_where : List ℕ → Bool → List Object
+      kept_where octets true = record { name = utf16 delivery.name; octets = octets } ∷ []
+      kept_where octets false = []
+
+      abbrev PutGrows : List ℕ → Bool → Type 0
+      PutGrows octets b = PartGrows inbox inbox' part (record { stores = Some b; objects = kept_where octets b })
+
+      kept_so : (octets : List ℕ) (b : Bool) → delivery.given ≡ Some octets → (c : Conversation) → Agrees decided c → kept_where octets b ≡ object_where b c
+      kept_so octets false given c agrees = refl
+      kept_so octets true given c agrees =
+          sym (ap (λ g. object_put g c.given c.name) (told_is decided.greets c.greets true welcome agrees.greets)
+          ∙ (ap (λ (d : Delivery). object_put true d.given d.name) (told_is decided.put _ delivery is_put agrees.put) ∙ ap (λ g. object_put true g delivery.name) given))
+
+      put_part : (octets : List ℕ) (b : Bool) → delivery.given ≡ Some octets → decided.stores ≡ None → ((c : Conversation) → Agrees (record decided { stores = Some b }) c → Agrees decided c)
+          → PutGrows octets b → PartMoves (record decided { stores = Some b }) Welcoming inbox inbox' part
+      put_part octets b given stores before grows = record {
+        part' = record { stores = Some b; objects = kept_where octets b };
+        is_part = record { stores_is = refl; objects_are = λ c agrees. kept_so octets b given c (before c agrees) };
+        grows = grows;
+        at_put = λ b is. inr refl;
+      }
+
       stores_by : (octets : List ℕ) (b : Bool) → delivery.given ≡ Some octets → old.channel.stage ≡ stages.Open → old.channel.peer ≡ own_endpoint → decided.stores ≡ None → decided.parts ≡ None
           → NotesSo (says_packet (put_packet (utf16 delivery.name) octets)) (Some (pdu_of (answers_packet (response (code_of b))))) None None old.channel
-          → Moves Welcoming (pdu_of (says_packet (put_packet (utf16 delivery.name) octets)))
-      stores_by octets b given stage peer stores parts notes =
+          → PutGrows octets b → Moves Welcoming (pdu_of (says_packet (put_packet (utf16 delivery.name) octets)))
+      stores_by octets b given stage peer stores parts notes grows =
           let one : Saying = says_packet (put_packet (utf16 delivery.name) octets) in
           let before : (c : Conversation) → Agrees (record decided { stores = Some b }) c → Agrees decided c =
           λ c agrees. record { put = agrees.put; greets = agrees.greets; stores = told_none decided.stores _ stores; parts = agrees.parts } in
           moves_to (record decided { stores = Some b }) refl before Welcoming one refl (answers_packet (response (code_of b)) ∷ []) (refl, tt) Stored
           (λ c agrees.
           welcomed c (before c agrees) ∙ (ap (λ g. from_putting g c) given ∙ (named octets c (before c agrees) ∙ ap (λ b. one ∷ answers_packet (response (code_of b)) ∷ from_parting c) agrees.stores)))
-          _ _ _ _ notes refl readied.mtu_is (stage, peer, parts)
+          _ _ _ _ notes refl readied.mtu_is (stage, peer, parts) (put_part octets b given stores before grows)
 
       delivered : (g : Option (List ℕ)) → delivery.given ≡ g → (pdu : List ℕ) → old.channel.stage ≡ stages.Open → old.channel.peer ≡ own_endpoint → decided.stores ≡ None → decided.parts ≡ None
           → IsNextAlways Welcoming pdu → NotesPdu pdu → Moves Welcoming pdu
@@ -261,10 +301,15 @@ module _ (mtu maximum : ℕ) where
           let is : pdu ≡ pdu_of one = next_is sides.B one _ pdu (subst (λ rest. IsNext sides.B rest pdu) (tails some agreed) (next some agreed)) in
           let can : IsFairDelivery delivery = fair delivery is_put in
           let room : 416 ≤ old.session.maximum = let low = capable.low in let same = readied.maximum_is in omega (arith, low, same) in
+          let none : part.objects ≡ [] = none_stored decided part some agreed stores is_part in
+          let packet_heard = heard (put_packet (utf16 delivery.name) octets) pdu stage is notes in
+          let stay = packet_heard.hears.cause.faults_stay in
           by_saying Welcoming pdu one is
-          (elim (served_so.puts delivery.name octets old noted inbox inbox' response' can.text can.few (subst IsFairGiven given can.small) (ready peer) room (heard (put_packet (utf16 delivery.name) octets) pdu stage is notes)) [
+          (elim (served_so.puts delivery.name octets old noted inbox inbox' response' can.text can.few (subst IsFairGiven given can.small) (ready peer) room packet_heard) [
             | inl replies ↦ stores_by octets true given stage peer stores parts (replied _ _ _ one stage replies)
+                (put_stored inbox inbox' part (record { name = utf16 delivery.name; octets = octets }) none replies.content_is stay)
             | inr failed ↦ stores_by octets false given stage peer stores parts (replied _ _ _ one stage failed.1)
+                (put_failed inbox inbox' part none failed.1.content_is stay failed.0)
           ])
 
     -- what is put was decided: two conversations would go on in two ways

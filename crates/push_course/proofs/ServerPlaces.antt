@@ -1,10 +1,10 @@
 -- Where a server stands in the conversation of a push, and where a move leads it.
-use Rattle.std.proofs.Common.{◌≡◌, ℕ, Bool, List, [], ◌∷◌, ◌++◌, Some, None, true, false}
+use Rattle.std.proofs.Common.{◌≡◌, ℕ, Bool, List, [], ◌∷◌, ◌++◌, Some, None, true, false, ◌⊎◌, inl}
 use Rattle.obex_session.specs.declared.ruling.Progress.TheVariants.{Unnamed}
 use Rattle.bt_host.specs.declared.channel_stages.ChannelStage.TheVariants as stages
 use Rattle.bt_host.specs.Pdus.{own_endpoint}
 use Rattle.bt_host.specs.Channels.{Channel}
-use Rattle.bt_host.specs.Servers.{Served}
+use Rattle.bt_host.specs.Servers.{Served, Kept}
 use Rattle.std.specs.List.{AllByRecursion}
 use Rattle.push_script.specs.declared.word.Side.TheVariants as sides
 use Rattle.push_talk.specs.Conversing.{Saying}
@@ -12,6 +12,7 @@ use Rattle.push_talk.specs.Speaking.{pdu_of}
 use Rattle.push_course.proofs.Owning.{own, IsBy}
 use Rattle.push_course.specs.Conversations.{Conversation}
 use Rattle.push_course.proofs.Deciding.{Decisions, Agrees}
+use Rattle.push_course.proofs.Parts.{Part, IsPart, part_on, PartGrows, grows_not}
 use Rattle.push_course.proofs.Tails.{parted, from_parting, greeted, from_greeting, from_granting, from_configuring, from_connecting}
 
 -- what the server awaits: the request for the channel, that for its configuration, the grant of its own, CONNECT, what
@@ -32,6 +33,22 @@ pub record IsReadied (mtu maximum : ℕ) (served : Served) : Type 0 where
   pub mtu_is : served.channel.mtu ≡ mtu
   pub maximum_is : served.session.maximum ≡ maximum
   pub rests : served.session.progress ≡ Unnamed
+
+-- what becomes of the part that is stored: a PUT alone decides it
+pub record PartMoves (decided' : Decisions) (place : ServerPlace) (inbox inbox' : Kept) (part : Part) : Type 0 where
+  pub part' : Part
+  pub is_part : IsPart decided' part'
+  pub grows : PartGrows inbox inbox' part part'
+  pub at_put : (b : Bool) → part'.stores ≡ Some b → (part.stores ≡ Some b) ⊎ (place ≡ Welcoming)
+
+pub part_stays : (decided decided' : Decisions) (place : ServerPlace) (inbox inbox' : Kept) (part : Part) → decided'.stores ≡ decided.stores → ((c : Conversation) → Agrees decided' c → Agrees decided c) → inbox' ≡ inbox
+    → IsPart decided part → PartMoves decided' place inbox inbox' part
+part_stays decided decided' place inbox inbox' part same agrees same_inbox is = record {
+  part' = part;
+  is_part = part_on decided decided' part same agrees is;
+  grows = grows_not inbox inbox' part same_inbox;
+  at_put = λ b now. inl now;
+}
 
 module _ (mtu maximum : ℕ) where
   abbrev pub server_tail : ServerPlace → Conversation → List Saying
@@ -58,7 +75,7 @@ module _ (mtu maximum : ℕ) where
   ServerStands Closed decided channel = channel.stage ≡ stages.Closed
 
   -- it was one saying, the same in all conversations that may be; what is said then, and where the server stands behind it
-  pub record ServerMoves (decided : Decisions) (place : ServerPlace) (pdu : List ℕ) (sent : List (List ℕ)) (served : Served) : Type 0 where
+  pub record ServerMoves (decided : Decisions) (place : ServerPlace) (pdu : List ℕ) (sent : List (List ℕ)) (served : Served) (inbox inbox' : Kept) (part : Part) : Type 0 where
     pub decided' : Decisions
     pub put_same : decided'.put ≡ decided.put
     pub agrees : (c : Conversation) → Agrees decided' c → Agrees decided c
@@ -72,3 +89,4 @@ module _ (mtu maximum : ℕ) where
     pub sends : sent ≡ own sides.B mine
     pub stands : ServerStands place' decided' served.channel
     pub readied : IsReadied mtu maximum served
+    pub parts : PartMoves decided' place inbox inbox' part

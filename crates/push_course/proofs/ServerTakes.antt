@@ -7,6 +7,7 @@ use Rattle.bt_host.specs.Channels.{Channel, fresh, sent, sent_at}
 use Rattle.bt_host.specs.Servers.{Served, Kept, LeavesSession, LetsGo, Notes}
 use Rattle.bt_host.proofs.Settling.{two_steps_suffice}
 use Rattle.obex_session.specs.Past.{Serving}
+use Rattle.obex_session.specs.Rules.{is_under_way}
 use Rattle.obex_session.specs.declared.ruling.Progress.TheVariants.{Unnamed}
 use Rattle.host_wire.specs.Sending.{sent_in_answer}
 use Rattle.push_talk.specs.ServerTurns.{Turn, steps}
@@ -14,8 +15,7 @@ use Rattle.push_course.proofs.ServerMoves.{served_behind}
 use Rattle.push_course.proofs.Courses.{IsServed}
 
 -- what it noted of the news, and what it sends
-pub record Takes (waits : Bool) (news : PlainNews) (served served' : Served) (inbox : Kept) (sent_now : List (List ℕ)) : Type 0 where
-  pub inbox' : Kept
+pub record Takes (waits : Bool) (news : PlainNews) (served served' : Served) (inbox inbox' : Kept) (sent_now : List (List ℕ)) : Type 0 where
   pub noted : Served
   pub response : Option (List ℕ)
   pub notes : Notes waits news served inbox inbox' noted response
@@ -49,17 +49,19 @@ sends_none response noted channel none same rests =
 
 -- ---- news
 
-module _ (mtu maximum : ℕ) (waits : Bool) (served served' : Served) (inbox : Kept) (sent_now : List (List ℕ)) (is_served : IsServed mtu maximum served) where
+module _ (mtu maximum : ℕ) (waits : Bool) (served served' : Served) (inbox inbox' : Kept) (sent_now : List (List ℕ)) (is_served : IsServed mtu maximum served) where
   pub record TakesQuietly (channel : Channel) : Type 0 where
     pub sent_none : sent_now ≡ []
+    pub inbox_same : inbox' ≡ inbox
     pub channel_is : served'.channel ≡ channel
     pub is_served' : IsServed mtu maximum served'
 
-  quietly : (news : PlainNews) (takes : Takes waits news served served' inbox sent_now) (channel : Channel) → takes.noted.channel ≡ channel → steps channel ≡ record { first = None; second = None; channel = channel } → channel.mtu ≡ mtu
-      → takes.response ≡ None → takes.noted.session.maximum ≡ maximum → takes.noted.session.progress ≡ Unnamed → TakesQuietly channel
-  quietly news takes channel noted rests same_mtu none same_maximum unnamed =
+  quietly : (news : PlainNews) (takes : Takes waits news served served' inbox inbox' sent_now) (channel : Channel) → takes.noted.channel ≡ channel → steps channel ≡ record { first = None; second = None; channel = channel } → channel.mtu ≡ mtu
+      → takes.response ≡ None → takes.noted.session.maximum ≡ maximum → takes.noted.session.progress ≡ Unnamed → inbox' ≡ inbox → TakesQuietly channel
+  quietly news takes channel noted rests same_mtu none same_maximum unnamed same_inbox =
       let channel_is : served'.channel ≡ channel = ap (λ (s : Served). s.channel) takes.served_is ∙ (ap (λ (c : Channel). (steps c).channel) noted ∙ ap (λ (t : Turn). t.channel) rests) in
       record {
+        inbox_same = same_inbox;
         sent_none = takes.sent_is ∙ sends_none takes.response takes.noted.channel channel none noted rests;
         channel_is = channel_is;
         is_served' = record {
@@ -72,20 +74,20 @@ module _ (mtu maximum : ℕ) (waits : Bool) (served served' : Served) (inbox : K
         };
       }
 
-  left : (news : PlainNews) (takes : Takes waits news served served' inbox sent_now) (channel : Channel) → LeavesSession channel served inbox takes.inbox' takes.noted takes.response
+  left : (news : PlainNews) (takes : Takes waits news served served' inbox inbox' sent_now) (channel : Channel) → LeavesSession channel served inbox inbox' takes.noted takes.response
       → steps channel ≡ record { first = None; second = None; channel = channel } → channel.mtu ≡ mtu → TakesQuietly channel
   left news takes channel leaves rests same_mtu =
       quietly news takes channel (ap (λ (s : Served). s.channel) leaves.served_is) rests same_mtu leaves.no_response
-      (ap (λ (s : Served). s.session.maximum) leaves.served_is ∙ is_served.readied.maximum_is) (ap (λ (s : Served). s.session.progress) leaves.served_is ∙ is_served.readied.rests)
+      (ap (λ (s : Served). s.session.maximum) leaves.served_is ∙ is_served.readied.maximum_is) (ap (λ (s : Served). s.session.progress) leaves.served_is ∙ is_served.readied.rests) leaves.inbox_same
 
-  pub takes_nothing : Takes waits Nothing served served' inbox sent_now → TakesQuietly served.channel
+  pub takes_nothing : Takes waits Nothing served served' inbox inbox' sent_now → TakesQuietly served.channel
   takes_nothing takes = left Nothing takes served.channel takes.notes is_served.rests is_served.readied.mtu_is
 
-  pub takes_up : Takes waits LinkUp served served' inbox sent_now → TakesQuietly (fresh served.channel.mtu)
+  pub takes_up : Takes waits LinkUp served served' inbox inbox' sent_now → TakesQuietly (fresh served.channel.mtu)
   takes_up takes = left LinkUp takes (fresh served.channel.mtu) takes.notes refl is_served.readied.mtu_is
 
-  pub takes_down : (reason : ℕ) → Takes waits (LinkDown reason) served served' inbox sent_now → TakesQuietly (fresh served.channel.mtu)
+  pub takes_down : (reason : ℕ) → Takes waits (LinkDown reason) served served' inbox inbox' sent_now → TakesQuietly (fresh served.channel.mtu)
   takes_down reason takes =
-      let goes : LetsGo (fresh served.channel.mtu) served inbox takes.inbox' takes.noted takes.response = takes.notes in
+      let goes : LetsGo (fresh served.channel.mtu) served inbox inbox' takes.noted takes.response = takes.notes in
       quietly (LinkDown reason) takes (fresh served.channel.mtu) (ap (λ (s : Served). s.channel) goes.served_is) refl is_served.readied.mtu_is goes.no_response
-      (ap (λ (s : Serving). s.maximum) goes.session_goes.session_is ∙ is_served.readied.maximum_is) (ap (λ (s : Serving). s.progress) goes.session_goes.session_is)
+      (ap (λ (s : Serving). s.maximum) goes.session_goes.session_is ∙ is_served.readied.maximum_is) (ap (λ (s : Serving). s.progress) goes.session_goes.session_is) (goes.rests (ap is_under_way is_served.readied.rests))

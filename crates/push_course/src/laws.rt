@@ -1,6 +1,7 @@
 //! Laws of the conversations of a world, for every run from the beginning.
 
 ghost use Rattle.push_course.specs.Conversations.{LinksConverse, OutcomesAreSaid};
+ghost use Rattle.push_course.specs.Gains.{GainIsSaid};
 
 /// What the two hosts of a push say to each other on a link is a front of one conversation.
 pub fn links_converse()
@@ -11,4 +12,10 @@ pub fn links_converse()
 /// makes of it.
 pub fn outcomes_are_said()
     ensures { OutcomesAreSaid }
+{}
+
+/// Where the inbox tells what it holds, it gained the objects of the conversations on its links that
+/// it answered with success, in their order, and nothing else.
+pub fn gain_is_said()
+    ensures { GainIsSaid }
 {}
