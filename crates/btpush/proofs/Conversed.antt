@@ -31,7 +31,7 @@ ended_moves : (side : Side) (going : Bool) (before last : Moment) (ended : List 
 ended_moves side true before last ended ends = ap (moves side) ends.0 ∙ no_move side _ _
 ended_moves side false before last ended ends = ap (moves side) ends.0
 
-same_links : (side : Side) (script : List Word) (first last : Moment) (entries : List Entry) (plays : Plays script first last entries) → links side entries ≡ links side (all_entries plays.happenings)
+pub same_links : (side : Side) (script : List Word) (first last : Moment) (entries : List Entry) (plays : Plays script first last entries) → links side entries ≡ links side (all_entries plays.happenings)
 same_links side script first last entries plays =
     let moved : moves side entries ≡ moves side (all_entries plays.happenings) =
     ap (moves side) plays.entries_are ∙ moves-in_parts side (all_entries plays.happenings) plays.ended
@@ -54,7 +54,7 @@ one_said conversation m = one_if (nat_le 9 m) (object_put conversation) (one_if 
 
 -- ---- all of it
 
-longest : (mtu obex : ℕ) → 416 ≤ mtu → mtu < 2 ^ 16 → 416 ≤ obex → (255 ≤ min obex mtu) × (min obex mtu < 2 ^ 16)
+pub longest : (mtu obex : ℕ) → 416 ≤ mtu → mtu < 2 ^ 16 → 416 ≤ obex → (255 ≤ min obex mtu) × (min obex mtu < 2 ^ 16)
 longest mtu obex mtu_low mtu_high obex_low = (omega (arith, mtu_low, obex_low), omega (arith, mtu_high))
 
 pub play_speaks : (size count mtu obex : ℕ) (names : List (List ℕ)) (shelf : Shelved) (inbox : Kept) (script : List Word) (last : Moment) (entries : List Entry) → IsSetting size count mtu obex names

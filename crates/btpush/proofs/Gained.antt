@@ -16,7 +16,7 @@ use Rattle.push_store.proofs.Gaining.{keeps_what_is_stored}
 use Rattle.btpush.specs.Plays.{IsGained, Gains}
 
 -- the end of the script changes nothing within a host
-ends_same : (going : Bool) (before last : Moment) (ended : List Entry) → EndsScript going before last ended → last.b.inside ≡ before.b.inside
+pub ends_same : (going : Bool) (before last : Moment) (ended : List Entry) → EndsScript going before last ended → last.b.inside ≡ before.b.inside
 ends_same true before last ended ends = ap (λ (m : Moment). m.b.inside) ends.1
 ends_same false before last ended ends = ap (λ (m : Moment). m.b.inside) ends.1
 

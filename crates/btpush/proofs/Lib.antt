@@ -7,3 +7,4 @@ pub mod Ordered
 pub mod Fronts
 pub mod Short
 pub mod Conversed
+pub mod Spelled

@@ -1,5 +1,5 @@
 -- What a run of a scenario comes to (this project's own).
-use Rattle.std.specs.Prelude.{ℕ, ◌++◌, replicate, ◌≡◌, ◌-◌, ◌^◌, ◌≤◌, min, List, length, slice_get, Option, Some, None, IfSome}
+use Rattle.std.specs.Prelude.{ℕ, ◌++◌, replicate, ◌≡◌, ◌-◌, ◌^◌, ◌≤◌, min, List, length, slice_get, Bool, Option, Some, None, IfSome}
 use Rattle.std.specs.List.{AllByRecursion}
 use Rattle.bt_base.specs.Objects.{Object, Contents}
 use Rattle.bt_base.specs.Streams.{gained}
@@ -10,7 +10,8 @@ use Rattle.capture.specs.Pushes.{InTurn}
 use Rattle.capture.specs.Entries.{Entry, IsEntry, capture_octets}
 use Rattle.capture.specs.Air.{Obeys, words_of}
 use Rattle.capture.specs.Links.{Link, links}
-use Rattle.capture.specs.Spelled.{link_objects}
+use Rattle.capture.specs.Spelled.{link_objects, objects_heard}
+use Rattle.capture.specs.Results.{marked}
 use Rattle.push_course.specs.Conversations.{Converse, sayings}
 use Rattle.capture.specs.Buffers.{KeepsWithin}
 use Rattle.capture.specs.Peaks.{buffers_peak}
@@ -57,6 +58,14 @@ pub record Speaks (mtu maximum : ℕ) (entries : List Entry) : Type 0 where
   pub converse : (n : ℕ) → Converse (sayings mtu maximum) entries n
   pub one_object : (n : ℕ) (link : Link) → slice_get (links sides.B entries) n ≡ Some link → length (link_objects link) ≤ 1
 
+-- Behind what the inbox held stand some of the objects that the packets of host b spell, in their order, and nothing else.
+pub record IsSpelled (entries : List Entry) (before : Option Contents) (now : Contents) : Type 0 where
+  pub held : Contents
+  pub held_is : before ≡ Some held
+  pub marks : List Bool
+  pub each : length marks ≡ length (objects_heard sides.B entries)
+  pub stored : now.stored ≡ held.stored ++ marked marks (objects_heard sides.B entries)
+
 -- A scenario was played, and the trace gained the capture of what happened: the air obeyed the words of the script,
 -- both hosts kept within the buffers of their controllers at each moment, and the peaks are those of the capture. No
 -- frame of an enhanced channel and no credit is there yet. Each object has its outcome, and the pushes are in turn: each
@@ -79,6 +88,7 @@ pub record Plays (scenario : Scenario) (played : Played) (stock stock' : Stocked
   pub in_turn : InTurn played.outcomes.items entries
   -- where MTU and longest OBEX packet have room for the PUT of each object
   pub speaks : 416 ≤ scenario.settings.mtu → 416 ≤ scenario.settings.obex → Speaks scenario.settings.mtu (min scenario.settings.obex scenario.settings.mtu) entries
+  pub spelled : 416 ≤ scenario.settings.mtu → 416 ≤ scenario.settings.obex → (now : Contents) → stock'.inbox.content ≡ Some now → IsSpelled entries stock.inbox.content now
   pub last : Moment
   pub happened : world.Plays (words_of scenario.script) (beginning scenario stock.shelf stock.inbox) last entries
   pub ends : EndsWith scenario.names played last stock'
