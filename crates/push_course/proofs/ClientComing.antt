@@ -77,6 +77,7 @@ module _ (mtu maximum : ℕ) (packet : Packet) (known known' : Linking) (link li
     fresh_a = λ below. converses.fresh_a (subst (λ k. k < n) count below);
     fresh_b = converses.fresh_b;
     is_part = converses.is_part;
+    delivers = converses.delivers;
     put_heard = converses.put_heard;
   }
 
@@ -136,7 +137,7 @@ module _ (mtu maximum : ℕ) (packet : Packet) (known known' : Linking) (link li
 
     pub client_talks : (taken : Turn) → is_some link ≡ true → link' ≡ link → (octets : List ℕ) → given_last (completes (into packet)) known.up ≡ in_move octets ∷ [] → n ≡ count_of known → course' ≡ taken.course
         → put' ≡ put ++ (sent_by taken.first ++ sent_by taken.second)
-        → (converses : Before) (hears : Hearkens converses octets) → ClientMoves mtu maximum converses.decided hears.talks.place octets taken → After
+        → (converses : Before) (hears : Hearkens converses octets) → ClientMoves mtu maximum converses.decided hears.talks.place octets taken part.shelved → After
     client_talks taken some same_link octets is last same_course same_put converses hears moves =
         let half = converses.half_a in
         let decided' : Decisions = moves.decided' in
@@ -176,6 +177,7 @@ module _ (mtu maximum : ℕ) (packet : Packet) (known known' : Linking) (link li
               (server_still mtu maximum converses.decided decided' served.channel moves.greets_same moves.stores_same moves.parts_same) converses.half_b;
           fresh_a = λ below. absurd (let count = count_on (into packet) known known' goes in omega (arith, below, last, count));
           fresh_b = λ below. let free = converses.fresh_b below in (moves.greets_same ∙ free.0, moves.stores_same ∙ free.1, moves.parts_same ∙ free.2);
+          delivers = λ delivery put. elim (moves.delivers delivery put) [ inl before ↦ converses.delivers delivery before | inr given ↦ given ];
           is_part = part_on converses.decided decided' part moves.stores_same moves.agrees converses.is_part;
           put_heard = converses.put_heard;
         }
@@ -195,6 +197,7 @@ module _ (mtu maximum : ℕ) (packet : Packet) (known known' : Linking) (link li
     fresh_a = λ below. converses.fresh_a (let more = count_begun known known' begins in omega (arith, below, more));
     fresh_b = converses.fresh_b;
     is_part = converses.is_part;
+    delivers = converses.delivers;
     put_heard = converses.put_heard;
   }
   client_passes (inr ends) none converses =
@@ -222,6 +225,7 @@ module _ (mtu maximum : ℕ) (packet : Packet) (known known' : Linking) (link li
           fresh_a = λ below. converses.fresh_a (omega (arith, below, more));
           fresh_b = converses.fresh_b;
           is_part = converses.is_part;
+          delivers = converses.delivers;
           put_heard = converses.put_heard;
         }
         | inr apart ↦ record {
@@ -238,6 +242,7 @@ module _ (mtu maximum : ℕ) (packet : Packet) (known known' : Linking) (link li
           fresh_a = λ below. converses.fresh_a (omega (arith, below, more));
           fresh_b = converses.fresh_b;
           is_part = converses.is_part;
+          delivers = converses.delivers;
           put_heard = converses.put_heard;
         }
       ]

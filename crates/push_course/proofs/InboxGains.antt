@@ -84,4 +84,4 @@ gain_is_said size count mtu obex names shelf first setting happenings moment run
     let there = stood size count mtu obex names shelf first setting happenings moment runs in
     let same : there.stands.inbox ≡ last = let both = sym there.stands.inside_b ∙ is in cc in
     subst (GainsSo (sayings mtu (min obex mtu)) (all_entries happenings) first) same
-    (gains_so mtu (min obex mtu) (capable_in size count mtu obex names setting) (record { names = names; first = first }) (all_entries happenings) moment there.stands)
+    (gains_so mtu (min obex mtu) (capable_in size count mtu obex names setting) (record { names = names; first = first; shelved = shelf.content }) (all_entries happenings) moment there.stands)

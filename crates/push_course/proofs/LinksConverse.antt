@@ -72,7 +72,7 @@ come_so_far mtu maximum capable outset past moment stands n link here =
 pub links_converse : LinksConverse
 links_converse size count mtu obex names shelf inbox setting happenings moment runs n =
     let there = stood size count mtu obex names shelf inbox setting happenings moment runs in
-    converse_of mtu (min obex mtu) (capable_in size count mtu obex names setting) (record { names = names; first = inbox }) (all_entries happenings) moment there.stands n
+    converse_of mtu (min obex mtu) (capable_in size count mtu obex names setting) (record { names = names; first = inbox; shelved = shelf.content }) (all_entries happenings) moment there.stands n
 
 -- ---- what comes of a push
 
@@ -110,4 +110,4 @@ comes_so mtu maximum capable outset past moment stands (Some handle) known some 
 pub outcomes_are_said : OutcomesAreSaid
 outcomes_are_said size count mtu obex names shelf inbox setting happenings moment runs some =
     let there = stood size count mtu obex names shelf inbox setting happenings moment runs in
-    comes_so mtu (min obex mtu) (capable_in size count mtu obex names setting) (record { names = names; first = inbox }) (all_entries happenings) moment there.stands moment.a.line.link refl some
+    comes_so mtu (min obex mtu) (capable_in size count mtu obex names setting) (record { names = names; first = inbox; shelved = shelf.content }) (all_entries happenings) moment there.stands moment.a.line.link refl some
