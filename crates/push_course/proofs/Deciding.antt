@@ -53,7 +53,7 @@ IsFair decided = (delivery : Delivery) → decided.put ≡ Some delivery → IsF
 
 -- ---- there are some that agree
 
-abbrev no_delivery : Delivery
+abbrev pub no_delivery : Delivery
 no_delivery = record { name = []; given = None }
 
 abbrev with_delivery : Delivery → Decisions → Conversation
