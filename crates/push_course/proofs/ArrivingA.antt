@@ -129,11 +129,11 @@ module _ (read : SayingsAreRead) (mtu maximum : ℕ) (capable : IsCapable mtu ma
         hears_at : (n : ℕ) → n ≡ count_of known → Hearkens mtu maximum packet known known' link link' put put' b course course' served (part n) n goes (each n) octets
         hears_at n last = hearkens mtu maximum packet known known' link link' put put' b course course' served (part n) n goes some last octets (each n) (meets n last (each n))
 
-        moves_at : (n : ℕ) (last : n ≡ count_of known) → ClientMoves mtu maximum (each n).decided (hears_at n last).talks.place octets (turn takes.given takes.then_given (pdu_news octets) course) (part n).shelved
+        moves_at : (n : ℕ) (last : n ≡ count_of known) → ClientMoves mtu maximum (each n).decided (hears_at n last).talks.place octets (turn takes.given takes.then_given (pdu_news octets) course) (part n).shelved course.name
         moves_at n last =
             let hears = hears_at n last in
             let able : IsAble mtu maximum course = is_course.able (stands_busy mtu maximum hears.talks.place (each n).decided course hears.talks.stands_so) in
-            subst (ClientMoves mtu maximum (each n).decided hears.talks.place octets (turn takes.given takes.then_given (pdu_news octets) course)) (sym (part_shelved n))
+            subst (λ content. ClientMoves mtu maximum (each n).decided hears.talks.place octets (turn takes.given takes.then_given (pdu_news octets) course) content course.name) (sym (part_shelved n))
             (client_moves mtu maximum client_turns capable takes.given takes.then_given content course able (each n).decided (each n).fair hears.talks.place octets hears.talks.stands_so hears.next
             (λ greeted sized named.
             let small = able.small in

@@ -138,6 +138,7 @@ unlinked_converses mtu maximum known link link' put put' b course course' served
   fresh_a = converses.fresh_a;
   fresh_b = converses.fresh_b;
   is_part = converses.is_part;
+  named = λ there. absurd (none_some link' none there);
   delivers = converses.delivers;
   put_heard = converses.put_heard;
 }

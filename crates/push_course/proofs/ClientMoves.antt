@@ -97,14 +97,14 @@ pdu_news pdu = Pdu (channel_of pdu) pdu
 module _ (mtu maximum : ℕ) where
   module _ (turns : ClientTurns) (capable : IsCapable mtu maximum) (given then_given : Option (List ℕ)) (shelved : Option (List Object)) (course : Course) (able : IsAble mtu maximum course) (decided : Decisions) (fair : IsFair decided) where
     abbrev Moves : ClientPlace → List ℕ → Type 0
-    Moves place pdu = ClientMoves mtu maximum decided place pdu (turn given then_given (pdu_news pdu) course) shelved
+    Moves place pdu = ClientMoves mtu maximum decided place pdu (turn given then_given (pdu_news pdu) course) shelved course.name
 
     abbrev IsNextAlways : ClientPlace → List ℕ → Type 0
     IsNextAlways place pdu = (c : Conversation) → Agrees decided c → IsNext sides.A (client_tail mtu maximum place c) pdu
 
-    by_saying : (place : ClientPlace) (pdu : List ℕ) (one : Saying) (taken : Turn) → pdu ≡ pdu_of one → turn given then_given (told one) course ≡ taken → ClientMoves mtu maximum decided place (pdu_of one) taken shelved → Moves place pdu
+    by_saying : (place : ClientPlace) (pdu : List ℕ) (one : Saying) (taken : Turn) → pdu ≡ pdu_of one → turn given then_given (told one) course ≡ taken → ClientMoves mtu maximum decided place (pdu_of one) taken shelved course.name → Moves place pdu
     by_saying place pdu one taken is same moves =
-        subst (Moves place) (sym is) (subst (λ t. ClientMoves mtu maximum decided place (pdu_of one) t shelved) (sym same) moves)
+        subst (Moves place) (sym is) (subst (λ t. ClientMoves mtu maximum decided place (pdu_of one) t shelved course.name) (sym same) moves)
 
     abbrev some : Conversation
     some = filled decided
@@ -115,7 +115,7 @@ module _ (mtu maximum : ℕ) where
     -- nothing is decided by it
     module _ (place : ClientPlace) (taken : Turn) (one : Saying) (by : IsBy sides.B one) (mine : List Saying) (by_mine : AllByRecursion (IsBy sides.A) mine) (place' : ClientPlace) where
       moves_on : ((c : Conversation) → Agrees decided c → client_tail mtu maximum place c ≡ one ∷ (mine ++ client_tail mtu maximum place' c)) → sent_by taken.first ++ sent_by taken.second ≡ own sides.A mine
-          → ClientStands mtu maximum place' decided taken.course → IsAble mtu maximum taken.course → ClientMoves mtu maximum decided place (pdu_of one) taken shelved
+          → ClientStands mtu maximum place' decided taken.course → IsAble mtu maximum taken.course × (taken.course.name ≡ course.name) → ClientMoves mtu maximum decided place (pdu_of one) taken shelved course.name
       moves_on follows sends stands able' = record {
         decided' = decided;
         greets_same = refl;
@@ -123,6 +123,8 @@ module _ (mtu maximum : ℕ) where
         parts_same = refl;
         agrees = λ c agrees. agrees;
         fair = fair;
+        name_same = able'.1;
+        named = λ delivery is. inl is;
         delivers = λ delivery is. inl is;
         saying = one;
         pdu_is = refl;
@@ -133,7 +135,7 @@ module _ (mtu maximum : ℕ) where
         follows = follows;
         sends = sends;
         stands = stands;
-        able = able';
+        able = able'.0;
       }
 
     -- the first cause fixes the outcome
@@ -145,14 +147,14 @@ module _ (mtu maximum : ℕ) where
         ap (λ g. outcome_by g c.given c.stores) greets ∙ (ap (λ g. outcome_by true g c.stores) given ∙ ap (λ s. answered_outcome (code_of s)) stores)
 
     -- lengths, name and size stay
-    still_able : (next : Course) → next.mtu ≡ course.mtu → next.maximum ≡ course.maximum → next.name ≡ course.name → next.size ≡ course.size → IsAble mtu maximum next
-    still_able next same_mtu same_maximum same_name same_size = record {
+    still_able : (next : Course) → next.mtu ≡ course.mtu → next.maximum ≡ course.maximum → next.name ≡ course.name → next.size ≡ course.size → IsAble mtu maximum next × (next.name ≡ course.name)
+    still_able next same_mtu same_maximum same_name same_size = (record {
       mtu_is = same_mtu ∙ able.mtu_is;
       maximum_is = same_maximum ∙ able.maximum_is;
       text = subst IsUtf8 (sym same_name) able.text;
       few = subst (λ name. length (utf16 name) ≤ 100) (sym same_name) able.few;
       small = subst (λ size. size ≤ 200) (sym same_size) able.small;
-    }
+    }, same_name)
 
     asking : (pdu : List ℕ) → ClientStands mtu maximum Asking decided course → IsNextAlways Asking pdu → Moves Asking pdu
     asking pdu (stage, free, none) next =
@@ -232,8 +234,8 @@ module _ (mtu maximum : ℕ) where
 
     module _ (free : decided.put ≡ None) (small : IsFairGiven given) (told_shelf : IsGivenFrom shelved now_delivered) (taken : Turn) (mine : List Saying) (by_mine : AllByRecursion (IsBy sides.A) mine) (place' : ClientPlace) where
       decides : ((c : Conversation) → Agrees delivered c → greeted c.greets c ≡ mine ++ client_tail mtu maximum place' c) → ((c : Conversation) → Agrees decided c → c.greets ≡ true)
-          → sent_by taken.first ++ sent_by taken.second ≡ own sides.A mine → ClientStands mtu maximum place' delivered taken.course → IsAble mtu maximum taken.course
-          → ClientMoves mtu maximum decided BeingGreeted (pdu_of (answers_packet (unwelcome 0xA0 maximum))) taken shelved
+          → sent_by taken.first ++ sent_by taken.second ≡ own sides.A mine → ClientStands mtu maximum place' delivered taken.course → IsAble mtu maximum taken.course × (taken.course.name ≡ course.name)
+          → ClientMoves mtu maximum decided BeingGreeted (pdu_of (answers_packet (unwelcome 0xA0 maximum))) taken shelved course.name
       decides follows greets sends stands able' =
           let before : (c : Conversation) → Agrees delivered c → Agrees decided c = λ c agrees. record { put = told_none decided.put _ free; greets = agrees.greets; stores = agrees.stores; parts = agrees.parts } in
           record {
@@ -243,6 +245,8 @@ module _ (mtu maximum : ℕ) where
             parts_same = refl;
             agrees = before;
             fair = fair_delivered small;
+            name_same = able'.1;
+            named = λ delivery is. inr (let same : now_delivered ≡ delivery = cc in ap (λ (d : Delivery). d.name) (sym same));
             delivers = λ delivery is. inr (let same : now_delivered ≡ delivery = cc in subst (IsGivenFrom shelved) same told_shelf);
             saying = answers_packet (unwelcome 0xA0 maximum);
             pdu_is = refl;
@@ -254,14 +258,14 @@ module _ (mtu maximum : ℕ) where
                 ap (λ b. answers_packet (unwelcome (code_of b) maximum) ∷ greeted c.greets c) (greets c (before c agrees)) ∙ ap (λ rest. answers_packet (unwelcome 0xA0 maximum) ∷ rest) (follows c agrees);
             sends = sends;
             stands = stands;
-            able = able';
+            able = able'.0;
           }
 
     before_put : decided.put ≡ None → (c : Conversation) → Agrees delivered c → Agrees decided c
     before_put free c agrees = record { put = told_none decided.put _ free; greets = agrees.greets; stores = agrees.stores; parts = agrees.parts }
 
     by_given : (g : Option (List ℕ)) → given ≡ g → ShelfGives → ClientStands mtu maximum BeingGreeted decided course → ((c : Conversation) → Agrees decided c → c.greets ≡ true)
-        → ClientMoves mtu maximum decided BeingGreeted (pdu_of (answers_packet (unwelcome 0xA0 maximum))) (puts g course) shelved
+        → ClientMoves mtu maximum decided BeingGreeted (pdu_of (answers_packet (unwelcome 0xA0 maximum))) (puts g course) shelved course.name
     by_given (Some octets) is small (stage, peer, peer_mtu, free, none) greets =
         decides free small.0 small.1 _ (says_packet (put_packet (utf16 course.name) octets) ∷ []) (refl, tt) Delivering
         (λ c agrees.

@@ -76,13 +76,15 @@ module _ (mtu maximum : ℕ) where
   ClientStands Done decided course = (course.stage ≡ Leaving) × HasCome decided course
 
   -- it was one saying, the same in all conversations that may be; what is said then, and where the client stands behind it
-  pub record ClientMoves (decided : Decisions) (place : ClientPlace) (pdu : List ℕ) (taken : Turn) (shelved : Option (List Object)) : Type 0 where
+  pub record ClientMoves (decided : Decisions) (place : ClientPlace) (pdu : List ℕ) (taken : Turn) (shelved : Option (List Object)) (name : List ℕ) : Type 0 where
     pub decided' : Decisions
     pub greets_same : decided'.greets ≡ decided.greets
     pub stores_same : decided'.stores ≡ decided.stores
     pub parts_same : decided'.parts ≡ decided.parts
     pub agrees : (c : Conversation) → Agrees decided' c → Agrees decided c
     pub fair : IsFair decided'
+    pub name_same : taken.course.name ≡ name
+    pub named : (delivery : Delivery) → decided'.put ≡ Some delivery → (decided.put ≡ Some delivery) ⊎ (delivery.name ≡ name)
     -- what is put now the shelf gave
     pub delivers : (delivery : Delivery) → decided'.put ≡ Some delivery → (decided.put ≡ Some delivery) ⊎ IsGivenFrom shelved delivery
     pub saying : Saying

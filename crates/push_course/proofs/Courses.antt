@@ -73,6 +73,8 @@ module _ (mtu maximum : ℕ) where
     pub fresh_b : count_of b.known < n → (decided.greets ≡ None) × (decided.stores ≡ None) × (decided.parts ≡ None)
     -- what was stored by it; a PUT is heard before
     pub is_part : IsPart decided part
+    -- while a host knows of the link, what it puts there is the object of its push
+    pub named : is_some a.link ≡ true → n ≡ count_of a.known → (delivery : Delivery) → decided.put ≡ Some delivery → delivery.name ≡ course.name
     pub delivers : (delivery : Delivery) → decided.put ≡ Some delivery → IsGivenFrom part.shelved delivery
     pub put_heard : (done : Bool) → part.stores ≡ Some done → 9 ≤ length (moved b.known n)
 

@@ -55,6 +55,7 @@ module _ (mtu maximum : ℕ) (packet : Packet) where
     fresh_a = λ below. converses.fresh_a (subst (λ k. k < n) (count_on (out_move packet) known known' goes) below);
     fresh_b = converses.fresh_b;
     is_part = converses.is_part;
+    named = λ there now. converses.named there (now ∙ count_on (out_move packet) known known' goes);
     delivers = converses.delivers;
     put_heard = converses.put_heard;
   }
@@ -76,6 +77,7 @@ module _ (mtu maximum : ℕ) (packet : Packet) where
     fresh_a = converses.fresh_a;
     fresh_b = λ below. converses.fresh_b (subst (λ k. k < n) (count_on (out_move packet) known known' goes) below);
     is_part = converses.is_part;
+    named = converses.named;
     delivers = converses.delivers;
     put_heard = λ done is. let before = converses.put_heard done is in let more = moved_grows (out_move packet) known known' goes n in omega (arith, before, more);
   }

@@ -106,6 +106,7 @@ first_stands size count mtu obex names shelf inbox = record {
     fresh_b = λ below. (refl, refl, refl);
     is_part = record { stores_is = refl; objects_are = λ c agrees. refl };
     put_heard = λ done is. absurd cc;
+    named = λ there now delivery is. absurd cc;
     delivers = λ delivery is. absurd cc;
   };
 }

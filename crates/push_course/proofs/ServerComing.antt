@@ -63,6 +63,7 @@ module _ (mtu maximum : ℕ) (packet : Packet) (known known' : Linking) (link li
     fresh_a = converses.fresh_a;
     fresh_b = λ below. converses.fresh_b (subst (λ k. k < n) count below);
     is_part = converses.is_part;
+    named = converses.named;
     delivers = converses.delivers;
     put_heard = λ done is. let before = converses.put_heard done is in omega (arith, before, grows);
   }
@@ -163,6 +164,7 @@ module _ (mtu maximum : ℕ) (packet : Packet) (known known' : Linking) (link li
           fresh_a = λ below. moves.put_same ∙ converses.fresh_a below;
           fresh_b = λ below. absurd (let count = count_on (into packet) known known' goes in omega (arith, below, last, count));
           is_part = moves.parts.is_part;
+          named = λ there now delivery put. converses.named there now delivery (sym moves.put_same ∙ put);
           delivers = λ delivery put. subst (λ content. IsGivenFrom content delivery) (sym moves.parts.grows.shelved_same) (converses.delivers delivery (sym moves.put_same ∙ put));
           put_heard = λ b now. elim (moves.parts.at_put b now) [
             | inl before ↦ let heard = converses.put_heard b before in let grows = moved_grows (into packet) known known' goes n in omega (arith, heard, grows)
@@ -195,6 +197,7 @@ module _ (mtu maximum : ℕ) (packet : Packet) (known known' : Linking) (link li
     fresh_a = converses.fresh_a;
     fresh_b = λ below. converses.fresh_b (let more = count_begun known known' begins in omega (arith, below, more));
     is_part = converses.is_part;
+    named = converses.named;
     delivers = converses.delivers;
     put_heard = λ done is. let before = converses.put_heard done is in let same = ap length (moved_begun known known' begins n) in omega (arith, before, same);
   }
@@ -218,6 +221,7 @@ module _ (mtu maximum : ℕ) (packet : Packet) (known known' : Linking) (link li
           fresh_a = converses.fresh_a;
           fresh_b = λ below. converses.fresh_b (omega (arith, below, more));
           is_part = converses.is_part;
+          named = converses.named;
           delivers = converses.delivers;
           put_heard = λ done is. let before = converses.put_heard done is in let same = ap length (moved_begun known known' begins n) in omega (arith, before, same);
         }
@@ -235,6 +239,7 @@ module _ (mtu maximum : ℕ) (packet : Packet) (known known' : Linking) (link li
           fresh_a = converses.fresh_a;
           fresh_b = λ below. converses.fresh_b (omega (arith, below, more));
           is_part = converses.is_part;
+          named = converses.named;
           delivers = converses.delivers;
           put_heard = λ done is. let before = converses.put_heard done is in let same = ap length (moved_begun known known' begins n) in omega (arith, before, same);
         }
