@@ -42,7 +42,7 @@ module _ (read : SayingsAreRead) (mtu maximum : ℕ) (capable : IsCapable mtu ma
       let put : List (List ℕ) = stands.put_a in
       let put' : List (List ℕ) = put_on (Arrival sides.A packet) old new does sides.A put in
       let sent : List (List ℕ) = sent_told packet line face.line old.a.inside face.inside does.hears.tells in
-      let told : ClientTold packet line stands.course face.inside sent = told_inside packet line face.line stands.course stands.shelf old.a.inside face.inside stands.inside_a does.hears.tells in
+      let told : ClientTold packet line stands.course stands.shelf face.inside sent = told_inside packet line face.line stands.course stands.shelf old.a.inside face.inside stands.inside_a does.hears.tells in
       let news : PlainNews = news_of packet line in
       let known : Linking = known_of sides.A past in
       let known' : Linking = after_move known (into packet) in
@@ -67,7 +67,7 @@ module _ (read : SayingsAreRead) (mtu maximum : ℕ) (capable : IsCapable mtu ma
       let linked' = sym (ap (λ (f : Face). is_some f.line.link) face_is) ∙ linked_so past' new told.course' told.shelf' grounds'.upholds inside' in
       let behind : Behind read mtu maximum capable past past' packet new grounds'.piping known known' line.link face.line.link put put' sent b stands.course told.course' stands.served stands.part news =
       behind_a read mtu maximum capable past past' packet new grounds'.piping known known' line.link face.line.link put put' sent b stands.course told.course' stands.served stands.part news stands.is_course each
-      (takes_of packet line stands.course face.inside sent told) (ap (λ l. put_heard news put ++ on_link l sent) same) is_a is_b linked linked' comes in
+      (takes_of packet line stands.course stands.shelf face.inside sent told) stands.shelf.content (λ n. stands.part_shelved n ∙ sym stands.shelved_same) told.shelved (ap (λ l. put_heard news put ++ on_link l sent) same) is_a is_b linked linked' comes in
       stands_next mtu maximum outset past' new told.course' told.shelf' stands.served stands.inbox stands.part put' stands.put_b
       inside' behind.is_course (ap (λ (m : Moment). m.b.inside) does.new_is ∙ stands.inside_b) stands.is_served (ap (λ (m : Moment). m.scene.pushes.names) does.new_is ∙ stands.named)
-      wires' wires_b' known' (known_of sides.B past) face.line.link old.b.line.link is_a (ap (λ (f : Face). f.line.link) face_is) is_b (ap (λ (m : Moment). m.b.line.link) does.new_is) behind.each stands.gained
+      wires' wires_b' known' (known_of sides.B past) face.line.link old.b.line.link is_a (ap (λ (f : Face). f.line.link) face_is) is_b (ap (λ (m : Moment). m.b.line.link) does.new_is) behind.each stands.gained stands.part_shelved (told.content_is ∙ stands.shelved_same)

@@ -90,4 +90,4 @@ module _ (read : SayingsAreRead) (mtu maximum : ℕ) (capable : IsCapable mtu ma
       (takes_of packet line stands.served stands.inbox face.inside sent told) (ap (λ l. put_heard news put ++ on_link l sent) same) empties is_a is_b comes in
       stands_next mtu maximum outset past' new stands.course stands.shelf told.served' told.inbox' behind.part' stands.put_a put'
       (ap (λ (m : Moment). m.a.inside) does.new_is ∙ stands.inside_a) stands.is_course inside' behind.is_served (ap (λ (m : Moment). m.scene.pushes.names) does.new_is ∙ stands.named)
-      wires_a' wires' (known_of sides.A past) known' old.a.line.link face.line.link is_a (ap (λ (m : Moment). m.a.line.link) does.new_is) is_b (ap (λ (f : Face). f.line.link) face_is) behind.each (behind.gains outset.first stands.gained)
+      wires_a' wires' (known_of sides.A past) known' old.a.line.link face.line.link is_a (ap (λ (m : Moment). m.a.line.link) does.new_is) is_b (ap (λ (f : Face). f.line.link) face_is) behind.each (behind.gains outset.first stands.gained) (λ n. behind.shelved_same n ∙ stands.part_shelved n) stands.shelved_same

@@ -34,19 +34,24 @@ use Rattle.push_course.proofs.HalfSteps.{AtMostOne, at_most_one}
 use Rattle.push_course.proofs.Coming.{GoesOnTold, PassesBy, Coming}
 use Rattle.push_course.proofs.ClientTakes.{Takes, takes_none, takes_awaits, none_sent, fair_given, stands_busy, stands_onward, takes_up, takes_down}
 use Rattle.push_course.proofs.ClientComing.{in_move, client_other, client_still, MeetsHere, client_silent, Hearkens, hearkens, client_talks, client_passes, client_up}
+use Rattle.bt_base.specs.Objects.{Object}
+use Rattle.push_course.proofs.Deciding.{IsGivenFrom}
 use Rattle.push_course.proofs.Parts.{Part}
 use Rattle.push_course.proofs.Courses.{Wire, Converses, IsCourse, is_last}
 
 -- ---- news that it takes
 
-pub told_inside : (packet : Packet) (line line' : Line) (course : Course) (shelf : Shelved) (inside inside' : Inside) → inside ≡ Pushing course shelf → (tells : Tells packet line line' inside inside') → ClientTold packet line course inside' (sent_told packet line line' inside inside' tells)
+pub told_inside : (packet : Packet) (line line' : Line) (course : Course) (shelf : Shelved) (inside inside' : Inside) → inside ≡ Pushing course shelf → (tells : Tells packet line line' inside inside')
+    → ClientTold packet line course shelf inside' (sent_told packet line line' inside inside' tells)
 told_inside packet line line' course shelf (Pushing c s) inside' is tells =
     let same : c ≡ course = cc in
-    subst (λ k. ClientTold packet line k inside' (sent_told packet line line' (Pushing c s) inside' tells)) same (client_told packet line line' c s inside' tells)
+    let same_shelf : s ≡ shelf = cc in
+    subst (λ k. ClientTold packet line course k inside' (sent_told packet line line' (Pushing c s) inside' tells)) same_shelf
+    (subst (λ k. ClientTold packet line k s inside' (sent_told packet line line' (Pushing c s) inside' tells)) same (client_told packet line line' c s inside' tells))
 told_inside packet line line' course shelf (Serving served inbox) inside' is tells = absurd cc
 
-pub takes_of : (packet : Packet) (line : Line) (course : Course) (inside' : Inside) (sent : List (List ℕ)) (told : ClientTold packet line course inside' sent) → Takes (news_of packet line) course told.course' sent
-takes_of packet line course inside' sent told = record { given = told.given; then_given = told.then_given; course_is = told.course_is; sent_is = told.sent_is; sized = told.sized }
+abbrev pub takes_of : (packet : Packet) (line : Line) (course : Course) (shelf : Shelved) (inside' : Inside) (sent : List (List ℕ)) (told : ClientTold packet line course shelf inside' sent) → Takes (news_of packet line) course told.course' sent
+takes_of packet line course shelf inside' sent told = record { given = told.given; then_given = told.then_given; course_is = told.course_is; sent_is = told.sent_is; sized = told.sized }
 
 -- ---- the push is as far as its host's link
 
@@ -76,7 +81,8 @@ module _ (read : SayingsAreRead) (mtu maximum : ℕ) (capable : IsCapable mtu ma
     pub is_course : IsCourse mtu maximum course'
     pub each : (n : ℕ) → After n
 
-  module _ (is_course : IsCourse mtu maximum course) (each : (n : ℕ) → Before n) (takes : Takes news course course' sent) (put_is : put' ≡ put_heard news put ++ on_link link' sent) where
+  module _ (is_course : IsCourse mtu maximum course) (each : (n : ℕ) → Before n) (takes : Takes news course course' sent) (content : Option (List Object)) (part_shelved : (n : ℕ) → (part n).shelved ≡ content)
+      (shelved : (after_news news course).stage ≡ stages.Greeted → IsGivenFrom content (record { name = (after_news news course).name; given = takes.given })) (put_is : put' ≡ put_heard news put ++ on_link link' sent) where
     -- ---- nothing is told
 
     stays_so : news ≡ Nothing → (course' ≡ course) × (put' ≡ put)
@@ -123,15 +129,20 @@ module _ (read : SayingsAreRead) (mtu maximum : ℕ) (capable : IsCapable mtu ma
         hears_at : (n : ℕ) → n ≡ count_of known → Hearkens mtu maximum packet known known' link link' put put' b course course' served (part n) n goes (each n) octets
         hears_at n last = hearkens mtu maximum packet known known' link link' put put' b course course' served (part n) n goes some last octets (each n) (meets n last (each n))
 
-        moves_at : (n : ℕ) (last : n ≡ count_of known) → ClientMoves mtu maximum (each n).decided (hears_at n last).talks.place octets (turn takes.given takes.then_given (pdu_news octets) course)
+        moves_at : (n : ℕ) (last : n ≡ count_of known) → ClientMoves mtu maximum (each n).decided (hears_at n last).talks.place octets (turn takes.given takes.then_given (pdu_news octets) course) (part n).shelved course.name
         moves_at n last =
             let hears = hears_at n last in
             let able : IsAble mtu maximum course = is_course.able (stands_busy mtu maximum hears.talks.place (each n).decided course hears.talks.stands_so) in
-            client_moves mtu maximum client_turns capable takes.given takes.then_given course able (each n).decided (each n).fair hears.talks.place octets hears.talks.stands_so hears.next
-            (λ greeted sized.
+            subst (λ content. ClientMoves mtu maximum (each n).decided hears.talks.place octets (turn takes.given takes.then_given (pdu_news octets) course) content course.name) (sym (part_shelved n))
+            (client_moves mtu maximum client_turns capable takes.given takes.then_given content course able (each n).decided (each n).fair hears.talks.place octets hears.talks.stands_so hears.next
+            (λ greeted sized named.
             let small = able.small in
-            fair_given takes.given (after_news (pdu_news octets) course).size (omega (arith, small, sized))
-            (subst (λ n. (after_news n course).stage ≡ stages.Greeted → (octets : List ℕ) → takes.given ≡ Some octets → length octets ≡ (after_news n course).size) told takes.sized greeted))
+            (
+              fair_given takes.given (after_news (pdu_news octets) course).size (omega (arith, small, sized))
+                  (subst (λ n. (after_news n course).stage ≡ stages.Greeted → (octets : List ℕ) → takes.given ≡ Some octets → length octets ≡ (after_news n course).size) told takes.sized greeted),
+              subst (λ name. IsGivenFrom content (record { name = name; given = takes.given })) named
+                  (subst (λ n. (after_news n course).stage ≡ stages.Greeted → IsGivenFrom content (record { name = (after_news n course).name; given = takes.given })) told shelved greeted),
+            )))
 
         on_some : (l : Option ℕ) → link' ≡ l → is_some l ≡ true → on_link link' sent ≡ sent
         on_some None is there = absurd cc

@@ -72,6 +72,7 @@ module _ (read : SayingsAreRead) (mtu maximum : ℕ) (capable : IsCapable mtu ma
     pub is_served : IsServed mtu maximum served'
     pub part' : ℕ → Part
     pub each : (n : ℕ) → After (part' n) n
+    pub shelved_same : (n : ℕ) → (part' n).shelved ≡ (part n).shelved
     pub gains : (first : Kept) → HasGainedAll first inbox part → HasGainedAll first inbox' part'
 
   -- where all that waited has moved, nothing waits
@@ -93,6 +94,7 @@ module _ (read : SayingsAreRead) (mtu maximum : ℕ) (capable : IsCapable mtu ma
         record {
           is_served = quiet.is_served';
           part' = part;
+          shelved_same = λ n. refl;
           gains = λ first gained. gained_still first inbox inbox' part quiet.inbox_same gained;
           each = λ n. server_still mtu maximum packet known known' link link' put put' a course served served' (part n) n goes same (put_so nothing) quiet.channel_is none (each n);
         }
@@ -101,6 +103,7 @@ module _ (read : SayingsAreRead) (mtu maximum : ℕ) (capable : IsCapable mtu ma
     passes passes_by = record {
       is_served = (quiet_so passes_by.nothing).is_served';
       part' = part;
+      shelved_same = λ n. refl;
       gains = λ first gained. gained_still first inbox inbox' part (quiet_so passes_by.nothing).inbox_same gained;
       each = λ n. server_passes mtu maximum packet known known' link link' put put' a course served served' (part n) n passes_by.change passes_by.unknown' (each n);
     }
@@ -118,6 +121,7 @@ module _ (read : SayingsAreRead) (mtu maximum : ℕ) (capable : IsCapable mtu ma
       unheard none same nothing = record {
         is_served = (quiet_so nothing).is_served';
         part' = part;
+        shelved_same = λ n. refl;
         gains = λ first gained. gained_still first inbox inbox' part (quiet_so nothing).inbox_same gained;
         each = λ n. elim (is_last n (count_of known)) [
           | inl last ↦
@@ -167,6 +171,10 @@ module _ (read : SayingsAreRead) (mtu maximum : ℕ) (capable : IsCapable mtu ma
                 rests = subst (λ (s : Served). steps s.channel ≡ record { first = None; second = None; channel = s.channel }) (sym takes.served_is) (steps_rest noted.channel);
               };
               part' = with_part last moves.parts.part' part;
+              shelved_same = λ n. elim (is_last n last) [
+                | inl here ↦ ap (λ (p : Part). p.shelved) (part_at last moves.parts.part' part n here) ∙ (moves.parts.grows.shelved_same ∙ ap (λ k. (part k).shelved) (sym here))
+                | inr apart ↦ ap (λ (p : Part). p.shelved) (part_beside last moves.parts.part' part n apart)
+              ];
               each = λ n. elim (is_last n last) [
                 | inl here ↦ subst (λ k. After (with_part last moves.parts.part' part k) k) (sym here) (subst (λ p. After p last) (sym (part_at last moves.parts.part' part last refl))
                     (server_talks mtu maximum packet known known' link link' put put' a course served served' (part last) last goes inbox inbox' sent some same octets found refl put_now (each last) (hears_at last refl) moves))
@@ -200,6 +208,7 @@ module _ (read : SayingsAreRead) (mtu maximum : ℕ) (capable : IsCapable mtu ma
           record {
             is_served = quiet.is_served';
             part' = part;
+            shelved_same = λ n. refl;
             gains = λ first gained. gained_still first inbox inbox' part quiet.inbox_same gained;
             each = λ n.
                 server_up mtu maximum packet known known' link link' put put' a course served served' (part n) n up.begins
@@ -210,6 +219,7 @@ module _ (read : SayingsAreRead) (mtu maximum : ℕ) (capable : IsCapable mtu ma
           record {
             is_served = quiet.is_served';
             part' = part;
+            shelved_same = λ n. refl;
             gains = λ first gained. gained_still first inbox inbox' part quiet.inbox_same gained;
             each = λ n. server_passes mtu maximum packet known known' link link' put put' a course served served' (part n) n (inr down.ends) down.unknown' (each n);
           }

@@ -96,14 +96,15 @@ module _ (mtu maximum : ℕ) (name : List ℕ) (is_name : IsName name) (old : Co
       subst (IsCourse mtu maximum) (sym same) (record { mtu_is = is_course.mtu_is; maximum_is = is_course.maximum_is; able = λ busy. absurd (true≢false (sym idle ∙ busy)); awaited = awaited; calling = λ calls. absurd (true≢false (sym idle ∙ ap is_idle calls)) })
 
 -- what the client has within then
-record Began (mtu maximum : ℕ) (inside' : Inside) : Type 0 where
+record Began (mtu maximum : ℕ) (shelf : Shelved) (inside' : Inside) : Type 0 where
   course' : Course
   shelf' : Shelved
   is : inside' ≡ Pushing course' shelf'
   is_course : IsCourse mtu maximum course'
+  content_is : shelf'.content ≡ shelf.content
 
 begins_inside : (mtu maximum : ℕ) (name : List ℕ) → IsName name → (line line' : Line) (course : Course) (shelf : Shelved) (inside inside' : Inside) → inside ≡ Pushing course shelf → IsCourse mtu maximum course → idles inside ≡ true
-    → StartsPush name line line' inside inside' → Began mtu maximum inside'
+    → StartsPush name line line' inside inside' → Began mtu maximum shelf inside'
 begins_inside mtu maximum name is_name line line' course shelf (Serving served inbox) inside' is is_course idle starts = absurd cc
 begins_inside mtu maximum name is_name line line' course shelf (Pushing c s) (Serving served inbox) is is_course idle starts = absurd starts
 begins_inside mtu maximum name is_name line line' course shelf (Pushing c s) (Pushing course' shelf') is is_course idle starts =
@@ -114,6 +115,7 @@ begins_inside mtu maximum name is_name line line' course shelf (Pushing c s) (Pu
       course' = course';
       shelf' = shelf';
       is = refl;
+      content_is = let same_shelf : s ≡ shelf = cc in starts.1.content_is ∙ ap (λ (k : Shelved). k.content) same_shelf;
       is_course = subst (IsCourse mtu maximum) (sym (goes ∙ ap (λ k. two_steps starts.0.goes.first.given starts.0.goes.second.given k) first.leaves))
           (begins_course mtu maximum name is_name c (subst (IsCourse mtu maximum) same is_course) starts.0.goes.first.given starts.0.goes.second.given first.size first.small idle);
     }
@@ -136,6 +138,8 @@ unlinked_converses mtu maximum known link link' put put' b course course' served
   fresh_a = converses.fresh_a;
   fresh_b = converses.fresh_b;
   is_part = converses.is_part;
+  named = λ there. absurd (none_some link' none there);
+  delivers = converses.delivers;
   put_heard = converses.put_heard;
 }
 
@@ -153,9 +157,9 @@ module _ (mtu maximum : ℕ) (outset : Outset) (each_named : AllByRecursion IsNa
       let wires' : Wires sides.A past' new.a.line put' = wires_step past (Opening push) old new does holds sides.A stands.put_a stands.wires_a in
       let wires_b' : Wires sides.B past' new.b.line stands.put_b = wires_step past (Opening push) old new does holds sides.B stands.put_b stands.wires_b in
       let none : new.a.line.link ≡ None = unlinked sides.A past' new.a.line put' wires' (ap (λ (k : Linking). k.up) is_a ∙ down) in
-      let began : Began mtu maximum does.face.inside =
+      let began : Began mtu maximum stands.shelf does.face.inside =
       begins_inside mtu maximum does.name is_name old.a.line does.face.line stands.course stands.shelf old.a.inside does.face.inside stands.inside_a stands.is_course does.idle does.starts in
       stands_next mtu maximum outset past' new began.course' began.shelf' stands.served stands.inbox stands.part put' stands.put_b
       (ap (λ (m : Moment). m.a.inside) does.new_is ∙ began.is) began.is_course (ap (λ (m : Moment). m.b.inside) does.new_is ∙ stands.inside_b) stands.is_served (ap (λ (m : Moment). m.scene.pushes.names) does.new_is ∙ stands.named)
       wires' wires_b' (known_of sides.A past) (known_of sides.B past) new.a.line.link old.b.line.link is_a refl is_b (ap (λ (m : Moment). m.b.line.link) does.new_is)
-      (λ n. unlinked_converses mtu maximum (known_of sides.A past) old.a.line.link new.a.line.link stands.put_a put' _ stands.course began.course' stands.served (stands.part n) n down none (stands.each n)) stands.gained
+      (λ n. unlinked_converses mtu maximum (known_of sides.A past) old.a.line.link new.a.line.link stands.put_a put' _ stands.course began.course' stands.served (stands.part n) n down none (stands.each n)) stands.gained stands.part_shelved (began.content_is ∙ stands.shelved_same)

@@ -1,5 +1,5 @@
 -- A packet comes into a client, and the conversation on each of its links behind it.
-use Rattle.std.proofs.Common.{◌≡◌, ℕ, ◌<◌, List, [], ◌∷◌, ◌++◌, map, true, Option, None, refl, sym, ap, ap₂, subst, ◌∙◌, append_assoc, inl, inr, ◌⊎◌, arith}
+use Rattle.std.proofs.Common.{Some, ◌≡◌, ℕ, ◌<◌, List, [], ◌∷◌, ◌++◌, map, true, Option, None, refl, sym, ap, ap₂, subst, ◌∙◌, append_assoc, inl, inr, ◌⊎◌, arith}
 use Rattle.std.specs.Prelude.{is_some}
 use Rattle.std.proofs.lemmas.List.{append-nil}
 use Rattle.h4_framing.specs.Packets.{Packet}
@@ -20,7 +20,7 @@ use Rattle.push_talk.specs.Speaking.{pdu_of, speaker}
 use Rattle.push_talk.specs.ClientTurns.{Turn}
 use Rattle.push_course.specs.Conversations.{Conversation}
 use Rattle.push_course.proofs.Owning.{pdu_at, one_of, own, own-append, IsNext, none_mine}
-use Rattle.push_course.proofs.Deciding.{Decisions, Agrees, filled, filled_agrees}
+use Rattle.push_course.proofs.Deciding.{Delivery, Decisions, Agrees, filled, filled_agrees}
 use Rattle.push_course.proofs.ClientPlaces.{ClientPlace, Asking, client_tail, ClientStands, ClientMoves}
 use Rattle.push_course.proofs.ServerPlaces.{ServerPlace, Fresh, Taken, Agreeing as AgreeingToo, Listening, Welcoming, Refusing, Stored, Parting, Closed, server_tail, ServerStands}
 use Rattle.push_course.proofs.Moving.{count_of, GoesOn, completes, count_on, Begins, count_begun, moved_begun, Ends, count_ended}
@@ -68,8 +68,9 @@ module _ (mtu maximum : ℕ) (packet : Packet) (known known' : Linking) (link li
   StandsSo course decided place = ClientStands mtu maximum place decided course
 
   -- with another half, and as many links as before
-  with_half : (count_of known' ≡ count_of known) → (converses : Before) → ClientHalf mtu maximum here' course' converses.decided n → After
-  with_half count converses half = record {
+  with_half : (count_of known' ≡ count_of known) → (converses : Before) → (is_some link' ≡ true → n ≡ count_of known' → (delivery : Delivery) → converses.decided.put ≡ Some delivery → delivery.name ≡ course'.name) → ClientHalf mtu maximum here' course' converses.decided n → After
+  with_half count converses named half = record {
+    named = named;
     decided = converses.decided;
     fair = converses.fair;
     half_a = half;
@@ -77,6 +78,7 @@ module _ (mtu maximum : ℕ) (packet : Packet) (known known' : Linking) (link li
     fresh_a = λ below. converses.fresh_a (subst (λ k. k < n) count below);
     fresh_b = converses.fresh_b;
     is_part = converses.is_part;
+    delivers = converses.delivers;
     put_heard = converses.put_heard;
   }
 
@@ -85,13 +87,14 @@ module _ (mtu maximum : ℕ) (packet : Packet) (known known' : Linking) (link li
   module _ (goes : GoesOn (into packet) known known') where
     pub client_other : (n ≡ count_of known → ⊥) → Before → After
     client_other apart converses =
-        with_half (count_on (into packet) known known' goes) converses
+        with_half (count_on (into packet) known known' goes) converses (λ some last. absurd (apart (last ∙ count_on (into packet) known known' goes)))
         (half_other sides.A (all mtu maximum) ClientPlace (client_tail mtu maximum) known known' converses.decided n (into packet) link link' put put' (StandsSo course converses.decided) (StandsSo course' converses.decided) goes apart converses.half_a)
 
     pub client_still : link' ≡ link → put' ≡ put → course' ≡ course → given_last (completes (into packet)) known.up ≡ [] → Before → After
     client_still same_link same_put same_course none converses = elim (is_last n (count_of known)) [
       | inl last ↦
           with_half (count_on (into packet) known known' goes) converses
+          (λ some now delivery put. converses.named (subst (λ (l : Option ℕ). is_some l ≡ true) same_link some) last delivery put ∙ ap (λ (c : Course). c.name) (sym same_course))
           (half_still sides.A (all mtu maximum) ClientPlace (client_tail mtu maximum) known known' converses.decided n (into packet) link link' put put' (StandsSo course converses.decided) (StandsSo course' converses.decided) goes last none same_link same_put
           (λ place so. subst (λ k. StandsSo k converses.decided place) (sym same_course) so) converses.half_a)
       | inr apart ↦ client_other apart converses
@@ -110,7 +113,7 @@ module _ (mtu maximum : ℕ) (packet : Packet) (known known' : Linking) (link li
         let next = next_for sides.A (all mtu maximum) decided half.done octets meets in
         let stays : StaysSilent sides.A (all mtu maximum) decided half.done octets =
         stays_silent sides.A (all mtu maximum) decided (filled decided) (filled_agrees decided) (begins_so mtu maximum) half.done octets (half.silent last none some) next in
-        with_half (count_on (into packet) known known' goes) converses (record {
+        with_half (count_on (into packet) known known' goes) converses (λ there. absurd (none_some link' none' there)) (record {
           done = half.done ++ stays.one ∷ [];
           moved_is = moved_one sides.A (all mtu maximum) ClientPlace (client_tail mtu maximum) known known' decided n (into packet) octets stays.one half.done goes last is half.moved_is stays.pdu_is;
           front = stays.front;
@@ -136,7 +139,7 @@ module _ (mtu maximum : ℕ) (packet : Packet) (known known' : Linking) (link li
 
     pub client_talks : (taken : Turn) → is_some link ≡ true → link' ≡ link → (octets : List ℕ) → given_last (completes (into packet)) known.up ≡ in_move octets ∷ [] → n ≡ count_of known → course' ≡ taken.course
         → put' ≡ put ++ (sent_by taken.first ++ sent_by taken.second)
-        → (converses : Before) (hears : Hearkens converses octets) → ClientMoves mtu maximum converses.decided hears.talks.place octets taken → After
+        → (converses : Before) (hears : Hearkens converses octets) → ClientMoves mtu maximum converses.decided hears.talks.place octets taken part.shelved course.name → After
     client_talks taken some same_link octets is last same_course same_put converses hears moves =
         let half = converses.half_a in
         let decided' : Decisions = moves.decided' in
@@ -176,6 +179,11 @@ module _ (mtu maximum : ℕ) (packet : Packet) (known known' : Linking) (link li
               (server_still mtu maximum converses.decided decided' served.channel moves.greets_same moves.stores_same moves.parts_same) converses.half_b;
           fresh_a = λ below. absurd (let count = count_on (into packet) known known' goes in omega (arith, below, last, count));
           fresh_b = λ below. let free = converses.fresh_b below in (moves.greets_same ∙ free.0, moves.stores_same ∙ free.1, moves.parts_same ∙ free.2);
+          named = λ there now delivery put. elim (moves.named delivery put) [
+            | inl before ↦ converses.named some last delivery before ∙ (sym moves.name_same ∙ ap (λ (c : Course). c.name) (sym same_course))
+            | inr of_push ↦ of_push ∙ (sym moves.name_same ∙ ap (λ (c : Course). c.name) (sym same_course))
+          ];
+          delivers = λ delivery put. elim (moves.delivers delivery put) [ inl before ↦ converses.delivers delivery before | inr given ↦ given ];
           is_part = part_on converses.decided decided' part moves.stores_same moves.agrees converses.is_part;
           put_heard = converses.put_heard;
         }
@@ -195,10 +203,12 @@ module _ (mtu maximum : ℕ) (packet : Packet) (known known' : Linking) (link li
     fresh_a = λ below. converses.fresh_a (let more = count_begun known known' begins in omega (arith, below, more));
     fresh_b = converses.fresh_b;
     is_part = converses.is_part;
+    named = λ there. absurd (none_some link' none there);
+    delivers = converses.delivers;
     put_heard = converses.put_heard;
   }
   client_passes (inr ends) none converses =
-      with_half (count_ended known known' ends) converses
+      with_half (count_ended known known' ends) converses (λ there. absurd (none_some link' none there))
       (half_ended sides.A (all mtu maximum) ClientPlace (client_tail mtu maximum) known known' converses.decided n link link' put put' (StandsSo course converses.decided) (StandsSo course' converses.decided) ends none converses.half_a)
 
   pub client_up : Begins known known' → put' ≡ own sides.A (Says sides.A 1 asks_connection ∷ []) → course'.stage ≡ stages.Connecting → course'.outcome ≡ None → Before → After
@@ -222,6 +232,8 @@ module _ (mtu maximum : ℕ) (packet : Packet) (known known' : Linking) (link li
           fresh_a = λ below. converses.fresh_a (omega (arith, below, more));
           fresh_b = converses.fresh_b;
           is_part = converses.is_part;
+          named = λ there now delivery put. (let free = converses.fresh_a (omega (arith, more, last)) in absurd cc);
+          delivers = converses.delivers;
           put_heard = converses.put_heard;
         }
         | inr apart ↦ record {
@@ -238,6 +250,8 @@ module _ (mtu maximum : ℕ) (packet : Packet) (known known' : Linking) (link li
           fresh_a = λ below. converses.fresh_a (omega (arith, below, more));
           fresh_b = converses.fresh_b;
           is_part = converses.is_part;
+          named = λ there now. absurd (apart now);
+          delivers = converses.delivers;
           put_heard = converses.put_heard;
         }
       ]

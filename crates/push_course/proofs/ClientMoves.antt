@@ -10,6 +10,7 @@ use Rattle.push_script.specs.declared.word.Side.TheVariants as sides
 use Rattle.bt_host.specs.declared.stages.Stage.{Stage}
 use Rattle.bt_host.specs.declared.stages.Stage.TheVariants as stages
 use Rattle.bt_host.specs.declared.stages.PeerRequest.TheVariants as request
+use Rattle.bt_base.specs.Objects.{Object}
 use Rattle.bt_host.specs.Pdus.{own_endpoint, grants_connection, asks_configuration, grants_configuration, asks_disconnection, grants_disconnection}
 use Rattle.bt_host.specs.Pushing.{utf16, connect_packet, disconnect_packet, put_packet}
 use Rattle.bt_host.specs.Courses.{Course}
@@ -23,8 +24,8 @@ use Rattle.push_talk.specs.Speaking.{pdu_of, told}
 use Rattle.push_talk.specs.ClientTurns.{Turn, turned, turn, puts, IsWithinBounds, says_packet, answers_packet, unwelcome, response, ClientTurns}
 use Rattle.push_course.specs.Conversations.{Conversation, code_of, outcome_by, outcome_of}
 use Rattle.push_course.proofs.Owning.{own, IsBy, IsNext, next_is, none_next}
-use Rattle.push_course.proofs.Deciding.{Delivery, Decisions, Agrees, IsFair, IsFairGiven, IsFairDelivery, filled, filled_agrees, told_none}
-use Rattle.push_course.proofs.Sizes.{turn_size}
+use Rattle.push_course.proofs.Deciding.{IsGivenFrom, Delivery, Decisions, Agrees, IsFair, IsFairGiven, IsFairDelivery, filled, filled_agrees, told_none}
+use Rattle.push_course.proofs.Sizes.{turn_same}
 use Rattle.push_course.proofs.Tails.{parted, from_parting, putting_tail, greeted, from_putting}
 use Rattle.push_course.proofs.ClientPlaces.{ClientPlace, Asking, Agreeing, BeingAsked, BeingGreeted, Delivering, TakingLeave, BeingClosed, Done, IsCapable, IsAble, client_tail, ClientStands, ClientMoves}
 
@@ -75,6 +76,10 @@ puts_size : (given : Option (List ℕ)) (course : Course) → (puts given course
 puts_size (Some octets) course = refl
 puts_size None course = refl
 
+puts_name : (given : Option (List ℕ)) (course : Course) → (puts given course).course.name ≡ course.name
+puts_name (Some octets) course = refl
+puts_name None course = refl
+
 is_asked : (news : PlainNews) (course : Course) → ((given then_given : Option (List ℕ)) → turn given then_given news course ≡ puts given course) → (after_news news course).stage ≡ stages.Greeted
 is_asked news course all = elim (asks_shelf (after_news news course).stage (after_news news course)) [
   | inl here ↦ here
@@ -90,16 +95,16 @@ abbrev pub pdu_news : List ℕ → PlainNews
 pdu_news pdu = Pdu (channel_of pdu) pdu
 
 module _ (mtu maximum : ℕ) where
-  module _ (turns : ClientTurns) (capable : IsCapable mtu maximum) (given then_given : Option (List ℕ)) (course : Course) (able : IsAble mtu maximum course) (decided : Decisions) (fair : IsFair decided) where
+  module _ (turns : ClientTurns) (capable : IsCapable mtu maximum) (given then_given : Option (List ℕ)) (shelved : Option (List Object)) (course : Course) (able : IsAble mtu maximum course) (decided : Decisions) (fair : IsFair decided) where
     abbrev Moves : ClientPlace → List ℕ → Type 0
-    Moves place pdu = ClientMoves mtu maximum decided place pdu (turn given then_given (pdu_news pdu) course)
+    Moves place pdu = ClientMoves mtu maximum decided place pdu (turn given then_given (pdu_news pdu) course) shelved course.name
 
     abbrev IsNextAlways : ClientPlace → List ℕ → Type 0
     IsNextAlways place pdu = (c : Conversation) → Agrees decided c → IsNext sides.A (client_tail mtu maximum place c) pdu
 
-    by_saying : (place : ClientPlace) (pdu : List ℕ) (one : Saying) (taken : Turn) → pdu ≡ pdu_of one → turn given then_given (told one) course ≡ taken → ClientMoves mtu maximum decided place (pdu_of one) taken → Moves place pdu
+    by_saying : (place : ClientPlace) (pdu : List ℕ) (one : Saying) (taken : Turn) → pdu ≡ pdu_of one → turn given then_given (told one) course ≡ taken → ClientMoves mtu maximum decided place (pdu_of one) taken shelved course.name → Moves place pdu
     by_saying place pdu one taken is same moves =
-        subst (Moves place) (sym is) (subst (ClientMoves mtu maximum decided place (pdu_of one)) (sym same) moves)
+        subst (Moves place) (sym is) (subst (λ t. ClientMoves mtu maximum decided place (pdu_of one) t shelved course.name) (sym same) moves)
 
     abbrev some : Conversation
     some = filled decided
@@ -110,7 +115,7 @@ module _ (mtu maximum : ℕ) where
     -- nothing is decided by it
     module _ (place : ClientPlace) (taken : Turn) (one : Saying) (by : IsBy sides.B one) (mine : List Saying) (by_mine : AllByRecursion (IsBy sides.A) mine) (place' : ClientPlace) where
       moves_on : ((c : Conversation) → Agrees decided c → client_tail mtu maximum place c ≡ one ∷ (mine ++ client_tail mtu maximum place' c)) → sent_by taken.first ++ sent_by taken.second ≡ own sides.A mine
-          → ClientStands mtu maximum place' decided taken.course → IsAble mtu maximum taken.course → ClientMoves mtu maximum decided place (pdu_of one) taken
+          → ClientStands mtu maximum place' decided taken.course → IsAble mtu maximum taken.course × (taken.course.name ≡ course.name) → ClientMoves mtu maximum decided place (pdu_of one) taken shelved course.name
       moves_on follows sends stands able' = record {
         decided' = decided;
         greets_same = refl;
@@ -118,6 +123,9 @@ module _ (mtu maximum : ℕ) where
         parts_same = refl;
         agrees = λ c agrees. agrees;
         fair = fair;
+        name_same = able'.1;
+        named = λ delivery is. inl is;
+        delivers = λ delivery is. inl is;
         saying = one;
         pdu_is = refl;
         by = by;
@@ -127,7 +135,7 @@ module _ (mtu maximum : ℕ) where
         follows = follows;
         sends = sends;
         stands = stands;
-        able = able';
+        able = able'.0;
       }
 
     -- the first cause fixes the outcome
@@ -139,14 +147,14 @@ module _ (mtu maximum : ℕ) where
         ap (λ g. outcome_by g c.given c.stores) greets ∙ (ap (λ g. outcome_by true g c.stores) given ∙ ap (λ s. answered_outcome (code_of s)) stores)
 
     -- lengths, name and size stay
-    still_able : (next : Course) → next.mtu ≡ course.mtu → next.maximum ≡ course.maximum → next.name ≡ course.name → next.size ≡ course.size → IsAble mtu maximum next
-    still_able next same_mtu same_maximum same_name same_size = record {
+    still_able : (next : Course) → next.mtu ≡ course.mtu → next.maximum ≡ course.maximum → next.name ≡ course.name → next.size ≡ course.size → IsAble mtu maximum next × (next.name ≡ course.name)
+    still_able next same_mtu same_maximum same_name same_size = (record {
       mtu_is = same_mtu ∙ able.mtu_is;
       maximum_is = same_maximum ∙ able.maximum_is;
       text = subst IsUtf8 (sym same_name) able.text;
       few = subst (λ name. length (utf16 name) ≤ 100) (sym same_name) able.few;
       small = subst (λ size. size ≤ 200) (sym same_size) able.small;
-    }
+    }, same_name)
 
     asking : (pdu : List ℕ) → ClientStands mtu maximum Asking decided course → IsNextAlways Asking pdu → Moves Asking pdu
     asking pdu (stage, free, none) next =
@@ -210,6 +218,12 @@ module _ (mtu maximum : ℕ) where
 
     -- ---- the response to CONNECT, and the object
 
+    abbrev now_delivered : Delivery
+    now_delivered = record { name = course.name; given = given }
+
+    abbrev pub ShelfGives : Type 0
+    ShelfGives = IsFairGiven given × IsGivenFrom shelved now_delivered
+
     abbrev delivered : Decisions
     delivered = record decided { put = Some (record { name = course.name; given = given }) }
 
@@ -218,10 +232,10 @@ module _ (mtu maximum : ℕ) where
         let same : record { name = course.name; given = given } ≡ delivery = cc in
         subst IsFairDelivery same (record { text = able.text; few = able.few; small = small })
 
-    module _ (free : decided.put ≡ None) (small : IsFairGiven given) (taken : Turn) (mine : List Saying) (by_mine : AllByRecursion (IsBy sides.A) mine) (place' : ClientPlace) where
+    module _ (free : decided.put ≡ None) (small : IsFairGiven given) (told_shelf : IsGivenFrom shelved now_delivered) (taken : Turn) (mine : List Saying) (by_mine : AllByRecursion (IsBy sides.A) mine) (place' : ClientPlace) where
       decides : ((c : Conversation) → Agrees delivered c → greeted c.greets c ≡ mine ++ client_tail mtu maximum place' c) → ((c : Conversation) → Agrees decided c → c.greets ≡ true)
-          → sent_by taken.first ++ sent_by taken.second ≡ own sides.A mine → ClientStands mtu maximum place' delivered taken.course → IsAble mtu maximum taken.course
-          → ClientMoves mtu maximum decided BeingGreeted (pdu_of (answers_packet (unwelcome 0xA0 maximum))) taken
+          → sent_by taken.first ++ sent_by taken.second ≡ own sides.A mine → ClientStands mtu maximum place' delivered taken.course → IsAble mtu maximum taken.course × (taken.course.name ≡ course.name)
+          → ClientMoves mtu maximum decided BeingGreeted (pdu_of (answers_packet (unwelcome 0xA0 maximum))) taken shelved course.name
       decides follows greets sends stands able' =
           let before : (c : Conversation) → Agrees delivered c → Agrees decided c = λ c agrees. record { put = told_none decided.put _ free; greets = agrees.greets; stores = agrees.stores; parts = agrees.parts } in
           record {
@@ -231,6 +245,9 @@ module _ (mtu maximum : ℕ) where
             parts_same = refl;
             agrees = before;
             fair = fair_delivered small;
+            name_same = able'.1;
+            named = λ delivery is. inr (let same : now_delivered ≡ delivery = cc in ap (λ (d : Delivery). d.name) (sym same));
+            delivers = λ delivery is. inr (let same : now_delivered ≡ delivery = cc in subst (IsGivenFrom shelved) same told_shelf);
             saying = answers_packet (unwelcome 0xA0 maximum);
             pdu_is = refl;
             by = refl;
@@ -241,37 +258,38 @@ module _ (mtu maximum : ℕ) where
                 ap (λ b. answers_packet (unwelcome (code_of b) maximum) ∷ greeted c.greets c) (greets c (before c agrees)) ∙ ap (λ rest. answers_packet (unwelcome 0xA0 maximum) ∷ rest) (follows c agrees);
             sends = sends;
             stands = stands;
-            able = able';
+            able = able'.0;
           }
 
     before_put : decided.put ≡ None → (c : Conversation) → Agrees delivered c → Agrees decided c
     before_put free c agrees = record { put = told_none decided.put _ free; greets = agrees.greets; stores = agrees.stores; parts = agrees.parts }
 
-    by_given : (g : Option (List ℕ)) → given ≡ g → IsFairGiven given → ClientStands mtu maximum BeingGreeted decided course → ((c : Conversation) → Agrees decided c → c.greets ≡ true)
-        → ClientMoves mtu maximum decided BeingGreeted (pdu_of (answers_packet (unwelcome 0xA0 maximum))) (puts g course)
+    by_given : (g : Option (List ℕ)) → given ≡ g → ShelfGives → ClientStands mtu maximum BeingGreeted decided course → ((c : Conversation) → Agrees decided c → c.greets ≡ true)
+        → ClientMoves mtu maximum decided BeingGreeted (pdu_of (answers_packet (unwelcome 0xA0 maximum))) (puts g course) shelved course.name
     by_given (Some octets) is small (stage, peer, peer_mtu, free, none) greets =
-        decides free small _ (says_packet (put_packet (utf16 course.name) octets) ∷ []) (refl, tt) Delivering
+        decides free small.0 small.1 _ (says_packet (put_packet (utf16 course.name) octets) ∷ []) (refl, tt) Delivering
         (λ c agrees.
         ap (λ b. greeted b c) (greets c (record { put = told_none decided.put _ free; greets = agrees.greets; stores = agrees.stores; parts = agrees.parts }))
         ∙ (ap (λ g. from_putting g c) (ap (λ (d : Delivery). d.given) agrees.put ∙ is) ∙ ap (λ (d : Delivery). says_packet (put_packet (utf16 d.name) octets) ∷ putting_tail c) agrees.put))
         greets refl (refl, peer, none, λ c agrees. (octets, greets c (before_put free c agrees), ap (λ (d : Delivery). d.given) agrees.put ∙ is)) (still_able _ refl refl refl refl)
     by_given None is small (stage, peer, peer_mtu, free, none) greets =
-        decides free small _ (says_packet disconnect_packet ∷ []) (refl, tt) TakingLeave
+        decides free small.0 small.1 _ (says_packet disconnect_packet ∷ []) (refl, tt) TakingLeave
         (λ c agrees.
         ap (λ b. greeted b c) (greets c (record { put = told_none decided.put _ free; greets = agrees.greets; stores = agrees.stores; parts = agrees.parts }))
         ∙ ap (λ g. from_putting g c) (ap (λ (d : Delivery). d.given) agrees.put ∙ is))
         greets refl (refl, peer, λ c agrees. has_come _ none (ap (λ b. outcome_by b c.given c.stores) (greets c (before_put free c agrees)) ∙ ap (λ g. outcome_by true g c.stores) (ap (λ (d : Delivery). d.given) agrees.put ∙ is))) (still_able _ refl refl refl refl)
 
     greeted_by : (b : Bool) (pdu : List ℕ) → ClientStands mtu maximum BeingGreeted decided course → ((c : Conversation) → Agrees decided c → c.greets ≡ b)
-        → pdu ≡ pdu_of (answers_packet (unwelcome (code_of b) maximum)) → ((after_news (pdu_news pdu) course).stage ≡ stages.Greeted → (after_news (pdu_news pdu) course).size ≡ course.size → IsFairGiven given) → Moves BeingGreeted pdu
+        → pdu ≡ pdu_of (answers_packet (unwelcome (code_of b) maximum)) → ((after_news (pdu_news pdu) course).stage ≡ stages.Greeted → (after_news (pdu_news pdu) course).size ≡ course.size → (after_news (pdu_news pdu) course).name ≡ course.name → ShelfGives) → Moves BeingGreeted pdu
     greeted_by true pdu (stage, peer, peer_mtu, free, none) greets is shelf =
         let one : Saying = answers_packet (unwelcome 0xA0 maximum) in
         let within : IsWithinBounds course = record { peer = peer; maximum = let low = capable.low in let same = able.maximum_is in omega (arith, low, same); name = able.few; size = able.small } in
         let mtu_low : 416 ≤ course.peer_mtu = let low = capable.mtu_low in omega (arith, low, peer_mtu) in
         let all : (g g' : Option (List ℕ)) → turn g g' (told one) course ≡ puts g course = λ g g'. turns.greets g g' course maximum stage within mtu_low capable.low capable.high in
-        let sized : (after_news (told one) course).size ≡ course.size = sym (turn_size given then_given (told one) course) ∙ (ap (λ (t : Turn). t.course.size) (all given then_given) ∙ puts_size given course) in
-        let small : IsFairGiven given =
-        shelf (subst (λ p. (after_news (pdu_news p) course).stage ≡ stages.Greeted) (sym is) (is_asked (told one) course all)) (subst (λ p. (after_news (pdu_news p) course).size ≡ course.size) (sym is) sized) in
+        let sized : (after_news (told one) course).size ≡ course.size = sym (turn_same given then_given (told one) course).0 ∙ (ap (λ (t : Turn). t.course.size) (all given then_given) ∙ puts_size given course) in
+        let named : (after_news (told one) course).name ≡ course.name = sym (turn_same given then_given (told one) course).1 ∙ (ap (λ (t : Turn). t.course.name) (all given then_given) ∙ puts_name given course) in
+        let small : ShelfGives =
+        shelf (subst (λ p. (after_news (pdu_news p) course).stage ≡ stages.Greeted) (sym is) (is_asked (told one) course all)) (subst (λ p. (after_news (pdu_news p) course).size ≡ course.size) (sym is) sized) (subst (λ p. (after_news (pdu_news p) course).name ≡ course.name) (sym is) named) in
         by_saying BeingGreeted pdu one _ is (all given then_given) (by_given given refl small (stage, peer, peer_mtu, free, none) greets)
     greeted_by false pdu (stage, peer, peer_mtu, free, none) greets is shelf =
         let one : Saying = answers_packet (unwelcome 0xD0 maximum) in
@@ -281,14 +299,14 @@ module _ (mtu maximum : ℕ) where
         (λ c agrees. ap (λ b. answers_packet (unwelcome (code_of b) maximum) ∷ greeted b c) (greets c agrees))
         refl (refl, peer, λ c agrees. has_come _ none (ap (λ b. outcome_by b c.given c.stores) (greets c agrees))) (still_able _ refl refl refl refl))
 
-    being_greeted : (pdu : List ℕ) → ClientStands mtu maximum BeingGreeted decided course → IsNextAlways BeingGreeted pdu → ((after_news (pdu_news pdu) course).stage ≡ stages.Greeted → (after_news (pdu_news pdu) course).size ≡ course.size → IsFairGiven given) → Moves BeingGreeted pdu
+    being_greeted : (pdu : List ℕ) → ClientStands mtu maximum BeingGreeted decided course → IsNextAlways BeingGreeted pdu → ((after_news (pdu_news pdu) course).stage ≡ stages.Greeted → (after_news (pdu_news pdu) course).size ≡ course.size → (after_news (pdu_news pdu) course).name ≡ course.name → ShelfGives) → Moves BeingGreeted pdu
     being_greeted pdu stands next shelf =
         let is : (c : Conversation) → Agrees decided c → pdu ≡ pdu_of (answers_packet (unwelcome (code_of c.greets) maximum)) = λ c agrees. next_is sides.A _ _ pdu (next c agrees) in
         greeted_by some.greets pdu stands (λ c agrees. welcome_is maximum c.greets some.greets (sym (is c agrees) ∙ is some agreed)) (is some agreed) shelf
 
     -- ---- wherever it stands
 
-    pub client_moves : (place : ClientPlace) (pdu : List ℕ) → ClientStands mtu maximum place decided course → IsNextAlways place pdu → ((after_news (pdu_news pdu) course).stage ≡ stages.Greeted → (after_news (pdu_news pdu) course).size ≡ course.size → IsFairGiven given)
+    pub client_moves : (place : ClientPlace) (pdu : List ℕ) → ClientStands mtu maximum place decided course → IsNextAlways place pdu → ((after_news (pdu_news pdu) course).stage ≡ stages.Greeted → (after_news (pdu_news pdu) course).size ≡ course.size → (after_news (pdu_news pdu) course).name ≡ course.name → ShelfGives)
         → Moves place pdu
     client_moves Asking pdu stands next shelf = asking pdu stands next
     client_moves Agreeing pdu stands next shelf = agreeing pdu stands next

@@ -1,8 +1,9 @@
 -- Where a client stands in the conversation of its push, and where a move leads it.
-use Rattle.std.proofs.Common.{◌≡◌, ℕ, ◌≤◌, ◌^◌, ◌<◌, true, false, List, [], ◌∷◌, ◌++◌, length, None, Some}
+use Rattle.std.proofs.Common.{◌≡◌, ℕ, ◌≤◌, ◌^◌, ◌<◌, true, false, List, [], ◌∷◌, ◌++◌, length, None, Some, Option, ◌⊎◌}
 use Rattle.std.specs.Str.{IsUtf8}
 use Rattle.bt_host.specs.declared.stages.Stage.TheVariants.{Connecting, Configuring, Greeting, Putting, Parting, Closing, Leaving}
 use Rattle.bt_host.specs.declared.stages.PeerRequest.TheVariants.{Awaited}
+use Rattle.bt_base.specs.Objects.{Object}
 use Rattle.bt_host.specs.Pdus.{own_endpoint}
 use Rattle.bt_host.specs.Pushing.{utf16}
 use Rattle.bt_host.specs.Courses.{Course}
@@ -14,7 +15,7 @@ use Rattle.push_talk.specs.Speaking.{pdu_of}
 use Rattle.push_talk.specs.ClientTurns.{Turn}
 use Rattle.push_course.proofs.Owning.{own, IsBy}
 use Rattle.push_course.specs.Conversations.{Conversation, outcome_of}
-use Rattle.push_course.proofs.Deciding.{Decisions, Agrees, IsFair}
+use Rattle.push_course.proofs.Deciding.{Delivery, IsGivenFrom, Decisions, Agrees, IsFair}
 use Rattle.push_course.proofs.Tails.{closed_tail, parting_tail, putting_tail, greeting_tail, asked_tail, configuring_tail, connecting_tail}
 
 -- what the client awaits: the grant of the channel, that of its configuration, the peer's request, the responses to CONNECT,
@@ -75,13 +76,17 @@ module _ (mtu maximum : ℕ) where
   ClientStands Done decided course = (course.stage ≡ Leaving) × HasCome decided course
 
   -- it was one saying, the same in all conversations that may be; what is said then, and where the client stands behind it
-  pub record ClientMoves (decided : Decisions) (place : ClientPlace) (pdu : List ℕ) (taken : Turn) : Type 0 where
+  pub record ClientMoves (decided : Decisions) (place : ClientPlace) (pdu : List ℕ) (taken : Turn) (shelved : Option (List Object)) (name : List ℕ) : Type 0 where
     pub decided' : Decisions
     pub greets_same : decided'.greets ≡ decided.greets
     pub stores_same : decided'.stores ≡ decided.stores
     pub parts_same : decided'.parts ≡ decided.parts
     pub agrees : (c : Conversation) → Agrees decided' c → Agrees decided c
     pub fair : IsFair decided'
+    pub name_same : taken.course.name ≡ name
+    pub named : (delivery : Delivery) → decided'.put ≡ Some delivery → (decided.put ≡ Some delivery) ⊎ (delivery.name ≡ name)
+    -- what is put now the shelf gave
+    pub delivers : (delivery : Delivery) → decided'.put ≡ Some delivery → (decided.put ≡ Some delivery) ⊎ IsGivenFrom shelved delivery
     pub saying : Saying
     pub pdu_is : pdu ≡ pdu_of saying
     pub by : IsBy sides.B saying

@@ -3,6 +3,7 @@ use Rattle.std.proofs.Common.{◌≡◌, ℕ, suc, ◌+◌, ◌<◌, ◌≤◌, 
 use Rattle.std.specs.Prelude.{is_some}
 use Rattle.std.specs.List.{filter_map, cons_option, AllByRecursion}
 use Rattle.std.proofs.lemmas.Bool.{cases_Bool, eqb-true, eqb-false}
+use Rattle.bt_base.specs.Objects.{Object}
 use Rattle.h4_framing.specs.Packets.{Packet}
 use Rattle.push_script.specs.declared.word.Side.{Side}
 use Rattle.push_script.specs.declared.word.Side.TheVariants as sides
@@ -30,7 +31,7 @@ use Rattle.push_talk.specs.Conversing.{Saying}
 use Rattle.push_talk.specs.Speaking.{CanBeSaid, SayingsAreRead}
 use Rattle.push_talk.specs.ServerTurns.{steps}
 use Rattle.push_course.specs.Conversations.{Conversation}
-use Rattle.push_course.proofs.Deciding.{Decisions, IsFair, filled, filled_agrees}
+use Rattle.push_course.proofs.Deciding.{Delivery, IsGivenFrom, Decisions, IsFair, filled, filled_agrees}
 use Rattle.push_course.proofs.Parts.{Part, IsPart, HasGainedAll}
 use Rattle.push_course.proofs.Tails.{from_connecting}
 use Rattle.push_course.proofs.Lengths.{some_can, front_can, own_frames}
@@ -45,10 +46,11 @@ pub record Wire : Type 0 where
   pub link : Option ℕ
   pub put : List (List ℕ)
 
--- what there was at first: the names, and the inbox
+-- what there was at first: the names, the inbox, and what the shelf held
 pub record Outset : Type 0 where
   pub names : List (List ℕ)
   pub first : Kept
+  pub shelved : Option (List Object)
 
 module _ (mtu maximum : ℕ) where
   abbrev pub all : Conversation → List Saying
@@ -71,6 +73,9 @@ module _ (mtu maximum : ℕ) where
     pub fresh_b : count_of b.known < n → (decided.greets ≡ None) × (decided.stores ≡ None) × (decided.parts ≡ None)
     -- what was stored by it; a PUT is heard before
     pub is_part : IsPart decided part
+    -- while a host knows of the link, what it puts there is the object of its push
+    pub named : is_some a.link ≡ true → n ≡ count_of a.known → (delivery : Delivery) → decided.put ≡ Some delivery → delivery.name ≡ course.name
+    pub delivers : (delivery : Delivery) → decided.put ≡ Some delivery → IsGivenFrom part.shelved delivery
     pub put_heard : (done : Bool) → part.stores ≡ Some done → 9 ≤ length (moved b.known n)
 
   -- the course of the push
@@ -106,6 +111,9 @@ module _ (mtu maximum : ℕ) where
         (record { known = known_of sides.A past; link = moment.a.line.link; put = put_a }) (record { known = known_of sides.B past; link = moment.b.line.link; put = put_b }) course served (part n) n
     -- the inbox, since the beginning
     pub gained : HasGainedAll outset.first inbox part
+    -- the shelf stays as it was
+    pub part_shelved : (n : ℕ) → (part n).shelved ≡ outset.shelved
+    pub shelved_same : shelf.content ≡ outset.shelved
 
 -- what is true of the links beside it
 pub record Grounds (past : List Entry) (moment : Moment) : Type 0 where

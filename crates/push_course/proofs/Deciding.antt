@@ -1,7 +1,8 @@
 -- What is decided of a conversation so far, and the conversations that agree with it.
 use Rattle.std.proofs.Common.{◌≡◌, ℕ, ◌≤◌, Bool, false, List, [], length, Option, Some, None, refl, sym, subst}
-use Rattle.std.specs.Prelude.{unwrap_or}
+use Rattle.std.specs.Prelude.{unwrap_or, IfSome}
 use Rattle.std.specs.Str.{IsUtf8}
+use Rattle.bt_base.specs.Objects.{Object, octets_of}
 use Rattle.bt_host.specs.Pushing.{utf16}
 use Rattle.push_course.specs.Conversations.{Conversation}
 
@@ -38,6 +39,10 @@ abbrev pub IsFairGiven : Option (List ℕ) → Type 0
 IsFairGiven None = Unit {0}
 IsFairGiven (Some octets) = length octets ≤ 200
 
+-- what the shelf gave is its object of that name, where the shelf tells what it holds
+abbrev pub IsGivenFrom : Option (List Object) → Delivery → Type 0
+IsGivenFrom content delivery = IfSome content (λ objects. IfSome delivery.given (λ octets. octets_of delivery.name objects ≡ Some octets))
+
 pub record IsFairDelivery (delivery : Delivery) : Type 0 where
   pub text : IsUtf8 delivery.name
   pub few : length (utf16 delivery.name) ≤ 100
@@ -48,7 +53,7 @@ IsFair decided = (delivery : Delivery) → decided.put ≡ Some delivery → IsF
 
 -- ---- there are some that agree
 
-abbrev no_delivery : Delivery
+abbrev pub no_delivery : Delivery
 no_delivery = record { name = []; given = None }
 
 abbrev with_delivery : Delivery → Decisions → Conversation

@@ -55,6 +55,8 @@ module _ (mtu maximum : ℕ) (packet : Packet) where
     fresh_a = λ below. converses.fresh_a (subst (λ k. k < n) (count_on (out_move packet) known known' goes) below);
     fresh_b = converses.fresh_b;
     is_part = converses.is_part;
+    named = λ there now. converses.named there (now ∙ count_on (out_move packet) known known' goes);
+    delivers = converses.delivers;
     put_heard = converses.put_heard;
   }
 
@@ -75,6 +77,8 @@ module _ (mtu maximum : ℕ) (packet : Packet) where
     fresh_a = converses.fresh_a;
     fresh_b = λ below. converses.fresh_b (subst (λ k. k < n) (count_on (out_move packet) known known' goes) below);
     is_part = converses.is_part;
+    named = converses.named;
+    delivers = converses.delivers;
     put_heard = λ done is. let before = converses.put_heard done is in let more = moved_grows (out_move packet) known known' goes n in omega (arith, before, more);
   }
 
@@ -99,7 +103,7 @@ module _ (read : SayingsAreRead) (mtu maximum : ℕ) (capable : IsCapable mtu ma
       (ap (λ (m : Moment). m.a.inside) does.new_is ∙ stands.inside_a) stands.is_course (ap (λ (m : Moment). m.b.inside) does.new_is ∙ stands.inside_b) stands.is_served (ap (λ (m : Moment). m.scene.pushes.names) does.new_is ∙ stands.named)
       wires' (wires_step past (Departure sides.A packet) old new does holds sides.B stands.put_b stands.wires_b)
       known' (known_of sides.B past) old.a.line.link old.b.line.link is (ap (λ (m : Moment). m.a.line.link) does.new_is) (known_same sides.B past (Moved sides.A Out packet) refl) (ap (λ (m : Moment). m.b.line.link) does.new_is)
-      (λ n. out_a mtu maximum packet known known' old.a.line.link put _ stands.course stands.served (stands.part n) n goes none front (stands.each n)) stands.gained
+      (λ n. out_a mtu maximum packet known known' old.a.line.link put _ stands.course stands.served (stands.part n) n goes none front (stands.each n)) stands.gained stands.part_shelved stands.shelved_same
 
   pub departs_b : (does : Departs sides.B packet old new) → Holds past old → Holds (past ++ Moved sides.B Out packet ∷ []) new → Stands mtu maximum outset past old → Stands mtu maximum outset (past ++ Moved sides.B Out packet ∷ []) new
   departs_b does holds holds' stands =
@@ -121,7 +125,7 @@ module _ (read : SayingsAreRead) (mtu maximum : ℕ) (capable : IsCapable mtu ma
       (ap (λ (m : Moment). m.a.inside) does.new_is ∙ stands.inside_a) stands.is_course (ap (λ (m : Moment). m.b.inside) does.new_is ∙ stands.inside_b) stands.is_served (ap (λ (m : Moment). m.scene.pushes.names) does.new_is ∙ stands.named)
       (wires_step past (Departure sides.B packet) old new does holds sides.A stands.put_a stands.wires_a) wires'
       (known_of sides.A past) known' old.a.line.link old.b.line.link (known_same sides.A past (Moved sides.B Out packet) refl) (ap (λ (m : Moment). m.a.line.link) does.new_is) is (ap (λ (m : Moment). m.b.line.link) does.new_is)
-      (λ n. out_b mtu maximum packet known known' old.b.line.link put _ stands.course stands.served (stands.part n) n goes none front (stands.each n)) stands.gained
+      (λ n. out_b mtu maximum packet known known' old.b.line.link put _ stands.course stands.served (stands.part n) n goes none front (stands.each n)) stands.gained stands.part_shelved stands.shelved_same
 
 -- ---- both hosts stay as they are
 
@@ -131,4 +135,4 @@ module _ (mtu maximum : ℕ) (outset : Outset) (past past' : List Entry) (old ne
   stays is_a is_b same_a same_b same_names stands wires_a wires_b =
       stands_next mtu maximum outset past' new stands.course stands.shelf stands.served stands.inbox stands.part stands.put_a stands.put_b
       (ap (λ (f : Face). f.inside) same_a ∙ stands.inside_a) stands.is_course (ap (λ (f : Face). f.inside) same_b ∙ stands.inside_b) stands.is_served (same_names ∙ stands.named)
-      wires_a wires_b (known_of sides.A past) (known_of sides.B past) old.a.line.link old.b.line.link is_a (ap (λ (f : Face). f.line.link) same_a) is_b (ap (λ (f : Face). f.line.link) same_b) stands.each stands.gained
+      wires_a wires_b (known_of sides.A past) (known_of sides.B past) old.a.line.link old.b.line.link is_a (ap (λ (f : Face). f.line.link) same_a) is_b (ap (λ (f : Face). f.line.link) same_b) stands.each stands.gained stands.part_shelved stands.shelved_same

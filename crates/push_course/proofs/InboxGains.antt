@@ -2,6 +2,7 @@
 use Rattle.std.proofs.Common.{true, ◌≡◌, ℕ, zero, suc, min, Bool, false, List, [], ◌∷◌, ◌++◌, length, Option, Some, None, refl, sym, ap, ap₂, subst, ◌∙◌, arith}
 use Rattle.std.specs.Prelude.{unwrap_or}
 use Rattle.std.proofs.lemmas.List.{length-map}
+use Rattle.world_model.specs.Insides.{Shelved}
 use Rattle.bt_base.specs.Objects.{Object}
 use Rattle.push_script.specs.declared.word.Side.TheVariants as sides
 use Rattle.capture.specs.Entries.{Entry}
@@ -11,7 +12,7 @@ use Rattle.world_model.specs.Happenings.{all_entries}
 use Rattle.push_course.specs.Conversations.{Conversation, sayings}
 use Rattle.push_course.specs.Gains.{object_of, object_where, gained_on, GainOn, GainsSo, GainIsSaid}
 use Rattle.push_course.proofs.Owning.{pdu_at}
-use Rattle.push_course.proofs.Deciding.{Decisions, filled, filled_agrees}
+use Rattle.push_course.proofs.Deciding.{Delivery, delivery_of, no_delivery, IsGivenFrom, Decisions, filled, filled_agrees}
 use Rattle.push_course.proofs.ClientPlaces.{IsCapable}
 use Rattle.push_course.proofs.Parts.{Part, IsPart, stored_where, none_stored, each_after}
 use Rattle.push_course.proofs.Courses.{Outset, Stands}
@@ -33,16 +34,24 @@ was_decided : (stores : Option Bool) (part : Option Bool) (c : Conversation) (ob
 was_decided None part c object same is = absurd cc
 was_decided (Some b) part c object same is = (b, sym same)
 
+-- what was given came from the shelf
+given_from : (content : Option (List Object)) (put : Option Delivery) → ((delivery : Delivery) → put ≡ Some delivery → IsGivenFrom content delivery) → IsGivenFrom content (unwrap_or put no_delivery)
+given_from content (Some delivery) delivers = delivers delivery refl
+given_from None None delivers = tt
+given_from (Some objects) None delivers = tt
+
 gained_same : (f g : ℕ → List Object) → ((n : ℕ) → f n ≡ g n) → (top : ℕ) → gained_on top f ≡ gained_on top g
 gained_same f g same zero = refl
 gained_same f g same (suc top) = ap₂ (λ xs ys. xs ++ ys) (gained_same f g same top) (same top)
 
-module _ (mtu maximum : ℕ) (capable : IsCapable mtu maximum) (outset : Outset) (past : List Entry) (moment : Moment) (stands : Stands mtu maximum outset past moment) where
-  gain_on : (n : ℕ) → GainOn (sayings mtu maximum) past n
+module _ (mtu maximum : ℕ) (capable : IsCapable mtu maximum) (outset : Outset) (past : List Entry) (moment : Moment) (stands : Stands mtu maximum outset past moment) (shelf : Shelved) (from : outset.shelved ≡ shelf.content) where
+  gain_on : (n : ℕ) → GainOn (sayings mtu maximum) past shelf n
   gain_on n =
       let converses = stands.each (suc n) in
       record {
         converse = converse_of mtu maximum capable outset past moment stands n;
+        given = subst (λ (c : Conversation). IsGivenFrom shelf.content (delivery_of c)) (sym (decided_is mtu maximum capable outset past moment stands n))
+            (subst (λ content. IsGivenFrom content (delivery_of (filled converses.decided))) (stands.part_shelved (suc n) ∙ from) (given_from (stands.part (suc n)).shelved converses.decided.put converses.delivers));
         heard = λ link here object is.
             let decided = was_decided converses.decided.stores (stands.part (suc n)).stores (filled converses.decided) object converses.is_part.stores_is (ap object_of (sym (decided_is mtu maximum capable outset past moment stands n)) ∙ is) in
             let heard = converses.put_heard decided.0 decided.1 in
@@ -55,7 +64,7 @@ module _ (mtu maximum : ℕ) (capable : IsCapable mtu maximum) (outset : Outset)
   failed_so None part same fails free = absurd (free refl)
   failed_so (Some b) part same fails free = sym same ∙ ap (λ (b : Bool). Some b) fails
 
-  gains_so : GainsSo (sayings mtu maximum) past outset.first stands.inbox
+  gains_so : GainsSo (sayings mtu maximum) past shelf outset.first stands.inbox
   unfolding gain_on
   gains_so = record {
     each = gain_on;
@@ -83,5 +92,5 @@ pub gain_is_said : GainIsSaid
 gain_is_said size count mtu obex names shelf first setting happenings moment runs served last is =
     let there = stood size count mtu obex names shelf first setting happenings moment runs in
     let same : there.stands.inbox ≡ last = let both = sym there.stands.inside_b ∙ is in cc in
-    subst (GainsSo (sayings mtu (min obex mtu)) (all_entries happenings) first) same
-    (gains_so mtu (min obex mtu) (capable_in size count mtu obex names setting) (record { names = names; first = first }) (all_entries happenings) moment there.stands)
+    subst (GainsSo (sayings mtu (min obex mtu)) (all_entries happenings) shelf first) same
+    (gains_so mtu (min obex mtu) (capable_in size count mtu obex names setting) (record { names = names; first = first; shelved = shelf.content }) (all_entries happenings) moment there.stands shelf refl)

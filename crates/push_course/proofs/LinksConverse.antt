@@ -1,6 +1,6 @@
 -- What the two hosts say to each other on each link is a front of one conversation, and what comes of the push.
 use Rattle.std.proofs.Common.{[], ◌∷◌, ◌≡◌, ℕ, suc, min, List, ◌++◌, length, take, map, Some, sym, ap, subst, ◌∙◌, ◌+◌, inl, inr, ◌⊎◌, refl, arith, length-append, true}
-use Rattle.std.specs.Prelude.{slice_get, ◌≤◌, Option, None, IfSome, is_some}
+use Rattle.std.specs.Prelude.{slice_get, ◌≤◌, Option, None, IfSome, is_some, unwrap_or}
 use Rattle.std.proofs.lemmas.List.{length-map}
 use Rattle.std.specs.List.{flat_map, AllByRecursion}
 use Rattle.std.proofs.Math.Seq.{take-append_seam}
@@ -15,9 +15,9 @@ use Rattle.link_pipe.proofs.Numbers.{at-get, with_last}
 use Rattle.push_talk.specs.Conversing.{Saying, seen_all}
 use Rattle.push_talk.specs.Speaking.{CanBeSaid}
 use Rattle.push_talk.proofs.Speaking.{sayings_are_read}
-use Rattle.push_course.specs.Conversations.{Conversation, sayings, HasComeIn, Converse, LinksConverse, outcome_of, ComesSo, OutcomesAreSaid}
+use Rattle.push_course.specs.Conversations.{Conversation, sayings, HasComeIn, Converse, LinksConverse, outcome_of, ComesSo, pushed_name, OutcomesAreSaid}
 use Rattle.push_course.proofs.Owning.{pdu_at, talk_seen}
-use Rattle.push_course.proofs.Deciding.{Decisions, Agrees, IsFair, IsFairGiven, filled, filled_agrees}
+use Rattle.push_course.proofs.Deciding.{Delivery, no_delivery, Decisions, Agrees, IsFair, IsFairGiven, filled, filled_agrees}
 use Rattle.push_course.proofs.Tails.{whole_is}
 use Rattle.push_course.proofs.Lengths.{some_fair, some_can, front_can}
 use Rattle.push_course.proofs.ClientPlaces.{ClientPlace, Asking, Agreeing, BeingAsked, BeingGreeted, Delivering, TakingLeave, BeingClosed, Done, IsCapable, ClientStands}
@@ -72,7 +72,7 @@ come_so_far mtu maximum capable outset past moment stands n link here =
 pub links_converse : LinksConverse
 links_converse size count mtu obex names shelf inbox setting happenings moment runs n =
     let there = stood size count mtu obex names shelf inbox setting happenings moment runs in
-    converse_of mtu (min obex mtu) (capable_in size count mtu obex names setting) (record { names = names; first = inbox }) (all_entries happenings) moment there.stands n
+    converse_of mtu (min obex mtu) (capable_in size count mtu obex names setting) (record { names = names; first = inbox; shelved = shelf.content }) (all_entries happenings) moment there.stands n
 
 -- ---- what comes of a push
 
@@ -87,6 +87,11 @@ came_so mtu maximum Delivering decided course (stage, peer, none, put) = inl non
 came_so mtu maximum TakingLeave decided course (stage, peer, so) = inr (so (filled decided) (filled_agrees decided))
 came_so mtu maximum BeingClosed decided course (stage, peer, so) = inr (so (filled decided) (filled_agrees decided))
 came_so mtu maximum Done decided course (stage, so) = inr (so (filled decided) (filled_agrees decided))
+
+-- what was given was decided
+named_so : (put : Option Delivery) (name : List ℕ) → is_some (unwrap_or put no_delivery).given ≡ true → ((delivery : Delivery) → put ≡ Some delivery → delivery.name ≡ name) → (unwrap_or put no_delivery).name ≡ name
+named_so None name given named = absurd cc
+named_so (Some delivery) name given named = named delivery refl
 
 comes_so : (mtu maximum : ℕ) → IsCapable mtu maximum → (outset : Outset) (past : List Entry) (moment : Moment) → Stands mtu maximum outset past moment → (own : Option ℕ) → moment.a.line.link ≡ own → is_some own ≡ true
     → ComesSo (sayings mtu maximum) past moment
@@ -104,10 +109,11 @@ comes_so mtu maximum capable outset past moment stands (Some handle) known some 
       n = n;
       last = more;
       converse = converse_of mtu maximum capable outset past moment stands n;
+      named = λ given. named_so converses.decided.put stands.course.name given (converses.named (ap is_some known) (omega (arith, more))) ∙ ap pushed_name (sym stands.inside_a);
       came = elim (came_so mtu maximum talks.place converses.decided stands.course talks.stands_so) [ inl none ↦ inl (inside ∙ none) | inr so ↦ inr (inside ∙ so) ];
     }
 
 pub outcomes_are_said : OutcomesAreSaid
 outcomes_are_said size count mtu obex names shelf inbox setting happenings moment runs some =
     let there = stood size count mtu obex names shelf inbox setting happenings moment runs in
-    comes_so mtu (min obex mtu) (capable_in size count mtu obex names setting) (record { names = names; first = inbox }) (all_entries happenings) moment there.stands moment.a.line.link refl some
+    comes_so mtu (min obex mtu) (capable_in size count mtu obex names setting) (record { names = names; first = inbox; shelved = shelf.content }) (all_entries happenings) moment there.stands moment.a.line.link refl some

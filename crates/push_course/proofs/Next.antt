@@ -23,8 +23,10 @@ module _ (mtu maximum : ℕ) (outset : Outset) (past : List Entry) (new : Moment
       → Wires sides.A past new.a.line put_a → Wires sides.B past new.b.line put_b
       → (known_a known_b : Linking) (link_a link_b : Option ℕ) → known_of sides.A past ≡ known_a → new.a.line.link ≡ link_a → known_of sides.B past ≡ known_b → new.b.line.link ≡ link_b
       → ((n : ℕ) → Converses mtu maximum (record { known = known_a; link = link_a; put = put_a }) (record { known = known_b; link = link_b; put = put_b }) course served (part n) n)
-      → HasGainedAll outset.first inbox part → Stands mtu maximum outset past new
-  stands_next inside_a is_course inside_b is_served named wires_a wires_b known_a known_b link_a link_b is_a linked_a is_b linked_b each gained = record {
+      → HasGainedAll outset.first inbox part → ((n : ℕ) → (part n).shelved ≡ outset.shelved) → shelf.content ≡ outset.shelved → Stands mtu maximum outset past new
+  stands_next inside_a is_course inside_b is_served named wires_a wires_b known_a known_b link_a link_b is_a linked_a is_b linked_b each gained part_shelved shelved_same = record {
+    part_shelved = part_shelved;
+    shelved_same = shelved_same;
     part = part;
     gained = gained;
     course = course;

@@ -15,9 +15,11 @@ use Rattle.push_course.proofs.Deciding.{Decisions, Agrees}
 pub record Part : Type 0 where
   pub stores : Option Bool
   pub objects : List Object
+  -- what the shelf holds, where it tells that
+  pub shelved : Option (List Object)
 
-abbrev pub no_part : Part
-no_part = record { stores = None; objects = [] }
+abbrev pub no_part : Option (List Object) → Part
+no_part shelved = record { stores = None; objects = []; shelved = shelved }
 
 abbrev pub stored_where : Option Bool → Conversation → List Object
 stored_where None c = []
@@ -44,6 +46,7 @@ none_stored decided part c agrees none is = is.objects_are c agrees ∙ ap (λ s
 -- the inbox gained that much more; where the PUT failed its count of faults rose
 pub record PartGrows (inbox inbox' : Kept) (part part' : Part) : Type 0 where
   pub more : List Object
+  pub shelved_same : part'.shelved ≡ part.shelved
   pub objects_are : part'.objects ≡ part.objects ++ more
   pub tells : (now : Contents) → inbox'.content ≡ Some now → (before : Contents) × (inbox.content ≡ Some before) × (now.stored ≡ before.stored ++ more)
   pub faults_stay : inbox.faults ≤ inbox'.faults
@@ -52,6 +55,7 @@ pub record PartGrows (inbox inbox' : Kept) (part part' : Part) : Type 0 where
 pub grows_not : (inbox inbox' : Kept) (part : Part) → inbox' ≡ inbox → PartGrows inbox inbox' part part
 grows_not inbox inbox' part same = record {
   more = [];
+  shelved_same = refl;
   objects_are = sym (append-nil part.objects);
   tells = λ now is. (now, ap (λ (k : Kept). k.content) (sym same) ∙ is, sym (append-nil now.stored));
   faults_stay = let faults = ap (λ (k : Kept). k.faults) same in omega (arith, faults);
@@ -59,9 +63,10 @@ grows_not inbox inbox' part same = record {
 }
 
 pub put_stored : (inbox inbox' : Kept) (part : Part) (object : Object) → part.objects ≡ [] → inbox'.content ≡ option_map (storing object) inbox.content → inbox.faults ≤ inbox'.faults
-    → PartGrows inbox inbox' part (record { stores = Some true; objects = object ∷ [] })
+    → PartGrows inbox inbox' part (record { stores = Some true; objects = object ∷ []; shelved = part.shelved })
 put_stored inbox inbox' part object none is stay = record {
   more = object ∷ [];
+  shelved_same = refl;
   objects_are = ap (λ xs. xs ++ object ∷ []) (sym none);
   tells = λ now told. stored_by inbox.content object now (sym is ∙ told);
   faults_stay = stay;
@@ -73,9 +78,10 @@ put_stored inbox inbox' part object none is stay = record {
     stored_by (Some before) object now is = let same : storing object before ≡ now = cc in (before, refl, ap (λ (k : Contents). k.stored) (sym same))
 
 pub put_failed : (inbox inbox' : Kept) (part : Part) → part.objects ≡ [] → inbox'.content ≡ option_map aborted inbox.content → inbox.faults ≤ inbox'.faults → HasRisen inbox.faults inbox'.faults
-    → PartGrows inbox inbox' part (record { stores = Some false; objects = [] })
+    → PartGrows inbox inbox' part (record { stores = Some false; objects = []; shelved = part.shelved })
 put_failed inbox inbox' part none is stay risen = record {
   more = [];
+  shelved_same = refl;
   objects_are = ap (λ (xs : List Object). xs ++ []) (sym none);
   tells = λ now told. aborted_by inbox.content now (sym is ∙ told);
   faults_stay = stay;
@@ -134,9 +140,9 @@ nothing_on : (parts : ℕ → Part) → ((n : ℕ) → (parts n).objects ≡ [])
 nothing_on parts none zero = refl
 nothing_on parts none (suc top) = ap₂ (λ xs ys. xs ++ ys) (nothing_on parts none top) (none (suc top))
 
-pub gained_first : (first : Kept) → HasGainedAll first first (λ n. no_part)
-gained_first first = record {
-  tells = λ now is. (now, is, λ top beyond. sym (ap (λ xs. now.stored ++ xs) (nothing_on (λ n. no_part) (λ n. refl) top) ∙ append-nil now.stored));
+pub gained_first : (shelved : Option (List Object)) (first : Kept) → HasGainedAll first first (λ n. no_part shelved)
+gained_first shelved first = record {
+  tells = λ now is. (now, is, λ top beyond. sym (ap (λ xs. now.stored ++ xs) (nothing_on (λ n. no_part shelved) (λ n. refl) top) ∙ append-nil now.stored));
   faults_stay = omega arith;
   failed = λ n is. absurd cc;
 }

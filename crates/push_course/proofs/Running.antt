@@ -78,7 +78,7 @@ capable_of size count mtu obex names setting =
     let high = setting.obex_high in
     record { mtu_low = mtu_low; mtu_high = mtu_high; low = omega (arith, mtu_low, low); high = omega (arith, mtu_high, high) }
 
-first_stands : (size count mtu obex : ℕ) (names : List (List ℕ)) (shelf : Shelved) (inbox : Kept) → Stands mtu (min obex mtu) (record { names = names; first = inbox }) [] (first_moment size count mtu obex names shelf inbox)
+first_stands : (size count mtu obex : ℕ) (names : List (List ℕ)) (shelf : Shelved) (inbox : Kept) → Stands mtu (min obex mtu) (record { names = names; first = inbox; shelved = shelf.content }) [] (first_moment size count mtu obex names shelf inbox)
 first_stands size count mtu obex names shelf inbox = record {
   course = resting mtu obex;
   shelf = shelf;
@@ -89,8 +89,10 @@ first_stands size count mtu obex names shelf inbox = record {
   inside_b = refl;
   is_served = record { readied = record { mtu_is = refl; maximum_is = refl; rests = refl }; rests = refl };
   named = refl;
-  part = λ n. no_part;
-  gained = gained_first inbox;
+  part = λ n. no_part shelf.content;
+  gained = gained_first shelf.content inbox;
+  part_shelved = λ n. refl;
+  shelved_same = refl;
   put_a = [];
   put_b = [];
   wires_a = wires_at_first size count mtu obex names shelf inbox sides.A;
@@ -104,6 +106,8 @@ first_stands size count mtu obex names shelf inbox = record {
     fresh_b = λ below. (refl, refl, refl);
     is_part = record { stores_is = refl; objects_are = λ c agrees. refl };
     put_heard = λ done is. absurd cc;
+    named = λ there now delivery is. absurd cc;
+    delivers = λ delivery is. absurd cc;
   };
 }
 
@@ -114,12 +118,12 @@ pub record Stood (mtu maximum : ℕ) (outset : Outset) (past : List Entry) (mome
   pub stands : Stands mtu maximum outset past moment
 
 pub stood : (size count mtu obex : ℕ) (names : List (List ℕ)) (shelf : Shelved) (inbox : Kept) → IsSetting size count mtu obex names → (happenings : List Happening) (moment : Moment)
-    → Runs happenings (first_moment size count mtu obex names shelf inbox) moment → Stood mtu (min obex mtu) (record { names = names; first = inbox }) (all_entries happenings) moment
+    → Runs happenings (first_moment size count mtu obex names shelf inbox) moment → Stood mtu (min obex mtu) (record { names = names; first = inbox; shelved = shelf.content }) (all_entries happenings) moment
 stood size count mtu obex names shelf inbox setting happenings moment runs =
-    kept_along (Stood mtu (min obex mtu) (record { names = names; first = inbox }))
+    kept_along (Stood mtu (min obex mtu) (record { names = names; first = inbox; shelved = shelf.content }))
     (λ past happening old new does before. record {
       grounds = grounds_on past happening old new does before.grounds;
-      stands = stands_on mtu (min obex mtu) (capable_of size count mtu obex names setting) (record { names = names; first = inbox }) setting.each past old new happening does before.grounds before.stands;
+      stands = stands_on mtu (min obex mtu) (capable_of size count mtu obex names setting) (record { names = names; first = inbox; shelved = shelf.content }) setting.each past old new happening does before.grounds before.stands;
     })
     happenings [] (first_moment size count mtu obex names shelf inbox) moment runs
     (record {

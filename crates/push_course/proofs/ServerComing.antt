@@ -14,7 +14,7 @@ use Rattle.push_talk.specs.Conversing.{Saying}
 use Rattle.push_talk.specs.Speaking.{pdu_of, speaker}
 use Rattle.push_course.specs.Conversations.{Conversation}
 use Rattle.push_course.proofs.Owning.{pdu_at, one_of, own, own-append, IsNext, none_mine}
-use Rattle.push_course.proofs.Deciding.{Decisions, Agrees, IsFair, filled, filled_agrees}
+use Rattle.push_course.proofs.Deciding.{IsGivenFrom, Decisions, Agrees, IsFair, filled, filled_agrees}
 use Rattle.push_course.proofs.ClientPlaces.{ClientPlace, Asking, Agreeing, BeingAsked, BeingGreeted, Delivering, TakingLeave, BeingClosed, Done, client_tail, ClientStands}
 use Rattle.push_course.proofs.ClientComing.{in_move, begins_so}
 use Rattle.push_course.proofs.ServerPlaces.{ServerPlace, Fresh, server_tail, ServerStands, ServerMoves}
@@ -63,6 +63,8 @@ module _ (mtu maximum : ℕ) (packet : Packet) (known known' : Linking) (link li
     fresh_a = converses.fresh_a;
     fresh_b = λ below. converses.fresh_b (subst (λ k. k < n) count below);
     is_part = converses.is_part;
+    named = converses.named;
+    delivers = converses.delivers;
     put_heard = λ done is. let before = converses.put_heard done is in omega (arith, before, grows);
   }
 
@@ -162,6 +164,8 @@ module _ (mtu maximum : ℕ) (packet : Packet) (known known' : Linking) (link li
           fresh_a = λ below. moves.put_same ∙ converses.fresh_a below;
           fresh_b = λ below. absurd (let count = count_on (into packet) known known' goes in omega (arith, below, last, count));
           is_part = moves.parts.is_part;
+          named = λ there now delivery put. converses.named there now delivery (sym moves.put_same ∙ put);
+          delivers = λ delivery put. subst (λ content. IsGivenFrom content delivery) (sym moves.parts.grows.shelved_same) (converses.delivers delivery (sym moves.put_same ∙ put));
           put_heard = λ b now. elim (moves.parts.at_put b now) [
             | inl before ↦ let heard = converses.put_heard b before in let grows = moved_grows (into packet) known known' goes n in omega (arith, heard, grows)
             | inr at_welcome ↦
@@ -193,6 +197,8 @@ module _ (mtu maximum : ℕ) (packet : Packet) (known known' : Linking) (link li
     fresh_a = converses.fresh_a;
     fresh_b = λ below. converses.fresh_b (let more = count_begun known known' begins in omega (arith, below, more));
     is_part = converses.is_part;
+    named = converses.named;
+    delivers = converses.delivers;
     put_heard = λ done is. let before = converses.put_heard done is in let same = ap length (moved_begun known known' begins n) in omega (arith, before, same);
   }
   server_passes (inr ends) none converses =
@@ -215,6 +221,8 @@ module _ (mtu maximum : ℕ) (packet : Packet) (known known' : Linking) (link li
           fresh_a = converses.fresh_a;
           fresh_b = λ below. converses.fresh_b (omega (arith, below, more));
           is_part = converses.is_part;
+          named = converses.named;
+          delivers = converses.delivers;
           put_heard = λ done is. let before = converses.put_heard done is in let same = ap length (moved_begun known known' begins n) in omega (arith, before, same);
         }
         | inr apart ↦ record {
@@ -231,6 +239,8 @@ module _ (mtu maximum : ℕ) (packet : Packet) (known known' : Linking) (link li
           fresh_a = converses.fresh_a;
           fresh_b = λ below. converses.fresh_b (omega (arith, below, more));
           is_part = converses.is_part;
+          named = converses.named;
+          delivers = converses.delivers;
           put_heard = λ done is. let before = converses.put_heard done is in let same = ap length (moved_begun known known' begins n) in omega (arith, before, same);
         }
       ]

@@ -15,7 +15,7 @@ use Rattle.capture.specs.Links.{Link, links}
 use Rattle.capture.specs.Talk.{talk}
 use Rattle.bt_host.specs.Pushing.{utf16, connect_packet, disconnect_packet, put_packet}
 use Rattle.bt_host.specs.Servers.{Kept}
-use Rattle.world_model.specs.Insides.{Shelved, came_of}
+use Rattle.world_model.specs.Insides.{Shelved, Inside, Pushing, Serving, came_of}
 use Rattle.world_model.specs.Moments.{Moment, first_moment}
 use Rattle.world_model.specs.Happenings.{Happening, Runs, all_entries}
 use Rattle.push_talk.specs.Conversing.{Saying, seen_all, Sent, opening, sends, closing}
@@ -112,11 +112,18 @@ LinksConverse =
     → (happenings : List Happening) (moment : Moment) → Runs happenings (first_moment size count mtu obex names shelf inbox) moment
     → (n : ℕ) → Converse (sayings mtu (min obex mtu)) (all_entries happenings) n
 
+-- the name of the object that a host pushes
+abbrev pub pushed_name : Inside → List ℕ
+pushed_name (Pushing course shelf) = course.name
+pushed_name (Serving served inbox) = []
+
 -- On the last link of host a its push came to nothing yet, or to what the conversation there makes of it.
 pub record ComesSo (all : Conversation → List Saying) (past : List Entry) (moment : Moment) : Type 0 where
   pub n : ℕ
   pub last : length (links sides.A past) ≡ n + 1
   pub converse : Converse all past n
+  -- where an object was given, it is the one that its push names
+  pub named : is_some converse.conversation.given ≡ true → converse.conversation.name ≡ pushed_name moment.a.inside
   pub came : (came_of moment.a.inside ≡ None) ⊎ (came_of moment.a.inside ≡ Some (outcome_of converse.conversation))
 
 -- So it is while host a knows of its link.

@@ -1,7 +1,7 @@
 -- What the inbox of a push gains by the conversations on its links (this project's own).
-use Rattle.std.specs.Prelude.{ℕ, zero, suc, ◌≡◌, ◌≤◌, Bool, true, false, min, List, [], ◌∷◌, ◌++◌, length, Option, Some, None, slice_get}
+use Rattle.std.specs.Prelude.{ℕ, zero, suc, ◌≡◌, ◌≤◌, Bool, true, false, min, List, [], ◌∷◌, ◌++◌, length, Option, Some, None, slice_get, IfSome}
 use Rattle.bt_base.specs.Counts.{HasRisen}
-use Rattle.bt_base.specs.Objects.{Object, Contents}
+use Rattle.bt_base.specs.Objects.{octets_of, Object, Contents}
 use Rattle.push_script.specs.declared.word.Side.TheVariants as sides
 use Rattle.capture.specs.Entries.{Entry}
 use Rattle.capture.specs.Links.{Link, links}
@@ -41,13 +41,15 @@ abbrev pub place_of_response : ℕ
 place_of_response = 10
 
 -- the conversation on link number n; an object is stored by it only where host b heard the PUT
-pub record GainOn (all : Conversation → List Saying) (past : List Entry) (n : ℕ) : Type 0 where
+pub record GainOn (all : Conversation → List Saying) (past : List Entry) (shelf : Shelved) (n : ℕ) : Type 0 where
   pub converse : Converse all past n
+  -- what the shelf gave is its object of that name, where it tells what it holds
+  pub given : IfSome shelf.content (λ objects. IfSome converse.conversation.given (λ octets. octets_of converse.conversation.name objects ≡ Some octets))
   pub heard : (link : Link) (here : slice_get (links sides.B past) n ≡ Some link) (object : Object) → object_of converse.conversation ≡ object ∷ [] → place_of_put ≤ (converse.at_b link here).0
 
 -- where the inbox tells what it holds: behind what it held at first stand the objects of the conversations on the links of host b, in their order, and nothing else
-pub record GainsSo (all : Conversation → List Saying) (past : List Entry) (first last : Kept) : Type 0 where
-  pub each : (n : ℕ) → GainOn all past n
+pub record GainsSo (all : Conversation → List Saying) (past : List Entry) (shelf : Shelved) (first last : Kept) : Type 0 where
+  pub each : (n : ℕ) → GainOn all past shelf n
   pub stored : (now : Contents) → last.content ≡ Some now
       → (before : Contents) × (first.content ≡ Some before) × (now.stored ≡ before.stored ++ gained_on (length (links sides.B past)) (λ n. object_of (each n).converse.conversation))
   -- where host b said that it failed, its inbox counted a fault
@@ -59,4 +61,4 @@ abbrev pub GainIsSaid : Type 0
 GainIsSaid =
     (size count mtu obex : ℕ) (names : List (List ℕ)) (shelf : Shelved) (first : Kept) → IsSetting size count mtu obex names
     → (happenings : List Happening) (moment : Moment) → Runs happenings (first_moment size count mtu obex names shelf first) moment
-    → (served : Served) (last : Kept) → moment.b.inside ≡ Serving served last → GainsSo (sayings mtu (min obex mtu)) (all_entries happenings) first last
+    → (served : Served) (last : Kept) → moment.b.inside ≡ Serving served last → GainsSo (sayings mtu (min obex mtu)) (all_entries happenings) shelf first last
