@@ -1,6 +1,7 @@
 -- What the hosts of a play say to each other.
 use Rattle.std.proofs.Common.{◌≡◌, ℕ, ◌^◌, ◌<◌, ◌≤◌, min, List, [], ◌∷◌, ◌++◌, length, Bool, true, false, cond, Option, Some, None, refl, sym, ap, subst, ◌∙◌, arith}
-use Rattle.std.specs.Prelude.{nat_le, slice_get, option_to_list}
+use Rattle.std.specs.List.{AllByRecursion}
+use Rattle.std.specs.Prelude.{nat_le, slice_get, option_to_list, IfSome}
 use Rattle.std.proofs.lemmas.List.{append-nil}
 use Rattle.bt_base.specs.Objects.{Object}
 use Rattle.push_script.specs.declared.outcome.Outcome.{Outcome}
@@ -10,6 +11,7 @@ use Rattle.push_script.specs.declared.word.Side.TheVariants as sides
 use Rattle.capture.specs.Entries.{Entry, Ended}
 use Rattle.capture.specs.Moves.{Move, moves}
 use Rattle.capture.specs.Links.{Link, links, linking}
+use Rattle.capture.specs.Spelled.{link_objects}
 use Rattle.capture.proofs.MoreLaws.{moves-in_parts}
 use Rattle.bt_host.specs.Servers.{Kept}
 use Rattle.world_model.specs.Insides.{Shelved}
@@ -19,7 +21,7 @@ use Rattle.push_course.specs.Conversations.{Conversation, Converse, IsSetting, s
 use Rattle.push_course.proofs.LinksConverse.{links_converse}
 use Rattle.push_readings.specs.Fronts.{object_named, object_put, objects_said}
 use Rattle.push_readings.proofs.Objects.{objects_are_read}
-use Rattle.btpush.specs.Plays.{Speaks}
+use Rattle.btpush.specs.Plays.{Speaks, IsOfShelf}
 
 -- ---- the end of the script is no packet
 
@@ -58,8 +60,8 @@ pub longest : (mtu obex : ℕ) → 416 ≤ mtu → mtu < 2 ^ 16 → 416 ≤ obex
 longest mtu obex mtu_low mtu_high obex_low = (omega (arith, mtu_low, obex_low), omega (arith, mtu_high))
 
 pub play_speaks : (size count mtu obex : ℕ) (names : List (List ℕ)) (shelf : Shelved) (inbox : Kept) (script : List Word) (last : Moment) (entries : List Entry) → IsSetting size count mtu obex names
-    → Plays script (first_moment size count mtu obex names shelf inbox) last entries → Speaks mtu (min obex mtu) entries
-play_speaks size count mtu obex names shelf inbox script last entries setting plays =
+    → Plays script (first_moment size count mtu obex names shelf inbox) last entries → ((n : ℕ) (link : Link) → slice_get (links sides.B entries) n ≡ Some link → IfSome shelf.content (λ objects. AllByRecursion (IsOfShelf objects) (link_objects link))) → Speaks mtu (min obex mtu) shelf.content entries
+play_speaks size count mtu obex names shelf inbox script last entries setting plays pushed =
     let first : Moment = first_moment size count mtu obex names shelf inbox in
     let at_a = same_links sides.A script first last entries plays in
     let at_b = same_links sides.B script first last entries plays in
@@ -72,6 +74,7 @@ play_speaks size count mtu obex names shelf inbox script last entries setting pl
         at_a = λ link is. (each n).at_a link (ap (λ (all : List Link). slice_get all n) (sym at_a) ∙ is);
         at_b = λ link is. (each n).at_b link (ap (λ (all : List Link). slice_get all n) (sym at_b) ∙ is);
       };
+      pushed = pushed;
       one_object = λ n link is.
           let come = (each n).at_b link (ap (λ (all : List Link). slice_get all n) (sym at_b) ∙ is) in
           subst (λ (objects : List Object). length objects ≤ 1) (sym (objects_are_read mtu (min obex mtu) (each n).conversation come.0 link setting.mtu_high bounds.0 bounds.1 (each n).sound come.1)) (one_said (each n).conversation come.0);

@@ -7,7 +7,7 @@ use Rattle.btpush.proofs.Gained.{play_gains}
 use Rattle.push_course.specs.Conversations.{IsSetting}
 use Rattle.btpush.proofs.Ordered.{play_in_turn}
 use Rattle.btpush.proofs.Conversed.{play_speaks}
-use Rattle.btpush.proofs.Spelled.{play_spells}
+use Rattle.btpush.proofs.Spelled.{play_spells, play_pushes}
 use Rattle.push_script.specs.declared.scenario.Scenario.{Scenario}
 use Rattle.world_model.specs.Faces.{Face}
 use Rattle.radio_world.specs.Worlds.{World, Happens}
@@ -45,7 +45,9 @@ plays_of scenario world played stock stock' trace trace' tells each beginning se
   in_turn = play_in_turn scenario.acl_length scenario.acl_count scenario.settings.mtu scenario.settings.obex scenario.names stock.shelf stock.inbox (words_of scenario.script) happens.last happens.entries
       played.outcomes.items beginning happens.plays (tells.outcomes ∙ happens.ends.outcomes);
   speaks = λ mtu obex. play_speaks scenario.acl_length scenario.acl_count scenario.settings.mtu scenario.settings.obex scenario.names stock.shelf stock.inbox (words_of scenario.script) happens.last happens.entries
-      (setting mtu obex) happens.plays;
+      (setting mtu obex) happens.plays
+      (play_pushes scenario.acl_length scenario.acl_count scenario.settings.mtu scenario.settings.obex scenario.names stock.shelf stock.inbox stock'.inbox (words_of scenario.script) happens.last happens.entries
+      world.server.server.served (setting mtu obex) happens.plays (ap (λ (f : Face). f.inside) (sym happens.ends.server)));
   spelled = λ mtu obex. play_spells scenario.acl_length scenario.acl_count scenario.settings.mtu scenario.settings.obex scenario.names stock.shelf stock.inbox stock'.inbox (words_of scenario.script) happens.last happens.entries
       world.server.server.served (setting mtu obex) happens.plays (ap (λ (f : Face). f.inside) (sym happens.ends.server));
   last = happens.last;

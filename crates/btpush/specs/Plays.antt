@@ -1,7 +1,10 @@
 -- What a run of a scenario comes to (this project's own).
-use Rattle.std.specs.Prelude.{ℕ, ◌++◌, replicate, ◌≡◌, ◌-◌, ◌^◌, ◌≤◌, min, List, length, slice_get, Bool, Option, Some, None, IfSome}
-use Rattle.std.specs.List.{AllByRecursion}
-use Rattle.bt_base.specs.Objects.{Object, Contents}
+use Rattle.std.specs.Prelude.{ℕ, suc, ◌++◌, ◌∷◌, [], true, false, if◌then◌else◌, replicate, ◌≡◌, ◌-◌, ◌^◌, ◌≤◌, min, List, length, slice_get, Bool, Option, Some, None, IfSome}
+use Rattle.std.specs.List.{AllByRecursion, list_any}
+use Rattle.std.specs.Str.{IsUtf8}
+use Rattle.bt_base.specs.Counts.{HasRisen}
+use Rattle.bt_base.specs.Objects.{Object, Contents, octets_of}
+use Rattle.bt_host.specs.Pushing.{utf16}
 use Rattle.bt_base.specs.Streams.{gained}
 use Rattle.push_script.specs.declared.outcome.Outcome.TheVariants.{ScriptEnded}
 use Rattle.push_script.specs.declared.scenario.Scenario.{Scenario}
@@ -10,8 +13,8 @@ use Rattle.capture.specs.Pushes.{InTurn}
 use Rattle.capture.specs.Entries.{Entry, IsEntry, capture_octets}
 use Rattle.capture.specs.Air.{Obeys, words_of}
 use Rattle.capture.specs.Links.{Link, links}
-use Rattle.capture.specs.Spelled.{link_objects, objects_heard}
-use Rattle.capture.specs.Results.{marked}
+use Rattle.capture.specs.Spelled.{link_objects}
+use Rattle.capture.specs.Exchanges.{link_exchanges, ends_object_with}
 use Rattle.push_course.specs.Conversations.{Converse, sayings}
 use Rattle.capture.specs.Buffers.{KeepsWithin}
 use Rattle.capture.specs.Peaks.{buffers_peak}
@@ -53,18 +56,36 @@ abbrev pub Gains : (before : Option Contents) → (kept : ℕ) → (after : Opti
 Gains None kept after = Unit {0}
 Gains (Some before) kept after = IfSome after (IsGained before kept)
 
--- On each link both hosts are the two ends of one conversation of a push, and host b hears one object there at most.
-pub record Speaks (mtu maximum : ℕ) (entries : List Entry) : Type 0 where
-  pub converse : (n : ℕ) → Converse (sayings mtu maximum) entries n
-  pub one_object : (n : ℕ) (link : Link) → slice_get (links sides.B entries) n ≡ Some link → length (link_objects link) ≤ 1
+-- the objects of those links on which they were stored, link by link from number 0 on
+abbrev pub objects_stored : (ℕ → Bool) → List Link → List Object
+objects_stored stored [] = []
+objects_stored stored (link ∷ rest) = (if stored 0 then link_objects link else []) ++ objects_stored (λ n. stored (suc n)) rest
 
--- Behind what the inbox held stand some of the objects that the packets of host b spell, in their order, and nothing else.
-pub record IsSpelled (entries : List Entry) (before : Option Contents) (now : Contents) : Type 0 where
+-- Behind what the inbox held stand the objects that the packets of host b spell on some of its links, in their order, and
+-- nothing else. Where its response to the final PUT says success the object was stored; where it says that host b failed it
+-- was not, and then the inbox has failed.
+pub record IsSpelled (entries : List Entry) (before after : Kept) (now : Contents) : Type 0 where
   pub held : Contents
-  pub held_is : before ≡ Some held
-  pub marks : List Bool
-  pub each : length marks ≡ length (objects_heard sides.B entries)
-  pub stored : now.stored ≡ held.stored ++ marked marks (objects_heard sides.B entries)
+  pub held_is : before.content ≡ Some held
+  pub stored_on : ℕ → Bool
+  pub stored : now.stored ≡ held.stored ++ objects_stored stored_on (links sides.B entries)
+  pub kept : (n : ℕ) (link : Link) → slice_get (links sides.B entries) n ≡ Some link → list_any (ends_object_with 0xA0) (link_exchanges sides.B link) ≡ true → stored_on n ≡ true
+  pub not_kept : (n : ℕ) (link : Link) → slice_get (links sides.B entries) n ≡ Some link → list_any (ends_object_with 0xD0) (link_exchanges sides.B link) ≡ true
+      → (stored_on n ≡ false) × HasRisen before.faults after.faults
+
+-- an object is one of the shelf, whole, under its name there
+pub record IsOfShelf (objects : List Object) (object : Object) : Type 0 where
+  pub name : List ℕ
+  pub text : IsUtf8 name
+  pub name_is : object.name ≡ utf16 name
+  pub octets_are : octets_of name objects ≡ Some object.octets
+
+-- On each link both hosts are the two ends of one conversation of a push, and host b hears one object there at most, which
+-- is one of the shelf.
+pub record Speaks (mtu maximum : ℕ) (shelf : Option (List Object)) (entries : List Entry) : Type 0 where
+  pub converse : (n : ℕ) → Converse (sayings mtu maximum) entries n
+  pub pushed : (n : ℕ) (link : Link) → slice_get (links sides.B entries) n ≡ Some link → IfSome shelf (λ objects. AllByRecursion (IsOfShelf objects) (link_objects link))
+  pub one_object : (n : ℕ) (link : Link) → slice_get (links sides.B entries) n ≡ Some link → length (link_objects link) ≤ 1
 
 -- A scenario was played, and the trace gained the capture of what happened: the air obeyed the words of the script,
 -- both hosts kept within the buffers of their controllers at each moment, and the peaks are those of the capture. No
@@ -87,8 +108,8 @@ pub record Plays (scenario : Scenario) (played : Played) (stock stock' : Stocked
   pub outcomes : length played.outcomes.items ≡ length scenario.names
   pub in_turn : InTurn played.outcomes.items entries
   -- where MTU and longest OBEX packet have room for the PUT of each object
-  pub speaks : 416 ≤ scenario.settings.mtu → 416 ≤ scenario.settings.obex → Speaks scenario.settings.mtu (min scenario.settings.obex scenario.settings.mtu) entries
-  pub spelled : 416 ≤ scenario.settings.mtu → 416 ≤ scenario.settings.obex → (now : Contents) → stock'.inbox.content ≡ Some now → IsSpelled entries stock.inbox.content now
+  pub speaks : 416 ≤ scenario.settings.mtu → 416 ≤ scenario.settings.obex → Speaks scenario.settings.mtu (min scenario.settings.obex scenario.settings.mtu) stock.shelf.content entries
+  pub spelled : 416 ≤ scenario.settings.mtu → 416 ≤ scenario.settings.obex → (now : Contents) → stock'.inbox.content ≡ Some now → IsSpelled entries stock.inbox stock'.inbox now
   pub last : Moment
   pub happened : world.Plays (words_of scenario.script) (beginning scenario stock.shelf stock.inbox) last entries
   pub ends : EndsWith scenario.names played last stock'
