@@ -1,5 +1,5 @@
 -- A client hears what stands next in the conversation of its push, and says what follows.
-use Rattle.std.proofs.Common.{◌≡◌, ℕ, ◌≤◌, ◌<◌, Bool, true, false, List, [], ◌∷◌, ◌++◌, length, Option, Some, None, refl, sym, ap, subst, ◌∙◌, inl, inr, ◌⊎◌, arith, true≢false}
+use Rattle.std.proofs.Common.{◌≡◌, ℕ, ◌≤◌, ◌<◌, Bool, true, false, List, [], ◌∷◌, ◌++◌, length, Option, Some, None, refl, sym, ap, subst, ◌∙◌, inl, inr, arith, true≢false}
 use Rattle.std.specs.Prelude.{◌==◌, slice_index}
 use Rattle.std.specs.List.{AllByRecursion}
 use Rattle.std.specs.Option.{option_or}
@@ -7,21 +7,18 @@ use Rattle.push_script.specs.declared.outcome.Outcome.{Outcome}
 use Rattle.bt_host.specs.Events.{answered_outcome}
 use Rattle.std.specs.Str.{IsUtf8}
 use Rattle.push_script.specs.declared.word.Side.TheVariants as sides
-use Rattle.bt_host.specs.declared.stages.Stage.{Stage}
 use Rattle.bt_host.specs.declared.stages.Stage.TheVariants as stages
-use Rattle.bt_host.specs.declared.stages.PeerRequest.TheVariants as request
 use Rattle.bt_base.specs.Objects.{Object}
 use Rattle.bt_host.specs.Pdus.{own_endpoint, grants_connection, asks_configuration, grants_configuration, asks_disconnection, grants_disconnection}
 use Rattle.bt_host.specs.Pushing.{utf16, connect_packet, disconnect_packet, put_packet}
 use Rattle.bt_host.specs.Courses.{Course}
 use Rattle.bt_host.specs.Clients.{after_news}
-use Rattle.bt_host.specs.Steps.{step_at}
 use Rattle.acl_fragments.specs.Pieces.{channel_of}
 use Rattle.host_link.specs.Hearing.{PlainNews, Pdu}
 use Rattle.host_wire.specs.Sending.{sent_by}
 use Rattle.push_talk.specs.Conversing.{Saying, Says}
 use Rattle.push_talk.specs.Speaking.{pdu_of, told}
-use Rattle.push_talk.specs.ClientTurns.{Turn, turned, turn, puts, IsWithinBounds, says_packet, answers_packet, unwelcome, response, ClientTurns}
+use Rattle.push_talk.specs.ClientTurns.{Turn, turn, puts, IsWithinBounds, says_packet, answers_packet, unwelcome, response, ClientTurns}
 use Rattle.push_course.specs.Conversations.{Conversation, code_of, outcome_by, outcome_of}
 use Rattle.push_course.proofs.Owning.{own, IsBy, IsNext, next_is, none_next}
 use Rattle.push_course.proofs.Deciding.{IsGivenFrom, Delivery, Decisions, Agrees, IsFair, IsFairGiven, IsFairDelivery, filled, filled_agrees, told_none}

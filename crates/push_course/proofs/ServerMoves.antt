@@ -1,11 +1,9 @@
 -- A server hears what stands next in the conversation of a push, and says what follows.
-use Rattle.std.proofs.Common.{◌≡◌, ℕ, ◌≤◌, Bool, true, false, List, [], ◌∷◌, ◌++◌, Option, Some, None, option_to_list, refl, sym, ap, ap₂, subst, ◌∙◌, inl, inr, arith, true≢false}
-use Rattle.std.specs.Prelude.{◌==◌, slice_index}
+use Rattle.std.proofs.Common.{◌≡◌, ℕ, ◌≤◌, Bool, true, false, List, [], ◌∷◌, ◌++◌, Option, Some, None, option_to_list, refl, sym, ap, ap₂, subst, ◌∙◌, inl, inr, arith}
 use Rattle.std.specs.List.{AllByRecursion}
-use Rattle.bt_base.specs.Objects.{Object, Contents}
+use Rattle.bt_base.specs.Objects.{Contents}
 use Rattle.push_script.specs.declared.word.Side.TheVariants as sides
 use Rattle.obex_headers.specs.Packets.{PlainPacket, packet_octets}
-use Rattle.obex_session.specs.declared.ruling.Progress.TheVariants.{Unnamed}
 use Rattle.obex_session.specs.Past.{Serving}
 use Rattle.obex_session.specs.Rules.{is_under_way}
 use Rattle.bt_host.specs.declared.channel_stages.ChannelStage.TheVariants as stages
@@ -20,10 +18,9 @@ use Rattle.push_talk.specs.ClientTurns.{says_packet, answers_packet, unwelcome, 
 use Rattle.push_talk.specs.ServerTurns as serving
 use Rattle.push_talk.specs.ServerTurns.{Turn, steps, behind, turn, ChannelTurns, SessionTurns, PushIsServed, IsReady, Replies}
 use Rattle.push_course.specs.Conversations.{Conversation, code_of}
-use Rattle.push_course.specs.Gains.{object_put, object_where}
 use Rattle.push_course.proofs.Owning.{own, IsBy, IsNext, next_is, none_next}
-use Rattle.push_course.proofs.Deciding.{Delivery, Decisions, Agrees, IsFair, IsFairGiven, IsFairDelivery, filled, filled_agrees, open_agrees, told_none, told_is}
-use Rattle.push_course.proofs.Parts.{Part, IsPart, PartGrows, none_stored, put_stored, put_failed}
+use Rattle.push_course.proofs.Deciding.{Delivery, Decisions, Agrees, IsFair, IsFairGiven, IsFairDelivery, filled, filled_agrees, told_none, told_is}
+use Rattle.push_course.proofs.Parts.{Part, IsPart, none_stored, put_stored, put_failed}
 use Rattle.push_course.proofs.ServerNotes.{Noted}
 use Rattle.push_course.proofs.PutParts.{PutGrows, put_part}
 use Rattle.push_course.proofs.OpenPuts.{is_open}
