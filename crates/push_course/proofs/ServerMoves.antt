@@ -1,5 +1,5 @@
 -- A server hears what stands next in the conversation of a push, and says what follows.
-use Rattle.std.proofs.Common.{◌≡◌, ℕ, ◌≤◌, Bool, true, false, List, [], ◌∷◌, ◌++◌, Option, Some, None, option_to_list, refl, sym, ap, ap₂, subst, ◌∙◌, inl, inr, arith}
+use Rattle.std.proofs.Common.{◌≡◌, ℕ, ◌≤◌, Bool, true, false, List, [], ◌∷◌, ◌++◌, Option, Some, None, option_to_list, refl, sym, ap, subst, ◌∙◌, inl, inr, arith}
 use Rattle.std.specs.List.{AllByRecursion}
 use Rattle.bt_base.specs.Objects.{Contents}
 use Rattle.push_script.specs.declared.word.Side.TheVariants as sides
@@ -21,17 +21,13 @@ use Rattle.push_course.specs.Conversations.{Conversation, code_of}
 use Rattle.push_course.proofs.Owning.{own, IsBy, IsNext, next_is, none_next}
 use Rattle.push_course.proofs.Deciding.{Delivery, Decisions, Agrees, IsFair, IsFairGiven, IsFairDelivery, filled, filled_agrees, told_none, told_is}
 use Rattle.push_course.proofs.Parts.{Part, IsPart, none_stored, put_stored, put_failed}
-use Rattle.push_course.proofs.ServerNotes.{Noted}
+use Rattle.push_course.proofs.ServerNotes.{Noted, served_behind, sends_so, channel_so}
 use Rattle.push_course.proofs.PutParts.{PutGrows, put_part}
 use Rattle.push_course.proofs.OpenPuts.{is_open}
 use Rattle.push_course.proofs.Tails.{parted, from_closing, from_parting, putting_tail, greeted, from_putting}
 use Rattle.push_course.proofs.ClientPlaces.{IsCapable}
 use Rattle.push_course.proofs.ClientMoves.{pdu_news}
 use Rattle.push_course.proofs.ServerPlaces.{ServerPlace, Fresh, Taken, Agreeing, Listening, Welcoming, Refusing, Stored, Parting, Closed, IsReadied, server_tail, ServerStands, PartMoves, part_stays, ServerMoves}
-
--- what was noted, and the channel behind what it sent
-abbrev pub served_behind : Served → Served
-served_behind noted = record noted { channel = (steps noted.channel).channel }
 
 module _ (mtu maximum : ℕ) where
   module _ (channels : ChannelTurns) (sessions : SessionTurns) (served_so : PushIsServed) (capable : IsCapable mtu maximum) (old noted : Served) (inbox inbox' : Kept) (response' : Option (List ℕ))
@@ -54,13 +50,6 @@ module _ (mtu maximum : ℕ) where
     abbrev NotesSo : Saying → (first second third : Option (List ℕ)) → Channel → Type 0
     NotesSo one first second third channel = Noted maximum noted response' one first second third channel
 
-    sends_so : (one : Saying) (first second third : Option (List ℕ)) (channel : Channel) → NotesSo one first second third channel → sent_now ≡ option_to_list first ++ (option_to_list second ++ option_to_list third)
-    sends_so one first second third channel notes =
-        ap₂ (λ r (t : Turn). option_to_list r ++ (option_to_list t.first ++ option_to_list t.second)) notes.responds (ap steps notes.noted_is ∙ notes.taken)
-
-    channel_so : (one : Saying) (first second third : Option (List ℕ)) (channel : Channel) → NotesSo one first second third channel → (served_behind noted).channel ≡ channel
-    channel_so one first second third channel notes = ap (λ (t : Turn). t.channel) (ap steps notes.noted_is ∙ notes.taken)
-
     by_saying : (place : ServerPlace) (pdu : List ℕ) (one : Saying) → pdu ≡ pdu_of one → Moves place (pdu_of one) → Moves place pdu
     by_saying place pdu one is moves = subst (Moves place) (sym is) moves
 
@@ -82,9 +71,9 @@ module _ (mtu maximum : ℕ) where
       by_mine = by_mine;
       place' = place';
       follows = follows;
-      sends = sends_so one first second third channel notes ∙ sends;
-      stands = subst (ServerStands mtu maximum place' decided') (sym (channel_so one first second third channel notes)) stands;
-      readied = record { mtu_is = ap (λ (c : Channel). c.mtu) (channel_so one first second third channel notes) ∙ mtu_is; maximum_is = notes.maximum_is; rests = notes.rests };
+      sends = sends_so maximum noted response' one first second third channel notes ∙ sends;
+      stands = subst (ServerStands mtu maximum place' decided') (sym (channel_so maximum noted response' one first second third channel notes)) stands;
+      readied = record { mtu_is = ap (λ (c : Channel). c.mtu) (channel_so maximum noted response' one first second third channel notes) ∙ mtu_is; maximum_is = notes.maximum_is; rests = notes.rests };
     }
 
     -- ---- signals
