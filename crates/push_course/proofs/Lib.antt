@@ -36,3 +36,4 @@ pub mod Running
 pub mod LinksConverse
 pub mod Responses
 pub mod InboxGains
+pub mod PushNames

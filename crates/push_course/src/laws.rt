@@ -2,6 +2,7 @@
 
 ghost use Rattle.push_course.specs.Conversations.{LinksConverse, OutcomesAreSaid};
 ghost use Rattle.push_course.specs.Gains.{GainIsSaid};
+ghost use Rattle.push_course.specs.PushNames.{PushIsNamed};
 
 /// What the two hosts of a push say to each other on a link is a front of one conversation.
 pub fn links_converse()
@@ -18,4 +19,9 @@ pub fn outcomes_are_said()
 /// it answered with success, in their order, and nothing else.
 pub fn gain_is_said()
     ensures { GainIsSaid }
+{}
+
+/// While a push goes on, the name of its object is that of the push that began last.
+pub fn push_is_named()
+    ensures { PushIsNamed }
 {}
