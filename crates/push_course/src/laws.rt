@@ -10,13 +10,14 @@ pub fn links_converse()
 {}
 
 /// While host a knows of its link, its push came to nothing yet, or to what the conversation there
-/// makes of it.
+/// makes of it; an object that is given there has the name that is pushed.
 pub fn outcomes_are_said()
     ensures { OutcomesAreSaid }
 {}
 
 /// Where the inbox tells what it holds, it gained the objects of the conversations on its links that
-/// it answered with success, in their order, and nothing else.
+/// it answered with success, in their order, and nothing else; they are objects of the shelf, where
+/// that tells what it holds. Where it answered with a failure, the inbox counted a fault.
 pub fn gain_is_said()
     ensures { GainIsSaid }
 {}
