@@ -136,8 +136,7 @@ module _ (read : SayingsAreRead) (mtu maximum : ℕ) (capable : IsCapable mtu ma
             subst (λ content. ClientMoves mtu maximum (each n).decided hears.talks.place octets (turn takes.given takes.then_given (pdu_news octets) course) content course.name) (sym (part_shelved n))
             (client_moves mtu maximum client_turns capable takes.given takes.then_given content course able (each n).decided (each n).fair hears.talks.place octets hears.talks.stands_so hears.next
             (λ greeted sized named.
-            let small = able.small in
-            (
+            let small = able.small in (
               fair_given takes.given (after_news (pdu_news octets) course).size (omega (arith, small, sized))
                   (subst (λ n. (after_news n course).stage ≡ stages.Greeted → (octets : List ℕ) → takes.given ≡ Some octets → length octets ≡ (after_news n course).size) told takes.sized greeted),
               subst (λ name. IsGivenFrom content (record { name = name; given = takes.given })) named

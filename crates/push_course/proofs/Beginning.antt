@@ -43,7 +43,7 @@ named_in (x ∷ xs) zero name is each =
     subst IsName same each.0
 named_in (x ∷ xs) (suc n) name is each = named_in xs n name is each.1
 
-next_by : (going : Bool) (found : Option (List ℕ)) (name : List ℕ) → cond going None found ≡ Some name → (going ≡ false) × (found ≡ Some name)
+pub next_by : (going : Bool) (found : Option (List ℕ)) (name : List ℕ) → cond going None found ≡ Some name → (going ≡ false) × (found ≡ Some name)
 next_by true found name is = absurd cc
 next_by false found name is = (refl, is)
 

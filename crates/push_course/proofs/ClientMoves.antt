@@ -1,5 +1,5 @@
 -- A client hears what stands next in the conversation of its push, and says what follows.
-use Rattle.std.proofs.Common.{◌≡◌, ℕ, ◌≤◌, ◌<◌, Bool, true, false, List, [], ◌∷◌, ◌++◌, length, Option, Some, None, refl, sym, ap, subst, ◌∙◌, inl, inr, ◌⊎◌, arith, true≢false}
+use Rattle.std.proofs.Common.{◌≡◌, ℕ, ◌≤◌, ◌<◌, Bool, true, false, List, [], ◌∷◌, ◌++◌, length, Option, Some, None, refl, sym, ap, subst, ◌∙◌, inl, inr, arith, true≢false}
 use Rattle.std.specs.Prelude.{◌==◌, slice_index}
 use Rattle.std.specs.List.{AllByRecursion}
 use Rattle.std.specs.Option.{option_or}
@@ -7,25 +7,23 @@ use Rattle.push_script.specs.declared.outcome.Outcome.{Outcome}
 use Rattle.bt_host.specs.Events.{answered_outcome}
 use Rattle.std.specs.Str.{IsUtf8}
 use Rattle.push_script.specs.declared.word.Side.TheVariants as sides
-use Rattle.bt_host.specs.declared.stages.Stage.{Stage}
 use Rattle.bt_host.specs.declared.stages.Stage.TheVariants as stages
-use Rattle.bt_host.specs.declared.stages.PeerRequest.TheVariants as request
 use Rattle.bt_base.specs.Objects.{Object}
 use Rattle.bt_host.specs.Pdus.{own_endpoint, grants_connection, asks_configuration, grants_configuration, asks_disconnection, grants_disconnection}
 use Rattle.bt_host.specs.Pushing.{utf16, connect_packet, disconnect_packet, put_packet}
 use Rattle.bt_host.specs.Courses.{Course}
 use Rattle.bt_host.specs.Clients.{after_news}
-use Rattle.bt_host.specs.Steps.{step_at}
 use Rattle.acl_fragments.specs.Pieces.{channel_of}
 use Rattle.host_link.specs.Hearing.{PlainNews, Pdu}
 use Rattle.host_wire.specs.Sending.{sent_by}
 use Rattle.push_talk.specs.Conversing.{Saying, Says}
 use Rattle.push_talk.specs.Speaking.{pdu_of, told}
-use Rattle.push_talk.specs.ClientTurns.{Turn, turned, turn, puts, IsWithinBounds, says_packet, answers_packet, unwelcome, response, ClientTurns}
+use Rattle.push_talk.specs.ClientTurns.{Turn, turn, puts, IsWithinBounds, says_packet, answers_packet, unwelcome, response, ClientTurns}
 use Rattle.push_course.specs.Conversations.{Conversation, code_of, outcome_by, outcome_of}
 use Rattle.push_course.proofs.Owning.{own, IsBy, IsNext, next_is, none_next}
 use Rattle.push_course.proofs.Deciding.{IsGivenFrom, Delivery, Decisions, Agrees, IsFair, IsFairGiven, IsFairDelivery, filled, filled_agrees, told_none}
 use Rattle.push_course.proofs.Sizes.{turn_same}
+use Rattle.push_course.proofs.ShelfAsking.{puts_size, puts_name, is_asked}
 use Rattle.push_course.proofs.Tails.{parted, from_parting, putting_tail, greeted, from_putting}
 use Rattle.push_course.proofs.ClientPlaces.{ClientPlace, Asking, Agreeing, BeingAsked, BeingGreeted, Delivering, TakingLeave, BeingClosed, Done, IsCapable, IsAble, client_tail, ClientStands, ClientMoves}
 
@@ -43,50 +41,6 @@ welcome_is maximum true true same = refl
 welcome_is maximum true false same = absurd (true≢false (ap (λ pdu. slice_index pdu 4 == 0xA0) same))
 welcome_is maximum false true same = absurd (true≢false (sym (ap (λ pdu. slice_index pdu 4 == 0xA0) same)))
 welcome_is maximum false false same = refl
-
--- ---- the shelf is asked where CONNECT succeeded
-
--- what the shelf gives counts at one stage alone
-asks_shelf : (stage : Stage) (course : Course) → (stage ≡ stages.Greeted) ⊎ ((given given' : Option (List ℕ)) → step_at stage given course ≡ step_at stage given' course)
-asks_shelf stages.Idle course = inr (λ given given'. refl)
-asks_shelf stages.ToPage course = inr (λ given given'. refl)
-asks_shelf stages.Paging course = inr (λ given given'. refl)
-asks_shelf stages.Linked course = inr (λ given given'. refl)
-asks_shelf stages.Connecting course = inr (λ given given'. refl)
-asks_shelf stages.Connected course = inr (λ given given'. refl)
-asks_shelf (stages.Configuring answered (request.Heard identifier)) course = inr (λ given given'. refl)
-asks_shelf (stages.Configuring true request.Accepted) course = inr (λ given given'. refl)
-asks_shelf (stages.Configuring false request.Accepted) course = inr (λ given given'. refl)
-asks_shelf (stages.Configuring answered request.Awaited) course = inr (λ given given'. refl)
-asks_shelf stages.Greeting course = inr (λ given given'. refl)
-asks_shelf stages.Greeted course = inl refl
-asks_shelf stages.Putting course = inr (λ given given'. refl)
-asks_shelf stages.ToPart course = inr (λ given given'. refl)
-asks_shelf stages.Parting course = inr (λ given given'. refl)
-asks_shelf stages.ToClose course = inr (λ given given'. refl)
-asks_shelf stages.Closing course = inr (λ given given'. refl)
-asks_shelf stages.ToLeave course = inr (λ given given'. refl)
-asks_shelf stages.Leaving course = inr (λ given given'. refl)
-
-abbrev puts_something : Stage → Bool
-puts_something stages.Putting = true
-puts_something _ = false
-
-puts_size : (given : Option (List ℕ)) (course : Course) → (puts given course).course.size ≡ course.size
-puts_size (Some octets) course = refl
-puts_size None course = refl
-
-puts_name : (given : Option (List ℕ)) (course : Course) → (puts given course).course.name ≡ course.name
-puts_name (Some octets) course = refl
-puts_name None course = refl
-
-is_asked : (news : PlainNews) (course : Course) → ((given then_given : Option (List ℕ)) → turn given then_given news course ≡ puts given course) → (after_news news course).stage ≡ stages.Greeted
-is_asked news course all = elim (asks_shelf (after_news news course).stage (after_news news course)) [
-  | inl here ↦ here
-  | inr alike ↦
-      let same : turn (Some []) None news course ≡ turn None None news course = ap (turned None) (alike (Some []) None) in
-      absurd (true≢false (ap (λ (t : Turn). puts_something t.course.stage) (sym (all (Some []) None) ∙ (same ∙ all None None))))
-]
 
 -- ---- what a client makes of it
 
@@ -148,13 +102,16 @@ module _ (mtu maximum : ℕ) where
 
     -- lengths, name and size stay
     still_able : (next : Course) → next.mtu ≡ course.mtu → next.maximum ≡ course.maximum → next.name ≡ course.name → next.size ≡ course.size → IsAble mtu maximum next × (next.name ≡ course.name)
-    still_able next same_mtu same_maximum same_name same_size = (record {
-      mtu_is = same_mtu ∙ able.mtu_is;
-      maximum_is = same_maximum ∙ able.maximum_is;
-      text = subst IsUtf8 (sym same_name) able.text;
-      few = subst (λ name. length (utf16 name) ≤ 100) (sym same_name) able.few;
-      small = subst (λ size. size ≤ 200) (sym same_size) able.small;
-    }, same_name)
+    still_able next same_mtu same_maximum same_name same_size = (
+      record {
+        mtu_is = same_mtu ∙ able.mtu_is;
+        maximum_is = same_maximum ∙ able.maximum_is;
+        text = subst IsUtf8 (sym same_name) able.text;
+        few = subst (λ name. length (utf16 name) ≤ 100) (sym same_name) able.few;
+        small = subst (λ size. size ≤ 200) (sym same_size) able.small;
+      },
+      same_name,
+    )
 
     asking : (pdu : List ℕ) → ClientStands mtu maximum Asking decided course → IsNextAlways Asking pdu → Moves Asking pdu
     asking pdu (stage, free, none) next =

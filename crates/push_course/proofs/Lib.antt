@@ -3,8 +3,12 @@ pub mod Deciding
 pub mod Parts
 pub mod Tails
 pub mod ClientPlaces
+pub mod ShelfAsking
 pub mod ClientMoves
 pub mod ServerPlaces
+pub mod ServerNotes
+pub mod PutParts
+pub mod OpenPuts
 pub mod ServerMoves
 pub mod Moving
 pub mod Halves
@@ -32,3 +36,4 @@ pub mod Running
 pub mod LinksConverse
 pub mod Responses
 pub mod InboxGains
+pub mod PushNames

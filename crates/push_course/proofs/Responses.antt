@@ -1,5 +1,5 @@
 -- A response that was said is decided: conversations in which it is another one would go on in another way.
-use Rattle.std.proofs.Common.{◌≡◌, ℕ, ◌≤◌, Bool, true, false, List, [], ◌∷◌, ◌++◌, length, take, get_or, Option, Some, None, refl, sym, ap, subst, ◌∙◌, true≢false}
+use Rattle.std.proofs.Common.{◌≡◌, ℕ, ◌≤◌, Bool, true, false, List, [], ◌∷◌, ◌++◌, length, take, get_or, Option, Some, None, refl, sym, ap, ◌∙◌, true≢false}
 use Rattle.std.proofs.lemmas.List.{take-append-le}
 use Rattle.bt_base.specs.Objects.{Object}
 use Rattle.push_talk.specs.Conversing.{Saying}
@@ -8,7 +8,6 @@ use Rattle.push_talk.specs.ClientTurns.{answers_packet, response}
 use Rattle.push_course.specs.Conversations.{Conversation, code_of}
 use Rattle.push_course.specs.Gains.{object_put, object_where}
 use Rattle.push_course.proofs.Deciding.{Decisions, Agrees, filled, filled_agrees, told_none}
-use Rattle.push_course.proofs.Tails.{greeted}
 use Rattle.push_course.proofs.ClientMoves.{response_is}
 use Rattle.push_course.proofs.Courses.{all}
 

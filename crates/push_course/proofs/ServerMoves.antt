@@ -1,11 +1,9 @@
 -- A server hears what stands next in the conversation of a push, and says what follows.
-use Rattle.std.proofs.Common.{◌≡◌, ℕ, ◌≤◌, Bool, true, false, List, [], ◌∷◌, ◌++◌, Option, Some, None, option_to_list, refl, sym, ap, ap₂, subst, ◌∙◌, inl, inr, arith, true≢false}
-use Rattle.std.specs.Prelude.{◌==◌, slice_index}
+use Rattle.std.proofs.Common.{◌≡◌, ℕ, ◌≤◌, Bool, true, false, List, [], ◌∷◌, ◌++◌, Option, Some, None, option_to_list, refl, sym, ap, subst, ◌∙◌, inl, inr, arith}
 use Rattle.std.specs.List.{AllByRecursion}
-use Rattle.bt_base.specs.Objects.{Object, Contents}
+use Rattle.bt_base.specs.Objects.{Contents}
 use Rattle.push_script.specs.declared.word.Side.TheVariants as sides
 use Rattle.obex_headers.specs.Packets.{PlainPacket, packet_octets}
-use Rattle.obex_session.specs.declared.ruling.Progress.TheVariants.{Unnamed}
 use Rattle.obex_session.specs.Past.{Serving}
 use Rattle.obex_session.specs.Rules.{is_under_way}
 use Rattle.bt_host.specs.declared.channel_stages.ChannelStage.TheVariants as stages
@@ -20,18 +18,16 @@ use Rattle.push_talk.specs.ClientTurns.{says_packet, answers_packet, unwelcome, 
 use Rattle.push_talk.specs.ServerTurns as serving
 use Rattle.push_talk.specs.ServerTurns.{Turn, steps, behind, turn, ChannelTurns, SessionTurns, PushIsServed, IsReady, Replies}
 use Rattle.push_course.specs.Conversations.{Conversation, code_of}
-use Rattle.push_course.specs.Gains.{object_put, object_where}
 use Rattle.push_course.proofs.Owning.{own, IsBy, IsNext, next_is, none_next}
-use Rattle.push_course.proofs.Deciding.{Delivery, Decisions, Agrees, IsFair, IsFairGiven, IsFairDelivery, filled, filled_agrees, open_agrees, told_none, told_is}
-use Rattle.push_course.proofs.Parts.{Part, IsPart, PartGrows, none_stored, put_stored, put_failed}
+use Rattle.push_course.proofs.Deciding.{Delivery, Decisions, Agrees, IsFair, IsFairGiven, IsFairDelivery, filled, filled_agrees, told_none, told_is}
+use Rattle.push_course.proofs.Parts.{Part, IsPart, none_stored, put_stored, put_failed}
+use Rattle.push_course.proofs.ServerNotes.{Noted, served_behind, sends_so, channel_so}
+use Rattle.push_course.proofs.PutParts.{PutGrows, put_part}
+use Rattle.push_course.proofs.OpenPuts.{is_open}
 use Rattle.push_course.proofs.Tails.{parted, from_closing, from_parting, putting_tail, greeted, from_putting}
 use Rattle.push_course.proofs.ClientPlaces.{IsCapable}
 use Rattle.push_course.proofs.ClientMoves.{pdu_news}
 use Rattle.push_course.proofs.ServerPlaces.{ServerPlace, Fresh, Taken, Agreeing, Listening, Welcoming, Refusing, Stored, Parting, Closed, IsReadied, server_tail, ServerStands, PartMoves, part_stays, ServerMoves}
-
--- what was noted, and the channel behind what it sent
-abbrev pub served_behind : Served → Served
-served_behind noted = record noted { channel = (steps noted.channel).channel }
 
 module _ (mtu maximum : ℕ) where
   module _ (channels : ChannelTurns) (sessions : SessionTurns) (served_so : PushIsServed) (capable : IsCapable mtu maximum) (old noted : Served) (inbox inbox' : Kept) (response' : Option (List ℕ))
@@ -51,21 +47,8 @@ module _ (mtu maximum : ℕ) where
     agreed : Agrees decided some
     agreed = filled_agrees decided
 
-    -- what was noted and sent
-    record NotesSo (one : Saying) (first second third : Option (List ℕ)) (channel : Channel) : Type 0 where
-      responds : response' ≡ first
-      noted_channel : Channel
-      noted_is : noted.channel ≡ noted_channel
-      taken : steps noted_channel ≡ record { first = second; second = third; channel = channel }
-      maximum_is : noted.session.maximum ≡ maximum
-      rests : noted.session.progress ≡ Unnamed
-
-    sends_so : (one : Saying) (first second third : Option (List ℕ)) (channel : Channel) → NotesSo one first second third channel → sent_now ≡ option_to_list first ++ (option_to_list second ++ option_to_list third)
-    sends_so one first second third channel notes =
-        ap₂ (λ r (t : Turn). option_to_list r ++ (option_to_list t.first ++ option_to_list t.second)) notes.responds (ap steps notes.noted_is ∙ notes.taken)
-
-    channel_so : (one : Saying) (first second third : Option (List ℕ)) (channel : Channel) → NotesSo one first second third channel → (served_behind noted).channel ≡ channel
-    channel_so one first second third channel notes = ap (λ (t : Turn). t.channel) (ap steps notes.noted_is ∙ notes.taken)
+    abbrev NotesSo : Saying → (first second third : Option (List ℕ)) → Channel → Type 0
+    NotesSo one first second third channel = Noted maximum noted response' one first second third channel
 
     by_saying : (place : ServerPlace) (pdu : List ℕ) (one : Saying) → pdu ≡ pdu_of one → Moves place (pdu_of one) → Moves place pdu
     by_saying place pdu one is moves = subst (Moves place) (sym is) moves
@@ -88,9 +71,9 @@ module _ (mtu maximum : ℕ) where
       by_mine = by_mine;
       place' = place';
       follows = follows;
-      sends = sends_so one first second third channel notes ∙ sends;
-      stands = subst (ServerStands mtu maximum place' decided') (sym (channel_so one first second third channel notes)) stands;
-      readied = record { mtu_is = ap (λ (c : Channel). c.mtu) (channel_so one first second third channel notes) ∙ mtu_is; maximum_is = notes.maximum_is; rests = notes.rests };
+      sends = sends_so maximum noted response' one first second third channel notes ∙ sends;
+      stands = subst (ServerStands mtu maximum place' decided') (sym (channel_so maximum noted response' one first second third channel notes)) stands;
+      readied = record { mtu_is = ap (λ (c : Channel). c.mtu) (channel_so maximum noted response' one first second third channel notes) ∙ mtu_is; maximum_is = notes.maximum_is; rests = notes.rests };
     }
 
     -- ---- signals
@@ -257,32 +240,9 @@ module _ (mtu maximum : ℕ) where
       named : (octets : List ℕ) (c : Conversation) → Agrees decided c → from_putting (Some octets) c ≡ says_packet (put_packet (utf16 delivery.name) octets) ∷ putting_tail c
       named octets c agrees = ap (λ (d : Delivery). says_packet (put_packet (utf16 d.name) octets) ∷ putting_tail c) (told_is decided.put _ delivery is_put agrees.put)
 
-      -- what is stored where success is the response, or not
-      abbrev kept_where : List ℕ → Bool → List Object
-      kept_where octets true = record { name = utf16 delivery.name; octets = octets } ∷ []
-      kept_where octets false = []
-
-      abbrev PutGrows : List ℕ → Bool → Type 0
-      PutGrows octets b = PartGrows inbox inbox' part (record { stores = Some b; objects = kept_where octets b; shelved = part.shelved })
-
-      kept_so : (octets : List ℕ) (b : Bool) → delivery.given ≡ Some octets → (c : Conversation) → Agrees decided c → kept_where octets b ≡ object_where b c
-      kept_so octets false given c agrees = refl
-      kept_so octets true given c agrees =
-          sym (ap (λ g. object_put g c.given c.name) (told_is decided.greets c.greets true welcome agrees.greets)
-          ∙ (ap (λ (d : Delivery). object_put true d.given d.name) (told_is decided.put _ delivery is_put agrees.put) ∙ ap (λ g. object_put true g delivery.name) given))
-
-      put_part : (octets : List ℕ) (b : Bool) → delivery.given ≡ Some octets → decided.stores ≡ None → ((c : Conversation) → Agrees (record decided { stores = Some b }) c → Agrees decided c)
-          → PutGrows octets b → PartMoves (record decided { stores = Some b }) Welcoming inbox inbox' part
-      put_part octets b given stores before grows = record {
-        part' = record { stores = Some b; objects = kept_where octets b; shelved = part.shelved };
-        is_part = record { stores_is = refl; objects_are = λ c agrees. kept_so octets b given c (before c agrees) };
-        grows = grows;
-        at_put = λ b is. inr refl;
-      }
-
       stores_by : (octets : List ℕ) (b : Bool) → delivery.given ≡ Some octets → old.channel.stage ≡ stages.Open → old.channel.peer ≡ own_endpoint → decided.stores ≡ None → decided.parts ≡ None
           → NotesSo (says_packet (put_packet (utf16 delivery.name) octets)) (Some (pdu_of (answers_packet (response (code_of b))))) None None old.channel
-          → PutGrows octets b → Moves Welcoming (pdu_of (says_packet (put_packet (utf16 delivery.name) octets)))
+          → PutGrows decided delivery is_put welcome inbox inbox' part octets b → Moves Welcoming (pdu_of (says_packet (put_packet (utf16 delivery.name) octets)))
       stores_by octets b given stage peer stores parts notes grows =
           let one : Saying = says_packet (put_packet (utf16 delivery.name) octets) in
           let before : (c : Conversation) → Agrees (record decided { stores = Some b }) c → Agrees decided c =
@@ -290,7 +250,7 @@ module _ (mtu maximum : ℕ) where
           moves_to (record decided { stores = Some b }) refl before Welcoming one refl (answers_packet (response (code_of b)) ∷ []) (refl, tt) Stored
           (λ c agrees.
           welcomed c (before c agrees) ∙ (ap (λ g. from_putting g c) given ∙ (named octets c (before c agrees) ∙ ap (λ b. one ∷ answers_packet (response (code_of b)) ∷ from_parting c) agrees.stores)))
-          _ _ _ _ notes refl readied.mtu_is (stage, peer, parts) (put_part octets b given stores before grows)
+          _ _ _ _ notes refl readied.mtu_is (stage, peer, parts) (put_part decided delivery is_put welcome inbox inbox' part octets b given stores before grows)
 
       delivered : (g : Option (List ℕ)) → delivery.given ≡ g → (pdu : List ℕ) → old.channel.stage ≡ stages.Open → old.channel.peer ≡ own_endpoint → decided.stores ≡ None → decided.parts ≡ None
           → IsNextAlways Welcoming pdu → NotesPdu pdu → Moves Welcoming pdu
@@ -312,18 +272,8 @@ module _ (mtu maximum : ℕ) where
                 (put_failed inbox inbox' part none failed.1.content_is stay failed.0)
           ])
 
-    -- what is put was decided: two conversations would go on in two ways
-    is_open : decided.put ≡ None → (pdu : List ℕ) → decided.greets ≡ Some true → IsNextAlways Welcoming pdu → ⊥
-    is_open free pdu greets next =
-        let with : Delivery → Conversation = λ delivery. record (filled decided) { name = delivery.name; given = delivery.given } in
-        let follows : (delivery : Delivery) → IsNext sides.B (from_putting delivery.given (with delivery)) pdu = λ delivery.
-        subst (λ b. IsNext sides.B (greeted b (with delivery)) pdu) (told_is decided.greets _ true greets (open_agrees decided delivery free).greets) (next (with delivery) (open_agrees decided delivery free)) in
-        let put : pdu ≡ pdu_of (says_packet (put_packet (utf16 []) [])) = next_is sides.B _ _ pdu (follows (record { name = []; given = Some [] })) in
-        let none : pdu ≡ pdu_of (says_packet disconnect_packet) = next_is sides.B _ _ pdu (follows (record { name = []; given = None })) in
-        true≢false (ap (λ p. slice_index p 4 == 0x82) (sym put ∙ none))
-
     welcoming_by : (put : Option Delivery) → decided.put ≡ put → (pdu : List ℕ) → ServerStands mtu maximum Welcoming decided old.channel → IsNextAlways Welcoming pdu → NotesPdu pdu → Moves Welcoming pdu
-    welcoming_by None free pdu (stage, peer, greets, stores, parts) next notes = absurd (is_open free pdu greets next)
+    welcoming_by None free pdu (stage, peer, greets, stores, parts) next notes = absurd (is_open decided free pdu greets next)
     welcoming_by (Some delivery) is pdu (stage, peer, greets, stores, parts) next notes = delivered delivery is greets delivery.given refl pdu stage peer stores parts next notes
 
     parting_by : (b : Bool) (pdu : List ℕ) → old.channel.stage ≡ stages.Open → old.channel.peer ≡ own_endpoint → decided.parts ≡ Some b → IsNextAlways Parting pdu → NotesPdu pdu → Moves Parting pdu

@@ -11,7 +11,7 @@ use Rattle.obex_session.specs.Rules.{is_under_way}
 use Rattle.obex_session.specs.declared.ruling.Progress.TheVariants.{Unnamed}
 use Rattle.host_wire.specs.Sending.{sent_in_answer}
 use Rattle.push_talk.specs.ServerTurns.{Turn, steps}
-use Rattle.push_course.proofs.ServerMoves.{served_behind}
+use Rattle.push_course.proofs.ServerNotes.{served_behind}
 use Rattle.push_course.proofs.Courses.{IsServed}
 
 -- what it noted of the news, and what it sends

@@ -16,7 +16,7 @@ use Rattle.world_model.specs.Insides.{Inside, Shelved, Pushing, Serving, Tells}
 use Rattle.host_wire.specs.Sending.{sent_by, sent_in_answer, sent_told}
 use Rattle.push_talk.specs.ClientTurns.{turn}
 use Rattle.push_course.proofs.Deciding.{IsGivenFrom}
-use Rattle.push_course.proofs.ServerMoves.{served_behind}
+use Rattle.push_course.proofs.ServerNotes.{served_behind}
 
 -- ---- a client goes on
 

@@ -2,6 +2,7 @@
 
 ghost use Rattle.push_course.specs.Conversations.{LinksConverse, OutcomesAreSaid};
 ghost use Rattle.push_course.specs.Gains.{GainIsSaid};
+ghost use Rattle.push_course.specs.PushNames.{PushIsNamed};
 
 /// What the two hosts of a push say to each other on a link is a front of one conversation.
 pub fn links_converse()
@@ -9,13 +10,19 @@ pub fn links_converse()
 {}
 
 /// While host a knows of its link, its push came to nothing yet, or to what the conversation there
-/// makes of it.
+/// makes of it; an object that is given there has the name that is pushed.
 pub fn outcomes_are_said()
     ensures { OutcomesAreSaid }
 {}
 
 /// Where the inbox tells what it holds, it gained the objects of the conversations on its links that
-/// it answered with success, in their order, and nothing else.
+/// it answered with success, in their order, and nothing else; they are objects of the shelf, where
+/// that tells what it holds. Where it answered with a failure, the inbox counted a fault.
 pub fn gain_is_said()
     ensures { GainIsSaid }
+{}
+
+/// While a push goes on, the name of its object is that of the push that began last.
+pub fn push_is_named()
+    ensures { PushIsNamed }
 {}
