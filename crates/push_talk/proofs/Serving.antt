@@ -81,7 +81,7 @@ agreed packet fields old new inbox inbox' response heard peer counts agrees = re
 
 -- ---- the packets of a push
 
-disconnect_is : IsPacket Request disconnect_packet
+pub disconnect_is : IsPacket Request disconnect_packet
 disconnect_is = record {
   fields = record { code_fits = omega arith; len = refl; version = λ no. absurd (let never : false ≡ true = no in cc); maximum = λ no. absurd (let never : false ≡ true = no in cc) };
   headers = tt;
