@@ -1,0 +1,4 @@
+pub mod Changing
+pub mod Between
+pub mod Further
+pub mod Shown
