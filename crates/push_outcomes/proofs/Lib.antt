@@ -2,3 +2,4 @@ pub mod Changing
 pub mod Between
 pub mod Further
 pub mod Shown
+pub mod Placing
