@@ -3,3 +3,5 @@ pub mod Between
 pub mod Further
 pub mod Shown
 pub mod Placing
+pub mod Knowing
+pub mod Following

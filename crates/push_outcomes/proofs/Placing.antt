@@ -1,12 +1,11 @@
 -- How much of a conversation has moved where its client stands, beside the saying that shows the outcome.
-use Rattle.std.proofs.Common.{◌≡◌, ℕ, zero, suc, ◌+◌, ◌<◌, ◌≤◌, Bool, true, false, List, [], ◌∷◌, ◌++◌, length, Option, Some, None, refl, sym, ap, subst, ◌∙◌, inl, inr, ◌⊎◌, arith, length-append}
-use Rattle.std.specs.Prelude.{take, drop}
+use Rattle.std.proofs.Common.{◌≡◌, ℕ, suc, ◌+◌, ◌<◌, ◌≤◌, Bool, true, false, List, [], ◌∷◌, ◌++◌, length, Option, Some, None, refl, sym, ap, ◌∙◌, inl, inr, ◌⊎◌, arith, length-append}
+use Rattle.std.specs.Prelude.{take}
 use Rattle.std.specs.List.{AllByRecursion}
 use Rattle.std.proofs.lemmas.Bool.{cases_lt}
 use Rattle.push_script.specs.declared.outcome.Outcome.TheVariants.{ShelfFault}
 use Rattle.push_script.specs.declared.word.Side.TheVariants as sides
 use Rattle.bt_host.specs.Courses.{Course}
-use Rattle.bt_host.specs.Pushing.{utf16, put_packet}
 use Rattle.push_talk.specs.Conversing.{Saying}
 use Rattle.push_talk.specs.Speaking.{speaker}
 use Rattle.push_talk.specs.ClientTurns.{answers_packet, unwelcome, response}
