@@ -5,3 +5,4 @@ pub mod Shown
 pub mod Placing
 pub mod Knowing
 pub mod Following
+pub mod Fixed
