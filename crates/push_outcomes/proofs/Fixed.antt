@@ -1,5 +1,5 @@
 -- What came of a push stays once it is fixed, and an idle course stays as it is.
-use Rattle.std.proofs.Common.{◌≡◌, ℕ, List, [], ◌∷◌, ◌++◌, Bool, true, false, eqb, Option, Some, None, refl, sym, ap, subst, ◌∙◌, append_assoc}
+use Rattle.std.proofs.Common.{◌≡◌, ℕ, List, [], ◌∷◌, ◌++◌, true, eqb, Option, Some, refl, sym, ap, ◌∙◌, append_assoc}
 use Rattle.std.specs.Prelude.{drop}
 use Rattle.std.proofs.lemmas.List.{append-nil}
 use Rattle.h4_framing.specs.Packets.{Packet}
@@ -16,17 +16,16 @@ use Rattle.bt_host.specs.Courses.{Course}
 use Rattle.bt_host.specs.Events.{is_idle}
 use Rattle.bt_host.specs.Events as events
 use Rattle.bt_host.specs.Steps.{next_step}
-use Rattle.bt_host.specs.Clients.{commands_in, after_commands, after_pdu, after_news}
+use Rattle.bt_host.specs.Clients.{commands_in, after_commands, after_news}
 use Rattle.bt_host.specs.Laws as laws
 use Rattle.bt_host.specs.declared.stages.Stage.{Stage}
 use Rattle.bt_host.specs.declared.stages.Stage.TheVariants.{Idle}
 use Rattle.bt_host.proofs.CourseLaws.{outcome_stays, idle_stays}
-use Rattle.world_model.specs.Insides.{Inside, Shelved, Pushing, Serving, Tells, idles, came_of}
+use Rattle.world_model.specs.Insides.{Inside, Pushing, Serving, Tells, idles, came_of}
 use Rattle.world_model.specs.Moments.{Moment}
 use Rattle.world_model.specs.Happenings.{Arrives}
 use Rattle.world_model.specs.Hearing.{put_out_again}
 use Rattle.world_model.proofs.Lists.{chosen}
-use Rattle.push_talk.specs.ClientTurns.{turn}
 use Rattle.push_course.proofs.Turning.{client_told}
 
 -- ---- the outcome

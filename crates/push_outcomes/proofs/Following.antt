@@ -31,7 +31,7 @@ fold_then : (since first second : List Entry) → fold with_entry since (first +
 fold_then since [] second = refl
 fold_then since (entry ∷ first) second = fold_then (with_entry since entry) first second
 
-begins_so : (size count mtu obex : ℕ) (names : List (List ℕ)) → IsSetting size count mtu obex names → IsBeginning size count names
+pub begins_so : (size count mtu obex : ℕ) (names : List (List ℕ)) → IsSetting size count mtu obex names → IsBeginning size count names
 begins_so size count mtu obex names setting = record { size_low = setting.size_low; size_high = setting.size_high; count_low = setting.count_low; count_high = setting.count_high; few = setting.few }
 
 -- the part stands behind the last begin of the whole run

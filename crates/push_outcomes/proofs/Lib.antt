@@ -6,3 +6,5 @@ pub mod Placing
 pub mod Knowing
 pub mod Following
 pub mod Fixed
+pub mod Asking
+pub mod Staying
