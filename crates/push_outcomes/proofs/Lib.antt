@@ -8,3 +8,4 @@ pub mod Following
 pub mod Fixed
 pub mod Asking
 pub mod Staying
+pub mod Growing
