@@ -9,3 +9,4 @@ pub mod Fixed
 pub mod Asking
 pub mod Staying
 pub mod Growing
+pub mod Breaking
