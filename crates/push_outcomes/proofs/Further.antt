@@ -31,7 +31,7 @@ pub record OneOn {X Y : Type 0} (f : X → Y) (all : List X) (front : List Y) (y
   pub before : front ≡ map f (take (length front) all)
   pub now : front ++ y ∷ [] ≡ map f (take (suc (length front)) all)
 
-none_more : {X : Type 0} (xs : List X) (x : X) → xs ++ x ∷ [] ≡ [] → ⊥
+pub none_more : {X : Type 0} (xs : List X) (x : X) → xs ++ x ∷ [] ≡ [] → ⊥
 none_more [] x same = cc
 none_more (y ∷ ys) x same = cc
 

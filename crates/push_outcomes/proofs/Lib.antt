@@ -10,3 +10,4 @@ pub mod Asking
 pub mod Staying
 pub mod Growing
 pub mod Breaking
+pub mod Dropping

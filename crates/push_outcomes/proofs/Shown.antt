@@ -28,7 +28,7 @@ use Rattle.push_readings.specs.Causes.{causes_shown}
 use Rattle.push_outcomes.specs.Causes.{is_drop, causes_between}
 use Rattle.push_outcomes.proofs.Changing.{Changes, changes}
 use Rattle.push_outcomes.proofs.Between.{same_links, nothing_said}
-use Rattle.push_outcomes.proofs.Further.{one_on, HasMoved, shows_next}
+use Rattle.push_outcomes.proofs.Further.{none_more, one_on, HasMoved, shows_next}
 
 -- no word but drop is a cause
 no_cause : (past : List Entry) (ordinal : ℕ) (word : Word) → is_drop (Acted ordinal word) ≡ false → causes past (Acted ordinal word) ≡ []
@@ -40,10 +40,6 @@ no_cause past ordinal (Cut way packets) none = refl
 no_cause past ordinal (Timer side) none = refl
 no_cause past ordinal Drop none = absurd (true≢false none)
 no_cause past ordinal Cancel none = refl
-
-none_more : {X : Type 0} (xs : List X) (x : X) → xs ++ x ∷ [] ≡ [] → ⊥
-none_more [] x same = cc
-none_more (y ∷ ys) x same = cc
 
 module _ (mtu maximum : ℕ) (capable : IsCapable mtu maximum) where
   -- of at most one link: nothing without it, and with it what the conversation on it shows

@@ -39,7 +39,7 @@ unasked_same part part' old new same asks unasked = record { idle = ap idles sam
 still_asks : (part : List Entry) → asks_nothing part ≡ true → asks_nothing (part ++ []) ≡ true
 still_asks part asks = ap asks_nothing (append-nil part) ∙ asks
 
-settled_on : (past part : List Entry) (happening : Happening) (old new : Moment) → Does happening old new → Upholds past old → filter_map mark_of (entries_of happening) ≡ [] → IsSettledBy part old → IsSettledBy (part ++ entries_of happening) new
+pub settled_on : (past part : List Entry) (happening : Happening) (old new : Moment) → Does happening old new → Upholds past old → filter_map mark_of (entries_of happening) ≡ [] → IsSettledBy part old → IsSettledBy (part ++ entries_of happening) new
 settled_on past part (Departure sides.A packet) old new does upholds none (inl fixed) = inl (fixed_same part (Moved sides.A Out packet ∷ []) old new (ap (λ (m : Moment). m.a.inside) does.new_is) fixed)
 settled_on past part (Departure sides.A packet) old new does upholds none (inr unasked) =
     inr (unasked_same part (part ++ Moved sides.A Out packet ∷ []) old new (ap (λ (m : Moment). m.a.inside) does.new_is)
@@ -67,11 +67,11 @@ settled_on past part (Miss word) old new does upholds none (inr unasked) = inr (
 
 -- ---- along a run
 
-record NoneOfBoth (first second : List Mark) : Type 0 where
-  first_none : first ≡ []
-  second_none : second ≡ []
+pub record NoneOfBoth (first second : List Mark) : Type 0 where
+  pub first_none : first ≡ []
+  pub second_none : second ≡ []
 
-none_both : (first second : List Mark) → first ++ second ≡ [] → NoneOfBoth first second
+pub none_both : (first second : List Mark) → first ++ second ≡ [] → NoneOfBoth first second
 none_both [] second none = record { first_none = refl; second_none = none }
 none_both (mark ∷ first) second none = absurd cc
 

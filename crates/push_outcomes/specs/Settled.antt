@@ -1,15 +1,16 @@
 -- When it is settled what came of a push, by its part of the capture (this project's own).
-use Rattle.std.specs.Prelude.{ℕ, ◌≡◌, ◌⊎◌, true, List, [], ◌∷◌, ◌++◌, Some}
+use Rattle.std.specs.Prelude.{ℕ, ◌≡◌, ◌⊎◌, true, List, [], ◌∷◌, ◌++◌, Some, None, is_some}
 use Rattle.std.specs.List.{filter_map}
 use Rattle.push_script.specs.declared.outcome.Outcome.{Outcome}
 use Rattle.push_script.specs.declared.outcome.Outcome.TheVariants.{ShelfFault}
-use Rattle.capture.specs.Entries.{Entry}
+use Rattle.push_script.specs.declared.word.Word.TheVariants.{Drop}
+use Rattle.capture.specs.Entries.{Entry, Acted}
 use Rattle.capture.specs.Pushes.{mark_of}
 use Rattle.capture.specs.Results.{first_cause, asks_nothing}
 use Rattle.bt_host.specs.Servers.{Kept}
 use Rattle.world_model.specs.Insides.{Shelved, idles, came_of}
 use Rattle.world_model.specs.Moments.{Moment, first_moment}
-use Rattle.world_model.specs.Happenings.{Happening, Opening, Runs, all_entries}
+use Rattle.world_model.specs.Happenings.{Happening, Opening, Deed, Does, Runs, all_entries}
 use Rattle.push_course.specs.Conversations.{IsSetting}
 
 -- something came of it, and that is its first cause
@@ -41,3 +42,13 @@ SettledStays =
     → (before : List Happening) (mid : Moment) → Runs before (first_moment size count mtu obex names shelf inbox) mid
     → (part : List Entry) → IsSettledBy part mid
     → (happenings : List Happening) (moment : Moment) → Runs happenings mid moment → filter_map mark_of (all_entries happenings) ≡ [] → IsSettledBy (part ++ all_entries happenings) moment
+
+-- Where the link breaks while nothing came of the push and its part shows no cause, it is settled once host a is idle.
+abbrev pub LossIsTold : Type 0
+LossIsTold =
+    (size count mtu obex : ℕ) (names : List (List ℕ)) (shelf : Shelved) (inbox : Kept) → IsSetting size count mtu obex names
+    → (before : List Happening) (mid : Moment) → Runs before (first_moment size count mtu obex names shelf inbox) mid
+    → (part : List Entry) → is_some mid.a.line.link ≡ true → came_of mid.a.inside ≡ None → first_cause part ≡ None
+    → (ordinal : ℕ) (next : Moment) → Does (Deed ordinal Drop) mid next
+    → (happenings : List Happening) (moment : Moment) → Runs happenings next moment → filter_map mark_of (all_entries happenings) ≡ []
+    → idles moment.a.inside ≡ true → IsSettledBy (part ++ Acted ordinal Drop ∷ all_entries happenings) moment

@@ -1,7 +1,7 @@
 //! Laws of what came of a push, beside what its part of the capture shows.
 
 ghost use Rattle.push_outcomes.specs.Outcomes.{OutcomesFollowCauses};
-ghost use Rattle.push_outcomes.specs.Settled.{SettledAtBegin, SettledStays};
+ghost use Rattle.push_outcomes.specs.Settled.{SettledAtBegin, SettledStays, LossIsTold};
 
 /// While its link did not break and host a knows of it, what came of a push is the first cause
 /// that its part shows, but for a shelf that failed and whose DISCONNECT has not gone out.
@@ -17,4 +17,9 @@ pub fn settled_at_begin()
 /// Once it is settled what came of a push, it stays so until the push ends.
 pub fn settled_stays()
     ensures { SettledStays }
+{}
+
+/// Where the link breaks before anything came of the push, the push is lost once host a is idle.
+pub fn loss_is_told()
+    ensures { LossIsTold }
 {}
