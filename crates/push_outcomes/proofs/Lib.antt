@@ -1,0 +1,13 @@
+pub mod Changing
+pub mod Between
+pub mod Further
+pub mod Shown
+pub mod Placing
+pub mod Knowing
+pub mod Following
+pub mod Fixed
+pub mod Asking
+pub mod Staying
+pub mod Growing
+pub mod Breaking
+pub mod Dropping
