@@ -17,7 +17,7 @@ use Rattle.world_model.specs.Moments.{Moment}
 use Rattle.world_model.specs.Happenings.{Happening, Opening, Runs, last_outcome, all_entries}
 use Rattle.push_order.proofs.Parts.{IsOpen, closes_part}
 use Rattle.push_order.proofs.Bodies.{AreParts, parts_more, parts_last}
-use Rattle.push_results.specs.Parting.{StoresIn, ComesOf}
+use Rattle.push_results.specs.Parting.{StoresIn, ComesOf, MayEnd}
 use Rattle.push_results.proofs.Telling.{StillTells, content_in, HasInbox, runs_tell}
 use Rattle.push_results.proofs.Tallying.{Came, body_of, outcome_of, objects_in, Comes, EachComes, comes_last, Tallies, tallies_more}
 
@@ -88,7 +88,7 @@ tallies_on inbox cames came (Serving served inbox') (Serving served' inbox'') on
 -- that is known of each push from its begin on
 abbrev pub ComesFrom : Option (List Object) → Moment → Type 0
 ComesFrom shelf first = (before : List Happening) (push : ℕ) (name : List ℕ) (opened : Moment) → Runs (before ++ Opening push ∷ []) first opened → slice_get opened.scene.pushes.names (push - 1) ≡ Some name
-    → (happenings : List Happening) (moment : Moment) → Runs happenings opened moment → filter_map mark_of (all_entries happenings) ≡ [] → ComesOf shelf name (all_entries happenings) opened moment
+    → (happenings : List Happening) (moment : Moment) → Runs happenings opened moment → filter_map mark_of (all_entries happenings) ≡ [] → MayEnd moment → ComesOf shelf name (all_entries happenings) opened moment
 
 -- a push was opened, and no push began or ended since
 pub record Underway (shelf : Option (List Object)) (names : List (List ℕ)) (inbox : Kept) (first : Moment) (past : List Entry) (moment : Moment) : Type 0 where
@@ -109,14 +109,14 @@ pub record Underway (shelf : Option (List Object)) (names : List (List ℕ)) (in
   pub all : AllCame shelf names inbox past moment.scene.pushes.outcomes opened.b.inside
 
 -- it ends
-pub all_ended : (shelf : Option (List Object)) (names : List (List ℕ)) (inbox : Kept) (first : Moment) (past : List Entry) (moment : Moment) (outcome : Outcome) → ComesFrom shelf first → outcome ≡ last_outcome moment
+pub all_ended : (shelf : Option (List Object)) (names : List (List ℕ)) (inbox : Kept) (first : Moment) (past : List Entry) (moment : Moment) (outcome : Outcome) → ComesFrom shelf first → outcome ≡ last_outcome moment → MayEnd moment
     → (underway : Underway shelf names inbox first past moment) → AllCame shelf names inbox (past ++ Ended underway.push outcome ∷ []) (moment.scene.pushes.outcomes ++ outcome ∷ []) moment.b.inside
-all_ended shelf names inbox first past moment outcome from is underway =
+all_ended shelf names inbox first past moment outcome from is may underway =
     let u = underway in
     let all = u.all in
     let entry : Entry = Ended u.push outcome in
     let body : List Entry = all_entries u.since in
-    let comes = from u.before u.push u.name u.opened u.begins u.named u.since moment u.goes u.unmarked in
+    let comes = from u.before u.push u.name u.opened u.begins u.named u.since moment u.goes u.unmarked may in
     let came : Came = came_as body outcome comes.stored in
     let long : length (map body_of all.cames) ≡ length all.cames = length-map all.cames body_of in
     let many : length moment.scene.pushes.outcomes ≡ length all.cames = ap length all.outcomes_are ∙ length-map all.cames outcome_of in

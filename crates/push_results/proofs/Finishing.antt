@@ -6,7 +6,7 @@ use Rattle.bt_base.specs.Objects.{Object}
 use Rattle.capture.specs.Entries.{Entry, Ended}
 use Rattle.bt_host.specs.Servers.{Kept}
 use Rattle.world_model.specs.Ordering.{one_ended}
-use Rattle.world_model.specs.Moments.{Moment, first_moment}
+use Rattle.world_model.specs.Moments.{Moment, IsAtRest, first_moment}
 use Rattle.world_model.specs.Happenings.{Happening, Does, Runs, EndsScript, last_outcome, entries_of, all_entries}
 use Rattle.world_model.proofs.Holding.{kept_along}
 use Rattle.world_links.specs.LinkFacts.{LinkFacts, IsBeginning}
@@ -71,16 +71,16 @@ ended_during : (names : List (List ℕ)) (past : List Entry) (moment : Moment) �
 ended_during names past moment facts some (inl between) = let none = between.going in absurd cc
 ended_during names past moment facts some (inr during) = ends names past (last_outcome moment) moment.scene.pushes during (few_at past during.body moment facts during.since)
 
-over_at : (shelf : Option (List Object)) (names : List (List ℕ)) (inbox : Kept) (first : Moment) (past : List Entry) (before last : Moment) (ended : List Entry) → ComesFrom shelf first → LinkFacts past before → Course names past before.scene.pushes
+over_at : (shelf : Option (List Object)) (names : List (List ℕ)) (inbox : Kept) (first : Moment) (past : List Entry) (before last : Moment) (ended : List Entry) → ComesFrom shelf first → IsAtRest before → LinkFacts past before → Course names past before.scene.pushes
     → EndsScript before.scene.pushes.going before last ended → State shelf names inbox first past before → Over shelf names inbox (past ++ ended) last
-over_at shelf names inbox first past before last ended from facts course script (inl rests) =
+over_at shelf names inbox first past before last ended from rest facts course script (inl rests) =
     let none = subst (λ (b : Bool). EndsScript b before last ended) rests.going script in
     subst (Over shelf names inbox (past ++ ended)) (sym none.1)
     (subst (λ (es : List Entry). Over shelf names inbox es before) (sym (ap (λ (more : List Entry). past ++ more) none.0 ∙ append-nil past)) (over_rests shelf names inbox past before facts course rests))
-over_at shelf names inbox first past before last ended from facts course script (inr u) =
+over_at shelf names inbox first past before last ended from rest facts course script (inr u) =
     let some = subst (λ (b : Bool). EndsScript b before last ended) u.going script in
     let outcome = last_outcome before in
-    let all = all_ended shelf names inbox first past before outcome from refl u in
+    let all = all_ended shelf names inbox first past before outcome from refl (inl rest) u in
     subst (Over shelf names inbox (past ++ ended)) (sym some.1)
     (subst (λ (more : List Entry). Over shelf names inbox (past ++ more) (record before { scene = record before.scene { pushes = one_ended outcome before.scene.pushes } })) (sym some.0) (record {
       all = subst (λ (n : ℕ). AllCame shelf names inbox (past ++ Ended n outcome ∷ []) (before.scene.pushes.outcomes ++ outcome ∷ []) before.b.inside) (sym u.begun_is) all;
@@ -105,7 +105,7 @@ results_from_pushes come size count mtu obex names shelf inbox setting script la
     let past : List Entry = all_entries plays.happenings in
     let before : Moment = plays.before in
     let facts : FactsFrom first = λ happenings moment runs. links_of_runs size count mtu obex names shelf inbox happenings moment beginning runs in
-    let from : ComesFrom shelf.content first = λ done push name opened begins named happenings moment runs unmarked. come size count mtu obex names shelf inbox setting done push name opened begins named happenings moment runs unmarked in
+    let from : ComesFrom shelf.content first = λ done push name opened begins named happenings moment runs unmarked may. come size count mtu obex names shelf inbox setting done push name opened begins named happenings moment runs unmarked may in
     let start : IsStart shelf.content names inbox first = record {
       from = from;
       course = λ happenings moment runs. follows names first moment happenings facts refl runs;
@@ -120,6 +120,6 @@ results_from_pushes come size count mtu obex names shelf inbox setting script la
       };
     } in
     let along = kept_along (Along shelf.content names inbox first) (along_on shelf.content names inbox first start) plays.happenings [] first before plays.runs start.along in
-    let over = over_at shelf.content names inbox first past before last plays.ended from (facts_in past before along.stood) (start.course plays.happenings before plays.runs) plays.ends along.state in
+    let over = over_at shelf.content names inbox first past before last plays.ended from plays.rest (facts_in past before along.stood) (start.course plays.happenings before plays.runs) plays.ends along.state in
     subst (λ (es : List Entry). ResultsIn shelf.content names es (all_outcomes names last.scene.pushes.outcomes) inbox last.b.inside) (sym plays.entries_are)
     (results_all shelf.content names inbox (past ++ plays.ended) last.scene.pushes over.ended last.b.inside over.all)

@@ -151,7 +151,7 @@ module _ (shelf : Option (List Object)) (names : List (List ℕ)) (inbox : Kept)
       let inside : old.b.inside ≡ new.b.inside = ap (λ (m : Moment). m.b.inside) (sym closes.new_is) in
       let same : u.push ≡ push = sym u.begun_is ∙ sym closes.push_is in
       let is : outcome ≡ unwrap_or (Some outcome) ScriptEnded = refl in
-      let all = all_ended shelf names inbox first past old outcome from (is ∙ ap (λ (o : Option Outcome). unwrap_or o ScriptEnded) (sym closes.came)) u in
+      let all = all_ended shelf names inbox first past old outcome from (is ∙ ap (λ (o : Option Outcome). unwrap_or o ScriptEnded) (sym closes.came)) (inr (closes.idle, closes.none_b)) u in
       let all' = subst (λ (n : ℕ). AllCame shelf names inbox (past ++ Ended n outcome ∷ []) (pushes.outcomes ++ outcome ∷ []) old.b.inside) same all in
       let many = length-append pushes.outcomes (outcome ∷ []) in
       let begun_is = u.begun_is in

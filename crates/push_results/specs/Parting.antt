@@ -11,8 +11,9 @@ use Rattle.capture.specs.Pushes.{mark_of}
 use Rattle.capture.specs.Spelled.{objects_heard}
 use Rattle.capture.specs.Results.{first_cause, asks_nothing, MayStand, IsPushed}
 use Rattle.bt_host.specs.Servers.{Kept}
-use Rattle.world_model.specs.Insides.{Inside, Serving, Shelved, came_of}
-use Rattle.world_model.specs.Moments.{Moment, first_moment}
+use Rattle.world_model.specs.Insides.{Inside, Serving, Shelved, came_of, idles}
+use Rattle.world_model.specs.Moments.{Moment, first_moment, IsAtRest}
+use Rattle.world_model.specs.Moving.{IsStillIn}
 use Rattle.world_model.specs.Happenings.{Happening, Opening, Runs, all_entries}
 use Rattle.push_course.specs.Conversations.{IsSetting}
 
@@ -47,10 +48,14 @@ pub record ComesOf (shelf : Option (List Object)) (name : List ℕ) (part : List
   pub not_kept : has_fault sides.B part ≡ true → stored ≡ false
   pub stands : IfSome (came_of new.a.inside) (λ outcome. MayStand outcome stored)
 
--- So it is in each run from the beginning, behind each begin of a push and before its end.
+-- a push may end here: all is at rest, or host a is idle and nothing is on its way into host b
+abbrev pub MayEnd : Moment → Type 0
+MayEnd moment = IsAtRest moment ⊎ ((idles moment.a.inside ≡ true) × IsStillIn sides.B moment.scene.medium)
+
+-- So it is in each run from the beginning, behind each begin of a push, wherever that push may end.
 abbrev pub PushesCome : Type 0
 PushesCome = (size count mtu obex : ℕ) (names : List (List ℕ)) (shelf : Shelved) (inbox : Kept) → IsSetting size count mtu obex names
     → (before : List Happening) (push : ℕ) (name : List ℕ) (opened : Moment) → Runs (before ++ Opening push ∷ []) (first_moment size count mtu obex names shelf inbox) opened
     → slice_get opened.scene.pushes.names (push - 1) ≡ Some name
-    → (happenings : List Happening) (moment : Moment) → Runs happenings opened moment → filter_map mark_of (all_entries happenings) ≡ []
+    → (happenings : List Happening) (moment : Moment) → Runs happenings opened moment → filter_map mark_of (all_entries happenings) ≡ [] → MayEnd moment
     → ComesOf shelf.content name (all_entries happenings) opened moment
