@@ -37,7 +37,7 @@ use Rattle.push_course.proofs.ClientComing.{in_move, client_other, client_still,
 use Rattle.bt_base.specs.Objects.{Object}
 use Rattle.push_course.proofs.Deciding.{IsGivenFrom}
 use Rattle.push_course.proofs.Parts.{Part}
-use Rattle.push_course.proofs.Courses.{Wire, Converses, IsCourse, is_last}
+use Rattle.push_course.proofs.Courses.{up_on_link, Wire, Converses, IsCourse, is_last}
 
 -- ---- news that it takes
 
@@ -143,15 +143,11 @@ module _ (read : SayingsAreRead) (mtu maximum : ℕ) (capable : IsCapable mtu ma
                   (subst (λ n. (after_news n course).stage ≡ stages.Greeted → IsGivenFrom content (record { name = (after_news n course).name; given = takes.given })) told shelved greeted),
             )))
 
-        on_some : (l : Option ℕ) → link' ≡ l → is_some l ≡ true → on_link link' sent ≡ sent
-        on_some None is there = absurd cc
-        on_some (Some handle) is there = ap (λ l. on_link l sent) is
-
         spoken : Behind
         spoken =
             let course_is = takes.course_is ∙ ap (λ n. (turn takes.given takes.then_given n course).course) told in
             let sent_is = takes.sent_is ∙ ap (λ n. sent_by (turn takes.given takes.then_given n course).first ++ sent_by (turn takes.given takes.then_given n course).second) told in
-            let put_so = put_is ∙ (ap (λ n. put_heard n put ++ on_link link' sent) told ∙ ap (λ xs. put ++ xs) (on_some link' refl (subst (λ (l : Option ℕ). is_some l ≡ true) (sym same) some) ∙ sent_is)) in
+            let put_so = put_is ∙ (ap (λ n. put_heard n put ++ on_link link' sent) told ∙ ap (λ xs. put ++ xs) (up_on_link link' sent (subst (λ (l : Option ℕ). is_some l ≡ true) (sym same) some) ∙ sent_is)) in
             let moves = moves_at (count_of known) refl in
             let onward : is_onward (reach course'.stage) ≡ true = subst (λ (k : Course). is_onward (reach k.stage) ≡ true) (sym course_is) (stands_onward mtu maximum moves.place' moves.decided' _ moves.stands) in
             let never_calls : course'.stage ≡ stages.Paging → ⊥ = λ calls. true≢false (sym onward ∙ ap (λ s. is_onward (reach s)) calls) in
@@ -184,16 +180,12 @@ module _ (read : SayingsAreRead) (mtu maximum : ℕ) (capable : IsCapable mtu ma
       behind_a linked linked' (inr (inl passes_by)) = passes passes_by
       behind_a linked linked' (inr (inr (inl up))) =
           let links = takes_up mtu maximum course course' sent is_course (sym linked ∙ ap is_some up.unknown) (sym linked' ∙ up.there) (subst (λ n. Takes n course course' sent) up.up takes) in
-          let on : on_link link' sent ≡ sent = on_there link' refl up.there in
+          let on : on_link link' sent ≡ sent = up_on_link link' sent up.there in
           record {
             is_course = links.is_course';
             each = λ n.
                 client_up mtu maximum packet known known' link link' put put' b course course' served (part n) n up.begins (put_is ∙ (ap (λ n. put_heard n put ++ on_link link' sent) up.up ∙ (on ∙ links.sent_is))) links.stage links.none (each n);
           }
-        where
-          on_there : (l : Option ℕ) → link' ≡ l → is_some l ≡ true → on_link link' sent ≡ sent
-          on_there None is there = absurd cc
-          on_there (Some handle) is there = ap (λ l. on_link l sent) is
       behind_a linked linked' (inr (inr (inr down))) = record {
         is_course = takes_down mtu maximum course course' sent is_course down.reason (sym linked ∙ down.there) (subst (λ n. Takes n course course' sent) down.down takes);
         each = λ n. client_passes mtu maximum packet known known' link link' put put' b course course' served (part n) n (inr down.ends) down.unknown' (each n);

@@ -43,7 +43,7 @@ use Rattle.push_course.proofs.ServerTakes.{Takes, steps_rest, TakesQuietly, take
 use Rattle.push_course.proofs.ServerComing.{server_other, server_still, MeetsHere, server_silent, Hearkens, hearkens, server_talks, server_passes, server_up}
 use Rattle.push_course.proofs.Parts.{Part, none_stored, HasGainedAll, gained_still, gained_more, with_part, part_at, part_beside}
 use Rattle.push_course.proofs.Deciding.{filled, filled_agrees}
-use Rattle.push_course.proofs.Courses.{Wire, Converses, IsServed, is_last}
+use Rattle.push_course.proofs.Courses.{up_on_link, Wire, Converses, IsServed, is_last}
 
 -- ---- news that it takes
 
@@ -156,15 +156,11 @@ module _ (read : SayingsAreRead) (mtu maximum : ℕ) (capable : IsCapable mtu ma
             (subst (λ s. ServerMoves mtu maximum (each n).decided hears.talks.place octets (sent_in_answer takes.response takes.noted.channel) s inbox inbox' (part n)) (sym takes.served_is)
             (server_moves mtu maximum channel_turns session_turns push_is_served capable served noted inbox inbox' takes.response is_served.readied (each n).decided (each n).fair (part n) (each n).is_part hears.talks.place octets hears.talks.stands_so hears.next (notes_so n last)))
 
-        on_some : (l : Option ℕ) → link' ≡ l → is_some l ≡ true → on_link link' sent ≡ sent
-        on_some None is there = absurd cc
-        on_some (Some handle) is there = ap (λ l. on_link l sent) is
-
         spoken : Behind
         spoken =
             let last : ℕ = count_of known in
             let moves = moves_at last refl in
-            let put_now : put' ≡ put ++ sent = put_is ∙ (ap (λ n. put_heard n put ++ on_link link' sent) told ∙ ap (λ xs. put ++ xs) (on_some link' refl (subst (λ (l : Option ℕ). is_some l ≡ true) (sym same) some))) in
+            let put_now : put' ≡ put ++ sent = put_is ∙ (ap (λ n. put_heard n put ++ on_link link' sent) told ∙ ap (λ xs. put ++ xs) (up_on_link link' sent (subst (λ (l : Option ℕ). is_some l ≡ true) (sym same) some))) in
             record {
               is_served = record {
                 readied = moves.readied;

@@ -20,6 +20,7 @@ use Rattle.bt_host.specs.Servers.{Served, Kept}
 use Rattle.world_model.specs.Insides.{Shelved, Pushing, Serving}
 use Rattle.world_model.specs.Moments.{Moment, face_at}
 use Rattle.world_model.specs.Holding.{Holds}
+use Rattle.host_wire.specs.Sending.{on_link}
 use Rattle.world_links.proofs.Upholding.{Upholds}
 use Rattle.link_pipe.specs.Pipes.{octets_in, IsFront}
 use Rattle.link_pipe.proofs.Keeping.{IsPiping}
@@ -165,6 +166,11 @@ none_put up (Some handle) line said put wired none = absurd cc
 
 pub nothing_put : (side : Side) (past : List Entry) (line : Line) (put : List (List ℕ)) → Wires side past line put → line.link ≡ None → put ≡ []
 nothing_put side past line put wires none = none_put (link_up side past) line.link line wires.said put wires.wired none
+
+-- all that is sent is put on a link that is there
+pub up_on_link : (link : Option ℕ) (sent : List (List ℕ)) → is_some link ≡ true → on_link link sent ≡ sent
+up_on_link None sent up = absurd cc
+up_on_link (Some handle) sent up = refl
 
 none_known : (up : Option Link) (own : Option ℕ) (line : Line) (said : List Packet) (put : List (List ℕ)) → Wired up own line said put → up ≡ None → own ≡ None
 none_known up None line said put wired down = refl

@@ -19,6 +19,7 @@ use Rattle.link_pipe.proofs.Beginning.{first_piping}
 use Rattle.host_wire.proofs.Stepping.{wires_step, wires_at_first}
 use Rattle.push_talk.proofs.Speaking.{sayings_are_read}
 use Rattle.push_course.specs.Conversations.{IsSetting}
+use Rattle.world_links.specs.LinkFacts.{IsBeginning}
 use Rattle.push_course.proofs.Deciding.{undecided}
 use Rattle.push_course.proofs.ClientPlaces.{IsCapable}
 use Rattle.push_course.proofs.Moving.{moved, known_of, known_same}
@@ -133,3 +134,12 @@ stood size count mtu obex names shelf inbox setting happenings moment runs =
 
 pub capable_in : (size count mtu obex : ℕ) (names : List (List ℕ)) → IsSetting size count mtu obex names → IsCapable mtu (min obex mtu)
 capable_in size count mtu obex names setting = capable_of size count mtu obex names setting
+
+pub beginning_in : (size count mtu obex : ℕ) (names : List (List ℕ)) → IsSetting size count mtu obex names → IsBeginning size count names
+beginning_in size count mtu obex names setting = record {
+  size_low = setting.size_low;
+  size_high = setting.size_high;
+  count_low = setting.count_low;
+  count_high = setting.count_high;
+  few = setting.few;
+}

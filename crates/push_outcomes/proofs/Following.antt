@@ -11,11 +11,10 @@ use Rattle.capture.specs.Pushes.{mark_of}
 use Rattle.world_model.specs.Moments.{first_moment}
 use Rattle.world_model.specs.Happenings.{Happening, Opening, Runs, entries_of, all_entries}
 use Rattle.world_model.proofs.Runs.{runs_then}
-use Rattle.world_links.specs.LinkFacts.{LinkFacts, with_entry, since_begin, IsBeginning}
+use Rattle.world_links.specs.LinkFacts.{LinkFacts, with_entry, since_begin}
 use Rattle.world_links.proofs.Running.{links_of_runs}
 use Rattle.world_links.proofs.Splitting.{shifted}
-use Rattle.push_course.specs.Conversations.{IsSetting}
-use Rattle.push_course.proofs.Running.{stood, capable_in}
+use Rattle.push_course.proofs.Running.{beginning_in, stood, capable_in}
 use Rattle.push_outcomes.specs.Outcomes.{OutcomesFollowCauses}
 use Rattle.push_outcomes.proofs.Knowing.{follows_cause}
 
@@ -30,9 +29,6 @@ unmarked since (Ended push outcome ∷ part) none = absurd cc
 fold_then : (since first second : List Entry) → fold with_entry since (first ++ second) ≡ fold with_entry (fold with_entry since first) second
 fold_then since [] second = refl
 fold_then since (entry ∷ first) second = fold_then (with_entry since entry) first second
-
-pub begins_so : (size count mtu obex : ℕ) (names : List (List ℕ)) → IsSetting size count mtu obex names → IsBeginning size count names
-begins_so size count mtu obex names setting = record { size_low = setting.size_low; size_high = setting.size_high; count_low = setting.count_low; count_high = setting.count_high; few = setting.few }
 
 -- the part stands behind the last begin of the whole run
 pub part_since : (before : List Happening) (push : ℕ) (happenings : List Happening) → filter_map mark_of (all_entries happenings) ≡ []
@@ -51,7 +47,7 @@ outcomes_follow_causes size count mtu obex names shelf inbox setting before push
     let part : List Entry = all_entries happenings in
     let runs : Runs whole (first_moment size count mtu obex names shelf inbox) moment = runs_then (before ++ Opening push ∷ []) happenings (first_moment size count mtu obex names shelf inbox) opened moment begins goes in
     let there = stood size count mtu obex names shelf inbox setting whole moment runs in
-    let facts : LinkFacts past moment = links_of_runs size count mtu obex names shelf inbox whole moment (begins_so size count mtu obex names setting) runs in
+    let facts : LinkFacts past moment = links_of_runs size count mtu obex names shelf inbox whole moment (beginning_in size count mtu obex names setting) runs in
     let since : since_begin past ≡ part = part_since before push happenings none in
     let split = there.grounds.upholds.split_a in
     follows_cause mtu (min obex mtu) (capable_in size count mtu obex names setting) (record { names = names; first = inbox; shelved = shelf.content }) past part moment there.stands split.earlier

@@ -25,7 +25,7 @@ use Rattle.world_model.proofs.Holding.{kept_along}
 use Rattle.push_outcomes.specs.Settled.{IsFixed, IsUnasked, IsSettledBy, SettledAtBegin, SettledStays}
 use Rattle.push_outcomes.proofs.Fixed.{arrives_keeps, arrives_idle, first_stays, idle_is, steps_idle}
 use Rattle.push_outcomes.proofs.Asking.{into_asks, departs_asks, asks_beside, asks_more}
-use Rattle.push_outcomes.proofs.Following.{begins_so}
+use Rattle.push_course.proofs.Running.{beginning_in}
 
 -- ---- each happening
 
@@ -88,7 +88,7 @@ settled_along past part (happening ∷ happenings) old new runs stood none settl
 pub settled_stays : SettledStays
 settled_stays size count mtu obex names shelf inbox setting before mid begins part settled happenings moment goes none =
     let first : Moment = first_moment size count mtu obex names shelf inbox in
-    let stood : Stood (all_entries before) mid = kept_along Stood stood_on before [] first mid begins (first_stood size count mtu obex names shelf inbox (begins_so size count mtu obex names setting)) in
+    let stood : Stood (all_entries before) mid = kept_along Stood stood_on before [] first mid begins (first_stood size count mtu obex names shelf inbox (beginning_in size count mtu obex names setting)) in
     settled_along (all_entries before) part happenings mid moment goes stood none settled
 
 -- ---- at the begin
@@ -129,5 +129,5 @@ pub settled_at_begin : SettledAtBegin
 settled_at_begin size count mtu obex names shelf inbox setting before push opened begins idle =
     let first : Moment = first_moment size count mtu obex names shelf inbox in
     let last = last_of before (Opening push) first opened begins in
-    let stood : Stood (all_entries before) last.mid = kept_along Stood stood_on before [] first last.mid last.runs (first_stood size count mtu obex names shelf inbox (begins_so size count mtu obex names setting)) in
+    let stood : Stood (all_entries before) last.mid = kept_along Stood stood_on before [] first last.mid last.runs (first_stood size count mtu obex names shelf inbox (beginning_in size count mtu obex names setting)) in
     inr (record { idle = idle; came = begins_unasked push last.mid opened last.does idle stood.upholds.course stood.upholds.shelf stood.upholds.inside_a; asks = refl })

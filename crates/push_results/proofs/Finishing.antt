@@ -9,14 +9,14 @@ use Rattle.world_model.specs.Ordering.{one_ended}
 use Rattle.world_model.specs.Moments.{Moment, IsAtRest, first_moment}
 use Rattle.world_model.specs.Happenings.{Happening, Does, Runs, EndsScript, last_outcome, entries_of, all_entries}
 use Rattle.world_model.proofs.Holding.{kept_along}
-use Rattle.world_links.specs.LinkFacts.{LinkFacts, IsBeginning}
+use Rattle.world_links.specs.LinkFacts.{LinkFacts}
 use Rattle.world_links.proofs.Upholding.{facts_of}
 use Rattle.world_links.proofs.Running.{Stood, stood_on, first_stood, links_of_runs}
 use Rattle.push_order.specs.InOrder.{all_outcomes}
 use Rattle.push_order.proofs.Courses.{AllEnded}
 use Rattle.push_order.proofs.Ending.{ends, ended_between}
 use Rattle.push_order.proofs.Following.{Course, Reached, FactsFrom, reached_more, unlinked_at, few_at, follows}
-use Rattle.push_course.specs.Conversations.{IsSetting}
+use Rattle.push_course.proofs.Running.{beginning_in}
 use Rattle.push_results.specs.AllResults.{ResultsIn, ResultsFromPushes}
 use Rattle.push_results.proofs.Tallying.{tallies_none}
 use Rattle.push_results.proofs.Ending.{AllCame, ComesFrom, all_ended}
@@ -89,19 +89,10 @@ over_at shelf names inbox first past before last ended from rest facts course sc
 
 -- ---- a play
 
-begins_so : (size count mtu obex : ℕ) (names : List (List ℕ)) → IsSetting size count mtu obex names → IsBeginning size count names
-begins_so size count mtu obex names setting = record {
-  size_low = setting.size_low;
-  size_high = setting.size_high;
-  count_low = setting.count_low;
-  count_high = setting.count_high;
-  few = setting.few;
-}
-
 pub results_from_pushes : ResultsFromPushes
 results_from_pushes come size count mtu obex names shelf inbox setting script last entries plays =
     let first : Moment = first_moment size count mtu obex names shelf inbox in
-    let beginning = begins_so size count mtu obex names setting in
+    let beginning = beginning_in size count mtu obex names setting in
     let past : List Entry = all_entries plays.happenings in
     let before : Moment = plays.before in
     let facts : FactsFrom first = λ happenings moment runs. links_of_runs size count mtu obex names shelf inbox happenings moment beginning runs in

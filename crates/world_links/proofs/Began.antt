@@ -14,7 +14,7 @@ use Rattle.world_model.specs.Insides.{Inside, StartsPush, client, idles}
 use Rattle.world_model.specs.Ordering.{one_begun}
 use Rattle.world_model.specs.Moments.{Moment, with_face, with_pushes}
 use Rattle.world_model.specs.Happenings.{Opens}
-use Rattle.world_links.proofs.Reaching.{Reach, AtRest, Calling, reach, is_leaving, idle_rests}
+use Rattle.world_links.proofs.Reaching.{rests_not_calls, Reach, AtRest, Calling, reach, is_leaving, idle_rests}
 use Rattle.world_links.proofs.Pacing.{View, view}
 use Rattle.world_links.proofs.Advancing.{Advance, advances}
 use Rattle.world_links.proofs.Keeping.{calling_count, FarStands}
@@ -29,9 +29,6 @@ use Rattle.world_links.proofs.Telling.{Extra, course_one, way_one, exact_as}
 record Started (more : ℕ) (to : Reach) (course : Course) : Type 0 where
   pages : to ≡ Calling → more ≡ 1
   ended : to ≡ AtRest → is_some course.outcome ≡ true
-
-rests_not_calls : (to : Reach) → to ≡ AtRest → to ≡ Calling → ⊥
-rests_not_calls to rests calls = cc
 
 started_by : (name : List ℕ) (size : Option ℕ) (course : Course) (waiting more : ℕ) (to : Reach) (after : Course) → reach course.stage ≡ AtRest → waiting ≤ 3 → Advance (reach (begun name size course).stage) waiting more to
     → (is_some (begun name size course).outcome ≡ true → is_some after.outcome ≡ true) → Started more to after

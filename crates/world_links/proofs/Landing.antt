@@ -9,7 +9,7 @@ use Rattle.bt_host.specs.Clients.{after_news}
 use Rattle.radio_air.specs.Controllers.{Answer, Returned, Stated, Called, LinkMade, LinkGone, GivenBack, Carried}
 use Rattle.radio_air.specs.Radio.{is_together}
 use Rattle.world_model.proofs.Hearing.{owed_below}
-use Rattle.world_links.proofs.Reaching.{Reach, AtRest, Due, Calling, Onward, reach, is_leaving, reach_up, reach_after, news_goes, down_out, pdu_stays}
+use Rattle.world_links.proofs.Reaching.{rests_not_calls, Reach, AtRest, Due, Calling, Onward, reach, is_leaving, reach_up, reach_after, news_goes, down_out, pdu_stays}
 use Rattle.world_links.proofs.Ways.{number_of}
 use Rattle.world_links.proofs.Pacing.{View, IsClear}
 use Rattle.world_links.proofs.Viewing.{told_a}
@@ -75,9 +75,6 @@ onward_not_calls far onward is = cc
 
 onward_not_due : (far : Reach) → far ≡ Onward → far ≡ Due → ⊥
 onward_not_due far onward is = cc
-
-rests_not_calls : (far : Reach) → far ≡ AtRest → far ≡ Calling → ⊥
-rests_not_calls far rests is = cc
 
 rests_not_due : (far : Reach) → far ≡ AtRest → far ≡ Due → ⊥
 rests_not_due far rests is = cc

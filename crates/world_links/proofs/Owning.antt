@@ -1,5 +1,6 @@
 -- What a controller owes its host, and what it took, by what happens.
 use Rattle.std.proofs.Common.{◌≡◌, ℕ, zero, suc, ◌+◌, ◌%◌, ◌≤◌, List, [], ◌∷◌, ◌++◌, Bool, true, false, cond, Option, Some, None, refl, sym, ap, subst, ◌∙◌, arith, eq-eqb, le-leb, lt-ltb, inl, inr}
+use Rattle.std.proofs.lemmas.List.{append-nil}
 use Rattle.std.proofs.lemmas.Bool.{cases_Bool}
 use Rattle.std.specs.Prelude.{◌==◌, ◌&&◌, nat_lt, nat_le, slice_index}
 use Rattle.std.specs.List.{AllByRecursion}
@@ -34,14 +35,10 @@ pub record Grown (new old : Controller) : Type 0 where
 pub grown_same : (one : Controller) → Grown one one
 grown_same one = record { told = refl; codes = refl; some = λ some. some; proper = λ all. all }
 
-no_codes : (codes : List ℕ) → codes ++ [] ≡ codes
-no_codes [] = refl
-no_codes (code ∷ codes) = ap (λ (more : List ℕ). code ∷ more) (no_codes codes)
-
 pub grown_owing : (more : List Answer) (one : Controller) → codes_owed more ≡ [] → AllByRecursion Proper more → Grown (owing more one) one
 grown_owing more one none all = record {
   told = refl;
-  codes = codes_owed-append one.owed more ∙ (ap (λ (codes : List ℕ). codes_owed one.owed ++ codes) none ∙ no_codes (codes_owed one.owed));
+  codes = codes_owed-append one.owed more ∙ (ap (λ (codes : List ℕ). codes_owed one.owed ++ codes) none ∙ append-nil (codes_owed one.owed));
   some = λ some. let both = number_of-append is_back one.owed more in omega (arith, both, some);
   proper = λ before. all_both Proper one.owed more before all;
 }
@@ -66,7 +63,7 @@ some_back (suc n) one is some = let back = given_some one.told one.taken (omega 
 pub grown_giving : (one : Controller) → Grown (after_giving_back one) one
 grown_giving one = record {
   told = refl;
-  codes = codes_owed-append one.owed (gives_back one.told one.taken) ∙ (ap (λ (codes : List ℕ). codes_owed one.owed ++ codes) (given_codes one.told one.taken) ∙ no_codes (codes_owed one.owed));
+  codes = codes_owed-append one.owed (gives_back one.told one.taken) ∙ (ap (λ (codes : List ℕ). codes_owed one.owed ++ codes) (given_codes one.told one.taken) ∙ append-nil (codes_owed one.owed));
   some = λ some. let both = number_of-append is_back one.owed (gives_back one.told one.taken) in let more = some_back one.taken one refl some in omega (arith, both, more);
   proper = λ all. all_both Proper one.owed (gives_back one.told one.taken) all (given_proper one.told one.taken);
 }
@@ -152,8 +149,8 @@ took_here : (word : ℕ) (octets : List ℕ) (one : Controller) → Took (Acl wo
 took_here word octets one =
     let given = grown_giving one in
     chosen (λ (new : Controller). Took (Acl word octets) new one) (one.taken == 65535) (record (after_giving_back one) { taken = 1 }) (record one { taken = one.taken + 1 })
-    (λ full. record { told = refl; codes = given.codes ∙ sym (no_codes (codes_owed one.owed)); some = λ on some. omega arith; proper = given.proper })
-    (record { told = refl; codes = sym (no_codes (codes_owed one.owed)); some = λ on some. omega arith; proper = λ all. all })
+    (λ full. record { told = refl; codes = given.codes ∙ sym (append-nil (codes_owed one.owed)); some = λ on some. omega arith; proper = given.proper })
+    (record { told = refl; codes = sym (append-nil (codes_owed one.owed)); some = λ on some. omega arith; proper = λ all. all })
 
 -- a packet on the last link is taken
 took_data : (word : ℕ) (octets : List ℕ) (one : Controller) → Took (Acl word octets) (after_taking (word % 0x1000) one) one
@@ -161,7 +158,7 @@ took_data word octets one = elim (cases_Bool ((word % 0x1000 == one.told) && nat
   | inl here ↦ subst (λ (test : Bool). Took (Acl word octets) (cond test (taken_more one) one) one) (sym here) (took_here word octets one)
   | inr other ↦ subst (λ (test : Bool). Took (Acl word octets) (cond test (taken_more one) one) one) (sym other) (record {
     told = refl;
-    codes = sym (no_codes (codes_owed one.owed));
+    codes = sym (append-nil (codes_owed one.owed));
     some = λ on some. absurd (elsewhere (word % 0x1000 == one.told) (nat_le 1 one.told) (eq-eqb (word % 0x1000) one.told on.0) (le-leb 1 one.told on.1) other);
     proper = λ all. all;
   })

@@ -298,3 +298,6 @@ step_leaves ToClose given course is = refl
 step_leaves Closing given course is = ap is_leaving is
 step_leaves ToLeave given course is = (refl, refl)
 step_leaves Leaving given course is = ap is_leaving is
+
+pub rests_not_calls : (far : Reach) → far ≡ AtRest → far ≡ Calling → ⊥
+rests_not_calls far rests calls = cc

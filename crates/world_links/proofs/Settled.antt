@@ -11,7 +11,7 @@ use Rattle.world_model.specs.Moments.{Moment, IsAtRest, first_moment}
 use Rattle.world_model.specs.Happenings.{Happening, Runs, all_entries}
 use Rattle.world_model.proofs.Holding.{kept_along}
 use Rattle.world_links.specs.LinkFacts.{IsBeginning, IsDone, RestsOfRuns}
-use Rattle.world_links.proofs.Reaching.{Reach, AtRest, Calling, reach, is_leaving}
+use Rattle.world_links.proofs.Reaching.{rests_not_calls, Reach, AtRest, reach, is_leaving}
 use Rattle.world_links.proofs.Ways.{puts_next}
 use Rattle.world_links.proofs.Upholding.{Upholds, rests_idle}
 use Rattle.world_links.proofs.Running.{fresh_host, first_stood}
@@ -20,9 +20,6 @@ use Rattle.world_links.proofs.Scanning.{apart_not}
 use Rattle.world_links.proofs.Queueing.{WaitsA, puts_a, puts_b}
 use Rattle.world_links.proofs.Telling.{Extra, course_one, way_one}
 use Rattle.world_links.proofs.Linked.{Full, full_on, is_linked}
-
-rests_not_calls : (far : Reach) → far ≡ AtRest → far ≡ Calling → ⊥
-rests_not_calls far rests calls = cc
 
 first_extra : (size count mtu obex : ℕ) (names : List (List ℕ)) (shelf : Shelved) (inbox : Kept) → length names ≤ 64
     → (u : Upholds [] (first_moment size count mtu obex names shelf inbox)) (st : IsSteady [] (first_moment size count mtu obex names shelf inbox)) → Extra [] (first_moment size count mtu obex names shelf inbox) u st

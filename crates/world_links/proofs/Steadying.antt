@@ -1,5 +1,6 @@
 -- What each host keeps to beside its controller, when what it put out moves.
 use Rattle.std.proofs.Common.{◌≡◌, ℕ, ◌+◌, ◌≤◌, List, [], ◌∷◌, ◌++◌, Bool, true, false, cond, Option, None, refl, sym, ap, subst, ◌∙◌, arith, inl, inr, ◌⊎◌, append_assoc, lt-ltb}
+use Rattle.std.proofs.lemmas.List.{append-nil}
 use Rattle.std.specs.Prelude.{◌==◌, ◌&&◌, ◌||◌, nat_lt, is_none, option_to_list}
 use Rattle.std.specs.List.{AllByRecursion}
 use Rattle.std.proofs.lemmas.Bool.{cases_Bool}
@@ -72,16 +73,12 @@ left_gone packet rest asked behind before now none_asks = elim (cases_Bool (is_a
       omega (arith, there)
 ]
 
-no_codes : (codes : List ℕ) → codes ++ [] ≡ codes
-no_codes [] = refl
-no_codes (code ∷ codes) = ap (λ (more : List ℕ). code ∷ more) (no_codes codes)
-
 left_codes : (owed owed' : List ℕ) (packet : Packet) (rest : List Packet) (awaited : Option ℕ) → owed' ≡ owed ++ codes_said (packet ∷ []) → owed ++ codes_said (packet ∷ rest) ≡ option_to_list awaited → owed' ++ codes_said rest ≡ option_to_list awaited
 left_codes owed owed' (Command code params) rest awaited took codes =
     ap (λ (more : List ℕ). more ++ codes_said rest) took ∙ (append_assoc owed (code ∷ []) (codes_said rest) ∙ codes)
-left_codes owed owed' (Acl word octets) rest awaited took codes = ap (λ (more : List ℕ). more ++ codes_said rest) (took ∙ no_codes owed) ∙ codes
-left_codes owed owed' (Sync word octets) rest awaited took codes = ap (λ (more : List ℕ). more ++ codes_said rest) (took ∙ no_codes owed) ∙ codes
-left_codes owed owed' (Event code params) rest awaited took codes = ap (λ (more : List ℕ). more ++ codes_said rest) (took ∙ no_codes owed) ∙ codes
+left_codes owed owed' (Acl word octets) rest awaited took codes = ap (λ (more : List ℕ). more ++ codes_said rest) (took ∙ append-nil owed) ∙ codes
+left_codes owed owed' (Sync word octets) rest awaited took codes = ap (λ (more : List ℕ). more ++ codes_said rest) (took ∙ append-nil owed) ∙ codes
+left_codes owed owed' (Event code params) rest awaited took codes = ap (λ (more : List ℕ). more ++ codes_said rest) (took ∙ append-nil owed) ∙ codes
 
 left_tidy : (known : Linking) (owed owed' : List ℕ) (packet : Packet) (rest : List Packet) (line : Line) (left : List ℕ) → owed' ≡ owed ++ codes_said (packet ∷ []) → Tidy known owed (packet ∷ rest) line
     → Tidy (after_move known (out_of packet)) owed' rest (record line { out = left })

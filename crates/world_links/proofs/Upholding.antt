@@ -20,7 +20,7 @@ use Rattle.world_model.specs.Insides.{Shelved, Pushing, Serving, idles, came_of}
 use Rattle.world_model.specs.Moments.{Moment}
 use Rattle.world_model.proofs.Hearing.{none_up}
 use Rattle.world_links.specs.LinkFacts.{since_begin, IsUnlinked, LinkFacts}
-use Rattle.world_links.proofs.Reaching.{Reach, AtRest, Calling, Onward, reach, Clean}
+use Rattle.world_links.proofs.Reaching.{rests_not_calls, Reach, AtRest, Calling, Onward, reach, Clean}
 use Rattle.world_links.proofs.Ways.{on_way, HostAt}
 use Rattle.world_links.proofs.Pacing.{View, view}
 use Rattle.world_links.proofs.Keeping.{order_of, FarStands, Pace}
@@ -95,9 +95,6 @@ rests_idle ToClose is = absurd cc
 rests_idle Closing is = absurd cc
 rests_idle ToLeave is = absurd cc
 rests_idle Leaving is = absurd cc
-
-rests_not_calls : (far : Reach) → far ≡ AtRest → far ≡ Calling → ⊥
-rests_not_calls far rests calls = cc
 
 pub unlinked_a : (past : List Entry) (moment : Moment) → Shows past moment.scene.medium.radio → (upholds : Upholds past moment) → reach upholds.course.stage ≡ AtRest → IsUnlinked sides.A past
 unlinked_a past moment shows upholds rests =
