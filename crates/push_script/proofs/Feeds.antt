@@ -1,11 +1,10 @@
 -- Texts without a line feed, and the line of an object.
-use Rattle.std.proofs.Common.{◌≡◌, ℕ, ◌+◌, ◌<◌, ◌≤◌, Bool, true, false, List, [], ◌∷◌, length, Option, Some, None, refl, arith, inl, inr, ◌⊎◌, sym, ◌∙◌, ap}
+use Rattle.std.proofs.Common.{◌≡◌, ℕ, List, length, None, arith, inl, inr}
 use Rattle.std.proofs.lemmas.Bool.{cases_lt, lt-ltb}
 use Rattle.std.proofs.lemmas.List.Sums.{prefix_len-le-length}
 use Rattle.std.specs.Prelude.{not}
 use Rattle.std.specs.List.{position, position_or_len}
-use Rattle.push_script.specs.Reading.{is_feed, lines}
-use Rattle.push_script.specs.Refusals.{is_object_line, object_line}
+use Rattle.push_script.specs.Reading.{is_feed}
 
 -- where no line feed was found there is none
 pub no_feed : (text : List ℕ) → None ≡ position is_feed text → position_or_len is_feed text ≡ length text

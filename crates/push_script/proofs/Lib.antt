@@ -12,3 +12,4 @@ pub mod KeysAgain
 pub mod TextLines
 pub mod Again
 pub mod Making
+pub mod Defaults

@@ -9,10 +9,10 @@ use Rattle.push_script.specs.declared.word.Word.{Word}
 use Rattle.push_script.specs.declared.outcome.Outcome.{Outcome}
 use Rattle.push_script.specs.Said.{SaysWord, SaysOutcome}
 use Rattle.push_script.specs.Parts.{number_of}
-use Rattle.push_script.specs.Features.{built, asked, word_feature}
+use Rattle.push_script.specs.Features.{missing_features, built, asked, word_feature}
 use Rattle.push_script.specs.Keys.{default_number, is_l2cap, is_both}
 use Rattle.push_script.specs.Scenarios.{scenario_text}
-use Rattle.push_script.specs.Reading.{script_of, reading, text_limit}
+use Rattle.push_script.specs.Reading.{Script, script_of, reading, text_limit}
 
 -- a number of at most ten digits is read again as it was written
 abbrev pub NumbersAgain : Type 0
@@ -59,3 +59,7 @@ OneWord = (text : List ℕ) (word other : Word) → SaysWord text word → SaysW
 
 abbrev pub OneOutcome : Type 0
 OneOutcome = (text : List ℕ) (outcome other : Outcome) → SaysOutcome text outcome → SaysOutcome text other → outcome ≡ other
+
+-- A scenario that is read today has the default MTU and the default longest packet of OBEX, 1,024 octets each.
+abbrev pub LengthsAreDefaults : Type 0
+LengthsAreDefaults = (text : List ℕ) (script : Script) → reading missing_features text ≡ Ok script → (script.mtu ≡ 1024) × (script.obex ≡ 1024)

@@ -1,7 +1,7 @@
 //! Laws of the text of scenarios, for every value. They speak of no call: the contracts of the calls
 //! tie these to the same definitions.
 
-ghost use Rattle.push_script.specs.Laws.{NumbersAgain, TextsAgain, AllTextsAgain, OneWord, OneOutcome};
+ghost use Rattle.push_script.specs.Laws.{NumbersAgain, LengthsAreDefaults, TextsAgain, AllTextsAgain, OneWord, OneOutcome};
 
 /// A number that was written is read again.
 pub fn numbers_are_read_again()
@@ -23,4 +23,10 @@ pub fn words_have_their_own_texts()
 /// A text is that of one outcome at most.
 pub fn outcomes_have_their_own_texts()
     ensures { OneOutcome }
+{}
+
+/// A scenario that is read has the default MTU and the default longest packet of OBEX, while other
+/// lengths are missing.
+pub fn lengths_are_defaults()
+    ensures { LengthsAreDefaults }
 {}
