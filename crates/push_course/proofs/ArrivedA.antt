@@ -1,5 +1,5 @@
 -- A packet came into host a: what is true then.
-use Rattle.std.proofs.Common.{◌≡◌, ℕ, List, [], ◌∷◌, ◌++◌, refl, sym, ap, subst, ◌∙◌}
+use Rattle.std.proofs.Common.{◌≡◌, ℕ, List, [], ◌∷◌, ◌++◌, false, refl, sym, ap, subst, ◌∙◌}
 use Rattle.std.specs.Prelude.{is_some}
 use Rattle.h4_framing.specs.Packets.{Packet}
 use Rattle.push_script.specs.declared.word.Side.TheVariants as sides
@@ -9,6 +9,9 @@ use Rattle.capture.specs.Links.{Linking, after_move}
 use Rattle.host_link.specs.Hearing.{PlainNews, heard, news_of}
 use Rattle.host_link.specs.Lines.{Line}
 use Rattle.host_link.specs.Stands.{into}
+use Rattle.bt_host.specs.Courses.{Course}
+use Rattle.bt_host.specs.Events.{is_idle}
+use Rattle.world_model.specs.Insides.{Shelved, Pushing}
 use Rattle.world_model.specs.Faces.{Face}
 use Rattle.world_model.specs.Moments.{Moment}
 use Rattle.world_model.specs.Happenings.{Arrival, Arrives}
@@ -20,7 +23,9 @@ use Rattle.host_wire.proofs.Putting.{wires_again}
 use Rattle.host_wire.proofs.Stepping.{wires_step}
 use Rattle.host_wire.proofs.LinkTold.{puts_link, again_link}
 use Rattle.push_talk.specs.Speaking.{SayingsAreRead}
+use Rattle.push_course.specs.PushNames.{IsLastName}
 use Rattle.push_course.proofs.ClientPlaces.{IsCapable}
+use Rattle.push_course.proofs.Parts.{gained_alike}
 use Rattle.push_course.proofs.Turning.{ClientTold}
 use Rattle.push_course.proofs.Moving.{known_of, known_more, known_same, Led, led}
 use Rattle.push_course.proofs.Meeting.{answer_on}
@@ -33,8 +38,12 @@ module _ (read : SayingsAreRead) (mtu maximum : ℕ) (capable : IsCapable mtu ma
   abbrev past' : List Entry
   past' = past ++ Moved sides.A Into packet ∷ []
 
-  pub arrives_a : Arrives sides.A packet old new → Grounds past old → Grounds past' new → Stands mtu maximum outset past old → Stands mtu maximum outset past' new
-  arrives_a does grounds grounds' stands =
+  -- the object of a push that goes on is that of the push that began last
+  abbrev pub IsNamedThen : Type 0
+  IsNamedThen = (course : Course) (shelf : Shelved) → new.a.inside ≡ Pushing course shelf → is_idle course.stage ≡ false → IsLastName outset.names new.scene.pushes.begun course.name
+
+  pub arrives_a : IsNamedThen → Arrives sides.A packet old new → Grounds past old → Grounds past' new → Stands mtu maximum outset past old → Stands mtu maximum outset past' new
+  arrives_a named_then does grounds grounds' stands =
       let holds : Holds past old = grounds.piping.holds in
       let face : Face = does.face in
       let line : Line = line_hearing packet old.a face does.hears in
@@ -68,6 +77,10 @@ module _ (read : SayingsAreRead) (mtu maximum : ℕ) (capable : IsCapable mtu ma
       let behind : Behind read mtu maximum capable past past' packet new grounds'.piping known known' line.link face.line.link put put' sent b stands.course told.course' stands.served stands.part news =
       behind_a read mtu maximum capable past past' packet new grounds'.piping known known' line.link face.line.link put put' sent b stands.course told.course' stands.served stands.part news stands.is_course each
       (takes_of packet line stands.course stands.shelf face.inside sent told) stands.shelf.content (λ n. stands.part_shelved n ∙ sym stands.shelved_same) told.shelved (ap (λ l. put_heard news put ++ on_link l sent) same) is_a is_b linked linked' comes in
-      stands_next mtu maximum outset past' new told.course' told.shelf' stands.served stands.inbox stands.part put' stands.put_b
+      let begun_is : new.scene.pushes.begun ≡ old.scene.pushes.begun = ap (λ (m : Moment). m.scene.pushes.begun) does.new_is in
+      stands_next mtu maximum outset past' new told.course' told.shelf' stands.served stands.inbox behind.part' put' stands.put_b
       inside' behind.is_course (ap (λ (m : Moment). m.b.inside) does.new_is ∙ stands.inside_b) stands.is_served (ap (λ (m : Moment). m.scene.pushes.names) does.new_is ∙ stands.named)
-      wires' wires_b' known' (known_of sides.B past) face.line.link old.b.line.link is_a (ap (λ (f : Face). f.line.link) face_is) is_b (ap (λ (m : Moment). m.b.line.link) does.new_is) behind.each stands.gained stands.part_shelved (told.content_is ∙ stands.shelved_same)
+      wires' wires_b' known' (known_of sides.B past) face.line.link old.b.line.link is_a (ap (λ (f : Face). f.line.link) face_is) is_b (ap (λ (m : Moment). m.b.line.link) does.new_is) behind.each
+      (gained_alike outset.base outset.first stands.inbox stands.part behind.part' behind.alike stands.gained) stands.above old.scene.pushes.begun begun_is stands.since
+      (behind.dated outset old.scene.pushes.begun (λ busy. subst (λ k. IsLastName outset.names k told.course'.name) begun_is (named_then told.course' told.shelf' inside' busy)) stands.since stands.dated)
+      (λ n. (behind.alike n).shelved_same ∙ stands.part_shelved n) (told.content_is ∙ stands.shelved_same)

@@ -1,5 +1,5 @@
 -- A packet came into host b: what is true then.
-use Rattle.std.proofs.Common.{◌≡◌, ℕ, ◌≤◌, List, [], ◌∷◌, ◌++◌, true, false, Option, Some, None, refl, sym, ap, subst, ◌∙◌}
+use Rattle.std.proofs.Common.{◌≡◌, ℕ, ◌<◌, ◌≤◌, List, [], ◌∷◌, ◌++◌, true, false, Option, Some, None, refl, sym, ap, subst, ◌∙◌, inl, inr, ◌⊎◌, arith}
 use Rattle.std.specs.Prelude.{is_some}
 use Rattle.h4_framing.specs.Packets.{Packet}
 use Rattle.push_script.specs.declared.word.Side.TheVariants as sides
@@ -30,11 +30,12 @@ use Rattle.push_course.proofs.ClientPlaces.{IsCapable}
 use Rattle.push_course.proofs.Turning.{ServerTold}
 use Rattle.push_course.proofs.AllOut.{nothing_waits}
 use Rattle.push_course.proofs.ServerPlaces.{ServerPlace, server_tail, ServerStands}
-use Rattle.push_course.proofs.Moving.{moved, count_of, known_of, known_more, known_same, Led, led}
+use Rattle.push_course.proofs.Moving.{moved, count_of, known_of, known_more, known_same, count_on, Begins, count_begun, Ends, count_ended, Led, led}
+use Rattle.push_course.proofs.HalfSteps.{none_some}
 use Rattle.push_course.proofs.Meeting.{answer_on}
 use Rattle.push_course.proofs.Coming.{Coming, coming}
 use Rattle.push_course.proofs.ArrivingB.{told_inside, takes_of, Behind, behind_b}
-use Rattle.push_course.proofs.Courses.{Outset, Wire, Converses, Stands, Grounds, moved_up, filter_both, nothing_put, frames_of}
+use Rattle.push_course.proofs.Courses.{Outset, IsAbove, Wire, Converses, Stands, Grounds, moved_up, filter_both, nothing_put, frames_of}
 use Rattle.push_course.proofs.Next.{stands_next}
 
 -- on a link of which all PDUs moved
@@ -44,6 +45,22 @@ empty_by past line put wires big frames None known some all = absurd cc
 empty_by past line put wires big frames (Some handle) known some all =
     let there = link_is_known sides.B past line put wires handle known in
     nothing_waits sides.B past line put wires there.0 there.1 big frames (sym (filter_both (pdus there.0)) ∙ (ap (filter_map (octets_in Out)) (sym (moved_up (known_of sides.B past) there.0 there.1)) ∙ all))
+
+-- the number of links grows
+above_on : (base : ℕ) (packet : Packet) (known known' : Linking) (link link' : Option ℕ) (news : PlainNews) → IsAbove base known link → Coming packet known known' link link' news → IsAbove base known' link'
+above_on base packet known known' link link' news above (inl on) =
+    let same = count_on (into packet) known known' on.goes in
+    (subst (λ k. base ≤ k) (sym same) above.0, λ some. subst (λ k. base < k) (sym same) (above.1 (subst (λ (l : Option ℕ). is_some l ≡ true) on.same some)))
+above_on base packet known known' link link' news above (inr (inl passes)) = (passed passes.change, λ some. absurd (none_some link' passes.unknown' some))
+  where
+    passed : (Begins known known' ⊎ Ends known known') → base ≤ count_of known'
+    passed (inl begins) = let more = count_begun known known' begins in let least = above.0 in omega (arith, more, least)
+    passed (inr ends) = subst (λ k. base ≤ k) (sym (count_ended known known' ends)) above.0
+above_on base packet known known' link link' news above (inr (inr (inl up))) =
+    let more = count_begun known known' up.begins in
+    let least = above.0 in
+    (omega (arith, more, least), λ some. omega (arith, more, least))
+above_on base packet known known' link link' news above (inr (inr (inr down))) = (subst (λ k. base ≤ k) (sym (count_ended known known' down.ends)) above.0, λ some. absurd (none_some link' down.unknown' some))
 
 module _ (read : SayingsAreRead) (mtu maximum : ℕ) (capable : IsCapable mtu maximum) (outset : Outset) (past : List Entry) (packet : Packet) (old new : Moment) where
   abbrev past' : List Entry
@@ -78,6 +95,7 @@ module _ (read : SayingsAreRead) (mtu maximum : ℕ) (capable : IsCapable mtu ma
       let a : Wire = record { known = known_of sides.A past; link = old.a.line.link; put = stands.put_a } in
       let each : (n : ℕ) → Converses mtu maximum a (record { known = known; link = line.link; put = put }) stands.course stands.served (stands.part n) n = λ n.
       subst (λ l. Converses mtu maximum a (record { known = known; link = l; put = put }) stands.course stands.served (stands.part n) n) (sym again) (stands.each n) in
+      let above : IsAbove outset.base known line.link = subst (IsAbove outset.base known) (sym again) stands.above in
       let inside' = ap (λ (f : Face). f.inside) face_is ∙ told.is in
       -- all that it let wait has moved: none of it waits
       let both = wires_again sides.B old.scene.medium.radio.count past put does.hears.times old.b.line (holds.host_b, stands.wires_b) in
@@ -90,4 +108,6 @@ module _ (read : SayingsAreRead) (mtu maximum : ℕ) (capable : IsCapable mtu ma
       (takes_of packet line stands.served stands.inbox face.inside sent told) (ap (λ l. put_heard news put ++ on_link l sent) same) empties is_a is_b comes in
       stands_next mtu maximum outset past' new stands.course stands.shelf told.served' told.inbox' behind.part' stands.put_a put'
       (ap (λ (m : Moment). m.a.inside) does.new_is ∙ stands.inside_a) stands.is_course inside' behind.is_served (ap (λ (m : Moment). m.scene.pushes.names) does.new_is ∙ stands.named)
-      wires_a' wires' (known_of sides.A past) known' old.a.line.link face.line.link is_a (ap (λ (m : Moment). m.a.line.link) does.new_is) is_b (ap (λ (f : Face). f.line.link) face_is) behind.each (behind.gains outset.first stands.gained) (λ n. behind.shelved_same n ∙ stands.part_shelved n) stands.shelved_same
+      wires_a' wires' (known_of sides.A past) known' old.a.line.link face.line.link is_a (ap (λ (m : Moment). m.a.line.link) does.new_is) is_b (ap (λ (f : Face). f.line.link) face_is) behind.each
+      (behind.gains outset.base outset.first above.1 stands.gained) (above_on outset.base packet known known' line.link face.line.link news above comes) old.scene.pushes.begun (ap (λ (m : Moment). m.scene.pushes.begun) does.new_is) stands.since
+      (λ n name least is. stands.dated n name least (sym (behind.names_same n) ∙ is)) (λ n. behind.shelved_same n ∙ stands.part_shelved n) stands.shelved_same

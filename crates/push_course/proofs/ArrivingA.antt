@@ -1,5 +1,5 @@
 -- A packet comes into host a.
-use Rattle.std.proofs.Common.{◌≡◌, ℕ, List, [], ◌∷◌, ◌++◌, length, true, Option, Some, None, refl, sym, ap, ap₂, subst, ◌∙◌, inl, inr, arith, true≢false}
+use Rattle.std.proofs.Common.{◌≡◌, ℕ, ◌≤◌, List, [], ◌∷◌, ◌++◌, length, true, false, Option, Some, None, refl, sym, ap, ap₂, subst, ◌∙◌, inl, inr, arith, true≢false}
 use Rattle.std.specs.Prelude.{is_some}
 use Rattle.h4_framing.specs.Packets.{Packet}
 use Rattle.push_script.specs.declared.word.Side.TheVariants as sides
@@ -12,6 +12,7 @@ use Rattle.host_link.specs.Lines.{Line}
 use Rattle.host_link.specs.Stands.{into}
 use Rattle.bt_host.specs.Courses.{Course}
 use Rattle.bt_host.specs.Clients.{after_news}
+use Rattle.bt_host.specs.Events.{is_idle}
 use Rattle.bt_host.specs.declared.stages.Stage.TheVariants as stages
 use Rattle.bt_host.specs.Servers.{Served}
 use Rattle.world_model.specs.Insides.{Inside, Shelved, Pushing, Serving, Tells}
@@ -33,11 +34,12 @@ use Rattle.push_course.proofs.Meets.{meets_of}
 use Rattle.push_course.proofs.HalfSteps.{AtMostOne, at_most_one}
 use Rattle.push_course.proofs.Coming.{GoesOnTold, PassesBy, Coming}
 use Rattle.push_course.proofs.ClientTakes.{Takes, takes_none, takes_awaits, none_sent, fair_given, stands_busy, stands_onward, takes_up, takes_down}
-use Rattle.push_course.proofs.ClientComing.{in_move, client_other, client_still, MeetsHere, client_silent, Hearkens, hearkens, client_talks, client_passes, client_up}
+use Rattle.push_course.proofs.ClientComing.{in_move, client_other, client_still, MeetsHere, client_silent, Hearkens, hearkens, client_talks, client_passes, client_up, client_beside}
 use Rattle.bt_base.specs.Objects.{Object}
 use Rattle.push_course.proofs.Deciding.{IsGivenFrom}
-use Rattle.push_course.proofs.Parts.{Part}
-use Rattle.push_course.proofs.Courses.{up_on_link, Wire, Converses, IsCourse, is_last}
+use Rattle.push_course.specs.PushNames.{IsLastName}
+use Rattle.push_course.proofs.Parts.{Part, with_part, part_at, part_beside, IsAlike, alike}
+use Rattle.push_course.proofs.Courses.{Outset, Dated, up_on_link, Wire, Converses, IsCourse, is_last}
 
 -- ---- news that it takes
 
@@ -73,13 +75,25 @@ module _ (read : SayingsAreRead) (mtu maximum : ℕ) (capable : IsCapable mtu ma
   abbrev pub Before : ℕ → Type 0
   Before n = Converses mtu maximum (record { known = known; link = link; put = put }) b course served (part n) n
 
-  abbrev pub After : ℕ → Type 0
-  After n = Converses mtu maximum (record { known = known'; link = link'; put = put' }) b course' served (part n) n
+  abbrev pub After : Part → ℕ → Type 0
+  After p n = Converses mtu maximum (record { known = known'; link = link'; put = put' }) b course' served p n
+
+  -- the push under which a link is taken is the one that began last
+  abbrev pub StaysDated : (ℕ → Part) → Type 0
+  StaysDated part' =
+      (outset : Outset) (begun : ℕ) → (is_idle course'.stage ≡ false → IsLastName outset.names begun course'.name) → outset.begun ≤ begun → Dated outset begun part → Dated outset begun part'
 
   -- what comes to be true of the client and of each conversation
   pub record Behind : Type 0 where
     pub is_course : IsCourse mtu maximum course'
-    pub each : (n : ℕ) → After n
+    pub part' : ℕ → Part
+    pub each : (n : ℕ) → After (part' n) n
+    pub alike : (n : ℕ) → IsAlike (part n) (part' n)
+    pub dated : StaysDated part'
+
+  -- no link is taken
+  same_parts : IsCourse mtu maximum course' → ((n : ℕ) → After (part n) n) → Behind
+  same_parts is_course each = record { is_course = is_course; part' = part; each = each; alike = λ n. alike (part n); dated = λ outset begun named since dated. dated }
 
   module _ (is_course : IsCourse mtu maximum course) (each : (n : ℕ) → Before n) (takes : Takes news course course' sent) (content : Option (List Object)) (part_shelved : (n : ℕ) → (part n).shelved ≡ content)
       (shelved : (after_news news course).stage ≡ stages.Greeted → IsGivenFrom content (record { name = (after_news news course).name; given = takes.given })) (put_is : put' ≡ put_heard news put ++ on_link link' sent) where
@@ -93,16 +107,13 @@ module _ (read : SayingsAreRead) (mtu maximum : ℕ) (capable : IsCapable mtu ma
     nothing_new : news ≡ Nothing → GoesOn (into packet) known known' → link' ≡ link → given_last (completes (into packet)) known.up ≡ [] → Behind
     nothing_new nothing goes same none =
         let stays = stays_so nothing in
-        record {
-          is_course = subst (IsCourse mtu maximum) (sym stays.0) is_course;
-          each = λ n. client_still mtu maximum packet known known' link link' put put' b course course' served (part n) n goes same stays.1 stays.0 none (each n);
-        }
+        same_parts (subst (IsCourse mtu maximum) (sym stays.0) is_course)
+        (λ n. client_still mtu maximum packet known known' link link' put put' b course course' served (part n) n goes same stays.1 stays.0 none (each n))
 
     passes : PassesBy known known' link link' news → Behind
-    passes passes_by = record {
-      is_course = subst (IsCourse mtu maximum) (sym (stays_so passes_by.nothing).0) is_course;
-      each = λ n. client_passes mtu maximum packet known known' link link' put put' b course course' served (part n) n passes_by.change passes_by.unknown' (each n);
-    }
+    passes passes_by =
+        same_parts (subst (IsCourse mtu maximum) (sym (stays_so passes_by.nothing).0) is_course)
+        (λ n. client_passes mtu maximum packet known known' link link' put put' b course course' served (part n) n passes_by.change passes_by.unknown' (each n))
 
     -- ---- a PDU
 
@@ -116,14 +127,11 @@ module _ (read : SayingsAreRead) (mtu maximum : ℕ) (capable : IsCapable mtu ma
       unheard : link ≡ None → link' ≡ link → news ≡ Nothing → Behind
       unheard none same nothing =
           let stays = stays_so nothing in
-          record {
-            is_course = subst (IsCourse mtu maximum) (sym stays.0) is_course;
-            each = λ n. elim (is_last n (count_of known)) [
-              | inl last ↦
-                  client_silent mtu maximum packet known known' link link' put put' b course course' served (part n) n goes none (same ∙ none) octets found last (some_there (into packet) known.up (in_move octets) found) (each n) (meets n last (each n))
-              | inr apart ↦ client_other mtu maximum packet known known' link link' put put' b course course' served (part n) n goes apart (each n)
-            ];
-          }
+          same_parts (subst (IsCourse mtu maximum) (sym stays.0) is_course) (λ n. elim (is_last n (count_of known)) [
+            | inl last ↦
+                client_silent mtu maximum packet known known' link link' put put' b course course' served (part n) n goes none (same ∙ none) octets found last (some_there (into packet) known.up (in_move octets) found) (each n) (meets n last (each n))
+            | inr apart ↦ client_other mtu maximum packet known known' link link' put put' b course course' served (part n) n goes apart (each n)
+          ])
 
       module _ (some : is_some link ≡ true) (same : link' ≡ link) (told : news ≡ pdu_news octets) where
         hears_at : (n : ℕ) → n ≡ count_of known → Hearkens mtu maximum packet known known' link link' put put' b course course' served (part n) n goes (each n) octets
@@ -152,15 +160,13 @@ module _ (read : SayingsAreRead) (mtu maximum : ℕ) (capable : IsCapable mtu ma
             let onward : is_onward (reach course'.stage) ≡ true = subst (λ (k : Course). is_onward (reach k.stage) ≡ true) (sym course_is) (stands_onward mtu maximum moves.place' moves.decided' _ moves.stands) in
             let never_calls : course'.stage ≡ stages.Paging → ⊥ = λ calls. true≢false (sym onward ∙ ap (λ s. is_onward (reach s)) calls) in
             let able' : IsAble mtu maximum course' = subst (IsAble mtu maximum) (sym course_is) (moves_at (count_of known) refl).able in
-            record {
-              is_course = record { mtu_is = able'.mtu_is; maximum_is = able'.maximum_is; able = λ busy. able'; awaited = takes_awaits news course course' sent takes; calling = λ calls. absurd (never_calls calls) };
-              each = λ n. elim (is_last n (count_of known)) [
-                | inl last ↦
-                    client_talks mtu maximum packet known known' link link' put put' b course course' served (part n) n goes (turn takes.given takes.then_given (pdu_news octets) course) some same octets found last course_is put_so
-                    (each n) (hears_at n last) (moves_at n last)
-                | inr apart ↦ client_other mtu maximum packet known known' link link' put put' b course course' served (part n) n goes apart (each n)
-              ];
-            }
+            same_parts (record { mtu_is = able'.mtu_is; maximum_is = able'.maximum_is; able = λ busy. able'; awaited = takes_awaits news course course' sent takes; calling = λ calls. absurd (never_calls calls) })
+            (λ n. elim (is_last n (count_of known)) [
+              | inl last ↦
+                  client_talks mtu maximum packet known known' link link' put put' b course course' served (part n) n goes (turn takes.given takes.then_given (pdu_news octets) course) some same octets found last course_is put_so
+                  (each n) (hears_at n last) (moves_at n last)
+              | inr apart ↦ client_other mtu maximum packet known known' link link' put put' b course course' served (part n) n goes apart (each n)
+            ])
 
     -- ---- the link that is up goes on
 
@@ -181,12 +187,28 @@ module _ (read : SayingsAreRead) (mtu maximum : ℕ) (capable : IsCapable mtu ma
       behind_a linked linked' (inr (inr (inl up))) =
           let links = takes_up mtu maximum course course' sent is_course (sym linked ∙ ap is_some up.unknown) (sym linked' ∙ up.there) (subst (λ n. Takes n course course' sent) up.up takes) in
           let on : on_link link' sent ≡ sent = up_on_link link' sent up.there in
+          let last : ℕ = count_of known' in
+          let taken : Part = record (part last) { name = Some course'.name } in
           record {
             is_course = links.is_course';
-            each = λ n.
-                client_up mtu maximum packet known known' link link' put put' b course course' served (part n) n up.begins (put_is ∙ (ap (λ n. put_heard n put ++ on_link link' sent) up.up ∙ (on ∙ links.sent_is))) links.stage links.none (each n);
+            part' = with_part last taken part;
+            each = λ n. elim (is_last n last) [
+              | inl here ↦ subst (λ k. After (with_part last taken part k) k) (sym here) (subst (λ p. After p last) (sym (part_at last taken part last refl))
+                  (client_up mtu maximum packet known known' link link' put put' b course course' served (part last) last up.begins (put_is ∙ (ap (λ n. put_heard n put ++ on_link link' sent) up.up ∙ (on ∙ links.sent_is))) links.stage links.none refl (each last)))
+              | inr apart ↦ subst (λ p. After p n) (sym (part_beside last taken part n apart)) (client_beside mtu maximum packet known known' link link' put put' b course course' served (part n) n up.begins apart (each n))
+            ];
+            alike = λ n. elim (is_last n last) [
+              | inl here ↦ subst (λ k. IsAlike (part k) (with_part last taken part k)) (sym here) (subst (IsAlike (part last)) (sym (part_at last taken part last refl)) (record { stores_same = refl; objects_same = refl; shelved_same = refl }))
+              | inr apart ↦ subst (IsAlike (part n)) (sym (part_beside last taken part n apart)) (alike (part n))
+            ];
+            dated = λ outset begun named since dated n name above is. elim (is_last n last) [
+              | inl here ↦
+                  let same : Some course'.name ≡ Some name = ap (λ (p : Part). p.name) (sym (part_at last taken part n here)) ∙ is in
+                  let name_is : course'.name ≡ name = cc in
+                  record { number = begun; is_least = since; is_most = omega arith; is_name = subst (IsLastName outset.names begun) name_is (named (ap is_idle links.stage)) }
+              | inr apart ↦ dated n name above (ap (λ (p : Part). p.name) (sym (part_beside last taken part n apart)) ∙ is)
+            ];
           }
-      behind_a linked linked' (inr (inr (inr down))) = record {
-        is_course = takes_down mtu maximum course course' sent is_course down.reason (sym linked ∙ down.there) (subst (λ n. Takes n course course' sent) down.down takes);
-        each = λ n. client_passes mtu maximum packet known known' link link' put put' b course course' served (part n) n (inr down.ends) down.unknown' (each n);
-      }
+      behind_a linked linked' (inr (inr (inr down))) =
+          same_parts (takes_down mtu maximum course course' sent is_course down.reason (sym linked ∙ down.there) (subst (λ n. Takes n course course' sent) down.down takes))
+          (λ n. client_passes mtu maximum packet known known' link link' put put' b course course' served (part n) n (inr down.ends) down.unknown' (each n))

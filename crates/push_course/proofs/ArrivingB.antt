@@ -1,5 +1,5 @@
 -- A packet comes into host b.
-use Rattle.std.proofs.Common.{◌≡◌, ℕ, List, [], ◌∷◌, ◌++◌, Bool, true, false, Option, Some, None, refl, sym, ap, ap₂, subst, ◌∙◌, inl, inr}
+use Rattle.std.proofs.Common.{◌≡◌, ℕ, ◌<◌, List, [], ◌∷◌, ◌++◌, Bool, true, false, Option, Some, None, refl, sym, ap, ap₂, subst, ◌∙◌, inl, inr}
 use Rattle.std.specs.Prelude.{is_some}
 use Rattle.std.specs.List.{filter_map}
 use Rattle.std.proofs.lemmas.List.{append-nil}
@@ -32,7 +32,7 @@ use Rattle.push_course.proofs.ClientMoves.{pdu_news}
 use Rattle.push_course.proofs.ServerMoves.{server_moves}
 use Rattle.push_course.proofs.ServerPlaces.{ServerMoves}
 use Rattle.push_course.proofs.Turning.{ServerTold, server_told}
-use Rattle.push_course.proofs.Moving.{moved, count_of, known_of, GoesOn, completes, moved_last, some_links}
+use Rattle.push_course.proofs.Moving.{moved, count_of, known_of, GoesOn, completes, moved_last}
 use Rattle.push_course.proofs.Meets.{meets_of}
 use Rattle.push_course.proofs.HalfSteps.{AtMostOne, at_most_one}
 use Rattle.push_course.proofs.Coming.{GoesOnTold, PassesBy, Coming}
@@ -73,7 +73,8 @@ module _ (read : SayingsAreRead) (mtu maximum : ℕ) (capable : IsCapable mtu ma
     pub part' : ℕ → Part
     pub each : (n : ℕ) → After (part' n) n
     pub shelved_same : (n : ℕ) → (part' n).shelved ≡ (part n).shelved
-    pub gains : (first : Kept) → HasGainedAll first inbox part → HasGainedAll first inbox' part'
+    pub names_same : (n : ℕ) → (part' n).name ≡ (part n).name
+    pub gains : (base : ℕ) (first : Kept) → (is_some link ≡ true → base < count_of known) → HasGainedAll base first inbox part → HasGainedAll base first inbox' part'
 
   -- where all that waited has moved, nothing waits
   abbrev pub Empties : Type 0
@@ -95,7 +96,8 @@ module _ (read : SayingsAreRead) (mtu maximum : ℕ) (capable : IsCapable mtu ma
           is_served = quiet.is_served';
           part' = part;
           shelved_same = λ n. refl;
-          gains = λ first gained. gained_still first inbox inbox' part quiet.inbox_same gained;
+          names_same = λ n. refl;
+          gains = λ base first above gained. gained_still base first inbox inbox' part quiet.inbox_same gained;
           each = λ n. server_still mtu maximum packet known known' link link' put put' a course served served' (part n) n goes same (put_so nothing) quiet.channel_is none (each n);
         }
 
@@ -104,7 +106,8 @@ module _ (read : SayingsAreRead) (mtu maximum : ℕ) (capable : IsCapable mtu ma
       is_served = (quiet_so passes_by.nothing).is_served';
       part' = part;
       shelved_same = λ n. refl;
-      gains = λ first gained. gained_still first inbox inbox' part (quiet_so passes_by.nothing).inbox_same gained;
+      names_same = λ n. refl;
+      gains = λ base first above gained. gained_still base first inbox inbox' part (quiet_so passes_by.nothing).inbox_same gained;
       each = λ n. server_passes mtu maximum packet known known' link link' put put' a course served served' (part n) n passes_by.change passes_by.unknown' (each n);
     }
 
@@ -122,7 +125,8 @@ module _ (read : SayingsAreRead) (mtu maximum : ℕ) (capable : IsCapable mtu ma
         is_served = (quiet_so nothing).is_served';
         part' = part;
         shelved_same = λ n. refl;
-        gains = λ first gained. gained_still first inbox inbox' part (quiet_so nothing).inbox_same gained;
+        names_same = λ n. refl;
+        gains = λ base first above gained. gained_still base first inbox inbox' part (quiet_so nothing).inbox_same gained;
         each = λ n. elim (is_last n (count_of known)) [
           | inl last ↦
               server_silent mtu maximum packet known known' link link' put put' a course served served' (part n) n goes none (same ∙ none) octets found last (some_there (into packet) known.up (in_move octets) found) (each n) (meets n last (each n))
@@ -167,6 +171,10 @@ module _ (read : SayingsAreRead) (mtu maximum : ℕ) (capable : IsCapable mtu ma
                 rests = subst (λ (s : Served). steps s.channel ≡ record { first = None; second = None; channel = s.channel }) (sym takes.served_is) (steps_rest noted.channel);
               };
               part' = with_part last moves.parts.part' part;
+              names_same = λ n. elim (is_last n last) [
+                | inl here ↦ ap (λ (p : Part). p.name) (part_at last moves.parts.part' part n here) ∙ (moves.parts.grows.name_same ∙ ap (λ k. (part k).name) (sym here))
+                | inr apart ↦ ap (λ (p : Part). p.name) (part_beside last moves.parts.part' part n apart)
+              ];
               shelved_same = λ n. elim (is_last n last) [
                 | inl here ↦ ap (λ (p : Part). p.shelved) (part_at last moves.parts.part' part n here) ∙ (moves.parts.grows.shelved_same ∙ ap (λ k. (part k).shelved) (sym here))
                 | inr apart ↦ ap (λ (p : Part). p.shelved) (part_beside last moves.parts.part' part n apart)
@@ -176,9 +184,9 @@ module _ (read : SayingsAreRead) (mtu maximum : ℕ) (capable : IsCapable mtu ma
                     (server_talks mtu maximum packet known known' link link' put put' a course served served' (part last) last goes inbox inbox' sent some same octets found refl put_now (each last) (hears_at last refl) moves))
                 | inr apart ↦ subst (λ p. After p n) (sym (part_beside last moves.parts.part' part n apart)) (server_other mtu maximum packet known known' link link' put put' a course served served' (part n) n goes apart (each n))
               ];
-              gains = λ first gained. gained_more first inbox inbox' part last moves.parts.part' moves.parts.grows
+              gains = λ base first above gained. gained_more base first inbox inbox' part last moves.parts.part' moves.parts.grows
                   (λ n above. none_stored (each n).decided (part n) (filled (each n).decided) (filled_agrees (each n).decided) ((each n).fresh_b above).1 (each n).is_part)
-                  (some_links known (some_there (into packet) known.up (in_move octets) found)) gained;
+                  (above some) gained;
             }
 
     -- ---- the link that is up goes on
@@ -205,7 +213,8 @@ module _ (read : SayingsAreRead) (mtu maximum : ℕ) (capable : IsCapable mtu ma
             is_served = quiet.is_served';
             part' = part;
             shelved_same = λ n. refl;
-            gains = λ first gained. gained_still first inbox inbox' part quiet.inbox_same gained;
+            names_same = λ n. refl;
+            gains = λ base first above gained. gained_still base first inbox inbox' part quiet.inbox_same gained;
             each = λ n.
                 server_up mtu maximum packet known known' link link' put put' a course served served' (part n) n up.begins
                 (put_is ∙ (ap (λ n. put_heard n put ++ on_link link' sent) up.up ∙ (ap (on_link link') quiet.sent_none ∙ nothing_on link'))) (ap (λ (c : Channel). c.stage) quiet.channel_is) (each n);
@@ -216,6 +225,7 @@ module _ (read : SayingsAreRead) (mtu maximum : ℕ) (capable : IsCapable mtu ma
             is_served = quiet.is_served';
             part' = part;
             shelved_same = λ n. refl;
-            gains = λ first gained. gained_still first inbox inbox' part quiet.inbox_same gained;
+            names_same = λ n. refl;
+            gains = λ base first above gained. gained_still base first inbox inbox' part quiet.inbox_same gained;
             each = λ n. server_passes mtu maximum packet known known' link link' put put' a course served served' (part n) n (inr down.ends) down.unknown' (each n);
           }

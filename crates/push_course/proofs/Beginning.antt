@@ -1,5 +1,5 @@
 -- A push begins.
-use Rattle.std.proofs.Common.{◌≡◌, ℕ, zero, suc, ◌≤◌, List, [], ◌∷◌, ◌++◌, Bool, true, false, cond, Option, Some, None, refl, sym, ap, subst, ◌∙◌, true≢false}
+use Rattle.std.proofs.Common.{arith, ◌≡◌, ℕ, zero, suc, ◌+◌, ◌≤◌, List, [], ◌∷◌, ◌++◌, Bool, true, false, cond, Option, Some, None, refl, sym, ap, subst, ◌∙◌, true≢false}
 use Rattle.std.specs.Prelude.{is_some, slice_get, IfSome}
 use Rattle.std.specs.List.{AllByRecursion}
 use Rattle.std.specs.Str.{IsUtf8}
@@ -141,6 +141,11 @@ unlinked_converses mtu maximum known link link' put put' b course course' served
   named = λ there. absurd (none_some link' none there);
   delivers = converses.delivers;
   put_heard = converses.put_heard;
+  unheard = converses.unheard;
+  timed = λ there. absurd (none_some link' none there);
+  dated = converses.dated;
+  welcomed = converses.welcomed;
+  parted = converses.parted;
 }
 
 module _ (mtu maximum : ℕ) (outset : Outset) (each_named : AllByRecursion IsName outset.names) (past : List Entry) (push : ℕ) (old new : Moment) where
@@ -162,4 +167,7 @@ module _ (mtu maximum : ℕ) (outset : Outset) (each_named : AllByRecursion IsNa
       stands_next mtu maximum outset past' new began.course' began.shelf' stands.served stands.inbox stands.part put' stands.put_b
       (ap (λ (m : Moment). m.a.inside) does.new_is ∙ began.is) began.is_course (ap (λ (m : Moment). m.b.inside) does.new_is ∙ stands.inside_b) stands.is_served (ap (λ (m : Moment). m.scene.pushes.names) does.new_is ∙ stands.named)
       wires' wires_b' (known_of sides.A past) (known_of sides.B past) new.a.line.link old.b.line.link is_a refl is_b (ap (λ (m : Moment). m.b.line.link) does.new_is)
-      (λ n. unlinked_converses mtu maximum (known_of sides.A past) old.a.line.link new.a.line.link stands.put_a put' _ stands.course began.course' stands.served (stands.part n) n down none (stands.each n)) stands.gained stands.part_shelved (began.content_is ∙ stands.shelved_same)
+      (λ n. unlinked_converses mtu maximum (known_of sides.A past) old.a.line.link new.a.line.link stands.put_a put' _ stands.course began.course' stands.served (stands.part n) n down none (stands.each n)) stands.gained stands.above
+      (old.scene.pushes.begun + 1) (ap (λ (m : Moment). m.scene.pushes.begun) does.new_is) (let since = stands.since in omega (arith, since))
+      (λ n name above is. let dated = stands.dated n name above is in let most = dated.is_most in record { number = dated.number; is_least = dated.is_least; is_most = omega (arith, most); is_name = dated.is_name })
+      stands.part_shelved (began.content_is ∙ stands.shelved_same)

@@ -68,9 +68,15 @@ module _ (mtu maximum : ℕ) (packet : Packet) (known known' : Linking) (link li
   StandsSo course decided place = ClientStands mtu maximum place decided course
 
   -- with another half, and as many links as before
-  with_half : (count_of known' ≡ count_of known) → (converses : Before) → (is_some link' ≡ true → n ≡ count_of known' → (delivery : Delivery) → converses.decided.put ≡ Some delivery → delivery.name ≡ course'.name) → ClientHalf mtu maximum here' course' converses.decided n → After
-  with_half count converses named half = record {
+  with_half : (count_of known' ≡ count_of known) → (converses : Before) → (is_some link' ≡ true → n ≡ count_of known' → (delivery : Delivery) → converses.decided.put ≡ Some delivery → delivery.name ≡ course'.name) → (is_some link' ≡ true → n ≡ count_of known' → part.name ≡ Some course'.name)
+      → ClientHalf mtu maximum here' course' converses.decided n → After
+  with_half count converses named timed half = record {
     named = named;
+    unheard = converses.unheard;
+    timed = timed;
+    dated = converses.dated;
+    welcomed = converses.welcomed;
+    parted = converses.parted;
     decided = converses.decided;
     fair = converses.fair;
     half_a = half;
@@ -87,7 +93,7 @@ module _ (mtu maximum : ℕ) (packet : Packet) (known known' : Linking) (link li
   module _ (goes : GoesOn (into packet) known known') where
     pub client_other : (n ≡ count_of known → ⊥) → Before → After
     client_other apart converses =
-        with_half (count_on (into packet) known known' goes) converses (λ some last. absurd (apart (last ∙ count_on (into packet) known known' goes)))
+        with_half (count_on (into packet) known known' goes) converses (λ some last. absurd (apart (last ∙ count_on (into packet) known known' goes))) (λ some last. absurd (apart (last ∙ count_on (into packet) known known' goes)))
         (half_other sides.A (all mtu maximum) ClientPlace (client_tail mtu maximum) known known' converses.decided n (into packet) link link' put put' (StandsSo course converses.decided) (StandsSo course' converses.decided) goes apart converses.half_a)
 
     pub client_still : link' ≡ link → put' ≡ put → course' ≡ course → given_last (completes (into packet)) known.up ≡ [] → Before → After
@@ -95,6 +101,7 @@ module _ (mtu maximum : ℕ) (packet : Packet) (known known' : Linking) (link li
       | inl last ↦
           with_half (count_on (into packet) known known' goes) converses
           (λ some now delivery put. converses.named (subst (λ (l : Option ℕ). is_some l ≡ true) same_link some) last delivery put ∙ ap (λ (c : Course). c.name) (sym same_course))
+          (λ some now. converses.timed (subst (λ (l : Option ℕ). is_some l ≡ true) same_link some) last ∙ ap (λ (c : Course). Some c.name) (sym same_course))
           (half_still sides.A (all mtu maximum) ClientPlace (client_tail mtu maximum) known known' converses.decided n (into packet) link link' put put' (StandsSo course converses.decided) (StandsSo course' converses.decided) goes last none same_link same_put
           (λ place so. subst (λ k. StandsSo k converses.decided place) (sym same_course) so) converses.half_a)
       | inr apart ↦ client_other apart converses
@@ -113,7 +120,7 @@ module _ (mtu maximum : ℕ) (packet : Packet) (known known' : Linking) (link li
         let next = next_for sides.A (all mtu maximum) decided half.done octets meets in
         let stays : StaysSilent sides.A (all mtu maximum) decided half.done octets =
         stays_silent sides.A (all mtu maximum) decided (filled decided) (filled_agrees decided) (begins_so mtu maximum) half.done octets (half.silent last none some) next in
-        with_half (count_on (into packet) known known' goes) converses (λ there. absurd (none_some link' none' there)) (record {
+        with_half (count_on (into packet) known known' goes) converses (λ there. absurd (none_some link' none' there)) (λ there. absurd (none_some link' none' there)) (record {
           done = half.done ++ stays.one ∷ [];
           moved_is = moved_one sides.A (all mtu maximum) ClientPlace (client_tail mtu maximum) known known' decided n (into packet) octets stays.one half.done goes last is half.moved_is stays.pdu_is;
           front = stays.front;
@@ -186,6 +193,11 @@ module _ (mtu maximum : ℕ) (packet : Packet) (known known' : Linking) (link li
           delivers = λ delivery put. elim (moves.delivers delivery put) [ inl before ↦ converses.delivers delivery before | inr given ↦ given ];
           is_part = part_on converses.decided decided' part moves.stores_same moves.agrees converses.is_part;
           put_heard = converses.put_heard;
+          unheard = λ none c agreed. converses.unheard none c (moves.agrees c agreed);
+          timed = λ there now. converses.timed some last ∙ ap (λ name. Some name) (sym (ap (λ (c : Course). c.name) same_course ∙ moves.name_same));
+          dated = λ delivery put. elim (moves.named delivery put) [ inl before ↦ converses.dated delivery before | inr of_push ↦ converses.timed some last ∙ ap (λ name. Some name) (sym of_push) ];
+          welcomed = λ refused. converses.welcomed (sym moves.greets_same ∙ refused);
+          parted = λ refused. converses.parted (sym moves.parts_same ∙ refused);
         }
       where
         none_own : (one : Saying) → speaker one ≡ sides.B → own sides.A (one ∷ []) ≡ []
@@ -206,52 +218,72 @@ module _ (mtu maximum : ℕ) (packet : Packet) (known known' : Linking) (link li
     named = λ there. absurd (none_some link' none there);
     delivers = converses.delivers;
     put_heard = converses.put_heard;
+    unheard = converses.unheard;
+    timed = λ there. absurd (none_some link' none there);
+    dated = converses.dated;
+    welcomed = converses.welcomed;
+    parted = converses.parted;
   }
   client_passes (inr ends) none converses =
-      with_half (count_ended known known' ends) converses (λ there. absurd (none_some link' none there))
+      with_half (count_ended known known' ends) converses (λ there. absurd (none_some link' none there)) (λ there. absurd (none_some link' none there))
       (half_ended sides.A (all mtu maximum) ClientPlace (client_tail mtu maximum) known known' converses.decided n link link' put put' (StandsSo course converses.decided) (StandsSo course' converses.decided) ends none converses.half_a)
 
-  pub client_up : Begins known known' → put' ≡ own sides.A (Says sides.A 1 asks_connection ∷ []) → course'.stage ≡ stages.Connecting → course'.outcome ≡ None → Before → After
-  client_up begins same_put stage none converses =
+  -- on the new link nothing is decided, and it is one of the push
+  pub client_up : Begins known known' → put' ≡ own sides.A (Says sides.A 1 asks_connection ∷ []) → course'.stage ≡ stages.Connecting → course'.outcome ≡ None → n ≡ count_of known' → Before
+      → Converses mtu maximum here' b course' served (record part { name = Some course'.name }) n
+  client_up begins same_put stage none last converses =
       let more = count_begun known known' begins in
-      -- on the new link nothing is decided; on each other one nothing changes
-      elim (is_last n (count_of known')) [
-        | inl last ↦ record {
-          decided = converses.decided;
-          fair = converses.fair;
-          half_a = half_begun sides.A (all mtu maximum) ClientPlace (client_tail mtu maximum) known known' converses.decided n link link' put put' (StandsSo course converses.decided) (StandsSo course' converses.decided) begins
-              (λ some. record {
-                place = Asking;
-                mine = Says sides.A 1 asks_connection ∷ [];
-                by = (refl, tt);
-                put_is = same_put;
-                follows = λ c agrees. refl;
-                stands_so = (stage, converses.fresh_a (omega (arith, more, last)), none);
-              }) converses.half_a;
-          half_b = converses.half_b;
-          fresh_a = λ below. converses.fresh_a (omega (arith, below, more));
-          fresh_b = converses.fresh_b;
-          is_part = converses.is_part;
-          named = λ there now delivery put. (let free = converses.fresh_a (omega (arith, more, last)) in absurd cc);
-          delivers = converses.delivers;
-          put_heard = converses.put_heard;
-        }
-        | inr apart ↦ record {
-          decided = converses.decided;
-          fair = converses.fair;
-          half_a = record {
-            done = converses.half_a.done;
-            moved_is = moved_begun known known' begins n ∙ converses.half_a.moved_is;
-            front = converses.half_a.front;
-            silent = λ last gone some. absurd (apart last);
-            talks = λ last some. absurd (apart last);
-          };
-          half_b = converses.half_b;
-          fresh_a = λ below. converses.fresh_a (omega (arith, below, more));
-          fresh_b = converses.fresh_b;
-          is_part = converses.is_part;
-          named = λ there now. absurd (apart now);
-          delivers = converses.delivers;
-          put_heard = converses.put_heard;
-        }
-      ]
+      let free = converses.fresh_a (omega (arith, more, last)) in
+      record {
+        decided = converses.decided;
+        fair = converses.fair;
+        half_a = half_begun sides.A (all mtu maximum) ClientPlace (client_tail mtu maximum) known known' converses.decided n link link' put put' (StandsSo course converses.decided) (StandsSo course' converses.decided) begins
+            (λ some. record {
+              place = Asking;
+              mine = Says sides.A 1 asks_connection ∷ [];
+              by = (refl, tt);
+              put_is = same_put;
+              follows = λ c agrees. refl;
+              stands_so = (stage, free.0, none);
+            }) converses.half_a;
+        half_b = converses.half_b;
+        fresh_a = λ below. absurd (omega (arith, below, last));
+        fresh_b = converses.fresh_b;
+        is_part = record { stores_is = converses.is_part.stores_is; objects_are = converses.is_part.objects_are };
+        named = λ there now delivery put. (let none_put = free.0 in absurd cc);
+        delivers = converses.delivers;
+        put_heard = converses.put_heard;
+        unheard = converses.unheard;
+        timed = λ there now. refl;
+        dated = λ delivery put. (let none_put = free.0 in absurd cc);
+        welcomed = converses.welcomed;
+        parted = converses.parted;
+      }
+
+  -- on each other one nothing changes
+  pub client_beside : Begins known known' → (n ≡ count_of known' → ⊥) → Before → After
+  client_beside begins apart converses =
+      let more = count_begun known known' begins in
+      record {
+        decided = converses.decided;
+        fair = converses.fair;
+        half_a = record {
+          done = converses.half_a.done;
+          moved_is = moved_begun known known' begins n ∙ converses.half_a.moved_is;
+          front = converses.half_a.front;
+          silent = λ last gone some. absurd (apart last);
+          talks = λ last some. absurd (apart last);
+        };
+        half_b = converses.half_b;
+        fresh_a = λ below. converses.fresh_a (omega (arith, below, more));
+        fresh_b = converses.fresh_b;
+        is_part = converses.is_part;
+        named = λ there now. absurd (apart now);
+        delivers = converses.delivers;
+        put_heard = converses.put_heard;
+        unheard = converses.unheard;
+        timed = λ there now. absurd (apart now);
+        dated = converses.dated;
+        welcomed = converses.welcomed;
+        parted = converses.parted;
+      }

@@ -32,7 +32,9 @@ use Rattle.push_talk.specs.Conversing.{Saying}
 use Rattle.push_talk.specs.Speaking.{CanBeSaid, SayingsAreRead}
 use Rattle.push_talk.specs.ServerTurns.{steps}
 use Rattle.push_course.specs.Conversations.{Conversation}
-use Rattle.push_course.proofs.Deciding.{Delivery, IsGivenFrom, Decisions, IsFair, filled, filled_agrees}
+use Rattle.push_course.specs.Gains.{object_where}
+use Rattle.push_course.specs.PushNames.{IsLastName}
+use Rattle.push_course.proofs.Deciding.{Delivery, IsGivenFrom, Decisions, Agrees, IsFair, filled, filled_agrees}
 use Rattle.push_course.proofs.Parts.{Part, IsPart, HasGainedAll}
 use Rattle.push_course.proofs.Tails.{from_connecting}
 use Rattle.push_course.proofs.Lengths.{some_can, front_can, own_frames}
@@ -47,11 +49,32 @@ pub record Wire : Type 0 where
   pub link : Option ℕ
   pub put : List (List ℕ)
 
--- what there was at first: the names, the inbox, and what the shelf held
+-- what there was at some moment: the names, the inbox, what the shelf held, and how many links and pushes there were
 pub record Outset : Type 0 where
   pub names : List (List ℕ)
   pub first : Kept
   pub shelved : Option (List Object)
+  pub base : ℕ
+  pub begun : ℕ
+
+-- at the first moment
+abbrev pub outset_of : List (List ℕ) → Kept → Option (List Object) → Outset
+outset_of names first shelved = record { names = names; first = first; shelved = shelved; base = 0; begun = 0 }
+
+-- a push of that name began, with a number between those
+pub record BeganWithin (names : List (List ℕ)) (least most : ℕ) (name : List ℕ) : Type 0 where
+  pub number : ℕ
+  pub is_least : least ≤ number
+  pub is_most : number ≤ most
+  pub is_name : IsLastName names number name
+
+-- each link that host a took since then it took under a push that began since then
+abbrev pub Dated : Outset → ℕ → (ℕ → Part) → Type 0
+Dated outset begun part = (n : ℕ) (name : List ℕ) → outset.base < n → (part n).name ≡ Some name → BeganWithin outset.names outset.begun begun name
+
+-- there are as many links as then, and where the host knows of one there are more
+abbrev pub IsAbove : ℕ → Linking → Option ℕ → Type 0
+IsAbove base known link = (base ≤ count_of known) × (is_some link ≡ true → base < count_of known)
 
 module _ (mtu maximum : ℕ) where
   abbrev pub all : Conversation → List Saying
@@ -70,7 +93,7 @@ module _ (mtu maximum : ℕ) where
     pub half_a : ClientHalf a course decided n
     pub half_b : ServerHalf b served decided n
     -- on a link that a host was not told of it decided nothing
-    pub fresh_a : count_of a.known < n → decided.put ≡ None
+    pub fresh_a : count_of a.known < n → (decided.put ≡ None) × (part.name ≡ None)
     pub fresh_b : count_of b.known < n → (decided.greets ≡ None) × (decided.stores ≡ None) × (decided.parts ≡ None)
     -- what was stored by it; a PUT is heard before
     pub is_part : IsPart decided part
@@ -78,6 +101,14 @@ module _ (mtu maximum : ℕ) where
     pub named : is_some a.link ≡ true → n ≡ count_of a.known → (delivery : Delivery) → decided.put ≡ Some delivery → delivery.name ≡ course.name
     pub delivers : (delivery : Delivery) → decided.put ≡ Some delivery → IsGivenFrom part.shelved delivery
     pub put_heard : (done : Bool) → part.stores ≡ Some done → 9 ≤ length (moved b.known n)
+    -- a PUT that was heard is decided
+    pub unheard : part.stores ≡ None → (c : Conversation) → Agrees decided c → (object : Object) → object_where true c ≡ object ∷ [] → length (moved b.known n) ≤ 8
+    -- what is put is the object of the push under which host a took the link
+    pub timed : is_some a.link ≡ true → n ≡ count_of a.known → part.name ≡ Some course.name
+    pub dated : (delivery : Delivery) → decided.put ≡ Some delivery → part.name ≡ Some delivery.name
+    -- host b answers CONNECT and DISCONNECT with success
+    pub welcomed : decided.greets ≡ Some false → ⊥
+    pub parted : decided.parts ≡ Some false → ⊥
 
   -- the course of the push
   pub record IsCourse (course : Course) : Type 0 where
@@ -110,8 +141,12 @@ module _ (mtu maximum : ℕ) where
     pub wires_b : Wires sides.B past moment.b.line put_b
     pub each : (n : ℕ) → Converses
         (record { known = known_of sides.A past; link = moment.a.line.link; put = put_a }) (record { known = known_of sides.B past; link = moment.b.line.link; put = put_b }) course served (part n) n
-    -- the inbox, since the beginning
-    pub gained : HasGainedAll outset.first inbox part
+    -- the inbox, since the outset
+    pub gained : HasGainedAll outset.base outset.first inbox part
+    pub above : IsAbove outset.base (known_of sides.B past) moment.b.line.link
+    -- the pushes, since the outset
+    pub since : outset.begun ≤ moment.scene.pushes.begun
+    pub dated : Dated outset moment.scene.pushes.begun part
     -- the shelf stays as it was
     pub part_shelved : (n : ℕ) → (part n).shelved ≡ outset.shelved
     pub shelved_same : shelf.content ≡ outset.shelved

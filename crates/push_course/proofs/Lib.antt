@@ -18,6 +18,8 @@ pub mod Sizes
 pub mod Turning
 pub mod HalfSteps
 pub mod Courses
+pub mod Responses
+pub mod Unheard
 pub mod Next
 pub mod Departing
 pub mod Meets
@@ -32,8 +34,10 @@ pub mod ServerTakes
 pub mod ArrivingB
 pub mod ArrivedB
 pub mod Beginning
+pub mod PushNames
 pub mod Running
 pub mod LinksConverse
-pub mod Responses
 pub mod InboxGains
-pub mod PushNames
+pub mod PartsSince
+pub mod Since
+pub mod PushParts

@@ -26,7 +26,7 @@ use Rattle.world_model.specs.Insides.{came_of}
 use Rattle.world_model.specs.Moments.{Moment}
 use Rattle.host_wire.proofs.News.{link_is_known}
 use Rattle.push_course.proofs.Moving.{moved, known_of}
-use Rattle.push_course.proofs.Courses.{all, Outset, Stands}
+use Rattle.push_course.proofs.Courses.{all, Outset, outset_of, Stands}
 use Rattle.push_course.proofs.Running.{stood, capable_in}
 
 module _ (mtu maximum : ℕ) (capable : IsCapable mtu maximum) (decided : Decisions) (fair : IsFair decided) where
@@ -40,7 +40,7 @@ module _ (mtu maximum : ℕ) (capable : IsCapable mtu maximum) (decided : Decisi
       let seam : take (length done) (sayings mtu maximum c) ≡ done = ap (take (length done)) (whole_is mtu maximum c ∙ parts.1) ∙ take-append_seam done parts.0 in
       (length done, ap (flat_map said_by) found ∙ (talk_seen sayings_are_read side done can ∙ ap (seen_all side) (sym seam)))
 
-given_so : (given : Option (List ℕ)) → IsFairGiven given → IfSome given (λ octets. length octets ≤ 200)
+pub given_so : (given : Option (List ℕ)) → IsFairGiven given → IfSome given (λ octets. length octets ≤ 200)
 given_so None small = tt
 given_so (Some octets) small = small
 
@@ -72,7 +72,7 @@ come_so_far mtu maximum capable outset past moment stands n link here =
 pub links_converse : LinksConverse
 links_converse size count mtu obex names shelf inbox setting happenings moment runs n =
     let there = stood size count mtu obex names shelf inbox setting happenings moment runs in
-    converse_of mtu (min obex mtu) (capable_in size count mtu obex names setting) (record { names = names; first = inbox; shelved = shelf.content }) (all_entries happenings) moment there.stands n
+    converse_of mtu (min obex mtu) (capable_in size count mtu obex names setting) (outset_of names inbox shelf.content) (all_entries happenings) moment there.stands n
 
 -- ---- what comes of a push
 
@@ -89,7 +89,7 @@ came_so mtu maximum BeingClosed decided course (stage, peer, so) = inr (so (fill
 came_so mtu maximum Done decided course (stage, so) = inr (so (filled decided) (filled_agrees decided))
 
 -- what was given was decided
-named_so : (put : Option Delivery) (name : List ℕ) → is_some (unwrap_or put no_delivery).given ≡ true → ((delivery : Delivery) → put ≡ Some delivery → delivery.name ≡ name) → (unwrap_or put no_delivery).name ≡ name
+pub named_so : (put : Option Delivery) (name : List ℕ) → is_some (unwrap_or put no_delivery).given ≡ true → ((delivery : Delivery) → put ≡ Some delivery → delivery.name ≡ name) → (unwrap_or put no_delivery).name ≡ name
 named_so None name given named = absurd cc
 named_so (Some delivery) name given named = named delivery refl
 
@@ -116,4 +116,4 @@ comes_so mtu maximum capable outset past moment stands (Some handle) known some 
 pub outcomes_are_said : OutcomesAreSaid
 outcomes_are_said size count mtu obex names shelf inbox setting happenings moment runs some =
     let there = stood size count mtu obex names shelf inbox setting happenings moment runs in
-    comes_so mtu (min obex mtu) (capable_in size count mtu obex names setting) (record { names = names; first = inbox; shelved = shelf.content }) (all_entries happenings) moment there.stands moment.a.line.link refl some
+    comes_so mtu (min obex mtu) (capable_in size count mtu obex names setting) (outset_of names inbox shelf.content) (all_entries happenings) moment there.stands moment.a.line.link refl some

@@ -16,8 +16,9 @@ use Rattle.bt_host.specs.Events.{is_idle}
 use Rattle.bt_host.specs.Steps.{next_step}
 use Rattle.bt_host.specs.Clients.{IsShelved, after_news}
 use Rattle.bt_host.proofs.ObjectLaws.{news_shelved, step_shelved}
-use Rattle.world_model.specs.Insides.{Inside, Pushing, Serving, Tells, StartsPush, idles}
-use Rattle.world_model.specs.Moments.{Moment}
+use Rattle.bt_host.specs.Servers.{Kept}
+use Rattle.world_model.specs.Insides.{Inside, Shelved, Pushing, Serving, Tells, StartsPush, idles}
+use Rattle.world_model.specs.Moments.{Moment, first_moment}
 use Rattle.world_model.specs.Happenings.{Happening, Departure, Arrival, GivingBack, Opening, Closing, Deed, Miss, Does, entries_of}
 use Rattle.world_model.proofs.Holding.{kept_along}
 use Rattle.host_wire.specs.Sending.{line_hearing}
@@ -26,10 +27,10 @@ use Rattle.push_course.proofs.Turning.{course_of}
 use Rattle.push_course.proofs.Beginning.{next_by}
 
 -- Some objects have that last name alone, and a course that is under way has its object among them.
-record IsNamed (names : List (List ℕ)) (count : ℕ) (course : Course) : Type 0 where
-  objects : List Object
-  named : (name : List ℕ) (size : ℕ) → option_map length (octets_of name objects) ≡ Some size → IsLastName names count name
-  shelved : IsShelved (Some objects) course
+pub record IsNamed (names : List (List ℕ)) (count : ℕ) (course : Course) : Type 0 where
+  pub objects : List Object
+  pub named : (name : List ℕ) (size : ℕ) → option_map length (octets_of name objects) ≡ Some size → IsLastName names count name
+  pub shelved : IsShelved (Some objects) course
 
 -- ---- two steps keep it
 
@@ -40,7 +41,7 @@ steps_named names count given then_given course course' is before = record {
   shelved = subst (IsShelved (Some before.objects)) (sym is) (step_shelved (Some before.objects) then_given (next_step given course).1 (step_shelved (Some before.objects) given course before.shelved));
 }
 
-abbrev InsideNamed : List (List ℕ) → ℕ → Inside → Type 0
+abbrev pub InsideNamed : List (List ℕ) → ℕ → Inside → Type 0
 InsideNamed names count (Pushing course shelf) = IsNamed names count course
 InsideNamed names count (Serving served inbox) = Unit {0}
 
@@ -84,11 +85,11 @@ begins_named names count name there line line' (Serving served inbox) (Serving s
 -- ---- along each run
 
 module _ (names : List (List ℕ)) where
-  record Named (past : List Entry) (moment : Moment) : Type 0 where
-    names_same : moment.scene.pushes.names ≡ names
-    inside : InsideNamed names moment.scene.pushes.begun moment.a.inside
+  pub record Named (past : List Entry) (moment : Moment) : Type 0 where
+    pub names_same : moment.scene.pushes.names ≡ names
+    pub inside : InsideNamed names moment.scene.pushes.begun moment.a.inside
 
-  keeps : (past : List Entry) (happening : Happening) (old new : Moment) → Does happening old new → Named past old → Named (past ++ entries_of happening) new
+  pub keeps : (past : List Entry) (happening : Happening) (old new : Moment) → Does happening old new → Named past old → Named (past ++ entries_of happening) new
   keeps past happening old new does before = keeps_by happening does
     where
       by_parts : (moment : Moment) → new ≡ moment → moment.scene.pushes.names ≡ names → InsideNamed names moment.scene.pushes.begun moment.a.inside → Named (past ++ entries_of happening) new
@@ -113,15 +114,17 @@ module _ (names : List (List ℕ)) where
       keeps_by (Deed ordinal word) does = by_parts _ does.new_is before.names_same before.inside
       keeps_by (Miss word) does = by_parts _ does.new_is before.names_same before.inside
 
-named_in : (names : List (List ℕ)) (count : ℕ) (inside : Inside) (course : Course) (shelf : _) → InsideNamed names count inside → inside ≡ Pushing course shelf → is_idle course.stage ≡ false → IsLastName names count course.name
+pub named_in : (names : List (List ℕ)) (count : ℕ) (inside : Inside) (course : Course) (shelf : _) → InsideNamed names count inside → inside ≡ Pushing course shelf → is_idle course.stage ≡ false → IsLastName names count course.name
 named_in names count (Pushing c s) course shelf before is busy =
     let same : c ≡ course = cc in
     let here : IsNamed names count course = subst (IsNamed names count) same before in
     here.named course.name course.size (here.shelved busy)
 named_in names count (Serving served inbox) course shelf before is busy = absurd cc
 
+pub first_named : (size count mtu obex : ℕ) (names : List (List ℕ)) (shelf : Shelved) (inbox : Kept) → Named names [] (first_moment size count mtu obex names shelf inbox)
+first_named size count mtu obex names shelf inbox = record { names_same = refl; inside = record { objects = []; named = λ name size found. absurd cc; shelved = λ busy. absurd cc } }
+
 pub push_is_named : PushIsNamed
 push_is_named size count mtu obex names shelf inbox happenings moment runs course shelf' is busy =
-    let along = kept_along (Named names) (keeps names) happenings [] _ moment runs
-    (record { names_same = refl; inside = record { objects = []; named = λ name size found. absurd cc; shelved = λ busy. absurd cc } }) in
+    let along = kept_along (Named names) (keeps names) happenings [] (first_moment size count mtu obex names shelf inbox) moment runs (first_named size count mtu obex names shelf inbox) in
     named_in names moment.scene.pushes.begun moment.a.inside course shelf' along.inside is busy

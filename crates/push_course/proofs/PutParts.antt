@@ -16,7 +16,7 @@ module _ (decided : Decisions) (delivery : Delivery) (is_put : decided.put ≡ S
   kept_where octets false = []
 
   abbrev pub PutGrows : List ℕ → Bool → Type 0
-  PutGrows octets b = PartGrows inbox inbox' part (record { stores = Some b; objects = kept_where octets b; shelved = part.shelved })
+  PutGrows octets b = PartGrows inbox inbox' part (record { stores = Some b; objects = kept_where octets b; shelved = part.shelved; name = part.name })
 
   kept_so : (octets : List ℕ) (b : Bool) → delivery.given ≡ Some octets → (c : Conversation) → Agrees decided c → kept_where octets b ≡ object_where b c
   kept_so octets false given c agrees = refl
@@ -27,8 +27,10 @@ module _ (decided : Decisions) (delivery : Delivery) (is_put : decided.put ≡ S
   pub put_part : (octets : List ℕ) (b : Bool) → delivery.given ≡ Some octets → decided.stores ≡ None → ((c : Conversation) → Agrees (record decided { stores = Some b }) c → Agrees decided c)
       → PutGrows octets b → PartMoves (record decided { stores = Some b }) Welcoming inbox inbox' part
   put_part octets b given stores before grows = record {
-    part' = record { stores = Some b; objects = kept_where octets b; shelved = part.shelved };
+    part' = record { stores = Some b; objects = kept_where octets b; shelved = part.shelved; name = part.name };
     is_part = record { stores_is = refl; objects_are = λ c agrees. kept_so octets b given c (before c agrees) };
     grows = grows;
     at_put = λ b is. inr refl;
+    undone = λ none. absurd cc;
+    answered = λ none. absurd cc;
   }

@@ -12,7 +12,7 @@ use Rattle.push_course.proofs.ClientMoves.{response_is}
 use Rattle.push_course.proofs.Courses.{all}
 
 -- an object is put where CONNECT succeeded and the shelf gave it
-delivered_so : (greets : Bool) (given : Option (List ℕ)) (name : List ℕ) (object : Object) → object_put greets given name ≡ object ∷ [] → (greets ≡ true) × ((octets : List ℕ) × (given ≡ Some octets))
+pub delivered_so : (greets : Bool) (given : Option (List ℕ)) (name : List ℕ) (object : Object) → object_put greets given name ≡ object ∷ [] → (greets ≡ true) × ((octets : List ℕ) × (given ≡ Some octets))
 delivered_so false given name object is = absurd cc
 delivered_so true None name object is = absurd cc
 delivered_so true (Some octets) name object is = (refl, (octets, refl))

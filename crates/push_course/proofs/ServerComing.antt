@@ -18,12 +18,13 @@ use Rattle.push_course.proofs.Deciding.{IsGivenFrom, Decisions, Agrees, IsFair, 
 use Rattle.push_course.proofs.ClientPlaces.{ClientPlace, Asking, Agreeing, BeingAsked, BeingGreeted, Delivering, TakingLeave, BeingClosed, Done, client_tail, ClientStands}
 use Rattle.push_course.proofs.ClientComing.{in_move, begins_so}
 use Rattle.push_course.proofs.ServerPlaces.{ServerPlace, Fresh, server_tail, ServerStands, ServerMoves}
-use Rattle.push_course.proofs.Moving.{moved, moved_grows, count_of, GoesOn, completes, count_on, Begins, count_begun, moved_begun, Ends, count_ended, moved_ended}
-use Rattle.push_course.proofs.Halves.{Talks, other_pdu, Meets, next_for}
+use Rattle.push_course.proofs.Moving.{moved, moved_grows, moved_other, moved_last, count_of, GoesOn, completes, count_on, Begins, count_begun, moved_begun, Ends, count_ended, moved_ended}
+use Rattle.push_course.proofs.Halves.{Talks, IsSilent, other_pdu, Meets, next_for}
 use Rattle.push_course.proofs.HalfSteps.{none_some, half_beside, half_other, half_still, moved_one, half_begun, half_ended, StaysSilent, stays_silent}
 use Rattle.push_course.proofs.Parts.{Part}
 use Rattle.push_course.proofs.Tails.{greeted}
 use Rattle.push_course.proofs.Courses.{Wire, all, ServerHalf, Converses, is_last}
+use Rattle.push_course.proofs.Unheard.{few_heard}
 
 -- ---- decisions of one host change nothing for the other
 
@@ -54,8 +55,8 @@ module _ (mtu maximum : ℕ) (packet : Packet) (known known' : Linking) (link li
   StandsSo served decided place = ServerStands mtu maximum place decided served.channel
 
   -- with another half, and as many links as before
-  with_half : (count_of known' ≡ count_of known) → length (moved known n) ≤ length (moved known' n) → (converses : Before) → ServerHalf mtu maximum here' served' converses.decided n → After
-  with_half count grows converses half = record {
+  with_half : (count_of known' ≡ count_of known) → length (moved known n) ≤ length (moved known' n) → (length (moved known n) ≤ 8 → length (moved known' n) ≤ 8) → (converses : Before) → ServerHalf mtu maximum here' served' converses.decided n → After
+  with_half count grows few converses half = record {
     decided = converses.decided;
     fair = converses.fair;
     half_a = converses.half_a;
@@ -66,6 +67,11 @@ module _ (mtu maximum : ℕ) (packet : Packet) (known known' : Linking) (link li
     named = converses.named;
     delivers = converses.delivers;
     put_heard = λ done is. let before = converses.put_heard done is in omega (arith, before, grows);
+    unheard = λ none c agrees object is. few (converses.unheard none c agrees object is);
+    timed = converses.timed;
+    dated = converses.dated;
+    welcomed = converses.welcomed;
+    parted = converses.parted;
   }
 
   -- ---- the link that is up goes on
@@ -73,13 +79,21 @@ module _ (mtu maximum : ℕ) (packet : Packet) (known known' : Linking) (link li
   module _ (goes : GoesOn (into packet) known known') where
     pub server_other : (n ≡ count_of known → ⊥) → Before → After
     server_other apart converses =
-        with_half (count_on (into packet) known known' goes) (moved_grows (into packet) known known' goes n) converses
+        with_half (count_on (into packet) known known' goes) (moved_grows (into packet) known known' goes n) (λ few. let same = ap length (moved_other (into packet) known known' goes n apart) in omega (arith, few, same)) converses
         (half_other sides.B (all mtu maximum) ServerPlace (server_tail mtu maximum) known known' converses.decided n (into packet) link link' put put' (StandsSo served converses.decided) (StandsSo served' converses.decided) goes apart converses.half_b)
+
+    -- no more moved
+    still_few : n ≡ count_of known → given_last (completes (into packet)) known.up ≡ [] → length (moved known n) ≤ 8 → length (moved known' n) ≤ 8
+    still_few last none few =
+        let now = ap length (ap (moved known') last ∙ moved_last (into packet) known known' goes) ∙ length-append (moved known (count_of known)) (given_last (completes (into packet)) known.up) in
+        let before = ap (λ k. length (moved known k)) last in
+        let more = ap length none in
+        omega (arith, now, before, more, few)
 
     pub server_still : link' ≡ link → put' ≡ put → served'.channel ≡ served.channel → given_last (completes (into packet)) known.up ≡ [] → Before → After
     server_still same_link same_put same_served none converses = elim (is_last n (count_of known)) [
       | inl last ↦
-          with_half (count_on (into packet) known known' goes) (moved_grows (into packet) known known' goes n) converses
+          with_half (count_on (into packet) known known' goes) (moved_grows (into packet) known known' goes n) (still_few last none) converses
           (half_still sides.B (all mtu maximum) ServerPlace (server_tail mtu maximum) known known' converses.decided n (into packet) link link' put put' (StandsSo served converses.decided) (StandsSo served' converses.decided) goes last none same_link same_put
           (λ place so. subst (λ channel. ServerStands mtu maximum place converses.decided channel) (sym same_served) so) converses.half_b)
       | inr apart ↦ server_other apart converses
@@ -88,6 +102,10 @@ module _ (mtu maximum : ℕ) (packet : Packet) (known known' : Linking) (link li
     -- what the two ends have of it
     abbrev pub MeetsHere : Before → List ℕ → Type 0
     MeetsHere converses octets = Meets sides.B (all mtu maximum) converses.decided (map (pdu_at sides.B) converses.half_b.done ++ in_move octets ∷ [])
+
+    silent_long : (done : List Saying) → IsSilent sides.B done → length done ≤ 1
+    silent_long done (inl none) = let so = ap length none in omega (arith, so)
+    silent_long done (inr (here, one)) = let so = ap length one in omega (arith, so)
 
     -- a host that does not know of the link
     pub server_silent : link ≡ None → link' ≡ None → (octets : List ℕ) → given_last (completes (into packet)) known.up ≡ in_move octets ∷ [] → n ≡ count_of known → is_some known.up ≡ true
@@ -98,9 +116,11 @@ module _ (mtu maximum : ℕ) (packet : Packet) (known known' : Linking) (link li
         let next = next_for sides.B (all mtu maximum) decided half.done octets meets in
         let stays : StaysSilent sides.B (all mtu maximum) decided half.done octets =
         stays_silent sides.B (all mtu maximum) decided (filled decided) (filled_agrees decided) (begins_so mtu maximum) half.done octets (half.silent last none some) next in
-        with_half (count_on (into packet) known known' goes) (moved_grows (into packet) known known' goes n) converses (record {
+        let moved_is = moved_one sides.B (all mtu maximum) ServerPlace (server_tail mtu maximum) known known' decided n (into packet) octets stays.one half.done goes last is half.moved_is stays.pdu_is in
+        with_half (count_on (into packet) known known' goes) (moved_grows (into packet) known known' goes n)
+        (λ few. let many = ap length moved_is ∙ length-map (half.done ++ stays.one ∷ []) (pdu_at sides.B) in let one = silent_long (half.done ++ stays.one ∷ []) stays.silent in omega (arith, many, one)) converses (record {
           done = half.done ++ stays.one ∷ [];
-          moved_is = moved_one sides.B (all mtu maximum) ServerPlace (server_tail mtu maximum) known known' decided n (into packet) octets stays.one half.done goes last is half.moved_is stays.pdu_is;
+          moved_is = moved_is;
           front = stays.front;
           silent = λ now gone up. stays.silent;
           talks = λ now there. absurd (none_some link' none' there);
@@ -161,7 +181,7 @@ module _ (mtu maximum : ℕ) (packet : Packet) (known known' : Linking) (link li
             silent = λ now gone up. absurd (none_some link' gone some');
             talks = λ now there. talks';
           };
-          fresh_a = λ below. moves.put_same ∙ converses.fresh_a below;
+          fresh_a = λ below. let free = converses.fresh_a below in (moves.put_same ∙ free.0, moves.parts.grows.name_same ∙ free.1);
           fresh_b = λ below. absurd (let count = count_on (into packet) known known' goes in omega (arith, below, last, count));
           is_part = moves.parts.is_part;
           named = λ there now delivery put. converses.named there now delivery (sym moves.put_same ∙ put);
@@ -180,6 +200,21 @@ module _ (mtu maximum : ℕ) (packet : Packet) (known known' : Linking) (link li
                 let whole : length (all mtu maximum c) ≡ 8 + length (greeted c.greets c) = omega arith in
                 omega (arith, so_many, lengths, whole)
           ];
+          unheard = λ none c agreed object put.
+              let agreed' = moves.agrees c agreed in
+              let before = converses.unheard (moves.parts.undone none) c agreed' object put in
+              let before_is = ap length half.moved_is ∙ length-map half.done (pdu_at sides.B) in
+              let moved_is = moved_one sides.B (all mtu maximum) ServerPlace (server_tail mtu maximum) known known' converses.decided n (into packet) octets moves.saying half.done goes last is half.moved_is
+              (other_pdu sides.B moves.saying octets moves.by moves.pdu_is) in
+              let so_many = ap length moved_is ∙ (length-map done' (pdu_at sides.B) ∙ length-append half.done (moves.saying ∷ [])) in
+              let front = hears.talks.follows c agreed' ∙ ap (λ xs. half.done ++ (xs ++ server_tail mtu maximum hears.talks.place c)) hears.none in
+              let few = few_heard mtu maximum converses.decided served.channel c agreed' object put half.done (omega (arith, before, before_is)) hears.talks.place hears.talks.stands_so
+              (λ welcome. moves.parts.answered none welcome c agreed object put) front in
+              omega (arith, so_many, few);
+          timed = λ there now. moves.parts.grows.name_same ∙ converses.timed there now;
+          dated = λ delivery put. moves.parts.grows.name_same ∙ converses.dated delivery (sym moves.put_same ∙ put);
+          welcomed = λ refused. converses.welcomed (moves.well.greets refused);
+          parted = λ refused. converses.parted (moves.well.parts refused);
         }
       where
         none_own : (one : Saying) → speaker one ≡ sides.A → own sides.B (one ∷ []) ≡ []
@@ -200,9 +235,14 @@ module _ (mtu maximum : ℕ) (packet : Packet) (known known' : Linking) (link li
     named = converses.named;
     delivers = converses.delivers;
     put_heard = λ done is. let before = converses.put_heard done is in let same = ap length (moved_begun known known' begins n) in omega (arith, before, same);
+    unheard = λ none c agrees object is. let before = converses.unheard none c agrees object is in let same = ap length (moved_begun known known' begins n) in omega (arith, before, same);
+    timed = converses.timed;
+    dated = converses.dated;
+    welcomed = converses.welcomed;
+    parted = converses.parted;
   }
   server_passes (inr ends) none converses =
-      with_half (count_ended known known' ends) (let same = ap length (moved_ended known known' ends n) in omega (arith, same)) converses
+      with_half (count_ended known known' ends) (let same = ap length (moved_ended known known' ends n) in omega (arith, same)) (λ few. let same = ap length (moved_ended known known' ends n) in omega (arith, few, same)) converses
       (half_ended sides.B (all mtu maximum) ServerPlace (server_tail mtu maximum) known known' converses.decided n link link' put put' (StandsSo served converses.decided) (StandsSo served' converses.decided) ends none converses.half_b)
 
   pub server_up : Begins known known' → put' ≡ [] → served'.channel.stage ≡ stages.Free → Before → After
@@ -224,6 +264,11 @@ module _ (mtu maximum : ℕ) (packet : Packet) (known known' : Linking) (link li
           named = converses.named;
           delivers = converses.delivers;
           put_heard = λ done is. let before = converses.put_heard done is in let same = ap length (moved_begun known known' begins n) in omega (arith, before, same);
+          unheard = λ none c agrees object is. let before = converses.unheard none c agrees object is in let same = ap length (moved_begun known known' begins n) in omega (arith, before, same);
+          timed = converses.timed;
+          dated = converses.dated;
+          welcomed = converses.welcomed;
+          parted = converses.parted;
         }
         | inr apart ↦ record {
           decided = converses.decided;
@@ -242,5 +287,10 @@ module _ (mtu maximum : ℕ) (packet : Packet) (known known' : Linking) (link li
           named = converses.named;
           delivers = converses.delivers;
           put_heard = λ done is. let before = converses.put_heard done is in let same = ap length (moved_begun known known' begins n) in omega (arith, before, same);
+          unheard = λ none c agrees object is. let before = converses.unheard none c agrees object is in let same = ap length (moved_begun known known' begins n) in omega (arith, before, same);
+          timed = converses.timed;
+          dated = converses.dated;
+          welcomed = converses.welcomed;
+          parted = converses.parted;
         }
       ]

@@ -23,11 +23,11 @@ use Rattle.push_course.proofs.Deciding.{Delivery, Decisions, Agrees, IsFair, IsF
 use Rattle.push_course.proofs.Parts.{Part, IsPart, none_stored, put_stored, put_failed}
 use Rattle.push_course.proofs.ServerNotes.{Noted, served_behind, sends_so, channel_so}
 use Rattle.push_course.proofs.PutParts.{PutGrows, put_part}
-use Rattle.push_course.proofs.OpenPuts.{is_open}
+use Rattle.push_course.proofs.OpenPuts.{is_open, none_given}
 use Rattle.push_course.proofs.Tails.{parted, from_closing, from_parting, putting_tail, greeted, from_putting}
 use Rattle.push_course.proofs.ClientPlaces.{IsCapable}
 use Rattle.push_course.proofs.ClientMoves.{pdu_news}
-use Rattle.push_course.proofs.ServerPlaces.{ServerPlace, Fresh, Taken, Agreeing, Listening, Welcoming, Refusing, Stored, Parting, Closed, IsReadied, server_tail, ServerStands, PartMoves, part_stays, ServerMoves}
+use Rattle.push_course.proofs.ServerPlaces.{ServerPlace, Fresh, Taken, Agreeing, Listening, Welcoming, Refusing, Stored, Parting, Closed, IsReadied, server_tail, ServerStands, PutsNone, PartMoves, part_stays, AnswersWell, ServerMoves}
 
 module _ (mtu maximum : ℕ) where
   module _ (channels : ChannelTurns) (sessions : SessionTurns) (served_so : PushIsServed) (capable : IsCapable mtu maximum) (old noted : Served) (inbox inbox' : Kept) (response' : Option (List ℕ))
@@ -54,16 +54,17 @@ module _ (mtu maximum : ℕ) where
     by_saying place pdu one is moves = subst (Moves place) (sym is) moves
 
     -- all but the decisions
-    moves_to : (decided' : Decisions) → decided'.put ≡ decided.put → ((c : Conversation) → Agrees decided' c → Agrees decided c)
+    moves_to : (decided' : Decisions) → decided'.put ≡ decided.put → ((c : Conversation) → Agrees decided' c → Agrees decided c) → AnswersWell decided decided'
         → (place : ServerPlace) (one : Saying) → IsBy sides.A one → (mine : List Saying) → AllByRecursion (IsBy sides.B) mine → (place' : ServerPlace)
         → ((c : Conversation) → Agrees decided' c → server_tail mtu maximum place c ≡ one ∷ (mine ++ server_tail mtu maximum place' c))
         → (first second third : Option (List ℕ)) (channel : Channel) → NotesSo one first second third channel → option_to_list first ++ (option_to_list second ++ option_to_list third) ≡ own sides.B mine
         → channel.mtu ≡ mtu → ServerStands mtu maximum place' decided' channel → PartMoves decided' place inbox inbox' part → Moves place (pdu_of one)
-    moves_to decided' same agrees place one by mine by_mine place' follows first second third channel notes sends mtu_is stands parts = record {
+    moves_to decided' same agrees well place one by mine by_mine place' follows first second third channel notes sends mtu_is stands parts = record {
       parts = parts;
       decided' = decided';
       put_same = same;
       agrees = agrees;
+      well = well;
       saying = one;
       pdu_is = refl;
       by = by;
@@ -114,20 +115,20 @@ module _ (mtu maximum : ℕ) where
     notes_told one pdu is notes = subst NotesPdu is notes
 
     -- nothing is decided by it
-    abbrev signalled : (place : ServerPlace) (one : Saying) → IsBy sides.A one → (mine : List Saying) → AllByRecursion (IsBy sides.B) mine → (place' : ServerPlace)
+    abbrev signalled : (place : ServerPlace) → PutsNone decided place → (one : Saying) → IsBy sides.A one → (mine : List Saying) → AllByRecursion (IsBy sides.B) mine → (place' : ServerPlace)
         → ((c : Conversation) → Agrees decided c → server_tail mtu maximum place c ≡ one ∷ (mine ++ server_tail mtu maximum place' c))
         → (second third : Option (List ℕ)) (channel : Channel) → NotesSo one None second third channel × (inbox' ≡ inbox) → option_to_list second ++ option_to_list third ≡ own sides.B mine
         → channel.mtu ≡ mtu → ServerStands mtu maximum place' decided channel → Moves place (pdu_of one)
-    signalled place one by mine by_mine place' follows second third channel notes sends same stands =
-        moves_to decided refl (λ c agrees. agrees) place one by mine by_mine place' follows None second third channel notes.0 sends same stands
-        (part_stays decided decided place inbox inbox' part refl (λ c agrees. agrees) notes.1 is_part)
+    signalled place puts_none one by mine by_mine place' follows second third channel notes sends same stands =
+        moves_to decided refl (λ c agrees. agrees) (record { greets = λ refused. refused; parts = λ refused. refused }) place one by mine by_mine place' follows None second third channel notes.0 sends same stands
+        (part_stays decided decided place inbox inbox' part refl (λ c agrees. agrees) notes.1 puts_none is_part)
 
     being_fresh : (pdu : List ℕ) → ServerStands mtu maximum Fresh decided old.channel → IsNextAlways Fresh pdu → NotesPdu pdu → Moves Fresh pdu
     being_fresh pdu (stage, greets, stores, parts) next notes =
         let one : Saying = Says sides.A 1 asks_connection in
         let is : pdu ≡ pdu_of one = next_is sides.B one _ pdu (next some agreed) in
         by_saying Fresh pdu one is
-        (signalled Fresh one refl (Says sides.B 1 (grants_connection own_endpoint) ∷ []) (refl, tt) Taken (λ c agrees. refl) _ _ _
+        (signalled Fresh (λ is. absurd cc) one refl (Says sides.B 1 (grants_connection own_endpoint) ∷ []) (refl, tt) Taken (λ c agrees. refl) _ _ _
         (let_go one _ _ _ (sessions.grants false old noted inbox inbox' response' stage (notes_told one pdu is notes)) (channels.grants old.channel stage)) refl readied.mtu_is (refl, refl, greets, stores, parts))
 
     being_taken : (pdu : List ℕ) → ServerStands mtu maximum Taken decided old.channel → IsNextAlways Taken pdu → NotesPdu pdu → Moves Taken pdu
@@ -136,7 +137,7 @@ module _ (mtu maximum : ℕ) where
         let is : pdu ≡ pdu_of one = next_is sides.B one _ pdu (next some agreed) in
         let low : 48 ≤ mtu = let low = capable.mtu_low in omega (arith, low) in
         by_saying Taken pdu one is
-        (signalled Taken one refl (Says sides.B 2 (grants_configuration own_endpoint) ∷ Says sides.B 1 (asks_configuration own_endpoint mtu) ∷ []) (refl, (refl, tt)) Agreeing (λ c agrees. refl) _ _ _
+        (signalled Taken (λ is. absurd cc) one refl (Says sides.B 2 (grants_configuration own_endpoint) ∷ Says sides.B 1 (asks_configuration own_endpoint mtu) ∷ []) (refl, (refl, tt)) Agreeing (λ c agrees. refl) _ _ _
         (left one _ _ _ (sessions.configures false old noted inbox inbox' response' mtu stage low capable.mtu_high (notes_told one pdu is notes)) (channels.configures old.channel mtu stage peer low capable.mtu_high))
         (ap (λ n. pdu_of (Says sides.B 2 (grants_configuration own_endpoint)) ∷ pdu_of (Says sides.B 1 (asks_configuration own_endpoint n)) ∷ []) readied.mtu_is) readied.mtu_is (refl, peer, greets, stores, parts))
 
@@ -145,17 +146,17 @@ module _ (mtu maximum : ℕ) where
         let one : Saying = Says sides.A 1 (grants_configuration own_endpoint) in
         let is : pdu ≡ pdu_of one = next_is sides.B one _ pdu (next some agreed) in
         by_saying Agreeing pdu one is
-        (signalled Agreeing one refl [] tt Listening (λ c agrees. refl) _ _ _
+        (signalled Agreeing (λ is. absurd cc) one refl [] tt Listening (λ c agrees. refl) _ _ _
         (left one _ _ _ (sessions.opens false old noted inbox inbox' response' stage (notes_told one pdu is notes)) (channels.opens old.channel stage)) refl readied.mtu_is (refl, peer, greets, stores, parts))
 
     -- it is to be closed
-    closing : (place : ServerPlace) (pdu : List ℕ) → old.channel.stage ≡ stages.Open → old.channel.peer ≡ own_endpoint
+    closing : (place : ServerPlace) → PutsNone decided place → (pdu : List ℕ) → old.channel.stage ≡ stages.Open → old.channel.peer ≡ own_endpoint
         → ((c : Conversation) → Agrees decided c → server_tail mtu maximum place c ≡ from_closing) → IsNextAlways place pdu → NotesPdu pdu → Moves place pdu
-    closing place pdu stage peer tails next notes =
+    closing place puts_none pdu stage peer tails next notes =
         let one : Saying = Says sides.A 3 (asks_disconnection own_endpoint) in
         let is : pdu ≡ pdu_of one = next_is sides.B one _ pdu (subst (λ rest. IsNext sides.B rest pdu) (tails some agreed) (next some agreed)) in
         by_saying place pdu one is
-        (signalled place one refl (Says sides.B 3 (grants_disconnection own_endpoint) ∷ []) (refl, tt) Closed tails _ _ _
+        (signalled place puts_none one refl (Says sides.B 3 (grants_disconnection own_endpoint) ∷ []) (refl, tt) Closed tails _ _ _
         (let_go one _ _ _ (sessions.closes false old noted inbox inbox' response' stage peer (notes_told one pdu is notes)) (channels.closes old.channel stage peer)) refl readied.mtu_is refl)
 
     -- ---- packets
@@ -200,33 +201,33 @@ module _ (mtu maximum : ℕ) where
         by_saying Listening pdu one is
         (let notes' = agreed_to _ one stage (served_so.connects maximum old noted inbox inbox' response' low capable.high (ready peer) room (heard (connect_packet maximum) pdu stage is notes)) in
         let before : (c : Conversation) → Agrees (record decided { greets = Some true }) c → Agrees decided c = λ c agrees. record { put = agrees.put; greets = told_none decided.greets _ greets; stores = agrees.stores; parts = agrees.parts } in
-        moves_to (record decided { greets = Some true }) refl before
+        moves_to (record decided { greets = Some true }) refl before (record { greets = λ refused. absurd cc; parts = λ refused. refused })
         Listening one refl (answers_packet (unwelcome 0xA0 maximum) ∷ []) (refl, tt) Welcoming
         (λ c agrees. ap (λ b. one ∷ answers_packet (unwelcome (code_of b) maximum) ∷ greeted c.greets c) agrees.greets)
         _ _ _ _ notes'.0
         (ap (λ n. pdu_of (answers_packet (unwelcome 0xA0 n)) ∷ []) readied.maximum_is) readied.mtu_is (stage, peer, refl, stores, parts)
-        (part_stays decided (record decided { greets = Some true }) Listening inbox inbox' part refl before notes'.1 is_part))
+        (part_stays decided (record decided { greets = Some true }) Listening inbox inbox' part refl before notes'.1 (λ is. absurd cc) is_part))
 
     -- DISCONNECT
-    parts_by : (place : ServerPlace) (b : Bool) → old.channel.stage ≡ stages.Open → old.channel.peer ≡ own_endpoint → decided.parts ≡ None
-        → ((c : Conversation) → Agrees decided c → server_tail mtu maximum place c ≡ from_parting c) → NotesSo (says_packet disconnect_packet) (Some (pdu_of (answers_packet (response (code_of b))))) None None old.channel × (inbox' ≡ inbox)
+    parts_by : (place : ServerPlace) → PutsNone decided place → old.channel.stage ≡ stages.Open → old.channel.peer ≡ own_endpoint → decided.parts ≡ None
+        → ((c : Conversation) → Agrees decided c → server_tail mtu maximum place c ≡ from_parting c) → NotesSo (says_packet disconnect_packet) (Some (pdu_of (answers_packet (response (code_of true))))) None None old.channel × (inbox' ≡ inbox)
         → Moves place (pdu_of (says_packet disconnect_packet))
-    parts_by place b stage peer free tails notes =
+    parts_by place puts_none stage peer free tails notes =
         let one : Saying = says_packet disconnect_packet in
-        let before : (c : Conversation) → Agrees (record decided { parts = Some b }) c → Agrees decided c =
+        let before : (c : Conversation) → Agrees (record decided { parts = Some true }) c → Agrees decided c =
         λ c agrees. record { put = agrees.put; greets = agrees.greets; stores = agrees.stores; parts = told_none decided.parts _ free } in
-        moves_to (record decided { parts = Some b }) refl before place one refl (answers_packet (response (code_of b)) ∷ []) (refl, tt) Parting
+        moves_to (record decided { parts = Some true }) refl before (record { greets = λ refused. refused; parts = λ refused. absurd cc }) place one refl (answers_packet (response (code_of true)) ∷ []) (refl, tt) Parting
         (λ c agrees. tails c (before c agrees) ∙ ap (λ b. one ∷ answers_packet (response (code_of b)) ∷ parted c.parts) agrees.parts)
-        _ _ _ _ notes.0 refl readied.mtu_is (stage, peer, b, refl) (part_stays decided (record decided { parts = Some b }) place inbox inbox' part refl before notes.1 is_part)
+        _ _ _ _ notes.0 refl readied.mtu_is (stage, peer, true, refl) (part_stays decided (record decided { parts = Some true }) place inbox inbox' part refl before notes.1 (λ is c agrees. puts_none is c (before c agrees)) is_part)
 
-    departing : (place : ServerPlace) (pdu : List ℕ) → old.channel.stage ≡ stages.Open → old.channel.peer ≡ own_endpoint → decided.parts ≡ None
+    departing : (place : ServerPlace) → PutsNone decided place → (pdu : List ℕ) → old.channel.stage ≡ stages.Open → old.channel.peer ≡ own_endpoint → decided.parts ≡ None
         → ((c : Conversation) → Agrees decided c → server_tail mtu maximum place c ≡ from_parting c) → IsNextAlways place pdu → NotesPdu pdu → Moves place pdu
-    departing place pdu stage peer free tails next notes =
+    departing place puts_none pdu stage peer free tails next notes =
         let one : Saying = says_packet disconnect_packet in
         let is : pdu ≡ pdu_of one = next_is sides.B one _ pdu (subst (λ rest. IsNext sides.B rest pdu) (tails some agreed) (next some agreed)) in
         let room : 3 ≤ old.session.maximum = let low = capable.low in let same = readied.maximum_is in omega (arith, low, same) in
         by_saying place pdu one is
-        (parts_by place true stage peer free tails
+        (parts_by place puts_none stage peer free tails
         (agreed_to _ one stage (served_so.disconnects old noted inbox inbox' response' (ready peer) room (heard disconnect_packet pdu stage is notes))))
 
     -- ---- the object
@@ -247,14 +248,16 @@ module _ (mtu maximum : ℕ) where
           let one : Saying = says_packet (put_packet (utf16 delivery.name) octets) in
           let before : (c : Conversation) → Agrees (record decided { stores = Some b }) c → Agrees decided c =
           λ c agrees. record { put = agrees.put; greets = agrees.greets; stores = told_none decided.stores _ stores; parts = agrees.parts } in
-          moves_to (record decided { stores = Some b }) refl before Welcoming one refl (answers_packet (response (code_of b)) ∷ []) (refl, tt) Stored
+          moves_to (record decided { stores = Some b }) refl before (record { greets = λ refused. refused; parts = λ refused. refused }) Welcoming one refl (answers_packet (response (code_of b)) ∷ []) (refl, tt) Stored
           (λ c agrees.
           welcomed c (before c agrees) ∙ (ap (λ g. from_putting g c) given ∙ (named octets c (before c agrees) ∙ ap (λ b. one ∷ answers_packet (response (code_of b)) ∷ from_parting c) agrees.stores)))
           _ _ _ _ notes refl readied.mtu_is (stage, peer, parts) (put_part decided delivery is_put welcome inbox inbox' part octets b given stores before grows)
 
       delivered : (g : Option (List ℕ)) → delivery.given ≡ g → (pdu : List ℕ) → old.channel.stage ≡ stages.Open → old.channel.peer ≡ own_endpoint → decided.stores ≡ None → decided.parts ≡ None
           → IsNextAlways Welcoming pdu → NotesPdu pdu → Moves Welcoming pdu
-      delivered None given pdu stage peer stores parts next notes = departing Welcoming pdu stage peer parts (λ c agrees. welcomed c agrees ∙ ap (λ g. from_putting g c) given) next notes
+      delivered None given pdu stage peer stores parts next notes =
+          departing Welcoming (λ is c agrees object put. none_given c.greets c.given c.name object (ap (λ (d : Delivery). d.given) (told_is decided.put _ delivery is_put agrees.put) ∙ given) put) pdu stage peer parts
+          (λ c agrees. welcomed c agrees ∙ ap (λ g. from_putting g c) given) next notes
       delivered (Some octets) given pdu stage peer stores parts next notes =
           let one : Saying = says_packet (put_packet (utf16 delivery.name) octets) in
           let tails : (c : Conversation) → Agrees decided c → greeted c.greets c ≡ one ∷ putting_tail c = λ c agrees. welcomed c agrees ∙ (ap (λ g. from_putting g c) given ∙ named octets c agrees) in
@@ -277,7 +280,7 @@ module _ (mtu maximum : ℕ) where
     welcoming_by (Some delivery) is pdu (stage, peer, greets, stores, parts) next notes = delivered delivery is greets delivery.given refl pdu stage peer stores parts next notes
 
     parting_by : (b : Bool) (pdu : List ℕ) → old.channel.stage ≡ stages.Open → old.channel.peer ≡ own_endpoint → decided.parts ≡ Some b → IsNextAlways Parting pdu → NotesPdu pdu → Moves Parting pdu
-    parting_by true pdu stage peer parts next notes = closing Parting pdu stage peer (λ c agrees. ap parted (told_is decided.parts c.parts true parts agrees.parts)) next notes
+    parting_by true pdu stage peer parts next notes = closing Parting (λ is. absurd cc) pdu stage peer (λ c agrees. ap parted (told_is decided.parts c.parts true parts agrees.parts)) next notes
     parting_by false pdu stage peer parts next notes =
         absurd (none_next sides.B pdu (subst (λ b. IsNext sides.B (parted b) pdu) (told_is decided.parts some.parts false parts agreed.parts) (next some agreed)))
 
@@ -289,7 +292,7 @@ module _ (mtu maximum : ℕ) where
     server_moves Agreeing pdu stands next notes = being_agreed pdu stands next notes
     server_moves Listening pdu stands next notes = listening pdu stands next notes
     server_moves Welcoming pdu stands next notes = welcoming_by decided.put refl pdu stands next notes
-    server_moves Refusing pdu (stage, peer, greets) next notes = closing Refusing pdu stage peer (λ c agrees. ap (λ b. greeted b c) (told_is decided.greets c.greets false greets agrees.greets)) next notes
-    server_moves Stored pdu (stage, peer, parts) next notes = departing Stored pdu stage peer parts (λ c agrees. refl) next notes
+    server_moves Refusing pdu (stage, peer, greets) next notes = closing Refusing (λ is. absurd cc) pdu stage peer (λ c agrees. ap (λ b. greeted b c) (told_is decided.greets c.greets false greets agrees.greets)) next notes
+    server_moves Stored pdu (stage, peer, parts) next notes = departing Stored (λ is. absurd cc) pdu stage peer parts (λ c agrees. refl) next notes
     server_moves Parting pdu (stage, peer, b, parts) next notes = parting_by b pdu stage peer parts next notes
     server_moves Closed pdu stands next notes = absurd (none_next sides.B pdu (next some agreed))

@@ -1,5 +1,6 @@
 -- Where a server stands in the conversation of a push, and where a move leads it.
 use Rattle.std.proofs.Common.{◌≡◌, ℕ, Bool, List, [], ◌∷◌, ◌++◌, Some, None, true, false, ◌⊎◌, inl}
+use Rattle.bt_base.specs.Objects.{Object}
 use Rattle.obex_session.specs.declared.ruling.Progress.TheVariants.{Unnamed}
 use Rattle.bt_host.specs.declared.channel_stages.ChannelStage.TheVariants as stages
 use Rattle.bt_host.specs.Pdus.{own_endpoint}
@@ -11,6 +12,7 @@ use Rattle.push_talk.specs.Conversing.{Saying}
 use Rattle.push_talk.specs.Speaking.{pdu_of}
 use Rattle.push_course.proofs.Owning.{own, IsBy}
 use Rattle.push_course.specs.Conversations.{Conversation}
+use Rattle.push_course.specs.Gains.{object_where}
 use Rattle.push_course.proofs.Deciding.{Decisions, Agrees}
 use Rattle.push_course.proofs.Parts.{Part, IsPart, part_on, PartGrows, grows_not}
 use Rattle.push_course.proofs.Tails.{parted, from_parting, greeted, from_greeting, from_granting, from_configuring, from_connecting}
@@ -34,21 +36,34 @@ pub record IsReadied (mtu maximum : ℕ) (served : Served) : Type 0 where
   pub maximum_is : served.session.maximum ≡ maximum
   pub rests : served.session.progress ≡ Unnamed
 
--- what becomes of the part that is stored: a PUT alone decides it
+-- where the welcome was said, no object is put
+abbrev pub PutsNone : Decisions → ServerPlace → Type 0
+PutsNone decided place = place ≡ Welcoming → (c : Conversation) → Agrees decided c → (object : Object) → object_where true c ≡ object ∷ [] → ⊥
+
+-- what becomes of the part that is stored: a PUT alone decides it, and it does
 pub record PartMoves (decided' : Decisions) (place : ServerPlace) (inbox inbox' : Kept) (part : Part) : Type 0 where
   pub part' : Part
   pub is_part : IsPart decided' part'
   pub grows : PartGrows inbox inbox' part part'
   pub at_put : (b : Bool) → part'.stores ≡ Some b → (part.stores ≡ Some b) ⊎ (place ≡ Welcoming)
+  pub undone : part'.stores ≡ None → part.stores ≡ None
+  pub answered : part'.stores ≡ None → PutsNone decided' place
 
 pub part_stays : (decided decided' : Decisions) (place : ServerPlace) (inbox inbox' : Kept) (part : Part) → decided'.stores ≡ decided.stores → ((c : Conversation) → Agrees decided' c → Agrees decided c) → inbox' ≡ inbox
-    → IsPart decided part → PartMoves decided' place inbox inbox' part
-part_stays decided decided' place inbox inbox' part same agrees same_inbox is = record {
+    → PutsNone decided' place → IsPart decided part → PartMoves decided' place inbox inbox' part
+part_stays decided decided' place inbox inbox' part same agrees same_inbox puts_none is = record {
   part' = part;
   is_part = part_on decided decided' part same agrees is;
   grows = grows_not inbox inbox' part same_inbox;
   at_put = λ b now. inl now;
+  undone = λ none. none;
+  answered = λ none. puts_none;
 }
+
+-- what is decided now of CONNECT and of DISCONNECT is success
+pub record AnswersWell (decided decided' : Decisions) : Type 0 where
+  pub greets : decided'.greets ≡ Some false → decided.greets ≡ Some false
+  pub parts : decided'.parts ≡ Some false → decided.parts ≡ Some false
 
 module _ (mtu maximum : ℕ) where
   abbrev pub server_tail : ServerPlace → Conversation → List Saying
@@ -79,6 +94,7 @@ module _ (mtu maximum : ℕ) where
     pub decided' : Decisions
     pub put_same : decided'.put ≡ decided.put
     pub agrees : (c : Conversation) → Agrees decided' c → Agrees decided c
+    pub well : AnswersWell decided decided'
     pub saying : Saying
     pub pdu_is : pdu ≡ pdu_of saying
     pub by : IsBy sides.A saying

@@ -1,3 +1,4 @@
 pub mod Conversations
 pub mod Gains
 pub mod PushNames
+pub mod PushParts
