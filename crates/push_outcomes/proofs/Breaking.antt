@@ -45,7 +45,7 @@ gone_event handle reason low =
     (event_accepted event (code_of event) (event_params event) (record { number = refl; octets = refl; fits = low; allowed = tt }))
     ∙ ap (λ (n : ℕ). Some (DisconnectionComplete 0 n reason)) (le16-number handle (reason ∷ []) fits)
 
-gone_news : (handle reason : ℕ) (line : Line) → handle ≤ 0x0EFF → line.link ≡ Some handle → news_of (packet_of sides.A (LinkGone handle reason)) line ≡ LinkDown reason
+pub gone_news : (handle reason : ℕ) (line : Line) → handle ≤ 0x0EFF → line.link ≡ Some handle → news_of (packet_of sides.A (LinkGone handle reason)) line ≡ LinkDown reason
 gone_news handle reason line low knows =
     ap (λ (event : Option PlainEvent). event_news event line) (gone_event handle reason low)
     ∙ (ap (λ (link : Option ℕ). cond (is_number handle link) (LinkDown reason) Nothing) knows ∙ ap (λ test. cond test (LinkDown reason) Nothing) (eq-eqb handle handle refl))
@@ -94,7 +94,7 @@ still_lost part more old new inside link grows lost = record {
   owed = grows.1 ∙ ap (λ xs. xs ++ grows.0) lost.owed;
 }
 
-none_owed : (owed : List Answer) (answer : Answer) (rest : List Answer) → owed ≡ [] → owed ≡ answer ∷ rest → ⊥
+pub none_owed : (owed : List Answer) (answer : Answer) (rest : List Answer) → owed ≡ [] → owed ≡ answer ∷ rest → ⊥
 none_owed owed answer rest none some =
     let never : [] ≡ answer ∷ rest = sym none ∙ some in
     cc

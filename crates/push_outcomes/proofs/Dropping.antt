@@ -35,7 +35,7 @@ use Rattle.world_links.proofs.Upholding.{is_onward}
 use Rattle.world_links.proofs.Running.{stood_on}
 use Rattle.world_links.proofs.Running as links_at
 use Rattle.push_course.proofs.ArrivingA.{linked_so}
-use Rattle.push_course.proofs.Courses.{Outset, Stands}
+use Rattle.push_course.proofs.Courses.{Outset, outset_of, Stands}
 use Rattle.push_course.proofs.Running.{stood, Stood}
 use Rattle.push_outcomes.specs.Settled.{IsSettledBy, LossIsTold}
 use Rattle.push_outcomes.proofs.Breaking.{IsLost, lost_on}
@@ -43,7 +43,7 @@ use Rattle.push_outcomes.proofs.Staying.{settled_on, none_both}
 
 -- ---- what the word makes of the radio
 
-parts_so : (test : Bool) (radio next : Radio) → cond test (Some (parted 0x08 0x08 radio)) None ≡ Some next → next ≡ parted 0x08 0x08 radio
+pub parts_so : (test : Bool) (radio next : Radio) → cond test (Some (parted 0x08 0x08 radio)) None ≡ Some next → next ≡ parted 0x08 0x08 radio
 parts_so true radio next is = cc
 parts_so false radio next is = absurd cc
 
@@ -99,16 +99,16 @@ module _ (mtu maximum : ℕ) (outset : Outset) (past part : List Entry) (ordinal
             ∙ (ap (λ owed. owed ++ LinkGone radio.number 0x08 ∷ []) none_owed ∙ ap (λ n. LinkGone n 0x08 ∷ []) number);
       }
 
-  by_link : (own : Option ℕ) → old.a.line.link ≡ own → is_some own ≡ true → IsLost (part ++ Acted ordinal Drop ∷ []) new
+  pub by_link : (own : Option ℕ) → old.a.line.link ≡ own → is_some own ≡ true → IsLost (part ++ Acted ordinal Drop ∷ []) new
   by_link None is some = absurd cc
   by_link (Some handle) is some = drop_on handle is
 
 -- ---- along a run
 
-abbrev Told : List Entry → Moment → Type 0
+abbrev pub Told : List Entry → Moment → Type 0
 Told part moment = IsLost part moment ⊎ IsSettledBy part moment
 
-told_on : (past part : List Entry) (happening : Happening) (old new : Moment) → Does happening old new → links_at.Stood past old → filter_map mark_of (entries_of happening) ≡ [] → Told part old → Told (part ++ entries_of happening) new
+pub told_on : (past part : List Entry) (happening : Happening) (old new : Moment) → Does happening old new → links_at.Stood past old → filter_map mark_of (entries_of happening) ≡ [] → Told part old → Told (part ++ entries_of happening) new
 told_on past part happening old new does stood none (inl lost) = elim (lost_on part happening old new does none lost) [ inl still ↦ inl still | inr fixed ↦ inr (inl fixed) ]
 told_on past part happening old new does stood none (inr settled) = inr (settled_on past part happening old new does stood.upholds none settled)
 
@@ -128,7 +128,7 @@ pub loss_is_told : LossIsTold
 loss_is_told size count mtu obex names shelf inbox setting before mid begins part some none no_cause ordinal next does happenings moment goes unmarked idle =
     let past : List Entry = all_entries before in
     let there = stood size count mtu obex names shelf inbox setting before mid begins in
-    let lost = by_link mtu (min obex mtu) (record { names = names; first = inbox; shelved = shelf.content }) past part ordinal mid next there does none no_cause mid.a.line.link refl some in
+    let lost = by_link mtu (min obex mtu) (outset_of names inbox shelf.content) past part ordinal mid next there does none no_cause mid.a.line.link refl some in
     let at : links_at.Stood past mid = record { holds = there.grounds.piping.holds; upholds = there.grounds.upholds } in
     let told = told_along (past ++ Acted ordinal Drop ∷ []) (part ++ Acted ordinal Drop ∷ []) happenings next moment goes (stood_on past (Deed ordinal Drop) mid next does at) unmarked (inl lost) in
     subst (λ es. IsSettledBy es moment) (append_assoc part (Acted ordinal Drop ∷ []) (all_entries happenings)) (idle_settled _ moment told idle)

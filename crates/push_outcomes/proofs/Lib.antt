@@ -3,6 +3,7 @@ pub mod Between
 pub mod Further
 pub mod Shown
 pub mod Placing
+pub mod Uttering
 pub mod Knowing
 pub mod Following
 pub mod Fixed

@@ -18,7 +18,7 @@ use Rattle.push_readings.specs.Causes.{before_cause_by, before_cause}
 
 -- ---- what a side says ends before the other side speaks
 
-ends_before : (done mine tail front rest : List Saying) (b : Saying) → AllByRecursion (IsBy sides.A) mine → speaker b ≡ sides.B → done ++ (mine ++ tail) ≡ front ++ b ∷ rest → length done ≤ length front
+pub ends_before : (done mine tail front rest : List Saying) (b : Saying) → AllByRecursion (IsBy sides.A) mine → speaker b ≡ sides.B → done ++ (mine ++ tail) ≡ front ++ b ∷ rest → length done ≤ length front
     → (tail ≡ b ∷ rest) ⊎ (length rest + 2 ≤ length tail)
 ends_before (x ∷ done) mine tail [] rest b by other is few = absurd (omega (arith, few))
 ends_before (x ∷ done) mine tail (y ∷ front) rest b by other is few =
@@ -105,6 +105,29 @@ module _ (mtu maximum : ℕ) where
   pub late : (place : ClientPlace) → IsLate place → (c : Conversation) (done mine : List Saying) → AllByRecursion (IsBy sides.A) mine → from_connecting mtu maximum c ≡ done ++ (mine ++ client_tail mtu maximum place c)
       → (before_cause c < length done) ⊎ (outcome_of c ≡ ShelfFault)
   late place is c done mine by follows = late_parts place is c.name c.given c.greets c.stores c.parts done mine by follows
+
+  -- ---- a client that has come to it, and has nothing left to say
+
+  out_parts : (place : ClientPlace) (late : IsLate place) (name : List ℕ) (given : Option (List ℕ)) (greets stores parts : Bool) (done : List Saying)
+      → from_connecting mtu maximum (made name given greets stores parts) ≡ done ++ client_tail mtu maximum place (made name given greets stores parts)
+      → outcome_by greets given stores ≡ ShelfFault → before_cause_by greets given < length done
+  out_parts place late name None true stores parts done follows shelf =
+      let c : Conversation = made name None true stores parts in
+      let short = short_tail place late c in
+      let whole = ap length follows in
+      let both = length-append done (client_tail mtu maximum place c) in
+      omega (arith, short, whole, both)
+  out_parts place late name (Some octets) true stores parts done follows shelf =
+      let c : Conversation = made name (Some octets) true stores parts in
+      let short = short_tail place late c in
+      let whole = ap length follows in
+      let both = length-append done (client_tail mtu maximum place c) in
+      omega (arith, short, whole, both)
+  out_parts place late name given false stores parts done follows shelf = absurd cc
+
+  -- the saying that shows the outcome has moved, also where the shelf failed
+  pub all_out : (place : ClientPlace) → IsLate place → (c : Conversation) (done : List Saying) → from_connecting mtu maximum c ≡ done ++ client_tail mtu maximum place c → outcome_of c ≡ ShelfFault → before_cause c < length done
+  all_out place is c done follows shelf = out_parts place is c.name c.given c.greets c.stores c.parts done follows shelf
 
   -- ---- a client that has not come to it
 

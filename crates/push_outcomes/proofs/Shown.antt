@@ -48,7 +48,7 @@ module _ (mtu maximum : ℕ) (capable : IsCapable mtu maximum) where
     pub one : (decided : Decisions) (fair : IsFair decided) (link : Link) (m : ℕ) → here ≡ link ∷ [] → HasMoved mtu maximum capable decided fair m link
         → given ≡ causes_shown (filled decided) (length (pdus link))
 
-  same_shows : (here here' : List Link) (given : List Outcome) → here' ≡ here → Shows here given → Shows here' (given ++ causes_between here here')
+  pub same_shows : (here here' : List Link) (given : List Outcome) → here' ≡ here → Shows here given → Shows here' (given ++ causes_between here here')
   same_shows here here' given is shows =
       let nothing : given ++ causes_between here here' ≡ given = ap (λ more. given ++ more) (same_links here here' is) ∙ append-nil given in
       record {
@@ -115,7 +115,7 @@ module _ (mtu maximum : ℕ) (capable : IsCapable mtu maximum) where
 
   -- ---- a packet more of host a
 
-  change_shows : (move : Move) (old new : Linking) (given : List Outcome) → Changes move old new → Shows (all_links old) given → Shows (all_links new) (given ++ causes_between (all_links old) (all_links new))
+  pub change_shows : (move : Move) (old new : Linking) (given : List Outcome) → Changes move old new → Shows (all_links old) given → Shows (all_links new) (given ++ causes_between (all_links old) (all_links new))
   change_shows move old new given (inl goes) shows =
       subst (λ (here : List Link). Shows here (given ++ causes_between (all_links old) here)) (sym (ap₂ with_last goes.past_same goes.up_is)) (goes_shows move old.past old.up given shows)
   change_shows move old new given (inr (inl begins)) shows =

@@ -114,12 +114,12 @@ begins_unasked push old new step idle course shelf inside =
     ap came_of inside' ∙ ended_at_once step.name begins.size course starts.course' goes.first.given goes.second.given rests last (sym (ap idles inside') ∙ idle)
 
 -- the last happening of a run
-record LastOf (before : List Happening) (last : Happening) (first end : Moment) : Type 0 where
-  mid : Moment
-  runs : Runs before first mid
-  does : Does last mid end
+pub record LastOf (before : List Happening) (last : Happening) (first end : Moment) : Type 0 where
+  pub mid : Moment
+  pub runs : Runs before first mid
+  pub does : Does last mid end
 
-last_of : (before : List Happening) (last : Happening) (first end : Moment) → Runs (before ++ last ∷ []) first end → LastOf before last first end
+pub last_of : (before : List Happening) (last : Happening) (first end : Moment) → Runs (before ++ last ∷ []) first end → LastOf before last first end
 last_of [] last first end runs = record { mid = first; runs = refl; does = subst (Does last first) (sym runs.2) runs.1 }
 last_of (happening ∷ before) last first end runs =
     let more = last_of before last runs.0 end runs.2 in

@@ -8,7 +8,7 @@ use Rattle.capture.specs.Pushes.{mark_of}
 use Rattle.capture.specs.Results.{first_cause}
 use Rattle.bt_host.specs.Servers.{Kept}
 use Rattle.world_model.specs.Insides.{Shelved, came_of}
-use Rattle.world_model.specs.Moments.{Moment, first_moment}
+use Rattle.world_model.specs.Moments.{Moment, first_moment, IsAtRest}
 use Rattle.world_model.specs.Happenings.{Happening, Opening, Runs, all_entries}
 use Rattle.push_course.specs.Conversations.{IsSetting}
 use Rattle.push_outcomes.specs.Causes.{is_drop}
@@ -27,3 +27,12 @@ OutcomesFollowCauses =
     → (happenings : List Happening) (moment : Moment) → Runs happenings opened moment → filter_map mark_of (all_entries happenings) ≡ []
     → AllByRecursion (λ entry. is_drop entry ≡ false) (all_entries happenings) → is_some moment.a.line.link ≡ true
     → FollowsCause (all_entries happenings) (came_of moment.a.inside)
+
+-- And where all is at rest, it is the first cause: that DISCONNECT has gone out too.
+abbrev pub OutcomesAtRest : Type 0
+OutcomesAtRest =
+    (size count mtu obex : ℕ) (names : List (List ℕ)) (shelf : Shelved) (inbox : Kept) → IsSetting size count mtu obex names
+    → (before : List Happening) (push : ℕ) (opened : Moment) → Runs (before ++ Opening push ∷ []) (first_moment size count mtu obex names shelf inbox) opened
+    → (happenings : List Happening) (moment : Moment) → Runs happenings opened moment → filter_map mark_of (all_entries happenings) ≡ []
+    → AllByRecursion (λ entry. is_drop entry ≡ false) (all_entries happenings) → is_some moment.a.line.link ≡ true → IsAtRest moment
+    → came_of moment.a.inside ≡ first_cause (all_entries happenings)

@@ -1,12 +1,18 @@
 //! Laws of what came of a push, beside what its part of the capture shows.
 
-ghost use Rattle.push_outcomes.specs.Outcomes.{OutcomesFollowCauses};
+ghost use Rattle.push_outcomes.specs.Outcomes.{OutcomesFollowCauses, OutcomesAtRest};
 ghost use Rattle.push_outcomes.specs.Settled.{SettledAtBegin, SettledStays, LossIsTold};
 
 /// While its link did not break and host a knows of it, what came of a push is the first cause
 /// that its part shows, but for a shelf that failed and whose DISCONNECT has not gone out.
 pub fn outcomes_follow_causes()
     ensures { OutcomesFollowCauses }
+{}
+
+/// Where all is at rest, what came of a push is the first cause that its part shows, while its link
+/// did not break and host a knows of it.
+pub fn outcomes_are_causes_at_rest()
+    ensures { OutcomesAtRest }
 {}
 
 /// Where host a is idle at the begin of a push, the shelf failed and no connection is asked for.
