@@ -52,13 +52,13 @@ stands_so : (found : Option Outcome) (stored : Bool) → IfSome found (λ outcom
 stands_so None stored stands = tt
 stands_so (Some outcome) stored stands = stands
 
-one_stored : (objects : List Object) (stored : Bool) (old new : Inside) → StoresIn objects stored old new → stored ≡ true → length objects ≡ 1
+pub one_stored : (objects : List Object) (stored : Bool) (old new : Inside) → StoresIn objects stored old new → stored ≡ true → length objects ≡ 1
 one_stored objects stored (Pushing course shelf) new stores = absurd stores
 one_stored objects stored (Serving served inbox) (Pushing course shelf) stores = absurd stores
 one_stored objects stored (Serving served inbox) (Serving served' inbox') stores = stores.some
 
 -- what came of it, by its part and its outcome
-abbrev came_as : (body : List Entry) (outcome : Outcome) (stored : Bool) → Came
+abbrev pub came_as : (body : List Entry) (outcome : Outcome) (stored : Bool) → Came
 came_as body outcome stored = record { body = body; outcome = outcome; stored = stored }
 
 comes_so : (shelf : Option (List Object)) (names : List (List ℕ)) (name : List ℕ) (push : ℕ) (body : List Entry) (opened moment : Moment) (outcome : Outcome) → slice_get names (push - 1) ≡ Some name
@@ -77,7 +77,7 @@ comes_so shelf names name push body opened moment outcome named is comes = recor
   };
 }
 
-tallies_on : (inbox : Kept) (cames : List Came) (came : Came) (old new : Inside) → length (objects_in came) ≤ 1 → StillTells (content_in old) (content_in new) → StoresIn (objects_in came) came.stored old new
+pub tallies_on : (inbox : Kept) (cames : List Came) (came : Came) (old new : Inside) → length (objects_in came) ≤ 1 → StillTells (content_in old) (content_in new) → StoresIn (objects_in came) came.stored old new
     → HasInbox (Tallies inbox cames) old → HasInbox (Tallies inbox (cames ++ came ∷ [])) new
 tallies_on inbox cames came (Pushing course shelf) new one told stores tallies = absurd tallies
 tallies_on inbox cames came (Serving served inbox') (Pushing course shelf) one told stores tallies = absurd stores
@@ -108,16 +108,16 @@ pub record Underway (shelf : Option (List Object)) (names : List (List ℕ)) (in
   pub going : moment.scene.pushes.going ≡ true
   pub all : AllCame shelf names inbox past moment.scene.pushes.outcomes opened.b.inside
 
--- it ends
-pub all_ended : (shelf : Option (List Object)) (names : List (List ℕ)) (inbox : Kept) (first : Moment) (past : List Entry) (moment : Moment) (outcome : Outcome) → ComesFrom shelf first → outcome ≡ last_outcome moment → MayEnd moment
-    → (underway : Underway shelf names inbox first past moment) → AllCame shelf names inbox (past ++ Ended underway.push outcome ∷ []) (moment.scene.pushes.outcomes ++ outcome ∷ []) moment.b.inside
-all_ended shelf names inbox first past moment outcome from is may underway =
+-- it ends with that outcome, having stored its object or not
+unfoldable pub all_with : (shelf : Option (List Object)) (names : List (List ℕ)) (inbox : Kept) (first : Moment) (past : List Entry) (moment : Moment) (outcome : Outcome) (stored : Bool) (underway : Underway shelf names inbox first past moment)
+    → Comes shelf names underway.push (came_as (all_entries underway.since) outcome stored) → StoresIn (objects_heard sides.B (all_entries underway.since)) stored underway.opened.b.inside moment.b.inside
+    → AllCame shelf names inbox (past ++ Ended underway.push outcome ∷ []) (moment.scene.pushes.outcomes ++ outcome ∷ []) moment.b.inside
+all_with shelf names inbox first past moment outcome stored underway comes stores =
     let u = underway in
     let all = u.all in
     let entry : Entry = Ended u.push outcome in
     let body : List Entry = all_entries u.since in
-    let comes = from u.before u.push u.name u.opened u.begins u.named u.since moment u.goes u.unmarked may in
-    let came : Came = came_as body outcome comes.stored in
+    let came : Came = came_as body outcome stored in
     let long : length (map body_of all.cames) ≡ length all.cames = length-map all.cames body_of in
     let many : length moment.scene.pushes.outcomes ≡ length all.cames = ap length all.outcomes_are ∙ length-map all.cames outcome_of in
     let push_is = u.push_is in
@@ -126,7 +126,19 @@ all_ended shelf names inbox first past moment outcome from is may underway =
       parts = subst (λ (bodies : List (List Entry)). AreParts 1 bodies (past ++ entry ∷ [])) (sym (map-append body_of all.cames (came ∷ [])))
           (parts_last 1 u.push (map body_of all.cames) body (past ++ entry ∷ []) (omega (arith, long, many, push_is)) (parts_more 1 (map body_of all.cames) past (entry ∷ []) all.parts) (closes_part u.push body past outcome u.part));
       outcomes_are = ap (λ (os : List Outcome). os ++ outcome ∷ []) all.outcomes_are ∙ sym (map-append outcome_of all.cames (came ∷ []));
-      each = comes_last shelf names 1 u.push all.cames came (omega (arith, many, push_is)) all.each
-          (comes_so shelf names u.name u.push body u.opened moment outcome (ap (λ (ns : List (List ℕ)). slice_get ns (u.push - 1)) (sym u.names_are) ∙ u.named) is comes);
-      tallies = tallies_on inbox all.cames came u.opened.b.inside moment.b.inside comes.one (runs_tell u.since u.opened moment u.goes) comes.stores all.tallies;
+      each = comes_last shelf names 1 u.push all.cames came (omega (arith, many, push_is)) all.each comes;
+      tallies = tallies_on inbox all.cames came u.opened.b.inside moment.b.inside comes.one (runs_tell u.since u.opened moment u.goes) stores all.tallies;
     }
+
+-- the name of the push that goes on
+pub underway_named : (shelf : Option (List Object)) (names : List (List ℕ)) (inbox : Kept) (first : Moment) (past : List Entry) (moment : Moment) (underway : Underway shelf names inbox first past moment) → slice_get names (underway.push - 1) ≡ Some underway.name
+underway_named shelf names inbox first past moment underway = ap (λ (ns : List (List ℕ)). slice_get ns (underway.push - 1)) (sym underway.names_are) ∙ underway.named
+
+-- it ends as is known of each push
+pub all_ended : (shelf : Option (List Object)) (names : List (List ℕ)) (inbox : Kept) (first : Moment) (past : List Entry) (moment : Moment) (outcome : Outcome) → ComesFrom shelf first → outcome ≡ last_outcome moment → MayEnd moment
+    → (underway : Underway shelf names inbox first past moment) → AllCame shelf names inbox (past ++ Ended underway.push outcome ∷ []) (moment.scene.pushes.outcomes ++ outcome ∷ []) moment.b.inside
+all_ended shelf names inbox first past moment outcome from is may underway =
+    let u = underway in
+    let comes = from u.before u.push u.name u.opened u.begins u.named u.since moment u.goes u.unmarked may in
+    all_with shelf names inbox first past moment outcome comes.stored u
+    (comes_so shelf names u.name u.push (all_entries u.since) u.opened moment outcome (underway_named shelf names inbox first past moment u) is comes) comes.stores

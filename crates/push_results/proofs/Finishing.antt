@@ -17,6 +17,9 @@ use Rattle.push_order.proofs.Courses.{AllEnded}
 use Rattle.push_order.proofs.Ending.{ends, ended_between}
 use Rattle.push_order.proofs.Following.{Course, Reached, FactsFrom, reached_more, unlinked_at, few_at, follows}
 use Rattle.push_course.proofs.Running.{beginning_in}
+use Rattle.world_model.specs.Insides.{Shelved}
+use Rattle.push_course.specs.Conversations.{IsSetting}
+use Rattle.push_results.specs.Parting.{PushesCome}
 use Rattle.push_results.specs.AllResults.{ResultsIn, ResultsFromPushes}
 use Rattle.push_results.proofs.Tallying.{tallies_none}
 use Rattle.push_results.proofs.Ending.{AllCame, ComesFrom, all_ended}
@@ -25,10 +28,10 @@ use Rattle.push_results.proofs.Gathering.{results_all}
 
 -- ---- along a run
 
-record Along (shelf : Option (List Object)) (names : List (List ℕ)) (inbox : Kept) (first : Moment) (past : List Entry) (moment : Moment) : Type 0 where
-  reached : Reached first past moment
-  stood : Stood past moment
-  state : State shelf names inbox first past moment
+pub record Along (shelf : Option (List Object)) (names : List (List ℕ)) (inbox : Kept) (first : Moment) (past : List Entry) (moment : Moment) : Type 0 where
+  pub reached : Reached first past moment
+  pub stood : Stood past moment
+  pub state : State shelf names inbox first past moment
 
 facts_in : (past : List Entry) (moment : Moment) → Stood past moment → LinkFacts past moment
 facts_in past moment stood = facts_of past moment stood.holds.shows stood.upholds
@@ -54,11 +57,11 @@ along_on shelf names inbox first start past happening old new does along = recor
 -- ---- the end of the script
 
 -- all ended, with what came of them
-record Over (shelf : Option (List Object)) (names : List (List ℕ)) (inbox : Kept) (entries : List Entry) (last : Moment) : Type 0 where
-  all : AllCame shelf names inbox entries last.scene.pushes.outcomes last.b.inside
-  ended : AllEnded names entries last.scene.pushes
+pub record Over (shelf : Option (List Object)) (names : List (List ℕ)) (inbox : Kept) (entries : List Entry) (last : Moment) : Type 0 where
+  pub all : AllCame shelf names inbox entries last.scene.pushes.outcomes last.b.inside
+  pub ended : AllEnded names entries last.scene.pushes
 
-over_rests : (shelf : Option (List Object)) (names : List (List ℕ)) (inbox : Kept) (past : List Entry) (moment : Moment) → LinkFacts past moment → Course names past moment.scene.pushes
+pub over_rests : (shelf : Option (List Object)) (names : List (List ℕ)) (inbox : Kept) (past : List Entry) (moment : Moment) → LinkFacts past moment → Course names past moment.scene.pushes
     → Rests shelf names inbox past moment.scene.pushes moment.b.inside → Over shelf names inbox past moment
 over_rests shelf names inbox past moment facts (inl between) rests = record { all = rests.all; ended = ended_between names past moment.scene.pushes (unlinked_at past moment facts rests.going) between }
 over_rests shelf names inbox past moment facts (inr during) rests =
@@ -89,12 +92,18 @@ over_at shelf names inbox first past before last ended from rest facts course sc
 
 -- ---- a play
 
-pub results_from_pushes : ResultsFromPushes
-results_from_pushes come size count mtu obex names shelf inbox setting script last entries plays =
+-- at each moment of a run from the beginning
+pub record AlongRun (shelf : Option (List Object)) (names : List (List ℕ)) (inbox : Kept) (first : Moment) (past : List Entry) (moment : Moment) : Type 0 where
+  pub along : Along shelf names inbox first past moment
+  pub facts : LinkFacts past moment
+  pub course : Course names past moment.scene.pushes
+  pub from : ComesFrom shelf first
+
+pub along_run : PushesCome → (size count mtu obex : ℕ) (names : List (List ℕ)) (shelf : Shelved) (inbox : Kept) → IsSetting size count mtu obex names → (happenings : List Happening) (moment : Moment)
+    → Runs happenings (first_moment size count mtu obex names shelf inbox) moment → AlongRun shelf.content names inbox (first_moment size count mtu obex names shelf inbox) (all_entries happenings) moment
+along_run come size count mtu obex names shelf inbox setting happenings moment runs =
     let first : Moment = first_moment size count mtu obex names shelf inbox in
     let beginning = beginning_in size count mtu obex names setting in
-    let past : List Entry = all_entries plays.happenings in
-    let before : Moment = plays.before in
     let facts : FactsFrom first = λ happenings moment runs. links_of_runs size count mtu obex names shelf inbox happenings moment beginning runs in
     let from : ComesFrom shelf.content first = λ done push name opened begins named happenings moment runs unmarked may. come size count mtu obex names shelf inbox setting done push name opened begins named happenings moment runs unmarked may in
     let start : IsStart shelf.content names inbox first = record {
@@ -110,7 +119,15 @@ results_from_pushes come size count mtu obex names shelf inbox setting script la
         });
       };
     } in
-    let along = kept_along (Along shelf.content names inbox first) (along_on shelf.content names inbox first start) plays.happenings [] first before plays.runs start.along in
-    let over = over_at shelf.content names inbox first past before last plays.ended from plays.rest (facts_in past before along.stood) (start.course plays.happenings before plays.runs) plays.ends along.state in
+    let along = kept_along (Along shelf.content names inbox first) (along_on shelf.content names inbox first start) happenings [] first moment runs start.along in
+    record { along = along; facts = facts_in (all_entries happenings) moment along.stood; course = start.course happenings moment runs; from = from }
+
+pub results_from_pushes : ResultsFromPushes
+results_from_pushes come size count mtu obex names shelf inbox setting script last entries plays =
+    let first : Moment = first_moment size count mtu obex names shelf inbox in
+    let past : List Entry = all_entries plays.happenings in
+    let before : Moment = plays.before in
+    let there = along_run come size count mtu obex names shelf inbox setting plays.happenings before plays.runs in
+    let over = over_at shelf.content names inbox first past before last plays.ended there.from plays.rest there.facts there.course plays.ends there.along.state in
     subst (λ (es : List Entry). ResultsIn shelf.content names es (all_outcomes names last.scene.pushes.outcomes) inbox last.b.inside) (sym plays.entries_are)
     (results_all shelf.content names inbox (past ++ plays.ended) last.scene.pushes over.ended last.b.inside over.all)

@@ -23,7 +23,7 @@ use Rattle.push_results.proofs.Telling.{HasInbox}
 use Rattle.push_results.proofs.Tallying.{Came, body_of, outcome_of, stored_in, objects_in, gain_in, marks_in, EachComes, Tallies}
 use Rattle.push_results.proofs.Ending.{AllCame}
 use Rattle.push_results.proofs.Marking.{flat_both, flat_mapped, flat_padded, marks_each, gain_is_marked, stored_each, few_each}
-use Rattle.push_results.proofs.Numbering.{NoneFrom, each_by_push, each_end, pushed_of}
+use Rattle.push_results.proofs.Numbering.{NoneFrom, HaveParts, parts_have, each_by_push, each_end, pushed_of}
 
 -- the parts of so many pushes are determined
 same_parts : (push : ℕ) (bodies others : List (List Entry)) (past : List Entry) → length bodies ≡ length others → AreParts push bodies past → AreParts push others past → bodies ≡ others
@@ -38,26 +38,29 @@ module _ (shelf : Option (List Object)) (names : List (List ℕ)) (inbox : Kept)
     many : length pushes.outcomes ≡ length cames
     many = ap length are ∙ length-map cames outcome_of
 
+    have : HaveParts 1 cames entries
+    have = parts_have 1 cames entries parts
+
     bodies_are : ended.bodies ≡ map body_of cames
     bodies_are =
         let as_many = ended.told.as_many in
         same_parts 1 ended.bodies (map body_of cames) entries (sym as_many ∙ (many ∙ sym (length-map cames body_of))) ended.told.parts parts
 
-    none_from : NoneFrom (1 + length cames) entries
+    pub none_from : NoneFrom (1 + length cames) entries
     none_from other more =
         let as_many = ended.told.as_many in
         let begun_is = ended.begun_is in
         let all = many in
         ended.told.later other (omega (arith, more, as_many, begun_is, all))
 
-    heard_is : objects_heard sides.B entries ≡ flat_map objects_in cames
+    pub heard_is : objects_heard sides.B entries ≡ flat_map objects_in cames
     heard_is =
         ap (flat_map link_objects) (ended.all_b ∙ ap (flat_map (links sides.B)) bodies_are)
         ∙ (flat_both link_objects (links sides.B) (map body_of cames)
         ∙ flat_mapped (objects_heard sides.B) body_of cames)
 
     by_push_is : (all left : ℕ) → all ≡ length cames + left → objects_by_push all entries ≡ map objects_in cames ++ replicate left []
-    by_push_is all left is = each_by_push 1 cames left all entries is parts none_from
+    by_push_is all left is = each_by_push 1 cames left all entries is have none_from
 
     came_of_all : (inbox' : Kept) (all left : ℕ) (told : List Outcome) → all ≡ length cames + left → length told ≡ all → told ≡ map outcome_of cames ++ replicate left ScriptEnded
         → Tallies inbox cames inbox' → CameOf entries told (flat_map gain_in cames) inbox.faults inbox'.faults
@@ -73,7 +76,7 @@ module _ (shelf : Option (List Object)) (names : List (List ℕ)) (inbox : Kept)
           heard = heard_is ∙ (sym (flat_padded objects_in cames left) ∙ ap (flat_map (λ (objects : List Object). objects)) (sym by));
           gains = subst (λ (os : List Object). Gains os (flat_map gain_in cames) inbox.faults inbox'.faults marks) (sym heard_is) gains;
           ends = subst (λ (os : List Outcome). EachEnds entries 1 os (stored_of (objects_by_push (length told) entries) marks)) (sym told_is)
-              (subst (λ (bs : List Bool). EachEnds entries 1 (map outcome_of cames ++ replicate left ScriptEnded) bs) (sym stored) (each_end shelf names 1 cames left entries parts each none_from));
+              (subst (λ (bs : List Bool). EachEnds entries 1 (map outcome_of cames ++ replicate left ScriptEnded) bs) (sym stored) (each_end shelf names 1 cames left entries have each none_from));
         }
 
     results_of : (inside : Inside) → HasInbox (Tallies inbox cames) inside → ResultsIn shelf names entries (all_outcomes names pushes.outcomes) inbox inside
@@ -86,7 +89,7 @@ module _ (shelf : Option (List Object)) (names : List (List ℕ)) (inbox : Kept)
           gain = flat_map gain_in cames;
           adds = tallies.gained;
           came = came_of_all inbox' (length told) left told long refl (ap (λ (os : List Outcome). os ++ replicate left ScriptEnded) are) tallies;
-          pushed = pushed_of shelf names cames entries each parts none_from;
+          pushed = pushed_of shelf names cames entries each have none_from;
         }
 
   pub results_all : (inside : Inside) → AllCame shelf names inbox entries pushes.outcomes inside → ResultsIn shelf names entries (all_outcomes names pushes.outcomes) inbox inside

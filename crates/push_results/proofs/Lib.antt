@@ -7,3 +7,6 @@ pub mod Marking
 pub mod Numbering
 pub mod Gathering
 pub mod Finishing
+pub mod Fronting
+pub mod SoFar
+pub mod Beside

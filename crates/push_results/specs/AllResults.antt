@@ -4,11 +4,11 @@ use Rattle.bt_base.specs.Objects.{Object}
 use Rattle.push_script.specs.declared.word.Word.{Word}
 use Rattle.push_script.specs.declared.outcome.Outcome.{Outcome}
 use Rattle.capture.specs.Entries.{Entry}
-use Rattle.capture.specs.Results.{CameOf, EachPushed}
+use Rattle.capture.specs.Results.{CameOf, CameOfFront, EachPushed}
 use Rattle.bt_host.specs.Servers.{Kept}
 use Rattle.world_model.specs.Insides.{Inside, Pushing, Serving, Shelved}
 use Rattle.world_model.specs.Moments.{Moment, first_moment}
-use Rattle.world_model.specs.Happenings.{Plays}
+use Rattle.world_model.specs.Happenings.{Happening, Runs, Plays, all_entries}
 use Rattle.push_order.specs.InOrder.{all_outcomes}
 use Rattle.push_course.specs.Conversations.{IsSetting}
 use Rattle.push_results.specs.Parting.{Adds, PushesCome}
@@ -34,3 +34,23 @@ ResultsOfPlays = (size count mtu obex : ℕ) (names : List (List ℕ)) (shelf : 
 -- where that comes of each push, this comes of all
 abbrev pub ResultsFromPushes : Type 0
 ResultsFromPushes = PushesCome → ResultsOfPlays
+
+-- ---- so far
+
+-- The same at any moment of a run, of the pushes that were begun: some of the objects that host b heard in them are the gain, in
+-- their order, and each whose response with success was sent is among them.
+pub record ResultsSoFar (shelf : Option (List Object)) (names : List (List ℕ)) (pushes : ℕ) (entries : List Entry) (inbox inbox' : Kept) : Type 0 where
+  pub gain : List Object
+  pub adds : Adds inbox.content gain inbox'.content
+  pub came : CameOfFront pushes entries gain
+  pub pushed : IfSome shelf (λ objects. EachPushed objects entries 1 names)
+
+abbrev pub ResultsSoFarIn : Option (List Object) → List (List ℕ) → ℕ → List Entry → Kept → Inside → Type 0
+ResultsSoFarIn shelf names pushes entries inbox (Serving served inbox') = ResultsSoFar shelf names pushes entries inbox inbox'
+ResultsSoFarIn shelf names pushes entries inbox (Pushing course shelf') = ⊥
+
+-- So it is at each moment of a run from the beginning.
+abbrev pub ResultsOfRuns : Type 0
+ResultsOfRuns = (size count mtu obex : ℕ) (names : List (List ℕ)) (shelf : Shelved) (inbox : Kept) → IsSetting size count mtu obex names
+    → (happenings : List Happening) (moment : Moment) → Runs happenings (first_moment size count mtu obex names shelf inbox) moment
+    → ResultsSoFarIn shelf.content names moment.scene.pushes.begun (all_entries happenings) inbox moment.b.inside
