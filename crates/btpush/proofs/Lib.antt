@@ -7,4 +7,5 @@ pub mod Ordered
 pub mod Fronts
 pub mod Short
 pub mod Conversed
-pub mod Spelled
+pub mod Resulted
+pub mod Fronted

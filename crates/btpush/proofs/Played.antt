@@ -1,13 +1,13 @@
 -- What a world that was played comes to.
-use Rattle.std.proofs.Common.{◌≡◌, ℕ, ◌≤◌, List, length, Bool, false, Option, sym, ap, ◌∙◌}
+use Rattle.std.proofs.Common.{◌≡◌, ℕ, List, length, Bool, false, Option, sym, ap, ◌∙◌}
 use Rattle.std.specs.Prelude.{min, is_some, IfSome}
 use Rattle.capture.specs.Air.{words_of}
 use Rattle.world_links.specs.LinkFacts.{IsBeginning}
 use Rattle.btpush.proofs.Gained.{play_gains}
 use Rattle.push_course.specs.Conversations.{IsSetting}
 use Rattle.btpush.proofs.Ordered.{play_in_turn}
-use Rattle.btpush.proofs.Conversed.{play_speaks}
-use Rattle.btpush.proofs.Spelled.{play_spells, play_pushes}
+use Rattle.btpush.proofs.Conversed.{play_converses}
+use Rattle.btpush.proofs.Resulted.{play_results, play_is_clean}
 use Rattle.push_script.specs.declared.scenario.Scenario.{Scenario}
 use Rattle.world_model.specs.Faces.{Face}
 use Rattle.radio_world.specs.Worlds.{World, Happens}
@@ -27,7 +27,7 @@ pub record Tells (world : World) (played : Played) : Type 0 where
 
 pub plays_of : (scenario : Scenario) (world : World) (played : Played) (stock stock' : Stocked) (trace trace' : Option (List ℕ)) → Tells world played → length world.scene.pushes.outcomes ≡ length scenario.names
     → IsBeginning scenario.acl_length scenario.acl_count scenario.names
-    → (416 ≤ scenario.settings.mtu → 416 ≤ scenario.settings.obex → IsSetting scenario.acl_length scenario.acl_count scenario.settings.mtu scenario.settings.obex scenario.names) → (pending : Bool) → pending ≡ false → IfSome stock.inbox.content (λ held. is_some held.pending ≡ pending) → Happens scenario world stock.shelf stock'.shelf stock.inbox stock'.inbox trace trace' → Plays scenario played stock stock' trace trace'
+    → IsSetting scenario.acl_length scenario.acl_count scenario.settings.mtu scenario.settings.obex scenario.names → (pending : Bool) → pending ≡ false → IfSome stock.inbox.content (λ held. is_some held.pending ≡ pending) → Happens scenario world stock.shelf stock'.shelf stock.inbox stock'.inbox trace trace' → Plays scenario played stock stock' trace trace'
 plays_of scenario world played stock stock' trace trace' tells each beginning setting pending none told happens = record {
   entries = happens.entries;
   entries_are = happens.entries_are;
@@ -44,12 +44,12 @@ plays_of scenario world played stock stock' trace trace' tells each beginning se
   outcomes = ap length tells.outcomes ∙ each;
   in_turn = play_in_turn scenario.acl_length scenario.acl_count scenario.settings.mtu scenario.settings.obex scenario.names stock.shelf stock.inbox (words_of scenario.script) happens.last happens.entries
       played.outcomes.items beginning happens.plays (tells.outcomes ∙ happens.ends.outcomes);
-  speaks = λ mtu obex. play_speaks scenario.acl_length scenario.acl_count scenario.settings.mtu scenario.settings.obex scenario.names stock.shelf stock.inbox (words_of scenario.script) happens.last happens.entries
-      (setting mtu obex) happens.plays
-      (play_pushes scenario.acl_length scenario.acl_count scenario.settings.mtu scenario.settings.obex scenario.names stock.shelf stock.inbox stock'.inbox (words_of scenario.script) happens.last happens.entries
-      world.server.server.served (setting mtu obex) happens.plays (ap (λ (f : Face). f.inside) (sym happens.ends.server)));
-  spelled = λ mtu obex. play_spells scenario.acl_length scenario.acl_count scenario.settings.mtu scenario.settings.obex scenario.names stock.shelf stock.inbox stock'.inbox (words_of scenario.script) happens.last happens.entries
-      world.server.server.served (setting mtu obex) happens.plays (ap (λ (f : Face). f.inside) (sym happens.ends.server));
+  converse = play_converses scenario.acl_length scenario.acl_count scenario.settings.mtu scenario.settings.obex scenario.names stock.shelf stock.inbox (words_of scenario.script) happens.last happens.entries setting happens.plays;
+  results = play_results scenario.acl_length scenario.acl_count scenario.settings.mtu scenario.settings.obex scenario.names stock.shelf stock.inbox stock'.inbox (words_of scenario.script) happens.last happens.entries
+      played.outcomes.items world.server.server.served setting happens.plays (ap (λ (f : Face). f.inside) (sym happens.ends.server)) (tells.outcomes ∙ happens.ends.outcomes);
+  clean = play_is_clean scenario.acl_length scenario.acl_count scenario.settings.mtu scenario.settings.obex scenario.names stock.shelf stock'.shelf stock.inbox stock'.inbox (words_of scenario.script) happens.last happens.entries
+      played.outcomes.items world.client.client.course world.server.server.served setting happens.plays (ap (λ (f : Face). f.inside) (sym happens.ends.client)) (ap (λ (f : Face). f.inside) (sym happens.ends.server))
+      (tells.outcomes ∙ happens.ends.outcomes);
   last = happens.last;
   happened = happens.plays;
   ends = record {

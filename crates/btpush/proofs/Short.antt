@@ -1,5 +1,5 @@
 -- A run of a scenario that stopped.
-use Rattle.std.proofs.Common.{◌≡◌, ℕ, ◌≤◌, List, [], ◌++◌, Bool, true, false, Option, Some, None, refl, sym, ap, subst, ◌∙◌, ◌⊎◌, inl, inr}
+use Rattle.std.proofs.Common.{◌≡◌, ℕ, List, [], ◌++◌, Bool, true, false, Option, Some, None, refl, sym, ap, subst, ◌∙◌, ◌⊎◌, inl, inr, arith}
 use Rattle.std.specs.Prelude.{IfSome, option_to_list}
 use Rattle.std.specs.List.{AllByRecursion}
 use Rattle.std.proofs.lemmas.List.{append-nil}
@@ -15,12 +15,32 @@ use Rattle.radio_world.specs.Unfinished.{KeepsAll, HappensShort}
 use Rattle.radio_world.specs.OwnHosts.{server_face}
 use Rattle.radio_world.specs.Worlds.{World, Happens, beginning, new_world}
 use Rattle.radio_world.specs.declared.fault.WorldFault.{WorldFault}
-use Rattle.btpush.specs.Plays.{Stocked}
+use Rattle.btpush.specs.Plays.{Stocked, HasRoom}
 use Rattle.btpush.specs.Short.{PlaysShort}
 use Rattle.radio_world.proofs.Breaking.{breaks_none}
 use Rattle.radio_world.proofs.Going.{goes_none}
 use Rattle.radio_world.proofs.Unfinished.{start_short}
+use Rattle.push_course.specs.Conversations.{IsSetting}
+use Rattle.btpush.proofs.Fronted.{front_results}
 use Rattle.btpush.proofs.Fronts.{Fronts, fronts_of, all_whole, last_is}
+
+-- what a scenario and its devices allow
+abbrev pub IsSettingOf : Scenario → Type 0
+IsSettingOf scenario = IsSetting scenario.acl_length scenario.acl_count scenario.settings.mtu scenario.settings.obex scenario.names
+
+pub setting_of : (scenario : Scenario) → HasRoom scenario → IsSettingOf scenario
+setting_of scenario room = record {
+  size_low = scenario.acl_length_low;
+  size_high = scenario.acl_length_high;
+  count_low = scenario.acl_count_low;
+  count_high = scenario.acl_count_high;
+  mtu_low = room.0;
+  mtu_high = let high = scenario.settings.mtu_high in omega (arith, high);
+  obex_low = room.1;
+  obex_high = let high = scenario.settings.obex_high in omega (arith, high);
+  few = scenario.few;
+  each = scenario.named;
+}
 
 keeps_found : (scenario : Scenario) (entries found : List Entry) (due : Option Entry) → KeepsAll scenario.acl_length scenario.acl_count (words_of scenario.script) entries
     → KeepsAll scenario.acl_length scenario.acl_count (words_of scenario.script) (entries ++ option_to_list due) → (found ≡ entries) ⊎ (found ≡ entries ++ option_to_list due)
@@ -29,9 +49,9 @@ keeps_found scenario entries found due keeps more (inl is) = subst (KeepsAll sce
 keeps_found scenario entries found due keeps more (inr is) = subst (KeepsAll scenario.acl_length scenario.acl_count (words_of scenario.script)) (sym is) more
 
 -- what a world says of it
-pub plays_short : (fault : WorldFault) (scenario : Scenario) (server : ServerState) (stock stock' : Stocked) (trace trace' : Option (List ℕ)) → HappensShort fault scenario stock.shelf stock.inbox (server_face server stock'.inbox) trace trace'
+pub plays_short : (fault : WorldFault) (scenario : Scenario) (server : ServerState) (stock stock' : Stocked) (trace trace' : Option (List ℕ)) → IsSettingOf scenario → HappensShort fault scenario stock.shelf stock.inbox (server_face server stock'.inbox) trace trace'
     → PlaysShort fault scenario stock stock' trace trace'
-plays_short fault scenario server stock stock' trace trace' short =
+plays_short fault scenario server stock stock' trace trace' setting short =
     let stops = short.stops in
     let fronts : Fronts (all_entries short.happenings) stops.due trace trace' = fronts_of (all_entries short.happenings) stops.due trace trace' short.keeps.each short.keeps_due.each stops.front in
     record {
@@ -49,6 +69,9 @@ plays_short fault scenario server stock stock' trace trace' short =
       is_due = stops.is_due;
       entries_are = fronts.found_are;
       stays = λ why. (server.server.served, ap (λ (f : Face). f.inside) (sym (stops.stays why)));
+      results = λ other.
+          front_results scenario.acl_length scenario.acl_count scenario.settings.mtu scenario.settings.obex scenario.names stock.shelf stock.inbox stock'.inbox setting short.happenings short.last short.runs
+          server.server.served (ap (λ (f : Face). f.inside) (sym (stops.stays (inr other)))) stops.due short.behind stops.is_due other fronts.found fronts.found_are;
     }
 
 -- ---- a run that was whole, but of which there was no memory to tell
@@ -68,9 +91,9 @@ end_is true before last past ended is ends all =
 end_is false before last past ended is ends all = record { due = None; is_due = tt; ended_is = ends.0; b = ap (λ (m : Moment). m.b) ends.1 }
 
 -- what a world that was played says, where what came of it cannot be told
-pub whole_short : (fault : WorldFault) (scenario : Scenario) (world : World) (stock stock' : Stocked) (trace trace' : Option (List ℕ)) → Happens scenario world stock.shelf stock'.shelf stock.inbox stock'.inbox trace trace'
+pub whole_short : (fault : WorldFault) (scenario : Scenario) (world : World) (stock stock' : Stocked) (trace trace' : Option (List ℕ)) → IsSettingOf scenario → Happens scenario world stock.shelf stock'.shelf stock.inbox stock'.inbox trace trace'
     → PlaysShort fault scenario stock stock' trace trace'
-whole_short fault scenario world stock stock' trace trace' happens =
+whole_short fault scenario world stock stock' trace trace' setting happens =
     let plays : Plays (words_of scenario.script) (beginning scenario stock.shelf stock.inbox) happens.last happens.entries = happens.plays in
     let end : IsEnd plays.before happens.last (all_entries plays.happenings) plays.ended =
     end_is plays.before.scene.pushes.going plays.before happens.last (all_entries plays.happenings) plays.ended refl plays.ends (subst (AllByRecursion IsEntry) plays.entries_are happens.entries_are) in
@@ -89,14 +112,17 @@ whole_short fault scenario world stock stock' trace trace' happens =
       is_due = end.is_due;
       entries_are = inr (plays.entries_are ∙ ap (λ xs. all_entries plays.happenings ++ xs) end.ended_is);
       stays = λ why. (world.server.server.served, ap (λ (f : Face). f.inside) (sym (happens.ends.server ∙ end.b)));
+      results = λ other.
+          front_results scenario.acl_length scenario.acl_count scenario.settings.mtu scenario.settings.obex scenario.names stock.shelf stock.inbox stock'.inbox setting plays.happenings plays.before plays.runs
+          world.server.server.served (ap (λ (f : Face). f.inside) (sym (happens.ends.server ∙ end.b))) end.due [] end.is_due other happens.entries
+          (inr (plays.entries_are ∙ ap (λ xs. all_entries plays.happenings ++ xs) end.ended_is));
     }
 
 -- ---- a run that did not begin
 
-pub unbegun_short : (fault : WorldFault) (scenario : Scenario) (stock : Stocked) (trace : Option (List ℕ)) → 27 ≤ scenario.acl_length → scenario.acl_length ≤ 1021 → 1 ≤ scenario.acl_count → scenario.acl_count ≤ 64
-    → PlaysShort fault scenario stock stock trace trace
-unbegun_short fault scenario stock trace long short some few =
+pub unbegun_short : (fault : WorldFault) (scenario : Scenario) (stock : Stocked) (trace : Option (List ℕ)) → IsSettingOf scenario → PlaysShort fault scenario stock stock trace trace
+unbegun_short fault scenario stock trace setting =
     let first : Moment = beginning scenario stock.shelf stock.inbox in
-    plays_short fault scenario (new_world scenario).server stock stock trace trace
-    (start_short fault scenario stock.shelf stock.inbox first.b trace trace long short some few
+    plays_short fault scenario (new_world scenario).server stock stock trace trace setting
+    (start_short fault scenario stock.shelf stock.inbox first.b trace trace setting.size_low setting.size_high setting.count_low setting.count_high
     (breaks_none fault first.scene first.scene first.a first.a first.b first.b trace trace (goes_none first.scene first.a first.b trace)))

@@ -1,21 +1,19 @@
 -- What a run of a scenario comes to (this project's own).
-use Rattle.std.specs.Prelude.{ℕ, suc, ◌++◌, ◌∷◌, [], true, false, if◌then◌else◌, replicate, ◌≡◌, ◌-◌, ◌^◌, ◌≤◌, min, List, length, slice_get, Bool, Option, Some, None, IfSome}
-use Rattle.std.specs.List.{AllByRecursion, list_any}
-use Rattle.std.specs.Str.{IsUtf8}
-use Rattle.bt_base.specs.Counts.{HasRisen}
-use Rattle.bt_base.specs.Objects.{Object, Contents, octets_of}
-use Rattle.bt_host.specs.Pushing.{utf16}
+use Rattle.std.specs.Prelude.{ℕ, ◌++◌, replicate, ◌≡◌, ◌-◌, ◌*◌, ◌^◌, ◌≤◌, min, List, length, Option, Some, None, IfSome}
+use Rattle.std.specs.List.{AllByRecursion}
+use Rattle.bt_base.specs.Objects.{Object, Contents}
 use Rattle.bt_base.specs.Streams.{gained}
 use Rattle.push_script.specs.declared.outcome.Outcome.TheVariants.{ScriptEnded}
 use Rattle.push_script.specs.declared.scenario.Scenario.{Scenario}
 use Rattle.push_script.specs.declared.word.Side.TheVariants as sides
+use Rattle.push_script.specs.declared.word.Word.TheVariants.{Pass}
 use Rattle.capture.specs.Pushes.{InTurn}
 use Rattle.capture.specs.Entries.{Entry, IsEntry, capture_octets}
 use Rattle.capture.specs.Air.{Obeys, words_of}
-use Rattle.capture.specs.Links.{Link, links}
-use Rattle.capture.specs.Spelled.{link_objects}
-use Rattle.capture.specs.Exchanges.{link_exchanges, ends_object_with}
 use Rattle.push_course.specs.Conversations.{Converse, sayings}
+use Rattle.push_progress.specs.Progress.{most_sayings}
+use Rattle.push_progress.specs.Success.{IsCaused}
+use Rattle.push_results.specs.AllResults.{Results}
 use Rattle.capture.specs.Buffers.{KeepsWithin}
 use Rattle.capture.specs.Peaks.{buffers_peak}
 use Rattle.bt_host.specs.Courses.{Course}
@@ -26,6 +24,11 @@ use Rattle.world_model.specs.Happenings as world
 use Rattle.radio_world.specs.OwnHosts.{shelved}
 use Rattle.radio_world.specs.Worlds.{beginning}
 use Rattle.btpush.specs.declared.playing.Played.{Played}
+
+-- MTU and longest packet of OBEX have room for CONNECT and the PUT of each object that a scenario may name: 100 units of name and
+-- 200 octets
+abbrev pub HasRoom : Scenario → Type 0
+HasRoom scenario = (416 ≤ scenario.settings.mtu) × (416 ≤ scenario.settings.obex)
 
 -- a shelf and an inbox, by their contents where they tell those, and by their counts
 pub record Stocked : Type 0 where
@@ -56,42 +59,13 @@ abbrev pub Gains : (before : Option Contents) → (kept : ℕ) → (after : Opti
 Gains None kept after = Unit {0}
 Gains (Some before) kept after = IfSome after (IsGained before kept)
 
--- the objects of those links on which they were stored, link by link from number 0 on
-abbrev pub objects_stored : (ℕ → Bool) → List Link → List Object
-objects_stored stored [] = []
-objects_stored stored (link ∷ rest) = (if stored 0 then link_objects link else []) ++ objects_stored (λ n. stored (suc n)) rest
-
--- Behind what the inbox held stand the objects that the packets of host b spell on some of its links, in their order, and
--- nothing else. Where its response to the final PUT says success the object was stored; where it says that host b failed it
--- was not, and then the inbox has failed.
-pub record IsSpelled (entries : List Entry) (before after : Kept) (now : Contents) : Type 0 where
-  pub held : Contents
-  pub held_is : before.content ≡ Some held
-  pub stored_on : ℕ → Bool
-  pub stored : now.stored ≡ held.stored ++ objects_stored stored_on (links sides.B entries)
-  pub kept : (n : ℕ) (link : Link) → slice_get (links sides.B entries) n ≡ Some link → list_any (ends_object_with 0xA0) (link_exchanges sides.B link) ≡ true → stored_on n ≡ true
-  pub not_kept : (n : ℕ) (link : Link) → slice_get (links sides.B entries) n ≡ Some link → list_any (ends_object_with 0xD0) (link_exchanges sides.B link) ≡ true
-      → (stored_on n ≡ false) × HasRisen before.faults after.faults
-
--- an object is one of the shelf, whole, under its name there
-pub record IsOfShelf (objects : List Object) (object : Object) : Type 0 where
-  pub name : List ℕ
-  pub text : IsUtf8 name
-  pub name_is : object.name ≡ utf16 name
-  pub octets_are : octets_of name objects ≡ Some object.octets
-
--- On each link both hosts are the two ends of one conversation of a push, and host b hears one object there at most, which
--- is one of the shelf.
-pub record Speaks (mtu maximum : ℕ) (shelf : Option (List Object)) (entries : List Entry) : Type 0 where
-  pub converse : (n : ℕ) → Converse (sayings mtu maximum) entries n
-  pub pushed : (n : ℕ) (link : Link) → slice_get (links sides.B entries) n ≡ Some link → IfSome shelf (λ objects. AllByRecursion (IsOfShelf objects) (link_objects link))
-  pub one_object : (n : ℕ) (link : Link) → slice_get (links sides.B entries) n ≡ Some link → length (link_objects link) ≤ 1
-
 -- A scenario was played, and the trace gained the capture of what happened: the air obeyed the words of the script,
 -- both hosts kept within the buffers of their controllers at each moment, and the peaks are those of the capture. No
 -- frame of an enhanced channel and no credit is there yet. Each object has its outcome, and the pushes are in turn: each
--- has its begin, its link and its end, which states its outcome. All that happened is what may happen in a world from its
--- first moment on, and ends as it says. Behind what the inbox held stand the objects that it gained, as many as are reported.
+-- has its begin, its link and its end, which states its outcome. On each link both hosts are the two ends of one conversation.
+-- The inbox gains what the packets of host b spell, each the object of its push, and each outcome is the first cause of its
+-- push. All that happened is what may happen in a world from its first moment on, and ends as it says. Behind what the inbox
+-- held stand the objects that it gained, as many as are reported.
 pub record Plays (scenario : Scenario) (played : Played) (stock stock' : Stocked) (trace trace' : Option (List ℕ)) : Type 0 where
   pub entries : List Entry
   pub entries_are : AllByRecursion IsEntry entries
@@ -107,9 +81,11 @@ pub record Plays (scenario : Scenario) (played : Played) (stock stock' : Stocked
   pub credits_b : played.peaks.credits_b ≡ 0
   pub outcomes : length played.outcomes.items ≡ length scenario.names
   pub in_turn : InTurn played.outcomes.items entries
-  -- where MTU and longest OBEX packet have room for the PUT of each object
-  pub speaks : 416 ≤ scenario.settings.mtu → 416 ≤ scenario.settings.obex → Speaks scenario.settings.mtu (min scenario.settings.obex scenario.settings.mtu) stock.shelf.content entries
-  pub spelled : 416 ≤ scenario.settings.mtu → 416 ≤ scenario.settings.obex → (now : Contents) → stock'.inbox.content ≡ Some now → IsSpelled entries stock.inbox stock'.inbox now
+  pub converse : (n : ℕ) → Converse (sayings scenario.settings.mtu (min scenario.settings.obex scenario.settings.mtu)) entries n
+  pub results : Results stock.shelf.content scenario.names entries played.outcomes.items stock.inbox stock'.inbox
+  -- in a script of passes alone, 14 at least for each object, each push is done, or the shelf or the inbox failed
+  pub clean : AllByRecursion (λ word. word ≡ Pass) (words_of scenario.script) → most_sayings * length scenario.names ≤ length (words_of scenario.script)
+      → AllByRecursion (IsCaused stock.shelf.faults stock'.shelf.faults stock.inbox.faults stock'.inbox.faults) played.outcomes.items
   pub last : Moment
   pub happened : world.Plays (words_of scenario.script) (beginning scenario stock.shelf stock.inbox) last entries
   pub ends : EndsWith scenario.names played last stock'

@@ -10,6 +10,7 @@ use Rattle.bt_host.specs.Servers.{Served}
 use Rattle.world_model.specs.Insides.{Serving}
 use Rattle.world_model.specs.Moments.{Moment}
 use Rattle.world_model.specs.Happenings.{Happening, Runs, all_entries, all_words}
+use Rattle.push_results.specs.AllResults.{ResultsSoFar}
 use Rattle.radio_world.specs.Breaking.{IsDue, IsForB}
 use Rattle.radio_world.specs.Unfinished.{KeepsAll}
 use Rattle.radio_world.specs.Worlds.{beginning}
@@ -37,3 +38,5 @@ pub record PlaysShort (fault : WorldFault) (scenario : Scenario) (stock stock' :
   pub is_due : IfSome due (λ entry. IsDue behind entry last)
   pub entries_are : (entries ≡ all_entries happenings) ⊎ (entries ≡ all_entries happenings ++ option_to_list due)
   pub stays : (fault ≡ TraceFault) ⊎ (IsForB due → ⊥) → (served : Served) × (last.b.inside ≡ Serving served stock'.inbox)
+  -- what was stored so far is what the packets of host b spell so far
+  pub results : (IsForB due → ⊥) → ResultsSoFar stock.shelf.content scenario.names last.scene.pushes.begun entries stock.inbox stock'.inbox

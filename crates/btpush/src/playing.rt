@@ -1,7 +1,7 @@
 //! A scenario is played in the simulated world.
 
 ghost use Rattle.std.specs.Prelude.{◌≡◌, false, IfOk, IfErr, IsErrOf};
-ghost use Rattle.btpush.specs.Plays.{stocked, Plays};
+ghost use Rattle.btpush.specs.Plays.{stocked, HasRoom, Plays};
 ghost use Rattle.btpush.specs.Short.{PlaysShort};
 ghost use Rattle.radio_world.specs.Blaming.{BlamesTrace, KeepsPort, KeepsCounts, IsNotBuilt};
 
@@ -29,7 +29,8 @@ fn outcomes_of(alloc: Global, world: &World) -> Result<Vec<Outcome>, NoMemory>
 }
 
 /// Plays a scenario: both hosts start, and each word is turned in the order of the script. No object
-/// may be pending in the inbox. It refuses as a world does.
+/// may be pending in the inbox, and MTU and longest packet have room for the PUT of each object. It
+/// refuses as a world does.
 pub(crate) fn play<F: Shelf, B: Inbox, T: Sink>(
     alloc: Global,
     scenario: &Scenario,
@@ -38,6 +39,7 @@ pub(crate) fn play<F: Shelf, B: Inbox, T: Sink>(
     trace: &mut T,
 ) -> Result<Played, WorldFault>
     requires pending { B.is_pending inbox.old ≡ false }
+    requires room { HasRoom scenario.now }
     ensures plays { IfOk result (λ played. Plays scenario.now played (stocked (F.content shelf.old) (F.faults shelf.old) (B.content inbox.old) (B.faults inbox.old) (B.shortages inbox.old)) (stocked (F.content shelf.new) (F.faults shelf.new) (B.content inbox.new) (B.faults inbox.new) (B.shortages inbox.new)) (T.content trace.old) (T.content trace.new)) }
     ensures broken { IfErr result (λ fault. PlaysShort fault scenario.now (stocked (F.content shelf.old) (F.faults shelf.old) (B.content inbox.old) (B.faults inbox.old) (B.shortages inbox.old)) (stocked (F.content shelf.new) (F.faults shelf.new) (B.content inbox.new) (B.faults inbox.new) (B.shortages inbox.new)) (T.content trace.old) (T.content trace.new)) }
     ensures blame { BlamesTrace (T.faults trace.old) (T.faults trace.new) (T.shortages trace.old) (T.shortages trace.new) result }

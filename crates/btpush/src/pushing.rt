@@ -7,7 +7,7 @@ ghost use Rattle.h4_view.specs.View.{IsAnswered};
 ghost use Rattle.push_script.specs.Features.{missing_features};
 ghost use Rattle.push_script.specs.Reading.{text_limit};
 ghost use Rattle.push_script.specs.Refusals.{refusal_line, object_line};
-ghost use Rattle.btpush.specs.Plays.{stocked};
+ghost use Rattle.btpush.specs.Plays.{stocked, HasRoom};
 ghost use Rattle.btpush.specs.Pushing.{is_done, Refuses, Reports, Runs, Pushes};
 ghost use Rattle.btpush.specs.Run.{HasCauses, HasEnded};
 
@@ -71,7 +71,8 @@ fn report<K: Sink>(alloc: Global, scenario: &Scenario, played: &Played, sink: &m
     }
 }
 
-/// Runs a scenario whose object stands on that line of its text.
+/// Runs a scenario whose object stands on that line of its text. MTU and longest packet have room
+/// for the PUT of each object.
 fn run_scenario<K: Sink, T: Sink, F: Shelf, B: Inbox>(
     alloc: Global,
     scenario: &Scenario,
@@ -82,6 +83,7 @@ fn run_scenario<K: Sink, T: Sink, F: Shelf, B: Inbox>(
     inbox: &mut B,
 ) -> Status
     requires pending { B.is_pending inbox.old ≡ false }
+    requires room { HasRoom scenario.now }
     ensures runs { Runs scenario.now line (stocked (F.content shelf.old) (F.faults shelf.old) (B.content inbox.old) (B.faults inbox.old) (B.shortages inbox.old)) (stocked (F.content shelf.new) (F.faults shelf.new) (B.content inbox.new) (B.faults inbox.new) (B.shortages inbox.new)) (K.content sink.old) (K.content sink.new) (T.content trace.old) (T.content trace.new) (HasRisen (T.faults trace.old) (T.faults trace.new)) result }
     ensures causes { HasCauses 0 0 (K.faults sink.old) (K.faults sink.new) (T.faults trace.old) (T.faults trace.new) result }
     ensures sink_short { IsAnswered (K.shortages sink.old) (K.shortages sink.new) (result ≡ Status.NoMemory) }

@@ -1,10 +1,10 @@
-use Rattle.std.proofs.Common.{rules, arith}
+use Rattle.std.proofs.Common.{rules}
 use Rattle.std.proofs.lemmas.Result.{err_from_is_err_and}
 use Rattle.radio_world.proofs.Blaming.{blames_err, keeps_err}
 use Rattle.btpush.proofs.Played.{Tells, plays_of}
 use Rattle.radio_world.proofs.Breaking.{any_fault, same_fault}
 use Rattle.btpush.specs.Plays.{stocked}
-use Rattle.btpush.proofs.Short.{plays_short, whole_short, unbegun_short}
+use Rattle.btpush.proofs.Short.{setting_of, plays_short, whole_short, unbegun_short}
 use Rattle.btpush.proofs.playing.play.Goals as goal
 
 pub returns-clause-plays : goal.returns-clause-plays
@@ -20,18 +20,7 @@ returns-clause-plays g c =
       credits_b = search rules;
     } in
     plays_of c.args.scenario.now c.play.new.self _ _ _ _ _ tells c.in_ok-play.ensures.each (record { size_low = c.args.scenario.now.acl_length_low; size_high = c.args.scenario.now.acl_length_high; count_low = c.args.scenario.now.acl_count_low; count_high = c.args.scenario.now.acl_count_high; few = c.args.scenario.now.few })
-    (λ mtu obex. record {
-      size_low = c.args.scenario.now.acl_length_low;
-      size_high = c.args.scenario.now.acl_length_high;
-      count_low = c.args.scenario.now.acl_count_low;
-      count_high = c.args.scenario.now.acl_count_high;
-      mtu_low = mtu;
-      mtu_high = let high = c.args.scenario.now.settings.mtu_high in omega (arith, high);
-      obex_low = obex;
-      obex_high = let high = c.args.scenario.now.settings.obex_high in omega (arith, high);
-      few = c.args.scenario.now.few;
-      each = c.args.scenario.now.named;
-    }) (g.B.Inbox.is_pending c.args.inbox.now) c.requires.pending (g.met.B.Inbox.told c.args.inbox.now) c.in_ok-play.ensures.happens
+    (setting_of c.args.scenario.now c.requires.room) (g.B.Inbox.is_pending c.args.inbox.now) c.requires.pending (g.met.B.Inbox.told c.args.inbox.now) c.in_ok-play.ensures.happens
 
 pub returns-in_err-play-clause-blame : goal.returns-in_err-play-clause-blame
 returns-in_err-play-clause-blame g c =
@@ -49,13 +38,13 @@ returns-in_err-play-clause-inbox g c =
     rw handed.1 (keeps_err handed.2 c.in_err-play.ensures.inbox)
 
 pub returns-in_err-world-clause-broken : goal.returns-in_err-world-clause-broken
-returns-in_err-world-clause-broken g c = any_fault _ _ (λ fault. unbegun_short fault c.args.scenario.now (stocked (g.F.Shelf.content c.args.shelf.now) (g.F.Shelf.faults c.args.shelf.now) (g.B.Inbox.content c.args.inbox.now) (g.B.Inbox.faults c.args.inbox.now) (g.B.Inbox.shortages c.args.inbox.now)) (g.T.Sink.content c.args.trace.now) c.args.scenario.now.acl_length_low c.args.scenario.now.acl_length_high c.args.scenario.now.acl_count_low c.args.scenario.now.acl_count_high)
+returns-in_err-world-clause-broken g c = any_fault _ _ (λ fault. unbegun_short fault c.args.scenario.now (stocked (g.F.Shelf.content c.args.shelf.now) (g.F.Shelf.faults c.args.shelf.now) (g.B.Inbox.content c.args.inbox.now) (g.B.Inbox.faults c.args.inbox.now) (g.B.Inbox.shortages c.args.inbox.now)) (g.T.Sink.content c.args.trace.now) (setting_of c.args.scenario.now c.requires.room))
 
 pub returns-in_err-play-clause-broken : goal.returns-in_err-play-clause-broken
 returns-in_err-play-clause-broken g c =
     same_fault _ _ c.in_err-play.field-0.0 c.from_residual-in_err-play.ensures.1
-    (plays_short c.in_err-play.field-0.0 c.args.scenario.now c.play.new.self.server (stocked (g.F.Shelf.content c.args.shelf.now) (g.F.Shelf.faults c.args.shelf.now) (g.B.Inbox.content c.args.inbox.now) (g.B.Inbox.faults c.args.inbox.now) (g.B.Inbox.shortages c.args.inbox.now)) (stocked (g.F.Shelf.content c.play.new.shelf) (g.F.Shelf.faults c.play.new.shelf) (g.B.Inbox.content c.play.new.inbox) (g.B.Inbox.faults c.play.new.inbox) (g.B.Inbox.shortages c.play.new.inbox)) (g.T.Sink.content c.args.trace.now) (g.T.Sink.content c.play.new.trace) c.in_err-play.ensures.broken)
+    (plays_short c.in_err-play.field-0.0 c.args.scenario.now c.play.new.self.server (stocked (g.F.Shelf.content c.args.shelf.now) (g.F.Shelf.faults c.args.shelf.now) (g.B.Inbox.content c.args.inbox.now) (g.B.Inbox.faults c.args.inbox.now) (g.B.Inbox.shortages c.args.inbox.now)) (stocked (g.F.Shelf.content c.play.new.shelf) (g.F.Shelf.faults c.play.new.shelf) (g.B.Inbox.content c.play.new.inbox) (g.B.Inbox.faults c.play.new.inbox) (g.B.Inbox.shortages c.play.new.inbox)) (g.T.Sink.content c.args.trace.now) (g.T.Sink.content c.play.new.trace) (setting_of c.args.scenario.now c.requires.room) c.in_err-play.ensures.broken)
 
 pub returns-in_err-outcomes_of-clause-broken : goal.returns-in_err-outcomes_of-clause-broken
 returns-in_err-outcomes_of-clause-broken g c =
-    any_fault _ _ (λ fault. whole_short fault c.args.scenario.now c.play.new.self (stocked (g.F.Shelf.content c.args.shelf.now) (g.F.Shelf.faults c.args.shelf.now) (g.B.Inbox.content c.args.inbox.now) (g.B.Inbox.faults c.args.inbox.now) (g.B.Inbox.shortages c.args.inbox.now)) (stocked (g.F.Shelf.content c.play.new.shelf) (g.F.Shelf.faults c.play.new.shelf) (g.B.Inbox.content c.play.new.inbox) (g.B.Inbox.faults c.play.new.inbox) (g.B.Inbox.shortages c.play.new.inbox)) (g.T.Sink.content c.args.trace.now) (g.T.Sink.content c.play.new.trace) c.in_ok-play.ensures.happens)
+    any_fault _ _ (λ fault. whole_short fault c.args.scenario.now c.play.new.self (stocked (g.F.Shelf.content c.args.shelf.now) (g.F.Shelf.faults c.args.shelf.now) (g.B.Inbox.content c.args.inbox.now) (g.B.Inbox.faults c.args.inbox.now) (g.B.Inbox.shortages c.args.inbox.now)) (stocked (g.F.Shelf.content c.play.new.shelf) (g.F.Shelf.faults c.play.new.shelf) (g.B.Inbox.content c.play.new.inbox) (g.B.Inbox.faults c.play.new.inbox) (g.B.Inbox.shortages c.play.new.inbox)) (g.T.Sink.content c.args.trace.now) (g.T.Sink.content c.play.new.trace) (setting_of c.args.scenario.now c.requires.room) c.in_ok-play.ensures.happens)

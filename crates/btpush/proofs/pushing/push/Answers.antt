@@ -1,5 +1,6 @@
 use Rattle.std.proofs.Common.{refl, ap, length, sym, ◌∙◌, arith, List, ℕ}
 use Rattle.push_script.specs.Features.{missing_features}
+use Rattle.push_script.proofs.Defaults.{has_defaults}
 use Rattle.push_script.specs.Reading.{script_of}
 use Rattle.btpush.specs.Gathering.{reading_limit}
 use Rattle.btpush.specs.Pushing.{NotRead}
@@ -22,6 +23,11 @@ returns-in-Err-NoMemory-scenario_of-clause-pushes g c = if_some _ (λ input h. N
 
 pub object_line-requires : goal.object_line-requires
 object_line-requires g c = record { short = omega (arith, short_read missing_features c.deref.result.now (script_of c.in-Ok-scenario_of.scenario) c.in-Ok-scenario_of.ensures, ap (λ (t : List ℕ). length t) (c.deref.ensures.value ∙ sym c.deref-2.ensures.value)) }
+
+pub run_scenario-requires-clause-room : goal.run_scenario-requires-clause-room
+run_scenario-requires-clause-room g c =
+    let lengths = has_defaults c.deref.result.now (script_of c.in-Ok-scenario_of.scenario) c.in-Ok-scenario_of.ensures in
+    (omega (arith, lengths.0), omega (arith, lengths.1))
 
 pub returns-clause-pushes : goal.returns-clause-pushes
 returns-clause-pushes g c = if_some _ (λ input h. taken input _ _ _ _ _ _ _ _ _ _ _ _ c.in-Ok-scenario_of.scenario _ _ h.0 c.deref.ensures.value c.deref-2.ensures.value h.1 c.in-Ok-scenario_of.ensures c.object_line.ensures c.run_scenario.ensures.runs) c.in-Ok.ensures.gathers
