@@ -19,6 +19,18 @@ use Rattle.push_results.specs.AllResults.{ResultsSoFar, ResultsSoFarIn}
 use Rattle.push_results.proofs.Beside.{results_beside}
 use Rattle.push_endings.proofs.Accounts.{results_of_runs}
 use Rattle.radio_world.specs.Breaking.{IsDue, IsForB}
+use Rattle.radio_world.specs.declared.fault.WorldFault.{WorldFault}
+use Rattle.radio_world.specs.declared.fault.WorldFault.TheVariants.{TraceFault}
+
+-- a packet for host b is due, or none
+for_b : (due : Option Entry) → IsForB due ⊎ (IsForB due → ⊥)
+for_b None = inr (λ is. is)
+for_b (Some (Moved sides.A flow packet)) = inr (λ is. is)
+for_b (Some (Moved sides.B Out packet)) = inr (λ is. is)
+for_b (Some (Moved sides.B Into packet)) = inl tt
+for_b (Some (Begun push)) = inr (λ is. is)
+for_b (Some (Ended push outcome)) = inr (λ is. is)
+for_b (Some (Acted ordinal word)) = inr (λ is. is)
 
 module _ (size count mtu obex : ℕ) (names : List (List ℕ)) (shelf : Shelved) (inbox inbox' : Kept) (setting : IsSetting size count mtu obex names) where
   -- by all that happened
@@ -57,10 +69,23 @@ module _ (size count mtu obex : ℕ) (names : List (List ℕ)) (shelf : Shelved)
   if_due happenings last runs served inside (Some entry) words is other = due_results happenings last runs served inside entry words is other
 
   -- by the whole entries that there are
-  pub front_results : (happenings : List Happening) (last : Moment) → Runs happenings (first_moment size count mtu obex names shelf inbox) last → (served : Served) → last.b.inside ≡ Serving served inbox'
+  front_results : (happenings : List Happening) (last : Moment) → Runs happenings (first_moment size count mtu obex names shelf inbox) last → (served : Served) → last.b.inside ≡ Serving served inbox'
       → (due : Option Entry) (words : List Word) → IfSome due (λ entry. IsDue words entry last) → (IsForB due → ⊥)
       → (entries : List Entry) → (entries ≡ all_entries happenings) ⊎ (entries ≡ all_entries happenings ++ option_to_list due) → ResultsSoFar shelf.content names last.scene.pushes.begun entries inbox inbox'
   front_results happenings last runs served inside due words is other entries (inl same) =
       subst (λ (es : List Entry). ResultsSoFar shelf.content names last.scene.pushes.begun es inbox inbox') (sym same) (whole_results happenings last runs served inside)
   front_results happenings last runs served inside due words is other entries (inr more) =
       subst (λ (es : List Entry). ResultsSoFar shelf.content names last.scene.pushes.begun es inbox inbox') (sym more) (if_due happenings last runs served inside due words is other)
+
+  -- where it stopped with a packet for host b due, that packet does not count
+  pub told_results : (fault : WorldFault) (happenings : List Happening) (last : Moment) → Runs happenings (first_moment size count mtu obex names shelf inbox) last
+      → (due : Option Entry) (words : List Word) → IfSome due (λ entry. IsDue words entry last) → ((fault ≡ TraceFault) ⊎ (IsForB due → ⊥) → (served : Served) × (last.b.inside ≡ Serving served inbox'))
+      → (entries : List Entry) → (entries ≡ all_entries happenings) ⊎ (entries ≡ all_entries happenings ++ option_to_list due)
+      → (IsForB due → (fault ≡ TraceFault) × (entries ≡ all_entries happenings)) → ResultsSoFar shelf.content names last.scene.pushes.begun entries inbox inbox'
+  told_results fault happenings last runs due words is stays entries are other = elim (for_b due) [
+    | inl is_for ↦
+        let both = other is_for in
+        let there = stays (inl both.0) in
+        subst (λ (es : List Entry). ResultsSoFar shelf.content names last.scene.pushes.begun es inbox inbox') (sym both.1) (whole_results happenings last runs there.0 there.1)
+    | inr is_not ↦ let there = stays (inr is_not) in front_results happenings last runs there.0 there.1 due words is is_not entries are
+  ]

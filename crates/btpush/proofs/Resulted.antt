@@ -1,9 +1,10 @@
 -- What came of the pushes of a play.
-use Rattle.std.proofs.Common.{◌≡◌, ℕ, ◌-◌, ◌*◌, ◌≤◌, ◌++◌, List, length, replicate, sym, ap, subst, ◌∙◌, arith}
+use Rattle.std.proofs.Common.{◌≡◌, ℕ, ◌-◌, ◌*◌, ◌<◌, ◌≤◌, ◌++◌, List, length, replicate, sym, ap, subst, ◌∙◌, arith}
 use Rattle.std.specs.List.{AllByRecursion}
 use Rattle.std.proofs.lemmas.List.{append-nil}
+use Rattle.bt_base.specs.Counts.{last_count}
 use Rattle.push_script.specs.declared.outcome.Outcome.{Outcome}
-use Rattle.push_script.specs.declared.outcome.Outcome.TheVariants.{ScriptEnded}
+use Rattle.push_script.specs.declared.outcome.Outcome.TheVariants.{Done, ScriptEnded}
 use Rattle.push_script.specs.declared.word.Word.{Word}
 use Rattle.push_script.specs.declared.word.Word.TheVariants.{Pass}
 use Rattle.capture.specs.Entries.{Entry}
@@ -18,7 +19,7 @@ use Rattle.push_results.specs.AllResults.{Results, ResultsIn}
 use Rattle.push_progress.specs.Progress.{most_sayings}
 use Rattle.push_progress.specs.Success.{IsCaused}
 use Rattle.push_progress.proofs.Ending.{clean_scripts}
-use Rattle.push_progress.proofs.Succeeding.{clean_plays_succeed}
+use Rattle.push_progress.proofs.Succeeding.{clean_plays_succeed, all_are_done}
 use Rattle.push_endings.proofs.Accounts.{results_of_plays}
 
 pub play_results : (size count mtu obex : ℕ) (names : List (List ℕ)) (shelf : Shelved) (inbox inbox' : Kept) (script : List Word) (last : Moment) (entries : List Entry) (outcomes : List Outcome) (served : Served) → IsSetting size count mtu obex names
@@ -29,6 +30,12 @@ play_results size count mtu obex names shelf inbox inbox' script last entries ou
     (subst (λ (i : Inside). ResultsIn shelf.content names entries (all_outcomes names last.scene.pushes.outcomes) inbox i) server
     (results_of_plays size count mtu obex names shelf inbox setting script last entries plays))
 
+-- as many outcomes as names are all of them
+all_ended : (names : List (List ℕ)) (came outcomes : List Outcome) → outcomes ≡ came ++ replicate (length names - length came) ScriptEnded → length came ≡ length names → outcomes ≡ came
+all_ended names came outcomes same many =
+    let none : length names - length came ≡ 0 = omega (arith, many) in
+    same ∙ (ap (λ n. came ++ replicate n ScriptEnded) none ∙ append-nil came)
+
 -- where nothing but enough passes happened
 pub play_is_clean : (size count mtu obex : ℕ) (names : List (List ℕ)) (shelf shelf' : Shelved) (inbox inbox' : Kept) (script : List Word) (last : Moment) (entries : List Entry) (outcomes : List Outcome) (course : Course) (served : Served)
     → IsSetting size count mtu obex names → Plays script (first_moment size count mtu obex names shelf inbox) last entries → last.a.inside ≡ Pushing course shelf' → last.b.inside ≡ Serving served inbox'
@@ -36,7 +43,15 @@ pub play_is_clean : (size count mtu obex : ℕ) (names : List (List ℕ)) (shelf
     → AllByRecursion (λ word. word ≡ Pass) script → most_sayings * length names ≤ length script → AllByRecursion (IsCaused shelf.faults shelf'.faults inbox.faults inbox'.faults) outcomes
 play_is_clean size count mtu obex names shelf shelf' inbox inbox' script last entries outcomes course served setting plays client server same passes enough =
     let many = (clean_scripts size count mtu obex names shelf inbox setting script last entries plays passes enough).1 in
-    let none : length names - length last.scene.pushes.outcomes ≡ 0 = omega (arith, many) in
-    let all : outcomes ≡ last.scene.pushes.outcomes = same ∙ (ap (λ n. last.scene.pushes.outcomes ++ replicate n ScriptEnded) none ∙ append-nil last.scene.pushes.outcomes) in
-    subst (AllByRecursion (IsCaused shelf.faults shelf'.faults inbox.faults inbox'.faults)) (sym all)
+    subst (AllByRecursion (IsCaused shelf.faults shelf'.faults inbox.faults inbox'.faults)) (sym (all_ended names last.scene.pushes.outcomes outcomes same many))
     (clean_plays_succeed size count mtu obex names shelf inbox setting script last entries plays passes enough course shelf' served inbox' client server)
+
+-- and neither port failed
+pub play_is_done : (size count mtu obex : ℕ) (names : List (List ℕ)) (shelf shelf' : Shelved) (inbox inbox' : Kept) (script : List Word) (last : Moment) (entries : List Entry) (outcomes : List Outcome) (course : Course) (served : Served)
+    → IsSetting size count mtu obex names → Plays script (first_moment size count mtu obex names shelf inbox) last entries → last.a.inside ≡ Pushing course shelf' → last.b.inside ≡ Serving served inbox'
+    → outcomes ≡ last.scene.pushes.outcomes ++ replicate (length names - length last.scene.pushes.outcomes) ScriptEnded
+    → AllByRecursion (λ word. word ≡ Pass) script → most_sayings * length names ≤ length script → shelf'.faults ≡ shelf.faults → shelf.faults < last_count → inbox'.faults ≡ inbox.faults → inbox.faults < last_count
+    → AllByRecursion (λ outcome. outcome ≡ Done) outcomes
+play_is_done size count mtu obex names shelf shelf' inbox inbox' script last entries outcomes course served setting plays client server same passes enough shelf_same shelf_low inbox_same inbox_low =
+    let done = all_are_done size count mtu obex names shelf inbox setting script last entries plays passes enough course shelf' served inbox' client server shelf_same shelf_low inbox_same inbox_low in
+    subst (AllByRecursion (λ (outcome : Outcome). outcome ≡ Done)) (sym (all_ended names last.scene.pushes.outcomes outcomes same done.0)) done.1

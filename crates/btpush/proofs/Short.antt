@@ -15,13 +15,14 @@ use Rattle.radio_world.specs.Unfinished.{KeepsAll, HappensShort}
 use Rattle.radio_world.specs.OwnHosts.{server_face}
 use Rattle.radio_world.specs.Worlds.{World, Happens, beginning, new_world}
 use Rattle.radio_world.specs.declared.fault.WorldFault.{WorldFault}
+use Rattle.radio_world.specs.declared.fault.WorldFault.TheVariants.{NoMemory}
 use Rattle.btpush.specs.Plays.{Stocked, HasRoom}
 use Rattle.btpush.specs.Short.{PlaysShort}
 use Rattle.radio_world.proofs.Breaking.{breaks_none}
 use Rattle.radio_world.proofs.Going.{goes_none}
 use Rattle.radio_world.proofs.Unfinished.{start_short}
 use Rattle.push_course.specs.Conversations.{IsSetting}
-use Rattle.btpush.proofs.Fronted.{front_results}
+use Rattle.btpush.proofs.Fronted.{told_results}
 use Rattle.btpush.proofs.Fronts.{Fronts, fronts_of, all_whole, last_is}
 
 -- what a scenario and its devices allow
@@ -69,9 +70,9 @@ plays_short fault scenario server stock stock' trace trace' setting short =
       is_due = stops.is_due;
       entries_are = fronts.found_are;
       stays = λ why. (server.server.served, ap (λ (f : Face). f.inside) (sym (stops.stays why)));
-      results = λ other.
-          front_results scenario.acl_length scenario.acl_count scenario.settings.mtu scenario.settings.obex scenario.names stock.shelf stock.inbox stock'.inbox setting short.happenings short.last short.runs
-          server.server.served (ap (λ (f : Face). f.inside) (sym (stops.stays (inr other)))) stops.due short.behind stops.is_due other fronts.found fronts.found_are;
+      results =
+          told_results scenario.acl_length scenario.acl_count scenario.settings.mtu scenario.settings.obex scenario.names stock.shelf stock.inbox stock'.inbox setting fault short.happenings short.last short.runs
+          stops.due short.behind stops.is_due (λ why. (server.server.served, ap (λ (f : Face). f.inside) (sym (stops.stays why)))) fronts.found fronts.found_are;
     }
 
 -- ---- a run that was whole, but of which there was no memory to tell
@@ -91,9 +92,9 @@ end_is true before last past ended is ends all =
 end_is false before last past ended is ends all = record { due = None; is_due = tt; ended_is = ends.0; b = ap (λ (m : Moment). m.b) ends.1 }
 
 -- what a world that was played says, where what came of it cannot be told
-pub whole_short : (fault : WorldFault) (scenario : Scenario) (world : World) (stock stock' : Stocked) (trace trace' : Option (List ℕ)) → IsSettingOf scenario → Happens scenario world stock.shelf stock'.shelf stock.inbox stock'.inbox trace trace'
-    → PlaysShort fault scenario stock stock' trace trace'
-whole_short fault scenario world stock stock' trace trace' setting happens =
+pub whole_short : (scenario : Scenario) (world : World) (stock stock' : Stocked) (trace trace' : Option (List ℕ)) → IsSettingOf scenario → Happens scenario world stock.shelf stock'.shelf stock.inbox stock'.inbox trace trace'
+    → PlaysShort NoMemory scenario stock stock' trace trace'
+whole_short scenario world stock stock' trace trace' setting happens =
     let plays : Plays (words_of scenario.script) (beginning scenario stock.shelf stock.inbox) happens.last happens.entries = happens.plays in
     let end : IsEnd plays.before happens.last (all_entries plays.happenings) plays.ended =
     end_is plays.before.scene.pushes.going plays.before happens.last (all_entries plays.happenings) plays.ended refl plays.ends (subst (AllByRecursion IsEntry) plays.entries_are happens.entries_are) in
@@ -112,17 +113,17 @@ whole_short fault scenario world stock stock' trace trace' setting happens =
       is_due = end.is_due;
       entries_are = inr (plays.entries_are ∙ ap (λ xs. all_entries plays.happenings ++ xs) end.ended_is);
       stays = λ why. (world.server.server.served, ap (λ (f : Face). f.inside) (sym (happens.ends.server ∙ end.b)));
-      results = λ other.
-          front_results scenario.acl_length scenario.acl_count scenario.settings.mtu scenario.settings.obex scenario.names stock.shelf stock.inbox stock'.inbox setting plays.happenings plays.before plays.runs
-          world.server.server.served (ap (λ (f : Face). f.inside) (sym (happens.ends.server ∙ end.b))) end.due [] end.is_due other happens.entries
+      results =
+          told_results scenario.acl_length scenario.acl_count scenario.settings.mtu scenario.settings.obex scenario.names stock.shelf stock.inbox stock'.inbox setting NoMemory plays.happenings plays.before plays.runs
+          end.due [] end.is_due (λ why. (world.server.server.served, ap (λ (f : Face). f.inside) (sym (happens.ends.server ∙ end.b)))) happens.entries
           (inr (plays.entries_are ∙ ap (λ xs. all_entries plays.happenings ++ xs) end.ended_is));
     }
 
 -- ---- a run that did not begin
 
-pub unbegun_short : (fault : WorldFault) (scenario : Scenario) (stock : Stocked) (trace : Option (List ℕ)) → IsSettingOf scenario → PlaysShort fault scenario stock stock trace trace
-unbegun_short fault scenario stock trace setting =
+pub unbegun_short : (scenario : Scenario) (stock : Stocked) (trace : Option (List ℕ)) → IsSettingOf scenario → PlaysShort NoMemory scenario stock stock trace trace
+unbegun_short scenario stock trace setting =
     let first : Moment = beginning scenario stock.shelf stock.inbox in
-    plays_short fault scenario (new_world scenario).server stock stock trace trace setting
-    (start_short fault scenario stock.shelf stock.inbox first.b trace trace setting.size_low setting.size_high setting.count_low setting.count_high
-    (breaks_none fault first.scene first.scene first.a first.a first.b first.b trace trace (goes_none first.scene first.a first.b trace)))
+    plays_short NoMemory scenario (new_world scenario).server stock stock trace trace setting
+    (start_short NoMemory scenario stock.shelf stock.inbox first.b trace trace setting.size_low setting.size_high setting.count_low setting.count_high
+    (breaks_none NoMemory first.scene first.scene first.a first.a first.b first.b trace trace (goes_none first.scene first.a first.b trace)))

@@ -1,9 +1,10 @@
 -- What a run of a scenario comes to (this project's own).
-use Rattle.std.specs.Prelude.{ℕ, ◌++◌, replicate, ◌≡◌, ◌-◌, ◌*◌, ◌^◌, ◌≤◌, min, List, length, Option, Some, None, IfSome}
+use Rattle.std.specs.Prelude.{ℕ, ◌++◌, replicate, ◌≡◌, ◌-◌, ◌*◌, ◌^◌, ◌<◌, ◌≤◌, min, List, length, Option, Some, None, IfSome}
 use Rattle.std.specs.List.{AllByRecursion}
+use Rattle.bt_base.specs.Counts.{last_count}
 use Rattle.bt_base.specs.Objects.{Object, Contents}
 use Rattle.bt_base.specs.Streams.{gained}
-use Rattle.push_script.specs.declared.outcome.Outcome.TheVariants.{ScriptEnded}
+use Rattle.push_script.specs.declared.outcome.Outcome.TheVariants.{Done, ScriptEnded}
 use Rattle.push_script.specs.declared.scenario.Scenario.{Scenario}
 use Rattle.push_script.specs.declared.word.Side.TheVariants as sides
 use Rattle.push_script.specs.declared.word.Word.TheVariants.{Pass}
@@ -62,10 +63,10 @@ Gains (Some before) kept after = IfSome after (IsGained before kept)
 -- A scenario was played, and the trace gained the capture of what happened: the air obeyed the words of the script,
 -- both hosts kept within the buffers of their controllers at each moment, and the peaks are those of the capture. No
 -- frame of an enhanced channel and no credit is there yet. Each object has its outcome, and the pushes are in turn: each
--- has its begin, its link and its end, which states its outcome. On each link both hosts are the two ends of one conversation.
--- The inbox gains what the packets of host b spell, each the object of its push, and each outcome is the first cause of its
--- push. All that happened is what may happen in a world from its first moment on, and ends as it says. Behind what the inbox
--- held stand the objects that it gained, as many as are reported.
+-- that was begun has its begin, its link, one at most, and its end, which states its outcome. On each link both hosts are
+-- the two ends of one conversation. The inbox gains what the packets that host b heard spell, each the object of its push,
+-- and each outcome is the first cause of its push. All that happened is what may happen in a world from its first moment
+-- on, and ends as it says. Behind what the inbox held stand the objects that it gained, as many as are reported.
 pub record Plays (scenario : Scenario) (played : Played) (stock stock' : Stocked) (trace trace' : Option (List ℕ)) : Type 0 where
   pub entries : List Entry
   pub entries_are : AllByRecursion IsEntry entries
@@ -86,6 +87,10 @@ pub record Plays (scenario : Scenario) (played : Played) (stock stock' : Stocked
   -- in a script of passes alone, 14 at least for each object, each push is done, or the shelf or the inbox failed
   pub clean : AllByRecursion (λ word. word ≡ Pass) (words_of scenario.script) → most_sayings * length scenario.names ≤ length (words_of scenario.script)
       → AllByRecursion (IsCaused stock.shelf.faults stock'.shelf.faults stock.inbox.faults stock'.inbox.faults) played.outcomes.items
+  -- so where neither of them failed, each is done
+  pub all_done : AllByRecursion (λ word. word ≡ Pass) (words_of scenario.script) → most_sayings * length scenario.names ≤ length (words_of scenario.script)
+      → stock'.shelf.faults ≡ stock.shelf.faults → stock.shelf.faults < last_count → stock'.inbox.faults ≡ stock.inbox.faults → stock.inbox.faults < last_count
+      → AllByRecursion (λ outcome. outcome ≡ Done) played.outcomes.items
   pub last : Moment
   pub happened : world.Plays (words_of scenario.script) (beginning scenario stock.shelf stock.inbox) last entries
   pub ends : EndsWith scenario.names played last stock'

@@ -38,5 +38,6 @@ pub record PlaysShort (fault : WorldFault) (scenario : Scenario) (stock stock' :
   pub is_due : IfSome due (λ entry. IsDue behind entry last)
   pub entries_are : (entries ≡ all_entries happenings) ⊎ (entries ≡ all_entries happenings ++ option_to_list due)
   pub stays : (fault ≡ TraceFault) ⊎ (IsForB due → ⊥) → (served : Served) × (last.b.inside ≡ Serving served stock'.inbox)
-  -- what was stored so far is what the packets of host b spell so far
-  pub results : (IsForB due → ⊥) → ResultsSoFar stock.shelf.content scenario.names last.scene.pushes.begun entries stock.inbox stock'.inbox
+  -- some of what the packets of host b spell in these entries was stored by then, with all whose success went out; but nothing is
+  -- told where a packet for host b was due and memory was wanting, or the trace has that packet whole
+  pub results : (IsForB due → (fault ≡ TraceFault) × (entries ≡ all_entries happenings)) → ResultsSoFar stock.shelf.content scenario.names last.scene.pushes.begun entries stock.inbox stock'.inbox
