@@ -9,3 +9,4 @@ pub mod Short
 pub mod Conversed
 pub mod Resulted
 pub mod Fronted
+pub mod Untouched

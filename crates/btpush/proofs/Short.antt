@@ -4,18 +4,19 @@ use Rattle.std.specs.Prelude.{IfSome, option_to_list}
 use Rattle.std.specs.List.{AllByRecursion}
 use Rattle.std.proofs.lemmas.List.{append-nil}
 use Rattle.push_script.specs.declared.scenario.Scenario.{Scenario}
-use Rattle.capture.specs.Entries.{Entry, Ended, IsEntry, capture_octets}
+use Rattle.capture.specs.Entries.{Entry, Begun, Ended, IsEntry, capture_octets}
 use Rattle.capture.specs.Air.{words_of}
 use Rattle.bt_host.specs.ServerHosts.{ServerState}
 use Rattle.world_model.specs.Faces.{Face}
 use Rattle.world_model.specs.Moments.{Moment}
 use Rattle.world_model.specs.Happenings.{Plays, EndsScript, all_entries, all_words, last_outcome}
-use Rattle.radio_world.specs.Breaking.{IsDue}
+use Rattle.radio_world.specs.Breaking.{IsDue, IsForB}
 use Rattle.radio_world.specs.Unfinished.{KeepsAll, HappensShort}
 use Rattle.radio_world.specs.OwnHosts.{server_face}
 use Rattle.radio_world.specs.Worlds.{World, Happens, beginning, new_world}
 use Rattle.radio_world.specs.declared.fault.WorldFault.{WorldFault}
 use Rattle.radio_world.specs.declared.fault.WorldFault.TheVariants.{NoMemory}
+use Rattle.world_links.specs.LinkFacts.{IsBeginning}
 use Rattle.btpush.specs.Plays.{Stocked, HasRoom}
 use Rattle.btpush.specs.Short.{PlaysShort}
 use Rattle.radio_world.proofs.Breaking.{breaks_none}
@@ -23,6 +24,7 @@ use Rattle.radio_world.proofs.Going.{goes_none}
 use Rattle.radio_world.proofs.Unfinished.{start_short}
 use Rattle.push_course.specs.Conversations.{IsSetting}
 use Rattle.btpush.proofs.Fronted.{told_results}
+use Rattle.btpush.proofs.Untouched.{untouched, begins_there}
 use Rattle.btpush.proofs.Fronts.{Fronts, fronts_of, all_whole, last_is}
 
 -- what a scenario and its devices allow
@@ -42,6 +44,9 @@ setting_of scenario room = record {
   few = scenario.few;
   each = scenario.named;
 }
+
+beginning_of : (scenario : Scenario) → IsBeginning scenario.acl_length scenario.acl_count scenario.names
+beginning_of scenario = record { size_low = scenario.acl_length_low; size_high = scenario.acl_length_high; count_low = scenario.acl_count_low; count_high = scenario.acl_count_high; few = scenario.few }
 
 keeps_found : (scenario : Scenario) (entries found : List Entry) (due : Option Entry) → KeepsAll scenario.acl_length scenario.acl_count (words_of scenario.script) entries
     → KeepsAll scenario.acl_length scenario.acl_count (words_of scenario.script) (entries ++ option_to_list due) → (found ≡ entries) ⊎ (found ≡ entries ++ option_to_list due)
@@ -73,6 +78,11 @@ plays_short fault scenario server stock stock' trace trace' setting short =
       results =
           told_results scenario.acl_length scenario.acl_count scenario.settings.mtu scenario.settings.obex scenario.names stock.shelf stock.inbox stock'.inbox setting fault short.happenings short.last short.runs
           stops.due short.behind stops.is_due (λ why. (server.server.served, ap (λ (f : Face). f.inside) (sym (stops.stays why)))) fronts.found fronts.found_are;
+      unbuilt = λ is few plain.
+          let begins = begins_there scenario.script (all_words short.happenings) short.behind stops.due plain short.words (stops.unbuilt is) in
+          let due : IsDue short.behind (Begun begins.0) short.last = subst (λ (o : Option Entry). IfSome o (λ entry. IsDue short.behind entry short.last)) begins.1 stops.is_due in
+          untouched scenario.acl_length scenario.acl_count scenario.settings.mtu scenario.settings.obex scenario.names stock.shelf stock.inbox stock'.inbox (beginning_of scenario) short.happenings short.last short.runs few
+          short.behind begins.0 due server.server.served (ap (λ (f : Face). f.inside) (sym (stops.stays (inr (λ is_for. subst IsForB begins.1 is_for)))));
     }
 
 -- ---- a run that was whole, but of which there was no memory to tell
@@ -117,6 +127,7 @@ whole_short scenario world stock stock' trace trace' setting happens =
           told_results scenario.acl_length scenario.acl_count scenario.settings.mtu scenario.settings.obex scenario.names stock.shelf stock.inbox stock'.inbox setting NoMemory plays.happenings plays.before plays.runs
           end.due [] end.is_due (λ why. (world.server.server.served, ap (λ (f : Face). f.inside) (sym (happens.ends.server ∙ end.b)))) happens.entries
           (inr (plays.entries_are ∙ ap (λ xs. all_entries plays.happenings ++ xs) end.ended_is));
+      unbuilt = λ is few plain. absurd cc;
     }
 
 -- ---- a run that did not begin
@@ -126,4 +137,4 @@ unbegun_short scenario stock trace setting =
     let first : Moment = beginning scenario stock.shelf stock.inbox in
     plays_short NoMemory scenario (new_world scenario).server stock stock trace trace setting
     (start_short NoMemory scenario stock.shelf stock.inbox first.b trace trace setting.size_low setting.size_high setting.count_low setting.count_high
-    (breaks_none NoMemory first.scene first.scene first.a first.a first.b first.b trace trace (goes_none first.scene first.a first.b trace)))
+    (breaks_none NoMemory first.scene first.scene first.a first.a first.b first.b trace trace (goes_none first.scene first.a first.b trace) (λ is. absurd cc)))

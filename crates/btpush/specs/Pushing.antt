@@ -67,8 +67,8 @@ IsUnread _ = ⊥
 pub data Runs (scenario : Scenario) (line : ℕ) (stock stock' : Stocked) (sink sink' trace trace' : Option (List ℕ)) (trace_failed : Type 0) (result : Status) : Type 0 where
   -- it is played to its end and reported
   RanToEnd : (played : Played) → Plays scenario played stock stock' trace trace' → Reports scenario played sink sink' result → Runs scenario line stock stock' sink sink' trace trace' trace_failed result
-  -- its object is too long for a push so far, or a word does nothing yet, and the object's line is refused
-  RanUnbuilt : IsNotBuilt stock.shelf.content scenario.names scenario.script → PlaysShort world.NotBuilt scenario stock stock' trace trace' → Refuses (refusal_line line NotBuilt) sink sink' result → Runs scenario line stock stock' sink sink' trace trace' trace_failed result
+  -- its object is too long for a push so far, or a word does nothing yet: the object's line is refused, and the inbox stays
+  RanUnbuilt : IsNotBuilt stock.shelf.content scenario.names scenario.script → stock'.inbox ≡ stock.inbox → PlaysShort world.NotBuilt scenario stock stock' trace trace' → Refuses (refusal_line line NotBuilt) sink sink' result → Runs scenario line stock stock' sink sink' trace trace' trace_failed result
   -- it is stopped by the trace or for want of memory, and no report is told
   RanShort : (fault : WorldFault) → IsStopped fault result → (fault ≡ world.TraceFault → trace_failed) → PlaysShort fault scenario stock stock' trace trace' → sink' ≡ sink → Runs scenario line stock stock' sink sink' trace trace' trace_failed result
 

@@ -1,8 +1,10 @@
 -- A run of a scenario that stopped before all of it was said (this project's own).
-use Rattle.std.specs.Prelude.{ℕ, ◌≡◌, ◌⊎◌, List, ◌++◌, Option, IfSome, option_to_list}
+use Rattle.std.specs.Prelude.{ℕ, ◌≡◌, ◌≤◌, ◌⊎◌, List, ◌++◌, length, Option, None, IfSome, option_to_list}
+use Rattle.std.specs.List.{AllByRecursion}
 use Rattle.bt_base.specs.Streams.{gained}
 use Rattle.push_script.specs.declared.scenario.Scenario.{Scenario}
 use Rattle.push_script.specs.declared.word.Word.{Word}
+use Rattle.push_script.specs.Features.{word_feature}
 use Rattle.capture.specs.Entries.{Entry}
 use Rattle.capture.specs.Front.{HasWhole}
 use Rattle.capture.specs.Air.{words_of}
@@ -15,7 +17,7 @@ use Rattle.radio_world.specs.Breaking.{IsDue, IsForB}
 use Rattle.radio_world.specs.Unfinished.{KeepsAll}
 use Rattle.radio_world.specs.Worlds.{beginning}
 use Rattle.radio_world.specs.declared.fault.WorldFault.{WorldFault}
-use Rattle.radio_world.specs.declared.fault.WorldFault.TheVariants.{TraceFault}
+use Rattle.radio_world.specs.declared.fault.WorldFault.TheVariants.{TraceFault, NotBuilt}
 use Rattle.btpush.specs.Plays.{Stocked}
 
 -- A scenario was played until the trace failed, or memory was wanting, or there was something that is not built yet. What the
@@ -41,3 +43,5 @@ pub record PlaysShort (fault : WorldFault) (scenario : Scenario) (stock stock' :
   -- some of what the packets of host b spell in these entries was stored by then, with all whose success went out; but nothing is
   -- told where a packet for host b was due and memory was wanting, or the trace has that packet whole
   pub results : (IsForB due → (fault ≡ TraceFault) × (entries ≡ all_entries happenings)) → ResultsSoFar stock.shelf.content scenario.names last.scene.pushes.begun entries stock.inbox stock'.inbox
+  -- where the push of the one object of a scenario is not built, and its words are, the inbox is as it was
+  pub unbuilt : fault ≡ NotBuilt → length scenario.names ≤ 1 → AllByRecursion (λ run. word_feature run.1 ≡ None) scenario.script → stock'.inbox ≡ stock.inbox

@@ -1,10 +1,10 @@
 //! The form `push`: a scenario is read and run, and what came of it is written.
 
-ghost use Rattle.std.specs.Prelude.{◌≡◌, ◌≢◌, ◌≤◌, false, [], List, length, IfSome};
-ghost use Rattle.std.specs.List.{list_all};
+ghost use Rattle.std.specs.Prelude.{◌≡◌, ◌≢◌, ◌≤◌, false, [], List, length, None, IfSome};
+ghost use Rattle.std.specs.List.{list_all, AllByRecursion};
 ghost use Rattle.bt_base.specs.Counts.{HasRisen};
 ghost use Rattle.h4_view.specs.View.{IsAnswered};
-ghost use Rattle.push_script.specs.Features.{missing_features};
+ghost use Rattle.push_script.specs.Features.{missing_features, word_feature};
 ghost use Rattle.push_script.specs.Reading.{text_limit};
 ghost use Rattle.push_script.specs.Refusals.{refusal_line, object_line};
 ghost use Rattle.btpush.specs.Plays.{stocked, HasRoom};
@@ -71,8 +71,8 @@ fn report<K: Sink>(alloc: Global, scenario: &Scenario, played: &Played, sink: &m
     }
 }
 
-/// Runs a scenario whose object stands on that line of its text. MTU and longest packet have room
-/// for the PUT of each object.
+/// Runs a scenario whose one object stands on that line of its text, with words that are built alone.
+/// MTU and longest packet have room for the PUT. Where that is not built yet, the inbox stays as it was.
 fn run_scenario<K: Sink, T: Sink, F: Shelf, B: Inbox>(
     alloc: Global,
     scenario: &Scenario,
@@ -84,6 +84,8 @@ fn run_scenario<K: Sink, T: Sink, F: Shelf, B: Inbox>(
 ) -> Status
     requires pending { B.is_pending inbox.old ≡ false }
     requires room { HasRoom scenario.now }
+    requires one { length scenario.now.names ≤ 1 }
+    requires plain { AllByRecursion (λ run. word_feature run.1 ≡ None) scenario.now.script }
     ensures runs { Runs scenario.now line (stocked (F.content shelf.old) (F.faults shelf.old) (B.content inbox.old) (B.faults inbox.old) (B.shortages inbox.old)) (stocked (F.content shelf.new) (F.faults shelf.new) (B.content inbox.new) (B.faults inbox.new) (B.shortages inbox.new)) (K.content sink.old) (K.content sink.new) (T.content trace.old) (T.content trace.new) (HasRisen (T.faults trace.old) (T.faults trace.new)) result }
     ensures causes { HasCauses 0 0 (K.faults sink.old) (K.faults sink.new) (T.faults trace.old) (T.faults trace.new) result }
     ensures sink_short { IsAnswered (K.shortages sink.old) (K.shortages sink.new) (result ≡ Status.NoMemory) }

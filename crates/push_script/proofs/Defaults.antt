@@ -24,19 +24,19 @@ pub record Bound {A B : Type 0} (first : Result A ScriptRefusal) (then : A → R
   pub first_is : first ≡ Ok value
   pub then_is : then value ≡ Ok out
 
-bound : {A B : Type 0} (first : Result A ScriptRefusal) (then : A → Result B ScriptRefusal) (out : B) → (first >>= then) ≡ Ok out → Bound first then out
+pub bound : {A B : Type 0} (first : Result A ScriptRefusal) (then : A → Result B ScriptRefusal) (out : B) → (first >>= then) ≡ Ok out → Bound first then out
 bound (Ok value) then out is = record { value = value; first_is = refl; then_is = is }
 bound (Err refusal) then out is = absurd cc
 
-abbrev the : (X : Type 0) → X → X
+abbrev pub the : (X : Type 0) → X → X
 the X x = x
 
-same_ok : {A E : Type 0} (x y : A) → the (Result A E) (Ok x) ≡ Ok y → x ≡ y
+pub same_ok : {A E : Type 0} (x y : A) → the (Result A E) (Ok x) ≡ Ok y → x ≡ y
 same_ok x y is = cc
 
 -- ---- a number that is not the default asks for a feature that is missing
 
-not_built : (key : Key) (feature : Option Feature) → key_feature key ≡ feature → feature ≡ Some Pushes → (test : Bool) (done : Unit {0}) → built missing_features (asked key test) ≡ Ok done → test ≡ true
+pub not_built : (key : Key) (feature : Option Feature) → key_feature key ≡ feature → feature ≡ Some Pushes → (test : Bool) (done : Unit {0}) → built missing_features (asked key test) ≡ Ok done → test ≡ true
 not_built key feature is same true done whole = refl
 not_built key feature is same false done whole =
     let never : built missing_features (Some Pushes) ≡ Ok done = ap (built missing_features) (sym (is ∙ same)) ∙ whole in
@@ -115,7 +115,7 @@ run_line : (draft out : Known) (line : List ℕ) → HasDefaults draft.keys → 
 unfolding run_read
 run_line draft out line has is = let both = bound (run_of missing_features draft.keys.transport line) _ out is in subst (λ (d : Known). HasDefaults d.keys) (same_ok _ _ both.then_is) has
 
-chosen_by : {A E : Type 0} (P : Type 0) (test : Bool) (x y : Result A E) (out : A) → (x ≡ Ok out → P) → (y ≡ Ok out → P) → cond test x y ≡ Ok out → P
+pub chosen_by : {A E : Type 0} (P : Type 0) (test : Bool) (x y : Result A E) (out : A) → (x ≡ Ok out → P) → (y ≡ Ok out → P) → cond test x y ≡ Ok out → P
 chosen_by P true x y out one other is = one is
 chosen_by P false x y out one other is = other is
 
@@ -135,7 +135,7 @@ at_end : (draft : Known) (script : Script) → HasDefaults draft.keys → finish
 unfolding finished with_defaults
 at_end draft script has is = let both = bound (whole draft) _ script is in subst IsDefault (same_ok _ _ both.then_is) has
 
-located : {A : Type 0} (number : ℕ) (result : Result A ScriptRefusal) (out : A) → at_line number result ≡ Ok out → result ≡ Ok out
+pub located : {A : Type 0} (number : ℕ) (result : Result A ScriptRefusal) (out : A) → at_line number result ≡ Ok out → result ≡ Ok out
 located number (Ok value) out is = ap Ok (same_ok _ _ is)
 located number (Err refusal) out is = absurd cc
 

@@ -13,3 +13,5 @@ pub mod TextLines
 pub mod Again
 pub mod Making
 pub mod Defaults
+pub mod OneName
+pub mod PlainWords

@@ -1,5 +1,5 @@
 -- Laws of the text of scenarios (this project's own).
-use Rattle.std.specs.Prelude.{ℕ, ◌≡◌, ◌<◌, ◌≤◌, ◌^◌, ◌==◌, Bool, not, List, [], length, Some, Ok, decimal}
+use Rattle.std.specs.Prelude.{ℕ, ◌≡◌, ◌<◌, ◌≤◌, ◌^◌, ◌==◌, Bool, not, List, [], length, Some, None, Ok, decimal}
 use Rattle.std.specs.List.{AllByRecursion}
 use Rattle.push_script.specs.declared.feature.Feature.{Feature}
 use Rattle.push_script.specs.declared.scenario.Scenario.{Scenario}
@@ -63,3 +63,11 @@ OneOutcome = (text : List ℕ) (outcome other : Outcome) → SaysOutcome text ou
 -- A scenario that is read today has the default MTU and the default longest packet of OBEX, 1,024 octets each.
 abbrev pub LengthsAreDefaults : Type 0
 LengthsAreDefaults = (text : List ℕ) (script : Script) → reading missing_features text ≡ Ok script → (script.mtu ≡ 1024) × (script.obex ≡ 1024)
+
+-- and at most one object
+abbrev pub ObjectsAreFew : Type 0
+ObjectsAreFew = (text : List ℕ) (script : Script) → reading missing_features text ≡ Ok script → length script.names ≤ 1
+
+-- and no word for which a feature is missing
+abbrev pub WordsArePlain : Type 0
+WordsArePlain = (text : List ℕ) (script : Script) → reading missing_features text ≡ Ok script → AllByRecursion (λ run. word_feature run.1 ≡ None) script.runs

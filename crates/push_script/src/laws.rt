@@ -1,7 +1,7 @@
 //! Laws of the text of scenarios, for every value. They speak of no call: the contracts of the calls
 //! tie these to the same definitions.
 
-ghost use Rattle.push_script.specs.Laws.{NumbersAgain, LengthsAreDefaults, TextsAgain, AllTextsAgain, OneWord, OneOutcome};
+ghost use Rattle.push_script.specs.Laws.{NumbersAgain, LengthsAreDefaults, ObjectsAreFew, TextsAgain, AllTextsAgain, WordsArePlain, OneWord, OneOutcome};
 
 /// A number that was written is read again.
 pub fn numbers_are_read_again()
@@ -29,4 +29,14 @@ pub fn outcomes_have_their_own_texts()
 /// lengths are missing.
 pub fn lengths_are_defaults()
     ensures { LengthsAreDefaults }
+{}
+
+/// A scenario that is read has one object at most, while a second one is missing.
+pub fn objects_are_few()
+    ensures { ObjectsAreFew }
+{}
+
+/// A scenario that is read has no word for which a feature is missing.
+pub fn words_are_plain()
+    ensures { WordsArePlain }
 {}

@@ -1,6 +1,6 @@
 -- What was due where a run broke off, and the steps before it.
-use Rattle.std.proofs.Common.{◌≡◌, ℕ, ◌+◌, ◌^◌, ◌<◌, true, List, [], ◌∷◌, ◌++◌, Option, Some, None, refl, sym, subst, inl, inr, ◌⊎◌, Result, Ok, Err}
-use Rattle.std.specs.Prelude.{IfErr, IsErrAnd}
+use Rattle.std.proofs.Common.{◌≡◌, ℕ, ◌+◌, ◌^◌, ◌<◌, true, List, [], ◌∷◌, ◌++◌, Option, Some, None, refl, sym, ap, subst, inl, inr, ◌⊎◌, Result, Ok, Err}
+use Rattle.std.specs.Prelude.{IfErr, IsErrAnd, IsErrOf}
 use Rattle.std.proofs.lemmas.List.{append-nil}
 use Rattle.bt_base.specs.Streams.{GainedFront}
 use Rattle.bt_base.proofs.PortLaws.{front_none}
@@ -22,9 +22,9 @@ use Rattle.world_model.specs.Moments.{Moment}
 use Rattle.radio_world.specs.Running.{moment, in_medium}
 use Rattle.radio_world.specs.Extending.{Extends}
 use Rattle.radio_world.specs.Going.{Goes}
-use Rattle.radio_world.specs.Breaking.{IsDue, Stops, MovesShort, Breaks}
+use Rattle.radio_world.specs.Breaking.{IsDue, IsUnbuiltAt, Stops, MovesShort, Breaks}
 use Rattle.radio_world.specs.declared.fault.WorldFault.{WorldFault}
-use Rattle.radio_world.specs.declared.fault.WorldFault.TheVariants.{TraceFault}
+use Rattle.radio_world.specs.declared.fault.WorldFault.TheVariants.{TraceFault, NotBuilt}
 use Rattle.radio_world.proofs.Extending.{extends_none, extends_then}
 use Rattle.radio_world.proofs.Going.{goes_none, goes_then, goes_a, goes_b}
 
@@ -35,6 +35,14 @@ pub any_fault : {A : Type 0} (result : Result A WorldFault) (P : WorldFault → 
 any_fault (Ok x) P all = tt
 any_fault (Err fault) P all = all fault
 
+abbrev mk_err : (A : Type 0) → WorldFault → Result A WorldFault
+mk_err A fault = Err fault
+
+-- whatever fault it is but that something is not built, which does not come
+pub any_built : {A : Type 0} (result : Result A WorldFault) (P : WorldFault → Type 0) → (IsErrOf result NotBuilt → ⊥) → ((fault : WorldFault) → (fault ≡ NotBuilt → ⊥) → P fault) → IfErr result P
+any_built (Ok x) P built all = tt
+any_built {A} (Err fault) P built all = all fault (λ is. built (ap (λ (f : WorldFault). mk_err A f) is))
+
 -- a fault is handed on
 pub same_fault : {A : Type 0} (result : Result A WorldFault) (P : WorldFault → Type 0) (fault : WorldFault) → IsErrAnd result (λ other. other ≡ fault) → P fault → IfErr result P
 same_fault (Ok x) P fault is holds = tt
@@ -43,27 +51,28 @@ same_fault (Err other) P fault is holds = subst P (sym is) holds
 -- ---- at a moment
 
 -- nothing was due
-pub stops_none : (words : List Word) (fault : WorldFault) (last : Moment) (trace : Option (List ℕ)) → Stops words fault last last.b trace trace
-stops_none words fault last trace = record { due = None; is_due = tt; front = front_none trace []; stays = λ why. refl }
+pub stops_none : (words : List Word) (fault : WorldFault) (last : Moment) (trace : Option (List ℕ)) → (fault ≡ NotBuilt → IsUnbuiltAt words None) → Stops words fault last last.b trace trace
+stops_none words fault last trace unbuilt = record { due = None; is_due = tt; front = front_none trace []; stays = λ why. refl; unbuilt = unbuilt }
 
 one_front : (trace trace' : Option (List ℕ)) (entry : Entry) → GainedFront trace trace' (entry_octets entry) → GainedFront trace trace' (capture_octets (entry ∷ []))
 one_front trace trace' entry front = subst (GainedFront trace trace') (sym (append-nil (entry_octets entry))) front
 
 -- something was, while host b stayed as it was
 pub stops_at : (words : List Word) (fault : WorldFault) (entry : Entry) (last : Moment) (trace trace' : Option (List ℕ)) → IsDue words entry last → GainedFront trace trace' (entry_octets entry)
-    → Stops words fault last last.b trace trace'
-stops_at words fault entry last trace trace' is front = record { due = Some entry; is_due = is; front = one_front trace trace' entry front; stays = λ why. refl }
+    → (fault ≡ NotBuilt → IsUnbuiltAt words (Some entry)) → Stops words fault last last.b trace trace'
+stops_at words fault entry last trace trace' is front unbuilt = record { due = Some entry; is_due = is; front = one_front trace trace' entry front; stays = λ why. refl; unbuilt = unbuilt }
 
 -- ---- packets that move
 
 -- all that moved is told
-pub short_none : (fault : WorldFault) (side : Side) (old new : Medium) (face face' : Face) (trace trace' : Option (List ℕ)) → Extends side old new face face' trace trace' → MovesShort fault side old face face' trace trace'
-short_none fault side old new face face' trace trace' extends = record {
+pub short_none : (fault : WorldFault) (side : Side) (old new : Medium) (face face' : Face) (trace trace' : Option (List ℕ)) → Extends side old new face face' trace trace' → (fault ≡ NotBuilt → ⊥)
+    → MovesShort fault side old face face' trace trace'
+short_none fault side old new face face' trace trace' extends not = record {
   mid = new;
   mid_face = face';
   so_far = trace';
   extends = extends;
-  stops = λ other scene. stops_none [] fault (moment (in_medium new scene) (face_a side face' other) (face_b side face' other)) trace';
+  stops = λ other scene. stops_none [] fault (moment (in_medium new scene) (face_a side face' other) (face_b side face' other)) trace' (λ is. absurd (not is));
 }
 
 due_out : (side : Side) (medium : Medium) (face other : Face) (scene : Scene) (packet : Packet) (left : List ℕ) → IsPacket acl_limit packet → face.line.out ≡ spelling packet ++ left
@@ -73,14 +82,14 @@ due_out sides.B medium face other scene packet left is first = (left, is, first)
 
 -- it broke off at a packet that the host put out
 pub short_out : (fault : WorldFault) (side : Side) (medium : Medium) (face : Face) (trace trace' : Option (List ℕ)) (packet : Packet) (left : List ℕ) → IsPacket acl_limit packet → face.line.out ≡ spelling packet ++ left
-    → GainedFront trace trace' (entry_octets (Moved side Out packet)) → MovesShort fault side medium face face trace trace'
-short_out fault side medium face trace trace' packet left is first front = record {
+    → GainedFront trace trace' (entry_octets (Moved side Out packet)) → (fault ≡ NotBuilt → ⊥) → MovesShort fault side medium face face trace trace'
+short_out fault side medium face trace trace' packet left is first front not = record {
   mid = medium;
   mid_face = face;
   so_far = trace;
   extends = extends_none side medium face trace;
   stops = λ other scene.
-      stops_at [] fault (Moved side Out packet) (moment (in_medium medium scene) (face_a side face other) (face_b side face other)) trace trace' (due_out side medium face other scene packet left is first) front;
+      stops_at [] fault (Moved side Out packet) (moment (in_medium medium scene) (face_a side face other) (face_b side face other)) trace trace' (due_out side medium face other scene packet left is first) front (λ e. absurd (not e));
 }
 
 not_trace : (fault : WorldFault) (face face' : Face) → (fault ≡ TraceFault → face' ≡ face) → (fault ≡ TraceFault) ⊎ (Unit {0} → ⊥) → face' ≡ face
@@ -89,26 +98,27 @@ not_trace fault face face' same (inr not) = absurd (not tt)
 
 stops_into : (fault : WorldFault) (side : Side) (medium : Medium) (face face' other : Face) (scene : Scene) (trace trace' : Option (List ℕ)) (answer : Answer) (rest : List Answer)
     → (controller side medium.radio).owed ≡ answer ∷ rest → IsPacket acl_limit (packet_of side answer) → (fault ≡ TraceFault → face' ≡ face) → GainedFront trace trace' (entry_octets (Moved side Into (packet_of side answer)))
-    → Stops [] fault (moment (in_medium medium scene) (face_a side face other) (face_b side face other)) (face_b side face' other) trace trace'
-stops_into fault sides.A medium face face' other scene trace trace' answer rest owed is same front =
-    stops_at [] fault (Moved sides.A Into (packet_of sides.A answer)) (moment (in_medium medium scene) face other) trace trace' (answer, rest, owed, refl, is) front
-stops_into fault sides.B medium face face' other scene trace trace' answer rest owed is same front = record {
+    → (fault ≡ NotBuilt → ⊥) → Stops [] fault (moment (in_medium medium scene) (face_a side face other) (face_b side face other)) (face_b side face' other) trace trace'
+stops_into fault sides.A medium face face' other scene trace trace' answer rest owed is same front not =
+    stops_at [] fault (Moved sides.A Into (packet_of sides.A answer)) (moment (in_medium medium scene) face other) trace trace' (answer, rest, owed, refl, is) front (λ e. absurd (not e))
+stops_into fault sides.B medium face face' other scene trace trace' answer rest owed is same front not = record {
   due = Some (Moved sides.B Into (packet_of sides.B answer));
   is_due = (answer, rest, owed, refl, is);
   front = one_front trace trace' (Moved sides.B Into (packet_of sides.B answer)) front;
   stays = not_trace fault face face' same;
+  unbuilt = λ e. absurd (not e);
 }
 
 -- it broke off at a packet for the host
 pub short_into : (fault : WorldFault) (side : Side) (medium : Medium) (face face' : Face) (trace trace' : Option (List ℕ)) (answer : Answer) (rest : List Answer)
     → (controller side medium.radio).owed ≡ answer ∷ rest → IsPacket acl_limit (packet_of side answer) → (fault ≡ TraceFault → face' ≡ face) → GainedFront trace trace' (entry_octets (Moved side Into (packet_of side answer)))
-    → MovesShort fault side medium face face' trace trace'
-short_into fault side medium face face' trace trace' answer rest owed is same front = record {
+    → (fault ≡ NotBuilt → ⊥) → MovesShort fault side medium face face' trace trace'
+short_into fault side medium face face' trace trace' answer rest owed is same front not = record {
   mid = medium;
   mid_face = face;
   so_far = trace;
   extends = extends_none side medium face trace;
-  stops = λ other scene. stops_into fault side medium face face' other scene trace trace' answer rest owed is same front;
+  stops = λ other scene. stops_into fault side medium face face' other scene trace trace' answer rest owed is same front not;
 }
 
 -- some packets moved before
@@ -125,8 +135,8 @@ moves_then_short fault side first mid face face' face'' trace trace' trace'' ext
 -- ---- between the hosts
 
 -- all that went on is told
-pub breaks_none : (fault : WorldFault) (old new : Scene) (a a' b b' : Face) (trace trace' : Option (List ℕ)) → Goes old new a a' b b' trace trace' → Breaks fault old a b b' trace trace'
-breaks_none fault old new a a' b b' trace trace' goes = record { mid = new; mid_a = a'; mid_b = b'; so_far = trace'; goes = goes; stops = stops_none [] fault (moment new a' b') trace' }
+pub breaks_none : (fault : WorldFault) (old new : Scene) (a a' b b' : Face) (trace trace' : Option (List ℕ)) → Goes old new a a' b b' trace trace' → (fault ≡ NotBuilt → ⊥) → Breaks fault old a b b' trace trace'
+breaks_none fault old new a a' b b' trace trace' goes not = record { mid = new; mid_a = a'; mid_b = b'; so_far = trace'; goes = goes; stops = stops_none [] fault (moment new a' b') trace' (λ is. absurd (not is)) }
 
 -- it broke off at once
 pub breaks_now : (fault : WorldFault) (scene : Scene) (a b b' : Face) (trace trace' : Option (List ℕ)) → Stops [] fault (moment scene a b) b' trace trace' → Breaks fault scene a b b' trace trace'
@@ -169,9 +179,14 @@ breaks_b fault scene a b b' trace trace' short = record {
 pub breaks_begun : (fault : WorldFault) (scene : Scene) (push : ℕ) (name : List ℕ) (a b : Face) (trace trace' : Option (List ℕ)) → next_name scene.pushes ≡ Some name → push ≡ scene.pushes.begun + 1 → push < 2 ^ 16
     → idles a.inside ≡ true → GainedFront trace trace' (entry_octets (Begun push)) → Breaks fault scene a b b trace trace'
 breaks_begun fault scene push name a b trace trace' next is few idle front =
-    breaks_now fault scene a b b trace trace' (stops_at [] fault (Begun push) (moment scene a b) trace trace' (name, next, is, few, idle) front)
+    breaks_now fault scene a b b trace trace' (stops_at [] fault (Begun push) (moment scene a b) trace trace' (name, next, is, few, idle) front (λ e. inl (push, refl)))
 
 -- whatever fault it is, and whatever host b is
 pub any_break : {A : Type 0} (result : Result A WorldFault) (scene : Scene) (a : Face) (trace trace' : Option (List ℕ)) → ((fault : WorldFault) (b : Face) → Breaks fault scene a b b trace trace')
     → IfErr result (λ fault. (b : Face) → Breaks fault scene a b b trace trace')
 any_break result scene a trace trace' all = any_fault result (λ fault. (b : Face) → Breaks fault scene a b b trace trace') all
+
+-- whatever fault it is but that something is not built
+pub built_break : {A : Type 0} (result : Result A WorldFault) (scene : Scene) (a : Face) (trace trace' : Option (List ℕ)) → (IsErrOf result NotBuilt → ⊥)
+    → ((fault : WorldFault) (b : Face) → (fault ≡ NotBuilt → ⊥) → Breaks fault scene a b b trace trace') → IfErr result (λ fault. (b : Face) → Breaks fault scene a b b trace trace')
+built_break result scene a trace trace' built all = any_built result (λ fault. (b : Face) → Breaks fault scene a b b trace trace') built (λ fault not b. all fault b not)

@@ -17,5 +17,6 @@ pub mod Happening
 pub mod Blaming
 pub mod Breaking
 pub mod Stopping
+pub mod Unbuilt
 pub mod Due
 pub mod Unfinished

@@ -1,5 +1,5 @@
 -- Words that were turned before a run broke off, and the end of a script.
-use Rattle.std.proofs.Common.{◌≡◌, ℕ, ◌+◌, ◌-◌, ◌^◌, ◌<◌, true, List, [], ◌∷◌, ◌++◌, take, drop, replicate, Option, Some, None, refl, sym, ap, subst, ◌∙◌, append_assoc, arith}
+use Rattle.std.proofs.Common.{◌≡◌, ℕ, ◌+◌, ◌-◌, ◌^◌, ◌<◌, true, List, [], ◌∷◌, ◌++◌, take, drop, replicate, Option, Some, None, refl, sym, ap, subst, ◌∙◌, append_assoc, inl, inr, arith}
 use Rattle.std.specs.Prelude.{IfSome, unwrap_or}
 use Rattle.std.proofs.lemmas.List.{replicate-append-replicate, take-append-drop}
 use Rattle.std.proofs.lemmas.Grind.{flat_map-append}
@@ -19,8 +19,10 @@ use Rattle.world_model.specs.Scenes.{Scene}
 use Rattle.world_model.specs.Moments.{Moment, IsAtRest}
 use Rattle.radio_world.specs.Running.{moment}
 use Rattle.radio_world.specs.Going.{Turns}
-use Rattle.radio_world.specs.Breaking.{IsDue, Stops, Breaks, TurnsShort, EndsShort, FinishesShort}
+use Rattle.radio_world.specs.Blaming.{IsUnbuilt}
+use Rattle.radio_world.specs.Breaking.{IsDue, IsUnbuiltAt, Stops, Breaks, TurnsShort, EndsShort, FinishesShort}
 use Rattle.radio_world.specs.declared.fault.WorldFault.{WorldFault}
+use Rattle.radio_world.specs.declared.fault.WorldFault.TheVariants.{NotBuilt}
 use Rattle.radio_world.proofs.Turned.{scene_of, turns_none, turns_then, turns_to_act}
 use Rattle.radio_world.proofs.Breaking.{stops_none, stops_at, breaks_now}
 
@@ -37,8 +39,18 @@ pub due_any : (words more : List Word) (due : Option Entry) (last : Moment) → 
 due_any words more None last is = tt
 due_any words more (Some entry) last is = due_longer words more entry last is
 
+pub unbuilt_longer : (words more : List Word) (due : Option Entry) → IsUnbuiltAt words due → IsUnbuiltAt (words ++ more) due
+unbuilt_longer words more due (inl begins) = inl begins
+unbuilt_longer words more due (inr (none, word, rest, first, is)) = inr (none, word, rest ++ more, ap (λ xs. xs ++ more) first, is)
+
 pub stops_longer : (words more : List Word) (fault : WorldFault) (last : Moment) (b : Face) (trace trace' : Option (List ℕ)) → Stops words fault last b trace trace' → Stops (words ++ more) fault last b trace trace'
-stops_longer words more fault last b trace trace' stops = record { due = stops.due; is_due = due_any words more stops.due last stops.is_due; front = stops.front; stays = stops.stays }
+stops_longer words more fault last b trace trace' stops = record {
+  due = stops.due;
+  is_due = due_any words more stops.due last stops.is_due;
+  front = stops.front;
+  stays = stops.stays;
+  unbuilt = λ is. unbuilt_longer words more stops.due (stops.unbuilt is);
+}
 
 pub short_longer : (fault : WorldFault) (words more : List Word) (old : Scene) (a b b' : Face) (trace trace' : Option (List ℕ)) → TurnsShort fault words old a b b' trace trace' → TurnsShort fault (words ++ more) old a b b' trace trace'
 short_longer fault words more old a b b' trace trace' short = record {
@@ -70,16 +82,18 @@ short_now fault words scene a b b' trace trace' stops = record {
 }
 
 -- nothing was said of a word
-pub short_unsaid : (fault : WorldFault) (words : List Word) (scene : Scene) (a b : Face) (trace : Option (List ℕ)) → TurnsShort fault words scene a b b trace trace
-short_unsaid fault words scene a b trace = short_now fault words scene a b b trace trace (stops_none words fault (moment scene a b) trace)
+pub short_unsaid : (fault : WorldFault) (word : Word) (scene : Scene) (a b : Face) (trace : Option (List ℕ)) → (fault ≡ NotBuilt → IsUnbuilt word) → TurnsShort fault (word ∷ []) scene a b b trace trace
+short_unsaid fault word scene a b trace unbuilt =
+    short_now fault (word ∷ []) scene a b b trace trace (stops_none (word ∷ []) fault (moment scene a b) trace (λ is. inr (refl, word, [], refl, unbuilt is)))
 
 -- it broke off at a word that did something
 pub short_at_word : (fault : WorldFault) (medium medium' : Medium) (pushes : Pushes) (turned ordinal : ℕ) (old : Scene) (word : Word) (a b : Face) (trace trace' : Option (List ℕ)) → scene_of medium pushes turned ≡ old
-    → IsAtRest (moment old a b) → Acts word medium medium' → ordinal ≡ turned + 1 → ordinal < 2 ^ 64 → GainedFront trace trace' (entry_octets (Acted ordinal word)) → TurnsShort fault (word ∷ []) old a b b trace trace'
-short_at_word fault medium medium' pushes turned ordinal old word a b trace trace' same rest acts next few front =
+    → IsAtRest (moment old a b) → Acts word medium medium' → ordinal ≡ turned + 1 → ordinal < 2 ^ 64 → GainedFront trace trace' (entry_octets (Acted ordinal word)) → (fault ≡ NotBuilt → ⊥)
+    → TurnsShort fault (word ∷ []) old a b b trace trace'
+short_at_word fault medium medium' pushes turned ordinal old word a b trace trace' same rest acts next few front not =
     short_now fault (word ∷ []) old a b b trace trace'
     (stops_at (word ∷ []) fault (Acted ordinal word) (moment old a b) trace trace'
-    ([], refl, rest, next ∙ ap (λ (s : Scene). s.turned + 1) same, few, medium', subst (λ (s : Scene). Acts word s.medium medium') same acts) front)
+    ([], refl, rest, next ∙ ap (λ (s : Scene). s.turned + 1) same, few, medium', subst (λ (s : Scene). Acts word s.medium medium') same acts) front (λ is. absurd (not is)))
 
 -- and while all moved that followed from it
 pub word_then_breaks : (fault : WorldFault) (medium medium' : Medium) (pushes : Pushes) (turned ordinal : ℕ) (old : Scene) (word : Word) (a b b' : Face) (trace trace' trace'' : Option (List ℕ)) → scene_of medium pushes turned ≡ old
@@ -127,18 +141,18 @@ in_script runs n = sym (flat_map-append (λ run. replicate run.0 run.1) (take n 
 
 -- the end of a push was due
 last_of : (fault : WorldFault) (outcome : Outcome) (old : Scene) (a b : Face) (trace trace' : Option (List ℕ)) → old.pushes.going ≡ true → outcome ≡ unwrap_or (came_of a.inside) ScriptEnded → EndsShort outcome old trace trace'
-    → Stops [] fault (moment old a b) b trace trace'
-last_of fault outcome old a b trace trace' going is ends =
-    stops_at [] fault (Ended old.pushes.begun outcome) (moment old a b) trace trace' (going, refl, ends.few, ends.outcome_is, is) ends.front
+    → (fault ≡ NotBuilt → ⊥) → Stops [] fault (moment old a b) b trace trace'
+last_of fault outcome old a b trace trace' going is ends not =
+    stops_at [] fault (Ended old.pushes.begun outcome) (moment old a b) trace trace' (going, refl, ends.few, ends.outcome_is, is) ends.front (λ e. absurd (not e))
 
 pub breaks_ended : (fault : WorldFault) (outcome : Outcome) (old : Scene) (a b : Face) (trace trace' : Option (List ℕ)) → old.pushes.going ≡ true → came_of a.inside ≡ Some outcome → EndsShort outcome old trace trace'
-    → Breaks fault old a b b trace trace'
-breaks_ended fault outcome old a b trace trace' going came ends =
-    breaks_now fault old a b b trace trace' (last_of fault outcome old a b trace trace' going (sym (ap (λ o. unwrap_or o ScriptEnded) came)) ends)
+    → (fault ≡ NotBuilt → ⊥) → Breaks fault old a b b trace trace'
+breaks_ended fault outcome old a b trace trace' going came ends not =
+    breaks_now fault old a b b trace trace' (last_of fault outcome old a b trace trace' going (sym (ap (λ o. unwrap_or o ScriptEnded) came)) ends not)
 
 pub finishes_none : (came : Option Outcome) (old : Scene) (trace : Option (List ℕ)) → FinishesShort came old trace trace
-finishes_none came old trace = λ fault a b is. stops_none [] fault (moment old a b) trace
+finishes_none came old trace = λ fault a b is not. stops_none [] fault (moment old a b) trace (λ e. absurd (not e))
 
 pub finishes_one : (came : Option Outcome) (outcome : Outcome) (old : Scene) (trace trace' : Option (List ℕ)) → old.pushes.going ≡ true → outcome ≡ unwrap_or came ScriptEnded → EndsShort outcome old trace trace' → FinishesShort came old trace trace'
-finishes_one came outcome old trace trace' going outcome_is ends = λ fault a b is.
-    last_of fault outcome old a b trace trace' going (outcome_is ∙ ap (λ o. unwrap_or o ScriptEnded) (sym is)) ends
+finishes_one came outcome old trace trace' going outcome_is ends = λ fault a b is not.
+    last_of fault outcome old a b trace trace' going (outcome_is ∙ ap (λ o. unwrap_or o ScriptEnded) (sym is)) ends not

@@ -28,7 +28,7 @@ use Rattle.radio_world.specs.Worlds.{beginning}
 use Rattle.radio_world.specs.declared.fault.WorldFault.{WorldFault}
 use Rattle.radio_world.proofs.Running.{run_then}
 use Rattle.radio_world.proofs.Turned.{rest_of}
-use Rattle.radio_world.proofs.Stopping.{due_any}
+use Rattle.radio_world.proofs.Stopping.{due_any, unbuilt_longer}
 use Rattle.radio_world.proofs.Due.{AreLeft, keeps_standing, keeps_any}
 
 -- controllers of a scenario
@@ -59,6 +59,7 @@ short_at fault scenario shelf inbox turned left more past last b trace trace' tr
         is_due = due_any left more stops.due last stops.is_due;
         front = subst (λ t. GainedFront t trace'' (capture_octets (option_to_list stops.due))) said stops.front;
         stays = stops.stays;
+        unbuilt = λ is. unbuilt_longer left more stops.due (stops.unbuilt is);
       };
       keeps = subst (KeepsAll scenario.acl_length scenario.acl_count (words_of scenario.script)) run.entries_are kept;
       keeps_due = subst (λ entries. KeepsAll scenario.acl_length scenario.acl_count (words_of scenario.script) (entries ++ option_to_list stops.due)) run.entries_are

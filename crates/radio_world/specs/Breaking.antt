@@ -1,5 +1,5 @@
 -- Where a run broke off: what was due then, and how much of it the capture says (this project's own).
-use Rattle.std.specs.Prelude.{ℕ, ◌+◌, ◌^◌, ◌≡◌, ◌<◌, ◌⊎◌, true, List, [], ◌∷◌, ◌++◌, Option, Some, IfSome, option_to_list}
+use Rattle.std.specs.Prelude.{ℕ, ◌+◌, ◌^◌, ◌≡◌, ◌<◌, ◌⊎◌, true, List, [], ◌∷◌, ◌++◌, Option, Some, None, IfSome, option_to_list}
 use Rattle.bt_base.specs.Streams.{GainedFront}
 use Rattle.h4_framing.specs.Packets.{spelling, IsPacket}
 use Rattle.push_script.specs.declared.outcome.Outcome.{Outcome}
@@ -23,8 +23,9 @@ use Rattle.world_model.specs.Happenings.{last_outcome}
 use Rattle.radio_world.specs.Running.{moment, in_medium}
 use Rattle.radio_world.specs.Extending.{Extends}
 use Rattle.radio_world.specs.Going.{Goes, Turns}
+use Rattle.radio_world.specs.Blaming.{IsUnbuilt}
 use Rattle.radio_world.specs.declared.fault.WorldFault.{WorldFault}
-use Rattle.radio_world.specs.declared.fault.WorldFault.TheVariants.{TraceFault}
+use Rattle.radio_world.specs.declared.fault.WorldFault.TheVariants.{TraceFault, NotBuilt}
 
 -- ---- what may come next
 
@@ -46,13 +47,19 @@ abbrev pub IsForB : Option Entry → Type 0
 IsForB (Some (Moved sides.B Into packet)) = Unit {0}
 IsForB _ = ⊥
 
+-- What it may be that is not built: the push whose begin was due, or, where nothing was due, the first of the words that are left.
+abbrev pub IsUnbuiltAt : List Word → Option Entry → Type 0
+IsUnbuiltAt words due = ((push : ℕ) × (due ≡ Some (Begun push))) ⊎ ((due ≡ None) × (word : Word) × (more : List Word) × (words ≡ word ∷ more) × IsUnbuilt word)
+
 -- At a moment it broke off with that fault, while these words were left: of what was due, if anything was, the trace gained a
--- front. Host b and its inbox, now `b`, stayed as they were then, but for a packet that it had no memory to hear.
+-- front. Host b and its inbox, now `b`, stayed as they were then, but for a packet that it had no memory to hear. What is not
+-- built it found at the begin of a push, or at a word.
 pub record Stops (words : List Word) (fault : WorldFault) (last : Moment) (b : Face) (trace trace' : Option (List ℕ)) : Type 0 where
   pub due : Option Entry
   pub is_due : IfSome due (λ entry. IsDue words entry last)
   pub front : GainedFront trace trace' (capture_octets (option_to_list due))
   pub stays : (fault ≡ TraceFault) ⊎ (IsForB due → ⊥) → b ≡ last.b
+  pub unbuilt : fault ≡ NotBuilt → IsUnbuiltAt words due
 
 -- ---- steps, and then it broke off
 
@@ -93,4 +100,4 @@ pub record EndsShort (outcome : Outcome) (old : Scene) (trace trace' : Option (L
 
 -- The script has ended, and the end of the last push, where one went on, was due: the trace gained a front of that, or all of it.
 abbrev pub FinishesShort : Option Outcome → Scene → Option (List ℕ) → Option (List ℕ) → Type 0
-FinishesShort came old trace trace' = (fault : WorldFault) (a b : Face) → came_of a.inside ≡ came → Stops [] fault (moment old a b) b trace trace'
+FinishesShort came old trace trace' = (fault : WorldFault) (a b : Face) → came_of a.inside ≡ came → (fault ≡ NotBuilt → ⊥) → Stops [] fault (moment old a b) b trace trace'

@@ -1,6 +1,8 @@
 use Rattle.std.proofs.Common.{refl, ap, length, sym, ◌∙◌, arith, List, ℕ}
 use Rattle.push_script.specs.Features.{missing_features}
 use Rattle.push_script.proofs.Defaults.{has_defaults}
+use Rattle.push_script.proofs.OneName.{has_one_name}
+use Rattle.push_script.proofs.PlainWords.{has_plain_words}
 use Rattle.push_script.specs.Reading.{script_of}
 use Rattle.btpush.specs.Gathering.{reading_limit}
 use Rattle.btpush.specs.Pushing.{NotRead}
@@ -28,6 +30,12 @@ pub run_scenario-requires-clause-room : goal.run_scenario-requires-clause-room
 run_scenario-requires-clause-room g c =
     let lengths = has_defaults c.deref.result.now (script_of c.in-Ok-scenario_of.scenario) c.in-Ok-scenario_of.ensures in
     (omega (arith, lengths.0), omega (arith, lengths.1))
+
+pub run_scenario-requires-clause-one : goal.run_scenario-requires-clause-one
+run_scenario-requires-clause-one g c = has_one_name c.deref.result.now (script_of c.in-Ok-scenario_of.scenario) c.in-Ok-scenario_of.ensures
+
+pub run_scenario-requires-clause-plain : goal.run_scenario-requires-clause-plain
+run_scenario-requires-clause-plain g c = has_plain_words c.deref.result.now (script_of c.in-Ok-scenario_of.scenario) c.in-Ok-scenario_of.ensures
 
 pub returns-clause-pushes : goal.returns-clause-pushes
 returns-clause-pushes g c = if_some _ (λ input h. taken input _ _ _ _ _ _ _ _ _ _ _ _ c.in-Ok-scenario_of.scenario _ _ h.0 c.deref.ensures.value c.deref-2.ensures.value h.1 c.in-Ok-scenario_of.ensures c.object_line.ensures c.run_scenario.ensures.runs) c.in-Ok.ensures.gathers

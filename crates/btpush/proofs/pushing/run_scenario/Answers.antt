@@ -1,6 +1,6 @@
 use Rattle.std.proofs.Common.{refl}
 use Rattle.radio_world.specs.declared.fault.WorldFault.TheVariants as world
-use Rattle.btpush.specs.Pushing.{RanToEnd, RanShort}
+use Rattle.btpush.specs.Pushing.{RanToEnd, RanUnbuilt, RanShort}
 use Rattle.btpush.proofs.Blaming.{still_trace, beside_trace}
 use Rattle.btpush.proofs.pushing.run_scenario.Goals as goal
 
@@ -9,6 +9,11 @@ returns-in-Ok-clause-runs g c = RanToEnd c.in-Ok.played c.in-Ok.ensures.plays c.
 
 pub returns-in-Ok-clause-causes : goal.returns-in-Ok-clause-causes
 returns-in-Ok-clause-causes g c = beside_trace (still_trace c.in-Ok.ensures.blame (λ is. absurd cc)) c.report.ensures.causes
+
+pub returns-in-Err-NotBuilt-clause-runs : goal.returns-in-Err-NotBuilt-clause-runs
+returns-in-Err-NotBuilt-clause-runs g c =
+    let short = rw c.in-Err-NotBuilt.field-0-is at c.in-Err-NotBuilt.ensures.broken in
+    RanUnbuilt ((rw c.in-Err-NotBuilt.field-0-is at c.in-Err-NotBuilt.ensures.built) refl) (short.unbuilt refl c.requires.one c.requires.plain) short c.refuse.ensures.refuses
 
 pub returns-in-Err-NotBuilt-clause-causes : goal.returns-in-Err-NotBuilt-clause-causes
 returns-in-Err-NotBuilt-clause-causes g c = beside_trace (still_trace c.in-Err-NotBuilt.ensures.blame (λ is. let not = c.in-Err-NotBuilt.field-0-is in absurd cc)) c.refuse.ensures.causes

@@ -1,9 +1,9 @@
-use Rattle.std.proofs.Common.{◌≡◌, ℕ, ap, ◌∙◌}
+use Rattle.std.proofs.Common.{rules, ◌≡◌, ℕ, ap, ◌∙◌}
 use Rattle.push_script.specs.declared.word.Side.{Side}
 use Rattle.radio_air.specs.Radio.{Radio, after_offer}
 use Rattle.world_model.specs.Media.{Medium, in_radio}
 use Rattle.radio_world.proofs.Offered.{exchange_extends, offered_extends}
-use Rattle.radio_world.proofs.Breaking.{any_fault, same_fault, short_none, moves_then_short}
+use Rattle.radio_world.proofs.Breaking.{any_built, same_fault, short_none, moves_then_short}
 use Rattle.radio_world.proofs.medium.Medium.exchange.Goals as goal
 
 abbrev mk : Radio → ℕ → ℕ → Medium
@@ -29,7 +29,7 @@ pub returns-in_err-out-clause-broken : goal.returns-in_err-out-clause-broken
 returns-in_err-out-clause-broken g c = same_fault _ _ c.in_err-out.field-0.0 c.from_residual.ensures.1 c.in_err-out.ensures.broken
 
 pub returns-in_err-offered-clause-broken : goal.returns-in_err-offered-clause-broken
-returns-in_err-offered-clause-broken g c = any_fault _ _ (λ fault. short_none fault c.args.side c.args.self.now c.move_all_out.new.self _ _ _ _ c.in_ok-out.ensures.extends)
+returns-in_err-offered-clause-broken g c = any_built _ _ (search rules) (λ fault not. short_none fault c.args.side c.args.self.now c.move_all_out.new.self _ _ _ _ c.in_ok-out.ensures.extends not)
 
 pub returns-in_err-into-clause-broken : goal.returns-in_err-into-clause-broken
 returns-in_err-into-clause-broken g c =

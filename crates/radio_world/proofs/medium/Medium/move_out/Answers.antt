@@ -1,4 +1,4 @@
-use Rattle.std.proofs.Common.{◌≡◌, ◌<◌, ℕ, List, ◌++◌, length, drop, take, refl, sym, ap, subst, ◌∙◌}
+use Rattle.std.proofs.Common.{rules, ◌≡◌, ◌<◌, ℕ, List, ◌++◌, length, drop, take, refl, sym, ap, subst, ◌∙◌}
 use Rattle.std.proofs.lemmas.List.{take-append-drop}
 use Rattle.h4_framing.specs.Packets.{Packet, packet, spelling}
 use Rattle.push_script.specs.declared.word.Side.{Side}
@@ -10,7 +10,7 @@ use Rattle.world_model.specs.Media.{Medium, noted, in_radio}
 use Rattle.radio_world.proofs.Departed.{moved_extends}
 use Rattle.world_model.proofs.Departing.{left_shorter}
 use Rattle.radio_world.proofs.Extending.{extends_none, nothing_whole}
-use Rattle.radio_world.proofs.Breaking.{any_fault, short_out}
+use Rattle.radio_world.proofs.Breaking.{any_built, short_out}
 use Rattle.radio_world.proofs.Blaming.{blames_none}
 use Rattle.radio_world.proofs.medium.Medium.move_out.Goals as goal
 
@@ -57,12 +57,12 @@ returns-clause-shorter g c = λ moved.
 
 pub returns-in_err-record-clause-broken : goal.returns-in_err-record-clause-broken
 returns-in_err-record-clause-broken g c =
-    any_fault _ _ (λ fault. short_out fault c.args.side c.args.self.now (g.H.Host.face c.args.host.now c.args.port.now) _ _ (packet c.in-Whole.unit) _ c.in-Whole.ensures.0
+    any_built _ _ (search rules) (λ fault not. short_out fault c.args.side c.args.self.now (g.H.Host.face c.args.host.now c.args.port.now) _ _ (packet c.in-Whole.unit) _ c.in-Whole.ensures.0
     (split_off (g.H.Host.face c.args.host.now c.args.port.now).line.out (spelling (packet c.in-Whole.unit)) c.in-Whole.n (ap (take c.in-Whole.n) (sym (c.out.ensures c.args.port.now)) ∙ c.in-Whole.ensures.3))
-    c.in_err-record.ensures.front)
+    c.in_err-record.ensures.front not)
 
 pub returns-in_err-take-clause-broken : goal.returns-in_err-take-clause-broken
 returns-in_err-take-clause-broken g c =
-    any_fault _ _ (λ fault. short_out fault c.args.side c.args.self.now (g.H.Host.face c.args.host.now c.args.port.now) _ _ (packet c.in-Whole.unit) _ c.in-Whole.ensures.0
+    any_built _ _ (search rules) (λ fault not. short_out fault c.args.side c.args.self.now (g.H.Host.face c.args.host.now c.args.port.now) _ _ (packet c.in-Whole.unit) _ c.in-Whole.ensures.0
     (split_off (g.H.Host.face c.args.host.now c.args.port.now).line.out (spelling (packet c.in-Whole.unit)) c.in-Whole.n (ap (take c.in-Whole.n) (sym (c.out.ensures c.args.port.now)) ∙ c.in-Whole.ensures.3))
-    c.in_ok-record.ensures.front)
+    c.in_ok-record.ensures.front not)

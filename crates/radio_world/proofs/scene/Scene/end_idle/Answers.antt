@@ -1,7 +1,7 @@
 use Rattle.std.proofs.Common.{rules, ◌≡◌, Some, true}
 use Rattle.world_model.specs.Insides.{idles, came_of}
 use Rattle.radio_world.proofs.Going.{goes_none, goes_ended}
-use Rattle.radio_world.proofs.Breaking.{any_break}
+use Rattle.radio_world.proofs.Breaking.{built_break}
 use Rattle.radio_world.proofs.Stopping.{breaks_ended}
 use Rattle.radio_world.proofs.scene.Scene.end_idle.Goals as goal
 
@@ -22,4 +22,4 @@ pub returns-in_err-end-clause-broken : goal.returns-in_err-end-clause-broken
 returns-in_err-end-clause-broken g c =
     let going : c.args.self.now.pushes.going ≡ true = search rules in
     let came : came_of (g.A.Host.face c.args.a.now c.args._shelf.now).inside ≡ Some c.in-Some.outcome = search rules in
-    any_break _ c.args.self.now (g.A.Host.face c.args.a.now c.args._shelf.now) _ _ (λ fault b. breaks_ended fault c.in-Some.outcome c.args.self.now _ b _ _ going came c.end.ensures.front)
+    built_break _ c.args.self.now (g.A.Host.face c.args.a.now c.args._shelf.now) _ _ (search rules) (λ fault b not. breaks_ended fault c.in-Some.outcome c.args.self.now _ b _ _ going came c.end.ensures.front not)

@@ -18,4 +18,4 @@ returns-in_err-round-clause-broken g c =
     (goes_then_breaks c.in_err-round.field-0.0 c.args.self.now c.loop.self _ _ _ _ _ _ _ _ c.loop.invariant.0 c.in_err-round.ensures.broken)
 
 pub returns-clause-broken : goal.returns-clause-broken
-returns-clause-broken g c = breaks_none _ c.args.self.now c.loop.self _ _ _ _ _ _ c.loop.invariant.0
+returns-clause-broken g c = breaks_none _ c.args.self.now c.loop.self _ _ _ _ _ _ c.loop.invariant.0 (λ is. absurd cc)

@@ -1,8 +1,8 @@
-use Rattle.std.proofs.Common.{rules, [], ◌∷◌, ◌≡◌, ◌+◌, ◌^◌, ◌<◌, Ok, ap, subst, inl}
+use Rattle.std.proofs.Common.{rules, ◌≡◌, ◌+◌, ◌^◌, ◌<◌, Ok, ap, subst, inl}
 use Rattle.world_model.specs.Scenes.{Scene}
 use Rattle.radio_world.specs.Blaming.{HasLong}
 use Rattle.radio_world.proofs.Turned.{turns_to_nothing, turns_to_act}
-use Rattle.radio_world.proofs.Breaking.{any_fault, same_fault}
+use Rattle.radio_world.proofs.Breaking.{any_built, same_fault}
 use Rattle.radio_world.proofs.Stopping.{short_unsaid, short_at_word, word_then_breaks}
 use Rattle.radio_world.proofs.scene.Scene.turn.Goals as goal
 
@@ -24,18 +24,20 @@ pub returns-in_err-settle-clause-built : goal.returns-in_err-settle-clause-built
 returns-in_err-settle-clause-built g c = λ is. inl (subst (λ (s : Scene). HasLong (g.A.Host.content c.args.shelf.now) s.pushes.names) c.self.view_is (c.in_err-settle.ensures.built (search rules)))
 
 pub returns-in_default-clause-broken : goal.returns-in_default-clause-broken
-returns-in_default-clause-broken g c = short_unsaid _ (c.args.word ∷ []) c.args.self.now (g.A.Host.face c.args.a.now c.args.shelf.now) (g.B.Host.face c.args.b.now c.args.inbox.now) (g.T.Sink.content c.args.trace.now)
+returns-in_default-clause-broken g c = short_unsaid _ c.args.word c.args.self.now (g.A.Host.face c.args.a.now c.args.shelf.now) (g.B.Host.face c.args.b.now c.args.inbox.now) (g.T.Sink.content c.args.trace.now) (λ is. absurd cc)
 
 pub returns-in_err-acted-clause-broken : goal.returns-in_err-acted-clause-broken
 returns-in_err-acted-clause-broken g c =
-    any_fault _ _ (λ fault. short_unsaid fault (c.args.word ∷ []) c.args.self.now (g.A.Host.face c.args.a.now c.args.shelf.now) (g.B.Host.face c.args.b.now c.args.inbox.now) (g.T.Sink.content c.args.trace.now))
+    same_fault _ _ c.in_err-acted.field-0.0 c.from_residual.ensures.1
+    (short_unsaid c.in_err-acted.field-0.0 c.args.word c.args.self.now (g.A.Host.face c.args.a.now c.args.shelf.now) (g.B.Host.face c.args.b.now c.args.inbox.now) (g.T.Sink.content c.args.trace.now)
+    (λ is. c.in_err-acted.ensures.built (search rules)))
 
 pub returns-in_err-record-clause-broken : goal.returns-in_err-record-clause-broken
 returns-in_err-record-clause-broken g c =
     let next : c.in-Some.ordinal ≡ c.self.inside.turned + 1 = search rules in
     let below : c.in-Some.ordinal < 2 ^ 64 = search rules in
-    any_fault _ _ (λ fault. short_at_word fault c.self.inside.medium c.act.new.self c.self.inside.pushes c.self.inside.turned c.in-Some.ordinal c.args.self.now c.args.word (g.A.Host.face c.args.a.now c.args.shelf.now) (g.B.Host.face c.args.b.now c.args.inbox.now) _ _
-    c.self.view_is c.requires.rest (c.in_ok-acted.ensures.acts (ap Ok c.if-not-acted.false)) next below c.in_err-record.ensures.front)
+    any_built _ _ (search rules) (λ fault not. short_at_word fault c.self.inside.medium c.act.new.self c.self.inside.pushes c.self.inside.turned c.in-Some.ordinal c.args.self.now c.args.word (g.A.Host.face c.args.a.now c.args.shelf.now) (g.B.Host.face c.args.b.now c.args.inbox.now) _ _
+    c.self.view_is c.requires.rest (c.in_ok-acted.ensures.acts (ap Ok c.if-not-acted.false)) next below c.in_err-record.ensures.front not)
 
 pub returns-in_err-settle-clause-broken : goal.returns-in_err-settle-clause-broken
 returns-in_err-settle-clause-broken g c =

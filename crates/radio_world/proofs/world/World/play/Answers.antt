@@ -8,7 +8,7 @@ use Rattle.radio_world.proofs.Blaming.{unbuilt_before}
 use Rattle.radio_world.specs.Unfinished.{HappensShort}
 use Rattle.radio_world.specs.Breaking.{Breaks}
 use Rattle.radio_world.specs.Going.{Goes}
-use Rattle.radio_world.proofs.Breaking.{any_fault, same_fault}
+use Rattle.radio_world.proofs.Breaking.{any_built, same_fault}
 use Rattle.radio_world.proofs.Unfinished.{start_short, turns_short, short_behind}
 use Rattle.radio_world.proofs.world.World.play.Goals as goal
 
@@ -41,9 +41,9 @@ returns-in_err-turn_all-clause-broken g c =
 
 pub returns-in_err-finish-clause-broken : goal.returns-in_err-finish-clause-broken
 returns-in_err-finish-clause-broken g c =
-    any_fault _ _ (λ fault.
+    any_built _ _ (search rules) (λ fault not.
     subst (λ (server : ServerState). HappensShort fault c.args.scenario.now (shelved (g.F.Shelf.content c.args.shelf.now) (g.F.Shelf.faults c.args.shelf.now)) (kept (g.B.Inbox.content c.args.inbox.now) (g.B.Inbox.faults c.args.inbox.now) (g.B.Inbox.shortages c.args.inbox.now)) (server_face server (kept (g.B.Inbox.content c.turn_all.new.inbox) (g.B.Inbox.faults c.turn_all.new.inbox) (g.B.Inbox.shortages c.turn_all.new.inbox))) (g.T.Sink.content c.args.trace.now) (g.T.Sink.content c.finish.new.trace)) (sym c.finish.ensures.hosts.1)
     (turns_short fault c.args.scenario.now (shelved (g.F.Shelf.content c.args.shelf.now) (g.F.Shelf.faults c.args.shelf.now)) (kept (g.B.Inbox.content c.args.inbox.now) (g.B.Inbox.faults c.args.inbox.now) (g.B.Inbox.shortages c.args.inbox.now)) c.start.new.self.scene _ _ _ _ _ _ c.args.scenario.now.acl_length_low c.args.scenario.now.acl_length_high c.args.scenario.now.acl_count_low c.args.scenario.now.acl_count_high
     (subst (λ (w : World). Goes w.scene c.start.new.self.scene (client_face w.client (shelved (g.F.Shelf.content c.args.shelf.now) (g.F.Shelf.faults c.args.shelf.now))) (client_face c.start.new.self.client (shelved (g.F.Shelf.content c.start.new.shelf) (g.F.Shelf.faults c.start.new.shelf))) (server_face w.server (kept (g.B.Inbox.content c.args.inbox.now) (g.B.Inbox.faults c.args.inbox.now) (g.B.Inbox.shortages c.args.inbox.now))) (server_face c.start.new.self.server (kept (g.B.Inbox.content c.start.new.inbox) (g.B.Inbox.faults c.start.new.inbox) (g.B.Inbox.shortages c.start.new.inbox))) (g.T.Sink.content c.args.trace.now) (g.T.Sink.content c.start.new.trace)) c.requires.fresh c.in_ok-start.ensures.goes)
     (short_behind fault _ c.start.new.self.scene c.turn_all.new.self.scene _ _ _ _ _ _ _ _ c.in_ok-turn_all.ensures.turns
-    (c.finish.ensures.front fault (client_face c.turn_all.new.self.client (shelved (g.F.Shelf.content c.turn_all.new.shelf) (g.F.Shelf.faults c.turn_all.new.shelf))) (server_face c.turn_all.new.self.server (kept (g.B.Inbox.content c.turn_all.new.inbox) (g.B.Inbox.faults c.turn_all.new.inbox) (g.B.Inbox.shortages c.turn_all.new.inbox))) refl))))
+    (c.finish.ensures.front fault (client_face c.turn_all.new.self.client (shelved (g.F.Shelf.content c.turn_all.new.shelf) (g.F.Shelf.faults c.turn_all.new.shelf))) (server_face c.turn_all.new.self.server (kept (g.B.Inbox.content c.turn_all.new.inbox) (g.B.Inbox.faults c.turn_all.new.inbox) (g.B.Inbox.shortages c.turn_all.new.inbox))) refl not))))
