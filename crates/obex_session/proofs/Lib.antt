@@ -4,9 +4,12 @@ pub mod PacketLaws
 pub mod RuleLaws
 pub mod PastLaws
 pub mod ServingLaws
+pub mod FailingLaws
 pub mod ListLaws
 pub mod PutPacketLaws
 pub mod NameLaws
 pub mod WritingLaws
 pub mod StoringLaws
 pub mod ReplyLaws
+pub mod UnstoredLaws
+pub mod CleaningLaws
