@@ -2,6 +2,7 @@ pub mod Titles
 pub mod Fronts
 pub mod Waiting
 pub mod Giving
+pub mod Looking
 pub mod Names
 pub mod CourseLaws
 pub mod SpelledLaws
@@ -11,6 +12,7 @@ pub mod GoingOn
 pub mod PieceReading
 pub mod Feeding
 pub mod Counts
+pub mod BreakingOff
 pub mod ServerFeeding
 pub mod OutLaws
 pub mod WantLaws

@@ -18,7 +18,7 @@ use Rattle.host_link.specs.Lines.{Line}
 use Rattle.bt_host.specs.declared.feed_refusal.FeedRefusal.{FeedRefusal}
 use Rattle.bt_host.specs.declared.feed_refusal.FeedRefusal.TheVariants.{Transport, CommandFailed, BadBuffers, NoMemory}
 use Rattle.bt_host.specs.Refusals.{acl_limit, Refuses, IsRefused, LeavesFraming, refusal_by}
-use Rattle.bt_host.specs.Pieces.{place_behind, IsTaken, IsStopped}
+use Rattle.bt_host.specs.Pieces.{place_behind, IsRead, IsTaken, IsStopped}
 
 spellings-last : (packets : List Packet) (p : Packet) → spellings (packets ++ p ∷ []) ≡ spellings packets ++ spelling p
 spellings-last packets p = flat_map-append spelling packets (p ∷ []) ∙ ap (λ (t : List ℕ). spellings packets ++ t) (append-nil (spelling p))
@@ -57,6 +57,10 @@ left framing mid piece rest packets read =
     ap (λ (xs : List ℕ). framing.held ++ xs) read.whole
     ∙ sym (append_assoc framing.held read.eaten rest)
     ∙ ap (λ (xs : List ℕ). xs ++ rest) read.octets ∙ append_assoc (spellings packets) mid.held rest
+
+-- the same, where nothing is said of the rest
+pub read_so_far : (framing mid : Framing) (piece rest : List ℕ) (packets : List Packet) → HasRead framing mid piece rest packets → IsRead framing piece packets (mid.held ++ rest)
+read_so_far framing mid piece rest packets read = record { each = read.each; octets = left framing mid piece rest packets read }
 
 behind_used : (rest : List ℕ) (n : ℕ) → take (length rest - n) (drop n rest) ≡ drop n rest
 behind_used rest n = take_all (length rest - n) (drop n rest) (omega (arith, length-drop n rest))

@@ -11,8 +11,8 @@ use Rattle.bt_host.specs.declared.feed_refusal.FeedRefusal.{FeedRefusal}
 use Rattle.bt_host.specs.declared.feed_refusal.FeedRefusal.TheVariants.{Transport, CommandFailed, BadBuffers, NoMemory}
 use Rattle.bt_host.specs.Refusals.{acl_limit, Refuses}
 use Rattle.bt_host.specs.Servers.{Server, Kept, Hears, HearsAll}
-use Rattle.bt_host.specs.ServerHosts.{HearsOne, Takes, Stops, Reads}
-use Rattle.bt_host.proofs.PieceReading.{HasRead, read_none, read_packet, read_rest, read_wrong, read_refused}
+use Rattle.bt_host.specs.ServerHosts.{NotesInPart, HearsOne, Takes, Stops, BreaksOff, Reads}
+use Rattle.bt_host.proofs.PieceReading.{HasRead, read_none, read_so_far, read_packet, read_rest, read_wrong, read_refused}
 
 -- one after the other
 all_then : (inbox mid inbox' : Kept) (packets : List Packet) (last : Packet) (old now next : Server) → HearsAll inbox mid packets old now → Hears mid inbox' last now next
@@ -71,6 +71,20 @@ stops_at inbox mid inbox' framing framing' new piece rest old now next unit n pl
       hears = served.hears;
     }))
 
+-- at the next packet memory is wanting
+breaks_at : (inbox mid inbox' : Kept) (framing framing' new : Framing) (piece rest : List ℕ) (old now : Server) (unit : Lent) (n : ℕ) → framing.limit ≡ acl_limit
+    → HasServed inbox mid framing framing' piece rest old now → FramerTakes framing' rest (taken.Whole unit n) new → NotesInPart mid inbox' (packet unit) now → BreaksOff inbox inbox' piece framing old
+breaks_at inbox mid inbox' framing framing' new piece rest old now unit n bound served takes notes = record {
+  packets = served.packets;
+  packet = packet unit;
+  rest = new.held ++ take (length rest - n) (drop n rest);
+  read = read_so_far framing new piece (take (length rest - n) (drop n rest)) (served.packets ++ packet unit ∷ []) (read_packet framing framing' new piece rest served.packets unit n bound served.read takes);
+  between = mid;
+  server = now;
+  hears = served.hears;
+  notes = notes;
+}
+
 by_refusal : (inbox mid inbox' : Kept) (framing framing' new : Framing) (piece rest : List ℕ) (old now next : Server) (unit : Lent) (n place : ℕ) (refusal : FeedRefusal)
     → framing.limit ≡ acl_limit → framing.fault ≡ None → HasServed inbox mid framing framing' piece rest old now → FramerTakes framing' rest (taken.Whole unit n) new
     → place ≡ framing'.before → HearsOne mid inbox' (packet unit) place now next (Err refusal) → Reads inbox inbox' piece framing new old next (Err refusal)
@@ -80,7 +94,8 @@ by_refusal inbox mid inbox' framing framing' new piece rest old now next unit n 
     stops_at inbox mid inbox' framing framing' new piece rest old now next unit n place (CommandFailed opcode status at) bound sound served takes here hears.0 hears.1 hears.2 (λ e. cc)
 by_refusal inbox mid inbox' framing framing' new piece rest old now next unit n place (BadBuffers size count at) bound sound served takes here hears =
     stops_at inbox mid inbox' framing framing' new piece rest old now next unit n place (BadBuffers size count at) bound sound served takes here hears.0 hears.1 hears.2 (λ e. cc)
-by_refusal inbox mid inbox' framing framing' new piece rest old now next unit n place NoMemory bound sound served takes here hears = tt
+by_refusal inbox mid inbox' framing framing' new piece rest old now next unit n place NoMemory bound sound served takes here hears =
+    breaks_at inbox mid inbox' framing framing' new piece rest old now unit n bound served takes hears
 
 pub served_refused : (inbox mid inbox' : Kept) (framing framing' new : Framing) (piece rest : List ℕ) (old now next : Server) (unit : Lent) (n place : ℕ) (took : Taken) (refusal : FeedRefusal)
     → took ≡ taken.Whole unit n → framing.limit ≡ acl_limit → framing.fault ≡ None → HasServed inbox mid framing framing' piece rest old now → FramerTakes framing' rest took new

@@ -1,7 +1,8 @@
 -- A server: what faces its controller, its one channel, and its OBEX session (this project's own).
 use Rattle.std.specs.Prelude.{ℕ, ◌+◌, ◌-◌, ◌^◌, ◌≤◌, ◌≡◌, ◌==◌, ◌&&◌, ◌++◌, Bool, true, false, min, List, [], ◌∷◌, drop, take, fold, slice_index, length, Option, Some, None}
 use Rattle.bt_base.specs.Octets.{IsOctets}
-use Rattle.bt_base.specs.Objects.{Contents}
+use Rattle.std.specs.Option.{option_map}
+use Rattle.bt_base.specs.Objects.{Object, Contents}
 use Rattle.h4_framing.specs.Packets.{Packet}
 use Rattle.l2cap_signal.specs.Commands.{Command}
 use Rattle.capture.specs.Moves.{Move}
@@ -35,6 +36,10 @@ pub record Kept : Type 0 where
 
 abbrev pub kept : Option Contents → ℕ → ℕ → Kept
 kept content faults shortages = record { content = content; faults = faults; shortages = shortages }
+
+-- the objects that an inbox stored, where it tells what it holds
+abbrev pub stored_in : Kept → Option (List Object)
+stored_in inbox = option_map (λ contents. contents.stored) inbox.content
 
 -- ---- what is heard
 

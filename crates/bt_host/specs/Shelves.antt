@@ -1,5 +1,5 @@
 -- What a push learns from the shelf.
-use Rattle.std.specs.Prelude.{◌≡◌, ℕ, ◌≤◌, ◌<◌, Bool, true, false, List, length, Option, Some, None, IfSome}
+use Rattle.std.specs.Prelude.{◌≡◌, ℕ, ◌≤◌, ◌<◌, Bool, true, false, List, length, Option, Some, None, IfSome, slice_get}
 use Rattle.std.specs.Bool.{OnTrue}
 use Rattle.std.specs.Option.{option_map}
 use Rattle.bt_base.specs.Counts.{HasRisen}
@@ -29,6 +29,16 @@ pub record Stays (content content' : Option (List Object)) (faults faults' short
   pub told : content' ≡ content
   pub faults_stay : faults ≤ faults'
   pub shortages_stay : shortages ≤ shortages'
+
+-- where the shelf tells its content, it lacks the object of one of these names
+abbrev pub Lacks : Option (List Object) → List (List ℕ) → Type 0
+Lacks content names = IfSome content (λ objects. (n : ℕ) × (name : List ℕ) × (slice_get names n ≡ Some name) × (octets_of name objects ≡ None))
+
+-- Objects of these names alone were looked for: the shelf's count of absences does not fall, and it rises only where it lacks one
+-- of them.
+pub record LooksFor (names : List (List ℕ)) (content : Option (List Object)) (absences absences' : ℕ) : Type 0 where
+  pub stay : absences ≤ absences'
+  pub lacking : absences < absences' → Lacks content names
 
 -- octets filled from the shelf: all of the object, or it failed
 abbrev pub IsFilled : Option (List Object) → List ℕ → ℕ → ℕ → List ℕ → Bool → Type 0

@@ -64,7 +64,7 @@ impl Model for ClientCourse {
 }
 
 impl ClientCourse {
-    ghost use Rattle.std.specs.Prelude.{◌≢◌, ◌≤◌, ◌<◌, ℕ, List, Option, Ok, Some, IfOk, OnOk, IsErr, IsErrOf, false, if◌then◌else◌};
+    ghost use Rattle.std.specs.Prelude.{◌≢◌, ◌≤◌, ◌<◌, ℕ, List, [], ◌∷◌, Option, Ok, Some, IfOk, OnOk, IsErr, IsErrOf, false, if◌then◌else◌};
     ghost use Rattle.obex_headers.specs.declared.packet.Phase.TheVariants.{Response, ConnectResponse};
     ghost use Rattle.obex_headers.specs.Reading.{packet_in};
     ghost use Rattle.push_script.specs.declared.outcome.Outcome.TheVariants.{ShelfFault};
@@ -74,7 +74,7 @@ impl ClientCourse {
     ghost use Rattle.bt_host.specs.Courses.{IsSoundStage, resting, at, caused, ended};
     ghost use Rattle.bt_host.specs.Events.{is_idle, after_link_up, after_link_failed, after_link_down, after_signal, after_connection, connects, configures, after_configured, is_request, after_request, agreement, disconnects, after_disconnection, after_payload, after_connect_response, after_put_response, after_disconnect_response, after_greeting};
     ghost use Rattle.bt_host.specs.Steps.{put_step, next_step};
-    ghost use Rattle.bt_host.specs.Shelves.{HasSize, GivesOctets, Stays, Begins, IsTooLarge, Steps};
+    ghost use Rattle.bt_host.specs.Shelves.{HasSize, GivesOctets, Stays, LooksFor, Begins, IsTooLarge, Steps};
 
     /// A course before any push. The own maximum of an OBEX packet is the lesser of the settings'
     /// `obex` and `mtu`, in octets. `NoMemory` where none could be had.
@@ -119,6 +119,7 @@ impl ClientCourse {
         ensures begun { OnOk result (Begins (F.content shelf.old) (F.faults shelf.old) (F.faults shelf.new) name.now self.old self.new) }
         ensures too_large { IsErrOf result PushRefusal.TooLarge → IsTooLarge (F.content shelf.old) name.now self.old self.new }
         ensures stays { Stays (F.content shelf.old) (F.content shelf.new) (F.faults shelf.old) (F.faults shelf.new) (F.shortages shelf.old) (F.shortages shelf.new) }
+        ensures looks { LooksFor (name.now ∷ []) (F.content shelf.old) (F.absences shelf.old) (F.absences shelf.new) }
         ensures failed { F.faults shelf.old < F.faults shelf.new → (result ≡ Ok tt) × (self.new.outcome ≡ Some ShelfFault) }
         ensures short { F.shortages shelf.old < F.shortages shelf.new → IsErrOf result PushRefusal.NoMemory }
     {
@@ -367,6 +368,7 @@ impl ClientCourse {
         requires { is_idle self.old.stage ≡ false → HasSize (F.content shelf.old) self.old.name self.old.size }
         ensures step { IfOk result (λ step. Steps (F.content shelf.old) (F.faults shelf.old) (F.faults shelf.new) self.old self.new step) }
         ensures stays { Stays (F.content shelf.old) (F.content shelf.new) (F.faults shelf.old) (F.faults shelf.new) (F.shortages shelf.old) (F.shortages shelf.new) }
+        ensures looks { LooksFor [] (F.content shelf.old) (F.absences shelf.old) (F.absences shelf.new) }
         ensures failed { F.faults shelf.old < F.faults shelf.new → self.new.outcome ≡ (caused ShelfFault self.old).outcome }
         ensures short { F.shortages shelf.old < F.shortages shelf.new → IsErr result }
     {
@@ -384,6 +386,7 @@ impl ClientCourse {
         requires { HasSize (F.content shelf.old) self.old.name self.old.size }
         ensures step { IfOk result (λ step. (given : Option (List ℕ)) × GivesOctets (F.content shelf.old) self.old.name self.old.size (F.faults shelf.old) (F.faults shelf.new) given × ((step, self.new) ≡ put_step given self.old)) }
         ensures stays { Stays (F.content shelf.old) (F.content shelf.new) (F.faults shelf.old) (F.faults shelf.new) (F.shortages shelf.old) (F.shortages shelf.new) }
+        ensures looks { LooksFor [] (F.content shelf.old) (F.absences shelf.old) (F.absences shelf.new) }
         ensures failed { F.faults shelf.old < F.faults shelf.new → self.new.outcome ≡ (caused ShelfFault self.old).outcome }
         ensures short { F.shortages shelf.old < F.shortages shelf.new → IsErr result }
     {

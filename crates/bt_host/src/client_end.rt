@@ -34,12 +34,12 @@ impl Model for ClientEnd {
 const SERVER_ADDRESS: [u8; 6] = [0x0B, 0, 0, 0, 0, 0];
 
 impl ClientEnd {
-    ghost use Rattle.std.specs.Prelude.{true, false};
+    ghost use Rattle.std.specs.Prelude.{true, false, [], ◌∷◌};
     ghost use Rattle.push_script.specs.Names.{utf16_length};
     ghost use Rattle.bt_host.specs.declared.steps.PushRefusal.{PushRefusal};
     ghost use Rattle.bt_host.specs.declared.feed_refusal.FeedRefusal.{FeedRefusal};
     ghost use Rattle.bt_host.specs.Events.{is_idle};
-    ghost use Rattle.bt_host.specs.Shelves.{HasSize, Stays};
+    ghost use Rattle.bt_host.specs.Shelves.{HasSize, Stays, LooksFor};
     ghost use Rattle.host_link.specs.Stands.{Says};
     ghost use Rattle.bt_host.specs.Clients.{IsShelved, StepsOn, GoesOn, putting_out};
     ghost use Rattle.bt_host.specs.ClientHosts.{HearsOne, BeginsAndGoesOn};
@@ -49,6 +49,7 @@ impl ClientEnd {
         requires { IsShelved (F.content shelf.old) self.old.course }
         ensures step { OnOk result (StepsOn (F.content shelf.old) (F.faults shelf.old) (F.faults shelf.new) self.old self.new) }
         ensures stays { Stays (F.content shelf.old) (F.content shelf.new) (F.faults shelf.old) (F.faults shelf.new) (F.shortages shelf.old) (F.shortages shelf.new) }
+        ensures looks { LooksFor [] (F.content shelf.old) (F.absences shelf.old) (F.absences shelf.new) }
         ensures short { F.shortages shelf.old < F.shortages shelf.new → IsErr result }
     {
         match self.course.next(shelf)? {
@@ -79,6 +80,7 @@ impl ClientEnd {
         ensures goes { OnOk result (GoesOn (F.content shelf.old) (F.faults shelf.old) (F.faults shelf.new) self.old self.new) }
         ensures shelved { OnOk result (IsShelved (F.content shelf.new) self.new.course) }
         ensures stays { Stays (F.content shelf.old) (F.content shelf.new) (F.faults shelf.old) (F.faults shelf.new) (F.shortages shelf.old) (F.shortages shelf.new) }
+        ensures looks { LooksFor [] (F.content shelf.old) (F.absences shelf.old) (F.absences shelf.new) }
         ensures short { F.shortages shelf.old < F.shortages shelf.new → IsErr result }
     {
         self.step(shelf)?;
@@ -98,6 +100,7 @@ impl ClientEnd {
         ensures heard { HearsOne (F.content shelf.old) (F.faults shelf.old) (F.faults shelf.new) (packet unit.entry) place self.old self.new result }
         ensures shelved { OnOk result (IsShelved (F.content shelf.new) self.new.course) }
         ensures stays { Stays (F.content shelf.old) (F.content shelf.new) (F.faults shelf.old) (F.faults shelf.new) (F.shortages shelf.old) (F.shortages shelf.new) }
+        ensures looks { LooksFor [] (F.content shelf.old) (F.absences shelf.old) (F.absences shelf.new) }
         ensures short { F.shortages shelf.old < F.shortages shelf.new → IsErrOf result FeedRefusal.NoMemory }
     {
         match self.link.hear(unit) {
@@ -118,6 +121,7 @@ impl ClientEnd {
         ensures pushes { BeginsAndGoesOn (F.content shelf.old) (F.faults shelf.old) (F.faults shelf.new) name.now self.old self.new result }
         ensures shelved { OnOk result (IsShelved (F.content shelf.new) self.new.course) }
         ensures stays { Stays (F.content shelf.old) (F.content shelf.new) (F.faults shelf.old) (F.faults shelf.new) (F.shortages shelf.old) (F.shortages shelf.new) }
+        ensures looks { LooksFor (name.now ∷ []) (F.content shelf.old) (F.absences shelf.old) (F.absences shelf.new) }
         ensures short { F.shortages shelf.old < F.shortages shelf.new → IsErrOf result PushRefusal.NoMemory }
     {
         self.course.begin(name, shelf)?;

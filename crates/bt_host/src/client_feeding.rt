@@ -1,8 +1,8 @@
 //! Octets that a client is fed, packet by packet.
 
-ghost use Rattle.std.specs.Prelude.{◌≡◌, ◌<◌, None, OnOk, IsErrOf};
+ghost use Rattle.std.specs.Prelude.{◌≡◌, ◌<◌, [], None, OnOk, IsErrOf};
 ghost use Rattle.bt_host.specs.declared.feed_refusal.FeedRefusal.{FeedRefusal};
-ghost use Rattle.bt_host.specs.Shelves.{Stays};
+ghost use Rattle.bt_host.specs.Shelves.{Stays, LooksFor};
 ghost use Rattle.bt_host.specs.Refusals.{acl_limit};
 ghost use Rattle.bt_host.specs.Clients.{IsShelved};
 ghost use Rattle.bt_host.specs.ClientHosts.{Reads};
@@ -20,10 +20,10 @@ pub(crate) struct FedClient {
 }
 
 impl FedClient {
-    ghost use Rattle.std.specs.Prelude.{◌≡◌, ◌<◌, None, OnOk, IsErrOf};
+    ghost use Rattle.std.specs.Prelude.{◌≡◌, ◌<◌, [], None, OnOk, IsErrOf};
     ghost use Rattle.bt_host.specs.declared.feed_refusal.FeedRefusal.{FeedRefusal};
     ghost use Rattle.host_link.specs.Stands.{Says};
-    ghost use Rattle.bt_host.specs.Shelves.{Stays};
+    ghost use Rattle.bt_host.specs.Shelves.{Stays, LooksFor};
     ghost use Rattle.bt_host.specs.Refusals.{acl_limit};
     ghost use Rattle.bt_host.specs.Clients.{IsShelved, putting_out};
     ghost use Rattle.bt_host.specs.ClientHosts.{Reads};
@@ -39,6 +39,7 @@ impl FedClient {
         ensures limit { self.new.framer.limit ≡ acl_limit }
         ensures shelved { OnOk result (IsShelved (F.content shelf.new) self.new.client.course) }
         ensures stays { Stays (F.content shelf.old) (F.content shelf.new) (F.faults shelf.old) (F.faults shelf.new) (F.shortages shelf.old) (F.shortages shelf.new) }
+        ensures looks { LooksFor [] (F.content shelf.old) (F.absences shelf.old) (F.absences shelf.new) }
         ensures short { F.shortages shelf.old < F.shortages shelf.new → IsErrOf result FeedRefusal.NoMemory }
     {
         self.client.put_out();
@@ -60,6 +61,7 @@ fn feed_client<F: Shelf>(
     ensures limit { framer.new.limit ≡ acl_limit }
     ensures shelved { OnOk result (IsShelved (F.content shelf.new) client.new.course) }
     ensures stays { Stays (F.content shelf.old) (F.content shelf.new) (F.faults shelf.old) (F.faults shelf.new) (F.shortages shelf.old) (F.shortages shelf.new) }
+    ensures looks { LooksFor [] (F.content shelf.old) (F.absences shelf.old) (F.absences shelf.new) }
     ensures short { F.shortages shelf.old < F.shortages shelf.new → IsErrOf result FeedRefusal.NoMemory }
 {
     let mut rest = piece;

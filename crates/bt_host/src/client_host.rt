@@ -37,7 +37,7 @@ impl Model for ClientHost {
 }
 
 impl ClientHost {
-    ghost use Rattle.std.specs.Prelude.{◌≡◌, ◌≤◌, ◌<◌, [], true, Some, None, Err, length, drop, IfOk, OnOk, IsErrOf};
+    ghost use Rattle.std.specs.Prelude.{◌≡◌, ◌≤◌, ◌<◌, [], ◌∷◌, true, Some, None, Err, length, drop, IfOk, OnOk, IsErrOf};
     ghost use Rattle.push_script.specs.Names.{utf16_length};
     ghost use Rattle.h4_framing.specs.Taking.{EndsWith};
     ghost use Rattle.host_link.specs.declared.role.Role.TheVariants.{Client};
@@ -46,7 +46,7 @@ impl ClientHost {
     ghost use Rattle.bt_host.specs.declared.feed_refusal.FeedRefusal.{FeedRefusal};
     ghost use Rattle.bt_host.specs.declared.steps.PushRefusal.{PushRefusal};
     ghost use Rattle.bt_host.specs.Events.{is_idle};
-    ghost use Rattle.bt_host.specs.Shelves.{Stays};
+    ghost use Rattle.bt_host.specs.Shelves.{Stays, LooksFor};
     ghost use Rattle.bt_host.specs.Clients.{putting_out};
     ghost use Rattle.bt_host.specs.ClientHosts.{fresh_client, IsSupplied, Feeds, Pushes, taking_out};
 
@@ -76,12 +76,14 @@ impl ClientHost {
     /// of these the same is answered for good, and the host stays as it is.
     ///
     /// While a push is under way it needs the object on the shelf, where that tells its content,
-    /// with the size that the push began with.
+    /// with the size that the push began with. The shelf is asked for nothing that it lacks then:
+    /// where it tells its content, its count of absences stays.
     pub fn feed<F: Shelf>(&mut self, piece: &[u8], shelf: &mut F) -> Result<(), FeedRefusal>
         requires { IsSupplied (F.content shelf.old) self.old }
         ensures feeds { Feeds (F.content shelf.old) (F.faults shelf.old) (F.faults shelf.new) piece.now self.old self.new result }
         ensures supplied { IsSupplied (F.content shelf.new) self.new }
         ensures stays { Stays (F.content shelf.old) (F.content shelf.new) (F.faults shelf.old) (F.faults shelf.new) (F.shortages shelf.old) (F.shortages shelf.new) }
+        ensures looks { LooksFor [] (F.content shelf.old) (F.absences shelf.old) (F.absences shelf.new) }
         ensures short { F.shortages shelf.old < F.shortages shelf.new → IsErrOf result FeedRefusal.NoMemory }
         ensures says { self.old.refusal ≡ None → Says self.old.client.line (putting_out self.old.client).line }
     {
@@ -97,6 +99,9 @@ impl ClientHost {
     /// once, with the outcome `ShelfFault`. `TooLarge` where the object has more than 200 octets:
     /// then nothing changes. `NoMemory` where none could be had; the host then has failed.
     ///
+    /// The shelf is asked for the object of that name alone: where it tells its content, its count
+    /// of absences rises only where it lacks that object.
+    ///
     /// It needs an idle host and a name of at most 100 UTF-16 units.
     pub fn push<F: Shelf>(&mut self, name: &str, shelf: &mut F) -> Result<(), PushRefusal>
         requires idle { is_idle self.old.client.course.stage ≡ true }
@@ -105,6 +110,7 @@ impl ClientHost {
         ensures supplied { IsSupplied (F.content shelf.new) self.new }
         ensures failed { self.old.refusal ≡ Some FeedRefusal.NoMemory → (result ≡ Err PushRefusal.NoMemory) × (self.new ≡ self.old) }
         ensures stays { Stays (F.content shelf.old) (F.content shelf.new) (F.faults shelf.old) (F.faults shelf.new) (F.shortages shelf.old) (F.shortages shelf.new) }
+        ensures looks { LooksFor (name.now ∷ []) (F.content shelf.old) (F.absences shelf.old) (F.absences shelf.new) }
         ensures short { F.shortages shelf.old < F.shortages shelf.new → IsErrOf result PushRefusal.NoMemory }
     {
         if let Some(FeedRefusal::NoMemory) = self.refusal {

@@ -1,9 +1,9 @@
 //! The OBEX requests of a push as PDUs (IrOBEX 1.5, 3.4).
 
-ghost use Rattle.std.specs.Prelude.{◌≡◌, ◌≤◌, ◌<◌, ◌+◌, ◌*◌, List, ℕ, length, take, Ok, Some, None, false, IfOk, IsErr};
+ghost use Rattle.std.specs.Prelude.{◌≡◌, ◌≤◌, ◌<◌, ◌+◌, ◌*◌, List, [], ℕ, length, take, Ok, Some, None, false, IfOk, IsErr};
 ghost use Rattle.obex_headers.specs.Packets.{PlainPacket, packet_octets, with_header};
 ghost use Rattle.bt_host.specs.Pushing.{utf16, connect_packet, disconnect_packet, name_header, length_header, put_front, put_packet, put_size, packet_pdu};
-ghost use Rattle.bt_host.specs.Shelves.{HasSize, Stays, IsFilled, Puts, IsPut};
+ghost use Rattle.bt_host.specs.Shelves.{HasSize, Stays, LooksFor, IsFilled, Puts, IsPut};
 
 use crate::basic_pdu::{basic_header, payload_pdu};
 use crate::object_name::ObjectName;
@@ -58,6 +58,7 @@ pub(crate) fn put_pdu<F: Shelf>(
     requires told { HasSize (F.content shelf.old) name.now size }
     ensures put { IfOk result (λ put. IsPut (F.content shelf.old) name.now size peer (F.faults shelf.old) (F.faults shelf.new) put) }
     ensures stays { Stays (F.content shelf.old) (F.content shelf.new) (F.faults shelf.old) (F.faults shelf.new) (F.shortages shelf.old) (F.shortages shelf.new) }
+    ensures looks { LooksFor [] (F.content shelf.old) (F.absences shelf.old) (F.absences shelf.new) }
     ensures failed { F.faults shelf.old < F.faults shelf.new → result ≡ Ok None }
     ensures short { F.shortages shelf.old < F.shortages shelf.new → IsErr result }
 {
@@ -84,6 +85,7 @@ fn put_whole<F: Shelf>(
     requires told { HasSize (F.content shelf.old) name.now size }
     ensures put { IfOk result (λ filled. Puts (F.content shelf.old) name.now size (F.faults shelf.old) (F.faults shelf.new) (λ octets. packet_pdu peer (put_packet (utf16 name.now) octets)) into.new filled) }
     ensures stays { Stays (F.content shelf.old) (F.content shelf.new) (F.faults shelf.old) (F.faults shelf.new) (F.shortages shelf.old) (F.shortages shelf.new) }
+    ensures looks { LooksFor [] (F.content shelf.old) (F.absences shelf.old) (F.absences shelf.new) }
     ensures failed { F.faults shelf.old < F.faults shelf.new → result ≡ Ok false }
     ensures short { F.shortages shelf.old < F.shortages shelf.new → IsErr result }
 {
@@ -113,6 +115,7 @@ fn put_packet<F: Shelf>(
     requires told { HasSize (F.content shelf.old) name.now size }
     ensures put { IfOk result (λ filled. Puts (F.content shelf.old) name.now size (F.faults shelf.old) (F.faults shelf.new) (λ octets. packet_octets (put_packet (utf16 name.now) octets)) into.new filled) }
     ensures stays { Stays (F.content shelf.old) (F.content shelf.new) (F.faults shelf.old) (F.faults shelf.new) (F.shortages shelf.old) (F.shortages shelf.new) }
+    ensures looks { LooksFor [] (F.content shelf.old) (F.absences shelf.old) (F.absences shelf.new) }
     ensures failed { F.faults shelf.old < F.faults shelf.new → result ≡ Ok false }
     ensures short { F.shortages shelf.old < F.shortages shelf.new → IsErr result }
 {
@@ -175,6 +178,7 @@ fn fill<F: Shelf>(name: &str, into: &mut [u8], shelf: &mut F) -> Result<bool, No
     requires { HasSize (F.content shelf.old) name.now (length into.old) }
     ensures filled { IfOk result (λ filled. IsFilled (F.content shelf.old) name.now (F.faults shelf.old) (F.faults shelf.new) into.new filled) }
     ensures stays { Stays (F.content shelf.old) (F.content shelf.new) (F.faults shelf.old) (F.faults shelf.new) (F.shortages shelf.old) (F.shortages shelf.new) }
+    ensures looks { LooksFor [] (F.content shelf.old) (F.absences shelf.old) (F.absences shelf.new) }
     ensures failed { F.faults shelf.old < F.faults shelf.new → result ≡ Ok false }
     ensures short { F.shortages shelf.old < F.shortages shelf.new → IsErr result }
 {

@@ -1,6 +1,6 @@
 //! The channel and the session of a server.
 
-ghost use Rattle.std.specs.Prelude.{◌≡◌, ◌≤◌, ◌<◌, Some, None, IfOk, OnOk, IsErr, length};
+ghost use Rattle.std.specs.Prelude.{◌≡◌, ◌≤◌, ◌<◌, Some, None, IfOk, OnOk, OnErr, IsErr, length};
 ghost use Rattle.std.specs.Option.{option_to_list};
 ghost use Rattle.l2cap_signal.specs.Reading.{answer};
 ghost use Rattle.capture.specs.Talk.{accepted};
@@ -74,12 +74,13 @@ impl Served {
     ghost use Rattle.bt_host.specs.Channels.{sent};
     ghost use Rattle.bt_host.specs.Clients.{commands_in};
     ghost use Rattle.bt_host.specs.Servers.{after_commands, kept, LetsGo, LeavesSession, HearsPacket, NotesCommands, NotesPayload, NotesPdu, Notes};
-    ghost use Rattle.bt_host.specs.ServerHosts.{Counts};
+    ghost use Rattle.bt_host.specs.ServerHosts.{Counts, StoresInPart};
 
     /// Lets go of an object that is under way.
     fn let_go<B: Inbox>(&mut self, inbox: &mut B) -> Result<(), NoMemory>
         requires { B.is_pending inbox.old ≡ is_under_way self.old.session.progress }
         ensures goes { OnOk result (LetsGo self.old.channel self.old (kept (B.content inbox.old) (B.faults inbox.old) (B.shortages inbox.old)) (kept (B.content inbox.new) (B.faults inbox.new) (B.shortages inbox.new)) self.new None) }
+        ensures in_part { OnErr result (StoresInPart (LetsGo self.old.channel self.old (kept (B.content inbox.old) (B.faults inbox.old) (B.shortages inbox.old))) (kept (B.content inbox.new) (B.faults inbox.new) (B.shortages inbox.new))) }
         ensures pending { B.is_pending inbox.new ≡ is_under_way self.new.session.progress }
         ensures counts { Counts (kept (B.content inbox.old) (B.faults inbox.old) (B.shortages inbox.old)) (kept (B.content inbox.new) (B.faults inbox.new) (B.shortages inbox.new)) }
         ensures short { B.shortages inbox.old < B.shortages inbox.new → IsErr result }
@@ -91,6 +92,7 @@ impl Served {
     fn answer<B: Inbox>(&mut self, packet: &[u8], inbox: &mut B) -> Result<Pdu, NoMemory>
         requires { B.is_pending inbox.old ≡ is_under_way self.old.session.progress }
         ensures hears { IfOk result (λ pdu. HearsPacket packet.now self.old (kept (B.content inbox.old) (B.faults inbox.old) (B.shortages inbox.old)) (kept (B.content inbox.new) (B.faults inbox.new) (B.shortages inbox.new)) self.new (Some pdu)) }
+        ensures in_part { OnErr result (StoresInPart (HearsPacket packet.now self.old (kept (B.content inbox.old) (B.faults inbox.old) (B.shortages inbox.old))) (kept (B.content inbox.new) (B.faults inbox.new) (B.shortages inbox.new))) }
         ensures pending { B.is_pending inbox.new ≡ is_under_way self.new.session.progress }
         ensures counts { Counts (kept (B.content inbox.old) (B.faults inbox.old) (B.shortages inbox.old)) (kept (B.content inbox.new) (B.faults inbox.new) (B.shortages inbox.new)) }
         ensures short { B.shortages inbox.old < B.shortages inbox.new → IsErr result }
@@ -118,6 +120,7 @@ impl Served {
     ) -> Result<Option<Pdu>, NoMemory>
         requires { B.is_pending inbox.old ≡ is_under_way self.old.session.progress }
         ensures notes { IfOk result (λ response. NotesPayload waits endpoint octets.now self.old (kept (B.content inbox.old) (B.faults inbox.old) (B.shortages inbox.old)) (kept (B.content inbox.new) (B.faults inbox.new) (B.shortages inbox.new)) self.new response) }
+        ensures in_part { OnErr result (StoresInPart (NotesPayload waits endpoint octets.now self.old (kept (B.content inbox.old) (B.faults inbox.old) (B.shortages inbox.old))) (kept (B.content inbox.new) (B.faults inbox.new) (B.shortages inbox.new))) }
         ensures pending { B.is_pending inbox.new ≡ is_under_way self.new.session.progress }
         ensures counts { Counts (kept (B.content inbox.old) (B.faults inbox.old) (B.shortages inbox.old)) (kept (B.content inbox.new) (B.faults inbox.new) (B.shortages inbox.new)) }
         ensures short { B.shortages inbox.old < B.shortages inbox.new → IsErr result }
@@ -137,6 +140,7 @@ impl Served {
     fn note_commands<B: Inbox>(&mut self, payload: &[u8], inbox: &mut B) -> Result<(), NoMemory>
         requires { B.is_pending inbox.old ≡ is_under_way self.old.session.progress }
         ensures notes { OnOk result (NotesCommands (after_commands (commands_in payload.now) self.old.channel) self.old (kept (B.content inbox.old) (B.faults inbox.old) (B.shortages inbox.old)) (kept (B.content inbox.new) (B.faults inbox.new) (B.shortages inbox.new)) self.new None) }
+        ensures in_part { OnErr result (StoresInPart (NotesCommands (after_commands (commands_in payload.now) self.old.channel) self.old (kept (B.content inbox.old) (B.faults inbox.old) (B.shortages inbox.old))) (kept (B.content inbox.new) (B.faults inbox.new) (B.shortages inbox.new))) }
         ensures pending { B.is_pending inbox.new ≡ is_under_way self.new.session.progress }
         ensures counts { Counts (kept (B.content inbox.old) (B.faults inbox.old) (B.shortages inbox.old)) (kept (B.content inbox.new) (B.faults inbox.new) (B.shortages inbox.new)) }
         ensures short { B.shortages inbox.old < B.shortages inbox.new → IsErr result }
@@ -159,6 +163,7 @@ impl Served {
     ) -> Result<Option<Pdu>, NoMemory>
         requires { B.is_pending inbox.old ≡ is_under_way self.old.session.progress }
         ensures notes { IfOk result (λ response. NotesPdu waits channel pdu.now self.old (kept (B.content inbox.old) (B.faults inbox.old) (B.shortages inbox.old)) (kept (B.content inbox.new) (B.faults inbox.new) (B.shortages inbox.new)) self.new response) }
+        ensures in_part { OnErr result (StoresInPart (NotesPdu waits channel pdu.now self.old (kept (B.content inbox.old) (B.faults inbox.old) (B.shortages inbox.old))) (kept (B.content inbox.new) (B.faults inbox.new) (B.shortages inbox.new))) }
         ensures pending { B.is_pending inbox.new ≡ is_under_way self.new.session.progress }
         ensures counts { Counts (kept (B.content inbox.old) (B.faults inbox.old) (B.shortages inbox.old)) (kept (B.content inbox.new) (B.faults inbox.new) (B.shortages inbox.new)) }
         ensures short { B.shortages inbox.old < B.shortages inbox.new → IsErr result }
@@ -182,6 +187,7 @@ impl Served {
     ) -> Result<Option<Pdu>, NoMemory>
         requires { B.is_pending inbox.old ≡ is_under_way self.old.session.progress }
         ensures notes { IfOk result (λ response. Notes waits (plain_news news.entry) self.old (kept (B.content inbox.old) (B.faults inbox.old) (B.shortages inbox.old)) (kept (B.content inbox.new) (B.faults inbox.new) (B.shortages inbox.new)) self.new response) }
+        ensures in_part { OnErr result (StoresInPart (Notes waits (plain_news news.entry) self.old (kept (B.content inbox.old) (B.faults inbox.old) (B.shortages inbox.old))) (kept (B.content inbox.new) (B.faults inbox.new) (B.shortages inbox.new))) }
         ensures pending { B.is_pending inbox.new ≡ is_under_way self.new.session.progress }
         ensures counts { Counts (kept (B.content inbox.old) (B.faults inbox.old) (B.shortages inbox.old)) (kept (B.content inbox.new) (B.faults inbox.new) (B.shortages inbox.new)) }
         ensures short { B.shortages inbox.old < B.shortages inbox.new → IsErr result }

@@ -79,6 +79,10 @@ impl ServerHost {
     /// packet says so; what came before it was heard. `NoMemory` where none could be had. After any
     /// of these the same is answered for good, and the host stays as it is.
     ///
+    /// After `NoMemory` the packets before the one at which memory was wanting were heard. Of that
+    /// one the inbox has stored what some inbox has stored behind it where memory is at hand: all
+    /// that it asks for, or nothing, as where a call of the inbox failed.
+    ///
     /// It needs an inbox whose pending object is the one that the host has under way.
     pub fn feed<B: Inbox>(&mut self, piece: &[u8], inbox: &mut B) -> Result<(), FeedRefusal>
         requires { B.is_pending inbox.old ≡ is_under_way self.old.server.served.session.progress }

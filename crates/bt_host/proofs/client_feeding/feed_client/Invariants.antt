@@ -1,5 +1,5 @@
-use Rattle.std.proofs.Common.{◌≡◌, length}
-use Rattle.bt_host.specs.Shelves.{Stays}
+use Rattle.std.proofs.Common.{◌≡◌, [], length}
+use Rattle.bt_host.specs.Shelves.{Stays, LooksFor}
 use Rattle.bt_host.specs.Clients.{IsShelved}
 use Rattle.bt_host.proofs.Feeding.{HasHeard}
 use Rattle.bt_host.proofs.client_feeding.feed_client.Given as goal
@@ -9,6 +9,7 @@ invariant-loop-unit g l = record {
   heard : HasHeard (g.F.Shelf.content l.initial.shelf) (g.F.Shelf.faults l.initial.shelf) (g.F.Shelf.faults l.shelf) l.initial.framer l.framer l.piece l.rest l.initial.client l.client;
   shelved : IsShelved (g.F.Shelf.content l.shelf) l.client.course;
   stays : Stays (g.F.Shelf.content l.initial.shelf) (g.F.Shelf.content l.shelf) (g.F.Shelf.faults l.initial.shelf) (g.F.Shelf.faults l.shelf) (g.F.Shelf.shortages l.initial.shelf) (g.F.Shelf.shortages l.shelf);
+  looks : LooksFor [] (g.F.Shelf.content l.initial.shelf) (g.F.Shelf.absences l.initial.shelf) (g.F.Shelf.absences l.shelf);
   short : g.F.Shelf.shortages l.shelf ≡ g.F.Shelf.shortages l.initial.shelf;
 }
 
