@@ -1,6 +1,9 @@
--- Along a run in which nothing broke a link, each outcome that was noted has its cause.
-use Rattle.std.proofs.Common.{◌≡◌, ◌⊎◌, inl, inr, ℕ, ◌≤◌, min, List, [], ◌∷◌, ◌++◌, Some, refl, sym, ap, subst, ◌∙◌}
-use Rattle.std.specs.List.{AllByRecursion}
+-- Along a run each outcome that was noted has its cause, or the word drop broke the link.
+use Rattle.std.proofs.Common.{◌≡◌, ◌⊎◌, inl, inr, ℕ, ◌≤◌, min, Bool, true, false, List, [], ◌∷◌, ◌++◌, Some, refl, sym, ap, subst, ◌∙◌, arith, true≢false}
+use Rattle.std.specs.Prelude.{◌||◌}
+use Rattle.std.specs.List.{list_any, AllByRecursion}
+use Rattle.std.proofs.lemmas.Bool.{cases_Bool}
+use Rattle.std.proofs.lemmas.List.Folds.{list_any-append}
 use Rattle.bt_base.specs.Counts.{HasRisen}
 use Rattle.bt_base.proofs.PortLaws.{risen_then, then_risen}
 use Rattle.push_script.specs.declared.outcome.Outcome.{Outcome}
@@ -14,12 +17,16 @@ use Rattle.world_model.specs.Moments.{Moment, first_moment}
 use Rattle.world_model.specs.Happenings.{Happening, Departure, Arrival, GivingBack, Opening, Closing, Deed, Miss, Does, Closes, Runs, entries_of, all_entries}
 use Rattle.world_model.proofs.Holding.{kept_along}
 use Rattle.world_model.proofs.Lists.{all_both, all_same}
+use Rattle.push_order.proofs.Lists.{first_false, second_false}
 use Rattle.push_order.proofs.Parts.{IsOpen}
 use Rattle.push_order.proofs.Following.{Reached, reached_more, pushes_of_face}
 use Rattle.push_course.specs.Conversations.{IsSetting}
 use Rattle.push_course.proofs.Running.{capable_in}
+use Rattle.push_results.specs.Parting.{MayEnd}
 use Rattle.push_results.proofs.Ending.{Underway}
 use Rattle.push_results.proofs.Finishing.{along_run}
+use Rattle.push_outcomes.specs.Causes.{is_drop}
+use Rattle.push_endings.proofs.Causing.{is_told}
 use Rattle.push_endings.proofs.EndingParts.{outcomes_of_parts}
 use Rattle.push_endings.proofs.Unbroken.{IsUnbroken, unbroken_tells}
 use Rattle.push_endings.proofs.Coming.{in_part, pushes_come}
@@ -27,11 +34,23 @@ use Rattle.push_progress.specs.Success.{IsCaused}
 use Rattle.push_progress.proofs.Advancing.{shelf_faults, inbox_faults, does_advance, runs_advance}
 use Rattle.push_progress.proofs.Explaining.{came_is_caused}
 
--- ---- lists
+-- ---- the word drop
 
-unbroken_front : (front rest : List Entry) → IsUnbroken (front ++ rest) → IsUnbroken front
-unbroken_front [] rest unbroken = tt
-unbroken_front (entry ∷ front) rest unbroken = (unbroken.0, unbroken_front front rest unbroken.1)
+-- it broke a link
+abbrev pub HasDrop : List Entry → Type 0
+HasDrop past = list_any is_drop past ≡ true
+
+pub drop_before : (past more : List Entry) → HasDrop past → HasDrop (past ++ more)
+drop_before past more has = list_any-append is_drop past more ∙ ap (λ (b : Bool). b || list_any is_drop more) has
+
+-- it broke none
+no_drop : (past : List Entry) → list_any is_drop past ≡ false → IsUnbroken past
+no_drop [] none = tt
+no_drop (entry ∷ past) none = (first_false (is_drop entry) (list_any is_drop past) none, no_drop past (second_false (is_drop entry) (list_any is_drop past) none))
+
+pub unbroken_has_none : (past : List Entry) → IsUnbroken past → HasDrop past → ⊥
+unbroken_has_none [] unbroken has = cc
+unbroken_has_none (entry ∷ past) unbroken has = unbroken_has_none past unbroken.1 (sym (ap (λ (b : Bool). b || list_any is_drop past) unbroken.0) ∙ has)
 
 unbroken_behind : (front rest : List Entry) → IsUnbroken (front ++ rest) → IsUnbroken rest
 unbroken_behind [] rest unbroken = unbroken
@@ -40,6 +59,11 @@ unbroken_behind (entry ∷ front) rest unbroken = unbroken_behind front rest unb
 -- the part of the push that goes on is unbroken
 open_unbroken : (push : ℕ) (body past : List Entry) → IsOpen push body past → IsUnbroken past → IsUnbroken body
 open_unbroken push body past part unbroken = (unbroken_behind part.front (Begun push ∷ body) (subst IsUnbroken part.shape unbroken)).1
+
+-- the one cause that no host tells
+lost_is : (outcome : Outcome) → is_told outcome ≡ false → outcome ≡ LinkLost
+lost_is LinkLost other = refl
+lost_is _ other = absurd (true≢false other)
 
 -- ---- a cause stays one
 
@@ -61,9 +85,24 @@ caused_on s s' s'' i i' i'' shelf inbox ScriptEnded caused = absurd caused
 abbrev pub IsCausedSince : Moment → Moment → Outcome → Type 0
 IsCausedSince first moment outcome = IsCaused (shelf_faults first.a.inside) (shelf_faults moment.a.inside) (inbox_faults first.b.inside) (inbox_faults moment.b.inside) outcome
 
+-- it has its cause, or the word drop broke the link
+abbrev pub ComesSince : Moment → List Entry → Moment → Outcome → Type 0
+ComesSince first past moment outcome = IsCausedSince first moment outcome ⊎ ((outcome ≡ LinkLost) × HasDrop past)
+
+-- where no word drop did, it has its cause
+pub caused_unbroken : (first : Moment) (past : List Entry) (moment : Moment) → IsUnbroken past → (outcome : Outcome) → ComesSince first past moment outcome → IsCausedSince first moment outcome
+caused_unbroken first past moment unbroken outcome (inl caused) = caused
+caused_unbroken first past moment unbroken outcome (inr lost) = absurd (unbroken_has_none past unbroken lost.1)
+
+pub comes_on : (first : Moment) (past more : List Entry) (old new : Moment) → shelf_faults old.a.inside ≤ shelf_faults new.a.inside → inbox_faults old.b.inside ≤ inbox_faults new.b.inside
+    → (outcome : Outcome) → ComesSince first past old outcome → ComesSince first (past ++ more) new outcome
+comes_on first past more old new shelf inbox outcome (inl caused) =
+    inl (caused_on (shelf_faults first.a.inside) (shelf_faults old.a.inside) (shelf_faults new.a.inside) (inbox_faults first.b.inside) (inbox_faults old.b.inside) (inbox_faults new.b.inside) shelf inbox outcome caused)
+comes_on first past more old new shelf inbox outcome (inr lost) = inr (lost.0, drop_before past more lost.1)
+
 pub record Accounted (first : Moment) (past : List Entry) (moment : Moment) : Type 0 where
   pub reached : Reached first past moment
-  pub caused : IsUnbroken past → AllByRecursion (IsCausedSince first moment) moment.scene.pushes.outcomes
+  pub comes : AllByRecursion (ComesSince first past moment) moment.scene.pushes.outcomes
 
 module _ (size count mtu obex : ℕ) (names : List (List ℕ)) (shelf : Shelved) (inbox : Kept) (setting : IsSetting size count mtu obex names) where
   abbrev first : Moment
@@ -76,14 +115,13 @@ module _ (size count mtu obex : ℕ) (names : List (List ℕ)) (shelf : Shelved)
     | inr risen ↦ risen
   ]
 
-  -- what came of the push that goes on, where it may end
-  underway_caused : (happenings : List Happening) (old : Moment) (push : ℕ) (outcome : Outcome) (new : Moment) → Runs happenings first old → Closes push outcome old new → IsUnbroken (all_entries happenings)
-      → Underway shelf.content names inbox first (all_entries happenings) old → IsCausedSince first old outcome
-  underway_caused happenings old push outcome new runs closes unbroken u =
+  -- what came of the push that goes on, where it may end and its part tells of no loss
+  underway_caused : (happenings : List Happening) (old : Moment) (outcome : Outcome) → Runs happenings first old → MayEnd old → came_of old.a.inside ≡ Some outcome
+      → (u : Underway shelf.content names inbox first (all_entries happenings) old) → (first_cause (all_entries u.since) ≡ Some outcome → is_told outcome ≡ true) → IsCausedSince first old outcome
+  underway_caused happenings old outcome runs may is u told =
       let part : List Entry = all_entries u.since in
-      let whole : IsUnbroken part = open_unbroken u.push part (all_entries happenings) u.part unbroken in
       let there = in_part size count mtu obex names shelf inbox setting u.before u.push u.name u.opened u.begins u.named u.since old u.goes u.unmarked in
-      let came = outcomes_of_parts size count mtu obex names shelf inbox setting u.before u.push u.opened u.begins u.since old u.goes u.unmarked (inr (closes.idle, closes.none_b)) in
+      let came = outcomes_of_parts size count mtu obex names shelf inbox setting u.before u.push u.opened u.begins u.since old u.goes u.unmarked may in
       let came' : (came_of old.a.inside ≡ first_cause part) ⊎ (came_of old.a.inside ≡ Some ShelfFault) = elim came [ inl found ↦ inl found | inr failed ↦ inr failed.0 ] in
       let begun = runs_advance (u.before ++ Opening u.push ∷ []) first u.opened u.begins in
       let since = runs_advance u.since u.opened old u.goes in
@@ -91,53 +129,73 @@ module _ (size count mtu obex : ℕ) (names : List (List ℕ)) (shelf : Shelved)
       let now : inbox_faults old.b.inside ≡ there.new.faults = ap inbox_faults there.is_new in
       came_is_caused (shelf_faults first.a.inside) (shelf_faults old.a.inside) (inbox_faults first.b.inside) (inbox_faults old.b.inside)
       mtu (min obex mtu) (capable_in size count mtu obex names setting) shelf.content u.name part there.old there.new there.stands
-      (came_of old.a.inside) came' outcome closes.came (λ found. unbroken_tells part whole outcome found)
-      (λ is. shelf_blamed happenings old runs (closes.came ∙ ap (λ (o : Outcome). Some o) is))
+      (came_of old.a.inside) came' outcome is told
+      (λ failed. shelf_blamed happenings old runs (is ∙ ap (λ (o : Outcome). Some o) failed))
       (λ risen.
       then_risen (inbox_faults first.b.inside) (inbox_faults u.opened.b.inside) (inbox_faults old.b.inside) begun.inbox_stays since.inbox_stays
       (subst (λ n. HasRisen n (inbox_faults old.b.inside)) (sym was) (subst (λ n. HasRisen there.old.faults n) (sym now) risen)))
 
-  -- at the end of a push one outcome more is noted
-  closing_caused : (past : List Entry) (push : ℕ) (outcome : Outcome) (old new : Moment) → Closes push outcome old new → Reached first past old → IsUnbroken past → IsCausedSince first old outcome
-  closing_caused past push outcome old new closes reached unbroken =
-      let all = along_run (pushes_come outcomes_of_parts) size count mtu obex names shelf inbox setting reached.happenings old reached.runs in
+  underway_comes : (happenings : List Happening) (old : Moment) (outcome : Outcome) → Runs happenings first old → MayEnd old → came_of old.a.inside ≡ Some outcome
+      → Underway shelf.content names inbox first (all_entries happenings) old → ComesSince first (all_entries happenings) old outcome
+  underway_comes happenings old outcome runs may is u =
+      let past : List Entry = all_entries happenings in
+      let part : List Entry = all_entries u.since in
+      elim (cases_Bool (list_any is_drop past)) [
+        | inl has ↦
+            elim (cases_Bool (is_told outcome)) [
+              | inl told ↦ inl (underway_caused happenings old outcome runs may is u (λ found. told))
+              | inr lost ↦ inr (lost_is outcome lost, has)
+            ]
+        | inr none ↦ inl (underway_caused happenings old outcome runs may is u (λ found. unbroken_tells part (open_unbroken u.push part past u.part (no_drop past none)) outcome found))
+      ]
+
+  -- what came of a push that goes on, where it may end
+  pub ending_comes : (happenings : List Happening) (old : Moment) (outcome : Outcome) → Runs happenings first old → MayEnd old → old.scene.pushes.going ≡ true → came_of old.a.inside ≡ Some outcome
+      → ComesSince first (all_entries happenings) old outcome
+  ending_comes happenings old outcome runs may going is =
+      let all = along_run (pushes_come outcomes_of_parts) size count mtu obex names shelf inbox setting happenings old runs in
       elim all.along.state [
-        | inl rests ↦ (let none = rests.going in let some = closes.going in absurd cc)
-        | inr u ↦ underway_caused reached.happenings old push outcome new reached.runs closes (subst IsUnbroken reached.past_is unbroken) u
+        | inl rests ↦ (let none = rests.going in absurd cc)
+        | inr u ↦ underway_comes happenings old outcome runs may is u
       ]
 
   -- no outcome more
-  still_caused : (past : List Entry) (happening : Happening) (old new : Moment) → Does happening old new → new.scene.pushes.outcomes ≡ old.scene.pushes.outcomes → Accounted first past old
-      → IsUnbroken (past ++ entries_of happening) → AllByRecursion (IsCausedSince first new) new.scene.pushes.outcomes
-  still_caused past happening old new does same accounted unbroken =
+  still_comes : (past : List Entry) (happening : Happening) (old new : Moment) → Does happening old new → new.scene.pushes.outcomes ≡ old.scene.pushes.outcomes → Accounted first past old
+      → AllByRecursion (ComesSince first (past ++ entries_of happening) new) new.scene.pushes.outcomes
+  still_comes past happening old new does same accounted =
       let advances = does_advance happening old new does in
-      subst (AllByRecursion (IsCausedSince first new)) (sym same)
-      (all_same (IsCausedSince first old) (IsCausedSince first new)
-      (caused_on (shelf_faults first.a.inside) (shelf_faults old.a.inside) (shelf_faults new.a.inside) (inbox_faults first.b.inside) (inbox_faults old.b.inside) (inbox_faults new.b.inside) advances.shelf_stays advances.inbox_stays)
-      old.scene.pushes.outcomes (accounted.caused (unbroken_front past (entries_of happening) unbroken)))
+      subst (AllByRecursion (ComesSince first (past ++ entries_of happening) new)) (sym same)
+      (all_same (ComesSince first past old) (ComesSince first (past ++ entries_of happening) new)
+      (comes_on first past (entries_of happening) old new advances.shelf_stays advances.inbox_stays)
+      old.scene.pushes.outcomes accounted.comes)
 
   -- one more
-  ended_caused : (past : List Entry) (push : ℕ) (outcome : Outcome) (old new : Moment) → Closes push outcome old new → Accounted first past old → IsUnbroken (past ++ entries_of (Closing push outcome))
-      → AllByRecursion (IsCausedSince first new) new.scene.pushes.outcomes
-  ended_caused past push outcome old new closes accounted unbroken =
-      let before : IsUnbroken past = unbroken_front past (entries_of (Closing push outcome)) unbroken in
-      subst (λ (m : Moment). AllByRecursion (IsCausedSince first m) m.scene.pushes.outcomes) (sym closes.new_is)
-      (all_both (IsCausedSince first old) old.scene.pushes.outcomes (outcome ∷ []) (accounted.caused before) (closing_caused past push outcome old new closes accounted.reached before, tt))
+  ended_comes : (past : List Entry) (push : ℕ) (outcome : Outcome) (old new : Moment) → Closes push outcome old new → Accounted first past old
+      → AllByRecursion (ComesSince first (past ++ entries_of (Closing push outcome)) new) new.scene.pushes.outcomes
+  ended_comes past push outcome old new closes accounted =
+      let reached = accounted.reached in
+      let entries : List Entry = entries_of (Closing push outcome) in
+      let came : ComesSince first past old outcome =
+      subst (λ (es : List Entry). ComesSince first es old outcome) (sym reached.past_is)
+      (ending_comes reached.happenings old outcome reached.runs (inr (closes.idle, closes.none_b)) closes.going closes.came) in
+      subst (λ (m : Moment). AllByRecursion (ComesSince first (past ++ entries) m) m.scene.pushes.outcomes) (sym closes.new_is)
+      (all_same (ComesSince first past old) (ComesSince first (past ++ entries) old) (comes_on first past entries old old (omega arith) (omega arith)) (old.scene.pushes.outcomes ++ outcome ∷ [])
+      (all_both (ComesSince first past old) old.scene.pushes.outcomes (outcome ∷ []) accounted.comes (came, tt)))
 
-  does_cause : (past : List Entry) (happening : Happening) (old new : Moment) → Does happening old new → Accounted first past old → IsUnbroken (past ++ entries_of happening)
-      → AllByRecursion (IsCausedSince first new) new.scene.pushes.outcomes
-  does_cause past (Departure side packet) old new does accounted unbroken =
-      still_caused past (Departure side packet) old new does (ap (λ (m : Moment). m.scene.pushes.outcomes) does.new_is ∙ ap (λ (p : Pushes). p.outcomes) (pushes_of_face side _ _)) accounted unbroken
-  does_cause past (Arrival side packet) old new does accounted unbroken =
-      still_caused past (Arrival side packet) old new does (ap (λ (m : Moment). m.scene.pushes.outcomes) does.new_is ∙ ap (λ (p : Pushes). p.outcomes) (pushes_of_face side _ _)) accounted unbroken
-  does_cause past (GivingBack side) old new does accounted unbroken = still_caused past (GivingBack side) old new does (ap (λ (m : Moment). m.scene.pushes.outcomes) does.new_is) accounted unbroken
-  does_cause past (Opening push) old new does accounted unbroken = still_caused past (Opening push) old new does (ap (λ (m : Moment). m.scene.pushes.outcomes) does.new_is) accounted unbroken
-  does_cause past (Closing push outcome) old new does accounted unbroken = ended_caused past push outcome old new does accounted unbroken
-  does_cause past (Deed ordinal word) old new does accounted unbroken = still_caused past (Deed ordinal word) old new does (ap (λ (m : Moment). m.scene.pushes.outcomes) does.new_is) accounted unbroken
-  does_cause past (Miss word) old new does accounted unbroken = still_caused past (Miss word) old new does (ap (λ (m : Moment). m.scene.pushes.outcomes) does.new_is) accounted unbroken
+  does_come : (past : List Entry) (happening : Happening) (old new : Moment) → Does happening old new → Accounted first past old
+      → AllByRecursion (ComesSince first (past ++ entries_of happening) new) new.scene.pushes.outcomes
+  does_come past (Departure side packet) old new does accounted =
+      still_comes past (Departure side packet) old new does (ap (λ (m : Moment). m.scene.pushes.outcomes) does.new_is ∙ ap (λ (p : Pushes). p.outcomes) (pushes_of_face side _ _)) accounted
+  does_come past (Arrival side packet) old new does accounted =
+      still_comes past (Arrival side packet) old new does (ap (λ (m : Moment). m.scene.pushes.outcomes) does.new_is ∙ ap (λ (p : Pushes). p.outcomes) (pushes_of_face side _ _)) accounted
+  does_come past (GivingBack side) old new does accounted = still_comes past (GivingBack side) old new does (ap (λ (m : Moment). m.scene.pushes.outcomes) does.new_is) accounted
+  does_come past (Opening push) old new does accounted = still_comes past (Opening push) old new does (ap (λ (m : Moment). m.scene.pushes.outcomes) does.new_is) accounted
+  does_come past (Closing push outcome) old new does accounted = ended_comes past push outcome old new does accounted
+  does_come past (Deed ordinal word) old new does accounted = still_comes past (Deed ordinal word) old new does (ap (λ (m : Moment). m.scene.pushes.outcomes) does.new_is) accounted
+  does_come past (Miss word) old new does accounted = still_comes past (Miss word) old new does (ap (λ (m : Moment). m.scene.pushes.outcomes) does.new_is) accounted
 
   pub accounted_along : (happenings : List Happening) (moment : Moment) → Runs happenings first moment → Accounted first (all_entries happenings) moment
   accounted_along happenings moment runs =
       kept_along (Accounted first)
-      (λ past happening old new does before. record { reached = reached_more first past happening old new does before.reached; caused = does_cause past happening old new does before })
-      happenings [] first moment runs (record { reached = record { happenings = []; runs = refl; past_is = refl }; caused = λ unbroken. tt })
+      (λ past happening old new does before. record { reached = reached_more first past happening old new does before.reached; comes = does_come past happening old new does before })
+      happenings [] first moment runs (record { reached = record { happenings = []; runs = refl; past_is = refl }; comes = tt })

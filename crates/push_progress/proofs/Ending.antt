@@ -35,7 +35,7 @@ some_by pushes since going room =
 first_pass : (word : Word) (words : List Word) → AllByRecursion (λ w. w ≡ Pass) (word ∷ words) → word ≡ Pass
 first_pass word words all = all.0
 
-nothing_passed : (word : Word) (radio : Radio) → word ≡ Pass → MakesNothing word radio → passed radio ≡ None
+pub nothing_passed : (word : Word) (radio : Radio) → word ≡ Pass → MakesNothing word radio → passed radio ≡ None
 nothing_passed word radio is (inl pass) = pass.1
 nothing_passed word radio is (inr drop) = let other = drop.0 in absurd cc
 

@@ -18,3 +18,5 @@ pub mod Advancing
 pub mod Explaining
 pub mod Accounting
 pub mod Succeeding
+pub mod Coming
+pub mod Turning

@@ -17,7 +17,7 @@ use Rattle.push_endings.proofs.Unbroken.{IsUnbroken}
 use Rattle.push_progress.proofs.Ending.{last_is, clean_scripts}
 use Rattle.push_progress.specs.Success.{IsCaused, CleanPlaysSucceed, AllAreDone}
 use Rattle.push_progress.proofs.Advancing.{shelf_faults, inbox_faults}
-use Rattle.push_progress.proofs.Accounting.{IsCausedSince, accounted_along}
+use Rattle.push_progress.proofs.Accounting.{IsCausedSince, ComesSince, caused_unbroken, accounted_along}
 use Rattle.push_outcomes.specs.Causes.{is_drop}
 
 abbrev AllPasses : List Word → Type 0
@@ -35,11 +35,12 @@ passes_unbroken (Deed ordinal word ∷ happenings) passes = (ap (λ (w : Word). 
 passes_unbroken (Miss word ∷ happenings) passes = passes_unbroken happenings passes.1
 
 -- by the counts of the ports
-counted : (first last : Moment) (course : Course) (shelf : Shelved) (served : Served) (inbox : Kept) → last.a.inside ≡ Pushing course shelf → last.b.inside ≡ Serving served inbox → (outcomes : List Outcome)
-    → AllByRecursion (IsCausedSince first last) outcomes → AllByRecursion (IsCaused (shelf_faults first.a.inside) shelf.faults (inbox_faults first.b.inside) inbox.faults) outcomes
-counted first last course shelf served inbox is_a is_b outcomes caused =
-    subst (λ (i : Inside). AllByRecursion (IsCaused (shelf_faults first.a.inside) (shelf_faults i) (inbox_faults first.b.inside) inbox.faults) outcomes) is_a
-    (subst (λ (i : Inside). AllByRecursion (IsCaused (shelf_faults first.a.inside) (shelf_faults last.a.inside) (inbox_faults first.b.inside) (inbox_faults i)) outcomes) is_b caused)
+pub counted : (P : (shelf_faults shelf_faults' inbox_faults inbox_faults' : ℕ) → Outcome → Type 0) (first last : Moment) (course : Course) (shelf : Shelved) (served : Served) (inbox : Kept) → last.a.inside ≡ Pushing course shelf → last.b.inside ≡ Serving served inbox
+    → (outcomes : List Outcome) → AllByRecursion (P (shelf_faults first.a.inside) (shelf_faults last.a.inside) (inbox_faults first.b.inside) (inbox_faults last.b.inside)) outcomes
+    → AllByRecursion (P (shelf_faults first.a.inside) shelf.faults (inbox_faults first.b.inside) inbox.faults) outcomes
+counted P first last course shelf served inbox is_a is_b outcomes all =
+    subst (λ (i : Inside). AllByRecursion (P (shelf_faults first.a.inside) (shelf_faults i) (inbox_faults first.b.inside) inbox.faults) outcomes) is_a
+    (subst (λ (i : Inside). AllByRecursion (P (shelf_faults first.a.inside) (shelf_faults last.a.inside) (inbox_faults first.b.inside) (inbox_faults i)) outcomes) is_b all)
 
 pub clean_plays_succeed : CleanPlaysSucceed
 clean_plays_succeed size count mtu obex names shelf inbox setting script last entries play passes enough course shelf' served inbox' is_a is_b =
@@ -47,8 +48,10 @@ clean_plays_succeed size count mtu obex names shelf inbox setting script last en
     let ended = clean_scripts size count mtu obex names shelf inbox setting script last entries play passes enough in
     let same : last ≡ play.before = last_is play.before.scene.pushes.going play.before last play.ended ended.0 play.ends in
     let accounted = accounted_along size count mtu obex names shelf inbox setting play.happenings play.before play.runs in
-    let caused : AllByRecursion (IsCausedSince first play.before) play.before.scene.pushes.outcomes = accounted.caused (passes_unbroken play.happenings (subst AllPasses (sym play.words) passes)) in
-    counted first last course shelf' served inbox' is_a is_b last.scene.pushes.outcomes
+    let unbroken : IsUnbroken (all_entries play.happenings) = passes_unbroken play.happenings (subst AllPasses (sym play.words) passes) in
+    let caused : AllByRecursion (IsCausedSince first play.before) play.before.scene.pushes.outcomes =
+    all_same (ComesSince first (all_entries play.happenings) play.before) (IsCausedSince first play.before) (caused_unbroken first (all_entries play.happenings) play.before unbroken) play.before.scene.pushes.outcomes accounted.comes in
+    counted IsCaused first last course shelf' served inbox' is_a is_b last.scene.pushes.outcomes
     (subst (λ (m : Moment). AllByRecursion (IsCausedSince first m) m.scene.pushes.outcomes) (sym same) caused)
 
 -- ---- where no port failed

@@ -64,6 +64,15 @@ EachPassCounts = (size count mtu obex : ℕ) (names : List (List ℕ)) (shelf : 
     → (happenings : List Happening) (moment : Moment) → Runs happenings next moment → all_words happenings ≡ [] → IsAtRest moment
     → passes_ahead (all_entries (before ++ Deed ordinal Pass ∷ happenings)) moment + 1 ≤ passes_ahead (all_entries before) mid
 
+-- From rest to rest one word was turned: no more passes are ahead than before, and where the word is pass while a push goes on
+-- one less at least.
+abbrev pub EachTurnCounts : Type 0
+EachTurnCounts = (size count mtu obex : ℕ) (names : List (List ℕ)) (shelf : Shelved) (inbox : Kept) → IsSetting size count mtu obex names
+    → (before : List Happening) (old : Moment) → Runs before (first_moment size count mtu obex names shelf inbox) old → IsAtRest old
+    → (more : List Happening) (new : Moment) → Runs more old new → (word : Word) → all_words more ≡ word ∷ [] → IsAtRest new
+    → (passes_ahead (all_entries (before ++ more)) new ≤ passes_ahead (all_entries before) old)
+    × (word ≡ Pass → old.scene.pushes.going ≡ true → passes_ahead (all_entries (before ++ more)) new + 1 ≤ passes_ahead (all_entries before) old)
+
 -- at first
 abbrev pub FewAtFirst : Type 0
 FewAtFirst = (size count mtu obex : ℕ) (names : List (List ℕ)) (shelf : Shelved) (inbox : Kept)

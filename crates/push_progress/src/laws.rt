@@ -1,7 +1,7 @@
 //! Laws of the progress of pushes by the word `pass`.
 
-ghost use Rattle.push_progress.specs.Progress.{NeverGrows, FindsFrames, EachPassCounts, FewAtFirst, EndsPushes};
-ghost use Rattle.push_progress.specs.Success.{CleanPlaysSucceed, AllAreDone};
+ghost use Rattle.push_progress.specs.Progress.{NeverGrows, FindsFrames, EachPassCounts, EachTurnCounts, FewAtFirst, EndsPushes};
+ghost use Rattle.push_progress.specs.Success.{OutcomesHaveCauses, LossesFollowDrops, CleanPlaysSucceed, AllAreDone};
 
 /// Whatever happens, no more passes are ahead than before.
 pub fn passes_ahead_never_grow()
@@ -18,6 +18,12 @@ pub fn each_pass_counts()
     ensures { EachPassCounts }
 {}
 
+/// From rest to rest, no word that is turned leaves more passes ahead, and `pass` while a push goes on
+/// leaves one less at least.
+pub fn each_turn_counts()
+    ensures { EachTurnCounts }
+{}
+
 /// At first at most 14 passes for each object are ahead.
 pub fn few_passes_at_first()
     ensures { FewAtFirst }
@@ -26,6 +32,17 @@ pub fn few_passes_at_first()
 /// A script of that many passes, and of no other word, ends no push: each has come to an end of its own.
 pub fn clean_scripts_end_pushes()
     ensures { EndsPushes }
+{}
+
+/// Whatever the script says, each push is done, loses its link or ends with the script; or the shelf
+/// or the inbox failed.
+pub fn outcomes_have_causes()
+    ensures { OutcomesHaveCauses }
+{}
+
+/// A push loses its link only where the word `drop` broke one.
+pub fn losses_follow_drops()
+    ensures { LossesFollowDrops }
 {}
 
 /// In a script of that many passes, and of no other word, each push is done, or the shelf or the
