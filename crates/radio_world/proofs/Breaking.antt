@@ -1,15 +1,15 @@
 -- What was due where a run broke off, and the steps before it.
-use Rattle.std.proofs.Common.{◌≡◌, ℕ, ◌+◌, ◌^◌, ◌<◌, true, List, [], ◌∷◌, ◌++◌, Option, Some, None, refl, sym, ap, subst, inl, inr, ◌⊎◌, Result, Ok, Err}
+use Rattle.std.proofs.Common.{◌≡◌, ℕ, ◌+◌, ◌^◌, ◌<◌, true, List, [], ◌∷◌, ◌++◌, Option, Some, None, refl, sym, ap, subst, ◌∙◌, inl, inr, ◌⊎◌, Result, Ok, Err}
 use Rattle.std.specs.Prelude.{IfErr, IsErrAnd, IsErrOf}
 use Rattle.std.proofs.lemmas.List.{append-nil}
-use Rattle.bt_base.specs.Streams.{GainedFront}
+use Rattle.bt_base.specs.Streams.{gained, GainedFront}
 use Rattle.bt_base.proofs.PortLaws.{front_none}
 use Rattle.h4_framing.specs.Packets.{Packet, spelling, IsPacket}
 use Rattle.push_script.specs.declared.word.Side.{Side}
 use Rattle.push_script.specs.declared.word.Side.TheVariants as sides
 use Rattle.push_script.specs.declared.word.Word.{Word}
 use Rattle.capture.specs.declared.flow.Flow.TheVariants.{Out, Into}
-use Rattle.capture.specs.Entries.{Entry, Moved, Begun, entry_octets, capture_octets}
+use Rattle.capture.specs.Entries.{Entry, Moved, Begun, Ended, Acted, entry_octets, capture_octets}
 use Rattle.radio_air.specs.Controllers.{Answer, packet_of}
 use Rattle.radio_air.specs.Radio.{controller}
 use Rattle.world_model.specs.Insides.{idles}
@@ -19,10 +19,11 @@ use Rattle.world_model.specs.Media.{Medium, face_a, face_b}
 use Rattle.world_model.specs.Ordering.{next_name}
 use Rattle.world_model.specs.Scenes.{Scene}
 use Rattle.world_model.specs.Moments.{Moment}
+use Rattle.radio_world.specs.Feeding.{LeavesIn}
 use Rattle.radio_world.specs.Running.{moment, in_medium}
 use Rattle.radio_world.specs.Extending.{Extends}
 use Rattle.radio_world.specs.Going.{Goes}
-use Rattle.radio_world.specs.Breaking.{IsDue, IsUnbuiltAt, Stops, MovesShort, Breaks}
+use Rattle.radio_world.specs.Breaking.{IsDue, Leaves, IsUnbuiltAt, Stops, MovesShort, Breaks}
 use Rattle.radio_world.specs.declared.fault.WorldFault.{WorldFault}
 use Rattle.radio_world.specs.declared.fault.WorldFault.TheVariants.{TraceFault, NotBuilt}
 use Rattle.radio_world.proofs.Extending.{extends_none, extends_then}
@@ -52,15 +53,31 @@ same_fault (Err other) P fault is holds = subst P (sym is) holds
 
 -- nothing was due
 pub stops_none : (words : List Word) (fault : WorldFault) (last : Moment) (trace : Option (List ℕ)) → (fault ≡ NotBuilt → IsUnbuiltAt words None) → Stops words fault last last.b trace trace
-stops_none words fault last trace unbuilt = record { due = None; is_due = tt; front = front_none trace []; stays = λ why. refl; unbuilt = unbuilt }
+stops_none words fault last trace unbuilt = record { due = None; is_due = tt; front = front_none trace []; stays = λ why. refl; leaves = λ held. refl; unbuilt = unbuilt }
 
 one_front : (trace trace' : Option (List ℕ)) (entry : Entry) → GainedFront trace trace' (entry_octets entry) → GainedFront trace trace' (capture_octets (entry ∷ []))
 one_front trace trace' entry front = subst (GainedFront trace trace') (sym (append-nil (entry_octets entry))) front
 
+leaves_same : (due : Option Entry) (b : Face) (trace trace' : Option (List ℕ)) → Leaves due b b trace trace'
+leaves_same None b trace trace' = refl
+leaves_same (Some (Moved sides.A flow packet)) b trace trace' = refl
+leaves_same (Some (Moved sides.B Out packet)) b trace trace' = refl
+leaves_same (Some (Moved sides.B Into packet)) b trace trace' = inl refl
+leaves_same (Some (Begun push)) b trace trace' = refl
+leaves_same (Some (Ended push outcome)) b trace trace' = refl
+leaves_same (Some (Acted ordinal word)) b trace trace' = refl
+
 -- something was, while host b stayed as it was
 pub stops_at : (words : List Word) (fault : WorldFault) (entry : Entry) (last : Moment) (trace trace' : Option (List ℕ)) → IsDue words entry last → GainedFront trace trace' (entry_octets entry)
     → (fault ≡ NotBuilt → IsUnbuiltAt words (Some entry)) → Stops words fault last last.b trace trace'
-stops_at words fault entry last trace trace' is front unbuilt = record { due = Some entry; is_due = is; front = one_front trace trace' entry front; stays = λ why. refl; unbuilt = unbuilt }
+stops_at words fault entry last trace trace' is front unbuilt = record {
+  due = Some entry;
+  is_due = is;
+  front = one_front trace trace' entry front;
+  stays = λ why. refl;
+  leaves = λ held. leaves_same (Some entry) last.b trace trace';
+  unbuilt = unbuilt;
+}
 
 -- ---- packets that move
 
@@ -96,29 +113,39 @@ not_trace : (fault : WorldFault) (face face' : Face) → (fault ≡ TraceFault �
 not_trace fault face face' same (inl is) = same is
 not_trace fault face face' same (inr not) = absurd (not tt)
 
+-- a host did not hear the packet, or had no memory for it; then the trace has it whole
+abbrev pub Hands : Packet → Side → (old new : Face) → Option (List ℕ) → Option (List ℕ) → Type 0
+Hands packet side old new trace trace' = old.held ≡ Some [] → (new ≡ old) ⊎ (LeavesIn packet old.line old.inside new.inside × (trace' ≡ gained trace (entry_octets (Moved side Into packet))))
+
+written_one : (packet : Packet) (side : Side) (old new : Face) (trace trace' : Option (List ℕ)) → (new ≡ old) ⊎ (LeavesIn packet old.line old.inside new.inside × (trace' ≡ gained trace (entry_octets (Moved side Into packet))))
+    → (new ≡ old) ⊎ (LeavesIn packet old.line old.inside new.inside × (trace' ≡ gained trace (capture_octets (Moved side Into packet ∷ []))))
+written_one packet side old new trace trace' (inl same) = inl same
+written_one packet side old new trace trace' (inr leaves) = inr (leaves.0, leaves.1 ∙ ap (gained trace) (sym (append-nil (entry_octets (Moved side Into packet)))))
+
 stops_into : (fault : WorldFault) (side : Side) (medium : Medium) (face face' other : Face) (scene : Scene) (trace trace' : Option (List ℕ)) (answer : Answer) (rest : List Answer)
-    → (controller side medium.radio).owed ≡ answer ∷ rest → IsPacket acl_limit (packet_of side answer) → (fault ≡ TraceFault → face' ≡ face) → GainedFront trace trace' (entry_octets (Moved side Into (packet_of side answer)))
-    → (fault ≡ NotBuilt → ⊥) → Stops [] fault (moment (in_medium medium scene) (face_a side face other) (face_b side face other)) (face_b side face' other) trace trace'
-stops_into fault sides.A medium face face' other scene trace trace' answer rest owed is same front not =
+    → (controller side medium.radio).owed ≡ answer ∷ rest → IsPacket acl_limit (packet_of side answer) → (fault ≡ TraceFault → face' ≡ face) → Hands (packet_of side answer) side face face' trace trace'
+    → GainedFront trace trace' (entry_octets (Moved side Into (packet_of side answer))) → (fault ≡ NotBuilt → ⊥) → Stops [] fault (moment (in_medium medium scene) (face_a side face other) (face_b side face other)) (face_b side face' other) trace trace'
+stops_into fault sides.A medium face face' other scene trace trace' answer rest owed is same hands front not =
     stops_at [] fault (Moved sides.A Into (packet_of sides.A answer)) (moment (in_medium medium scene) face other) trace trace' (answer, rest, owed, refl, is) front (λ e. absurd (not e))
-stops_into fault sides.B medium face face' other scene trace trace' answer rest owed is same front not = record {
+stops_into fault sides.B medium face face' other scene trace trace' answer rest owed is same hands front not = record {
   due = Some (Moved sides.B Into (packet_of sides.B answer));
   is_due = (answer, rest, owed, refl, is);
   front = one_front trace trace' (Moved sides.B Into (packet_of sides.B answer)) front;
   stays = not_trace fault face face' same;
+  leaves = λ held. written_one (packet_of sides.B answer) sides.B face face' trace trace' (hands held);
   unbuilt = λ e. absurd (not e);
 }
 
 -- it broke off at a packet for the host
 pub short_into : (fault : WorldFault) (side : Side) (medium : Medium) (face face' : Face) (trace trace' : Option (List ℕ)) (answer : Answer) (rest : List Answer)
-    → (controller side medium.radio).owed ≡ answer ∷ rest → IsPacket acl_limit (packet_of side answer) → (fault ≡ TraceFault → face' ≡ face) → GainedFront trace trace' (entry_octets (Moved side Into (packet_of side answer)))
-    → (fault ≡ NotBuilt → ⊥) → MovesShort fault side medium face face' trace trace'
-short_into fault side medium face face' trace trace' answer rest owed is same front not = record {
+    → (controller side medium.radio).owed ≡ answer ∷ rest → IsPacket acl_limit (packet_of side answer) → (fault ≡ TraceFault → face' ≡ face) → Hands (packet_of side answer) side face face' trace trace'
+    → GainedFront trace trace' (entry_octets (Moved side Into (packet_of side answer))) → (fault ≡ NotBuilt → ⊥) → MovesShort fault side medium face face' trace trace'
+short_into fault side medium face face' trace trace' answer rest owed is same hands front not = record {
   mid = medium;
   mid_face = face;
   so_far = trace;
   extends = extends_none side medium face trace;
-  stops = λ other scene. stops_into fault side medium face face' other scene trace trace' answer rest owed is same front not;
+  stops = λ other scene. stops_into fault side medium face face' other scene trace trace' answer rest owed is same hands front not;
 }
 
 -- some packets moved before

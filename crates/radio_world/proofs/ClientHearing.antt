@@ -147,11 +147,11 @@ err_by : (shelf shelf' : Shelved) (piece : List ℕ) (refusal : FeedRefusal) (re
 err_by shelf shelf' piece (feed.Transport why at) None held' framing framing' old new X Y stays fed = client_stops shelf shelf' piece framing framing' held' old new (feed.Transport why at) stays fed.0
 err_by shelf shelf' piece (feed.CommandFailed opcode status at) None held' framing framing' old new X Y stays fed = client_stops shelf shelf' piece framing framing' held' old new (feed.CommandFailed opcode status at) stays fed.0
 err_by shelf shelf' piece (feed.BadBuffers size count at) None held' framing framing' old new X Y stays fed = client_stops shelf shelf' piece framing framing' held' old new (feed.BadBuffers size count at) stays fed.0
-err_by shelf shelf' piece feed.NoMemory None held' framing framing' old new X Y stays fed = tt
+err_by shelf shelf' piece feed.NoMemory None held' framing framing' old new X Y stays fed = λ before e. tt
 err_by shelf shelf' piece (feed.Transport why at) (Some r) held' framing framing' old new X Y stays fed = λ before e. absurd (silent before e)
 err_by shelf shelf' piece (feed.CommandFailed opcode status at) (Some r) held' framing framing' old new X Y stays fed = λ before e. absurd (silent before e)
 err_by shelf shelf' piece (feed.BadBuffers size count at) (Some r) held' framing framing' old new X Y stays fed = λ before e. absurd (silent before e)
-err_by shelf shelf' piece feed.NoMemory (Some r) held' framing framing' old new X Y stays fed = tt
+err_by shelf shelf' piece feed.NoMemory (Some r) held' framing framing' old new X Y stays fed = λ before e. tt
 
 pub client_err : (shelf shelf' : Shelved) (piece : List ℕ) (old new : ClientState) (refusal : FeedRefusal) → StaysShelved shelf shelf' → Feeds shelf.content shelf.faults shelf'.faults piece old new (Err refusal)
     → world.Hears piece (client_face old shelf) (client_face new shelf') (Err (fault_by refusal))

@@ -11,10 +11,12 @@ use Rattle.h4_framing.proofs.ReadingLemmas.{no_wrong_nothing}
 use Rattle.host_link.specs.Lines.{Line}
 use Rattle.host_link.specs.Hearing.{fault_of}
 use Rattle.host_link.specs.PuttingOut.{put_out}
-use Rattle.world_model.specs.Insides.{Inside, Tells}
+use Rattle.bt_host.specs.Servers.{Served, Server, Kept, HearsAll}
+use Rattle.bt_host.specs.ServerHosts.{NotesInPart}
+use Rattle.world_model.specs.Insides.{Inside, Pushing, Serving, Tells, server}
 use Rattle.world_model.specs.Faces.{Face}
 use Rattle.world_model.specs.Hearing.{acl_limit, put_out_again, HearsOne, HearsBehind, FaultsBehind}
-use Rattle.radio_world.specs.Feeding.{HearsEach, TellsEach, TakesPiece, RefusesPiece, IsAtFault}
+use Rattle.radio_world.specs.Feeding.{HearsEach, TellsEach, TakesPiece, RefusesPiece, IsAtFault, BreaksIn, LeavesIn}
 use Rattle.radio_world.proofs.Insides.{StaysInside, stays_same, stays_on, tells_none, tells_one, tells_behind}
 
 -- ---- lists
@@ -165,3 +167,40 @@ refused packet piece more start old now is under refuses =
     let refusal = refuses under.before under.held_was in
     by_refusal packet refusal.heard_piece.packets under.before piece more refusal.heard_piece.rest (suc under.times) start.line (put_out old.line) now.line is (ap put_out under.same)
     (append_assoc under.before piece more ∙ under.octets) refusal.heard_piece.each refusal.heard_piece.octets refusal.heard_piece.hears refusal.why
+
+-- ---- a host that had no memory
+
+-- of packets that end with the last one there is one alone
+last_alone : (packet : Packet) (packets : List Packet) (q : Packet) (front more rest : List ℕ) → IsPacket acl_limit packet → AllByRecursion (IsPacket acl_limit) (packets ++ q ∷ [])
+    → front ≡ spellings (packets ++ q ∷ []) ++ rest → front ++ more ≡ spelling packet → (packet ≡ q) × (packets ≡ [])
+last_alone packet [] q front more rest is each whole spelled = ((one_of packet [] q front more rest is each.0 whole spelled).0, refl)
+last_alone packet (p ∷ packets) q front more rest is each whole spelled =
+    let one = one_of packet (packets ++ q ∷ []) p front more rest is each.0 whole spelled in
+    absurd (let none = (none_left packets (q ∷ []) one.1).1 in cc)
+
+in_part : (packet q : Packet) (packets : List Packet) (line : Line) (served : Served) (inbox between inbox' : Kept) (mid : Server) → packet ≡ q → packets ≡ []
+    → HearsAll inbox between packets (server line served) mid → NotesInPart between inbox' q mid → NotesInPart inbox inbox' packet (server line served)
+in_part packet q packets line served inbox between inbox' mid same none hears notes =
+    let at_end : HearsAll inbox between [] (server line served) mid = subst (λ ps. HearsAll inbox between ps (server line served) mid) none hears in
+    subst (λ p. NotesInPart inbox inbox' p (server line served)) (sym same)
+    (subst (λ (s : Server). NotesInPart inbox inbox' q s) at_end.0 (subst (λ (k : Kept). NotesInPart k inbox' q mid) at_end.1 notes))
+
+leaves_in : (packet : Packet) (piece more before : List ℕ) (times : ℕ) (start old : Line) (a b c : Inside) → IsPacket acl_limit packet → old ≡ put_out_again times start → StaysInside a b
+    → (before ++ piece) ++ more ≡ spelling packet → BreaksIn before piece old b c → LeavesIn packet start a c
+leaves_in packet piece more before times start old (Pushing course shelf) b c is same stays spelled breaks = tt
+leaves_in packet piece more before times start old (Serving served inbox) (Pushing course shelf) c is same stays spelled breaks = absurd stays
+leaves_in packet piece more before times start old (Serving served inbox) (Serving served' inbox') (Pushing course shelf) is same stays spelled breaks = absurd breaks
+leaves_in packet piece more before times start old (Serving served inbox) (Serving served' inbox') (Serving served'' inbox'') is same stays spelled breaks =
+    let one = last_alone packet breaks.packets breaks.packet (before ++ piece) more breaks.rest is breaks.each breaks.octets spelled in
+    let part : NotesInPart inbox' inbox'' packet (server (put_out old) served') =
+    in_part packet breaks.packet breaks.packets (put_out old) served' inbox' breaks.between inbox'' breaks.mid one.0 one.1 breaks.hears breaks.notes in (
+      suc times,
+      subst (λ (l : Line). NotesInPart inbox inbox'' packet (server l served)) (ap put_out same)
+          (subst (λ (s : Served). NotesInPart inbox inbox'' packet (server (put_out old) s)) stays.0 (subst (λ (k : Kept). NotesInPart k inbox'' packet (server (put_out old) served')) stays.1 part)),
+    )
+
+-- memory was wanting for a piece of the packet
+pub broken_off : (packet : Packet) (piece more : List ℕ) (start old now : Face) → IsPacket acl_limit packet
+    → IsUnderWay packet (piece ++ more) start old → ((before : List ℕ) → old.held ≡ Some before → BreaksIn before piece old.line old.inside now.inside) → LeavesIn packet start.line start.inside now.inside
+broken_off packet piece more start old now is under breaks =
+    leaves_in packet piece more under.before under.times start.line old.line start.inside old.inside now.inside is under.same under.stays (append_assoc under.before piece more ∙ under.octets) (breaks under.before under.held_was)

@@ -20,3 +20,5 @@ pub mod Stopping
 pub mod Unbuilt
 pub mod Due
 pub mod Unfinished
+pub mod Looking
+pub mod Progressing

@@ -13,7 +13,7 @@ use Rattle.bt_host.specs.declared.feed_refusal.FeedRefusal.TheVariants as feed
 use Rattle.bt_host.specs.Refusals.{refusal_in}
 use Rattle.bt_host.specs.Channels.{sent}
 use Rattle.bt_host.specs.Servers.{Server, Kept, Hears, HearsAll, GoesOn, IsSendable, with_response, answering, stepped, putting_out}
-use Rattle.bt_host.specs.ServerHosts.{ServerState, Feeds, Reads, Takes, Stops}
+use Rattle.bt_host.specs.ServerHosts.{ServerState, Feeds, Reads, Takes, Stops, BreaksOff}
 use Rattle.world_model.specs.Insides.{Serving}
 use Rattle.world_model.specs.Faces.{Face}
 use Rattle.world_model.specs.Hearing.{Want, Send as SendOut, after_want, IsWant, PutsOut}
@@ -98,6 +98,21 @@ server_takes inbox inbox' piece framing framing' old new takes = record {
   held_is = ap (λ (f : Framing). Some f.held) takes.taken.framing_is;
 }
 
+server_breaks : (inbox inbox' : Kept) (piece : List ℕ) (framing : Framing) (old : Server) → BreaksOff inbox inbox' piece framing (putting_out old)
+    → (before : List ℕ) → Some framing.held ≡ Some before → world.BreaksPiece before piece old.line old.served inbox inbox'
+server_breaks inbox inbox' piece framing old breaks before same =
+    subst (λ held. world.BreaksPiece held piece old.line old.served inbox inbox') (let e : framing.held ≡ before = cc in e) (record {
+      packets = breaks.packets;
+      packet = breaks.packet;
+      rest = breaks.rest;
+      each = breaks.read.each;
+      octets = breaks.read.octets;
+      between = breaks.between;
+      mid = breaks.server;
+      hears = breaks.hears;
+      notes = breaks.notes;
+    })
+
 -- ---- what a host is fed
 
 ok_by : (inbox inbox' : Kept) (piece : List ℕ) (refused refused' : Option FeedRefusal) (framing framing' : Framing) (old new : Server) (X Y : Type 0)
@@ -117,11 +132,11 @@ err_by : (inbox inbox' : Kept) (piece : List ℕ) (refusal : FeedRefusal) (refus
 err_by inbox inbox' piece (feed.Transport why at) None held' framing framing' old new X Y fed = server_stops inbox inbox' piece framing framing' held' old new (feed.Transport why at) fed.0
 err_by inbox inbox' piece (feed.CommandFailed opcode status at) None held' framing framing' old new X Y fed = server_stops inbox inbox' piece framing framing' held' old new (feed.CommandFailed opcode status at) fed.0
 err_by inbox inbox' piece (feed.BadBuffers size count at) None held' framing framing' old new X Y fed = server_stops inbox inbox' piece framing framing' held' old new (feed.BadBuffers size count at) fed.0
-err_by inbox inbox' piece feed.NoMemory None held' framing framing' old new X Y fed = tt
+err_by inbox inbox' piece feed.NoMemory None held' framing framing' old new X Y fed = server_breaks inbox inbox' piece framing old fed.0
 err_by inbox inbox' piece (feed.Transport why at) (Some r) held' framing framing' old new X Y fed = λ before e. absurd (silent before e)
 err_by inbox inbox' piece (feed.CommandFailed opcode status at) (Some r) held' framing framing' old new X Y fed = λ before e. absurd (silent before e)
 err_by inbox inbox' piece (feed.BadBuffers size count at) (Some r) held' framing framing' old new X Y fed = λ before e. absurd (silent before e)
-err_by inbox inbox' piece feed.NoMemory (Some r) held' framing framing' old new X Y fed = tt
+err_by inbox inbox' piece feed.NoMemory (Some r) held' framing framing' old new X Y fed = λ before e. absurd (silent before e)
 
 pub server_err : (inbox inbox' : Kept) (piece : List ℕ) (old new : ServerState) (refusal : FeedRefusal) → Feeds inbox inbox' piece old new (Err refusal)
     → world.Hears piece (server_face old inbox) (server_face new inbox') (Err (fault_by refusal))

@@ -49,6 +49,7 @@ stops_longer words more fault last b trace trace' stops = record {
   is_due = due_any words more stops.due last stops.is_due;
   front = stops.front;
   stays = stops.stays;
+  leaves = stops.leaves;
   unbuilt = λ is. unbuilt_longer words more stops.due (stops.unbuilt is);
 }
 

@@ -22,7 +22,7 @@ use Rattle.world_model.proofs.Beginning.{stands_at_first}
 use Rattle.world_model.proofs.Turning.{idle_at, done_more}
 use Rattle.radio_world.specs.Running.{IsRun, moment}
 use Rattle.radio_world.specs.Going.{Goes, Turns}
-use Rattle.radio_world.specs.Breaking.{Stops, Breaks, TurnsShort}
+use Rattle.radio_world.specs.Breaking.{Leaves, Stops, Breaks, TurnsShort}
 use Rattle.radio_world.specs.Unfinished.{KeepsAll, HappensShort}
 use Rattle.radio_world.specs.Worlds.{beginning}
 use Rattle.radio_world.specs.declared.fault.WorldFault.{WorldFault}
@@ -52,6 +52,7 @@ short_at fault scenario shelf inbox turned left more past last b trace trace' tr
       happenings = run.happenings;
       last = last;
       runs = run.runs;
+      whole_b = stands.whole_b;
       behind = left ++ more;
       words = script ∙ ap (λ xs. xs ++ (left ++ more)) (sym run.words_are);
       stops = record {
@@ -59,6 +60,7 @@ short_at fault scenario shelf inbox turned left more past last b trace trace' tr
         is_due = due_any left more stops.due last stops.is_due;
         front = subst (λ t. GainedFront t trace'' (capture_octets (option_to_list stops.due))) said stops.front;
         stays = stops.stays;
+        leaves = λ held. subst (λ t. Leaves stops.due last.b b t trace'') said (stops.leaves held);
         unbuilt = λ is. unbuilt_longer left more stops.due (stops.unbuilt is);
       };
       keeps = subst (KeepsAll scenario.acl_length scenario.acl_count (words_of scenario.script)) run.entries_are kept;

@@ -1,6 +1,6 @@
 -- Where a run broke off: what was due then, and how much of it the capture says (this project's own).
 use Rattle.std.specs.Prelude.{ℕ, ◌+◌, ◌^◌, ◌≡◌, ◌<◌, ◌⊎◌, true, List, [], ◌∷◌, ◌++◌, Option, Some, None, IfSome, option_to_list}
-use Rattle.bt_base.specs.Streams.{GainedFront}
+use Rattle.bt_base.specs.Streams.{gained, GainedFront}
 use Rattle.h4_framing.specs.Packets.{spelling, IsPacket}
 use Rattle.push_script.specs.declared.outcome.Outcome.{Outcome}
 use Rattle.push_script.specs.declared.word.Side.{Side}
@@ -20,6 +20,7 @@ use Rattle.world_model.specs.Ordering.{next_name}
 use Rattle.world_model.specs.Scenes.{Scene}
 use Rattle.world_model.specs.Moments.{Moment, face_at, IsAtRest}
 use Rattle.world_model.specs.Happenings.{last_outcome}
+use Rattle.radio_world.specs.Feeding.{LeavesIn}
 use Rattle.radio_world.specs.Running.{moment, in_medium}
 use Rattle.radio_world.specs.Extending.{Extends}
 use Rattle.radio_world.specs.Going.{Goes, Turns}
@@ -47,18 +48,26 @@ abbrev pub IsForB : Option Entry → Type 0
 IsForB (Some (Moved sides.B Into packet)) = Unit {0}
 IsForB _ = ⊥
 
+-- The packet that was due came to host b, which did not hear it, or had no memory for all that it makes of it; then the trace has
+-- the packet whole.
+abbrev pub Leaves : Option Entry → (old new : Face) → Option (List ℕ) → Option (List ℕ) → Type 0
+Leaves (Some (Moved sides.B Into packet)) old new trace trace' =
+    (new ≡ old) ⊎ (LeavesIn packet old.line old.inside new.inside × (trace' ≡ gained trace (capture_octets (Moved sides.B Into packet ∷ []))))
+Leaves _ old new trace trace' = new ≡ old
+
 -- What it may be that is not built: the push whose begin was due, or, where nothing was due, the first of the words that are left.
 abbrev pub IsUnbuiltAt : List Word → Option Entry → Type 0
 IsUnbuiltAt words due = ((push : ℕ) × (due ≡ Some (Begun push))) ⊎ ((due ≡ None) × (word : Word) × (more : List Word) × (words ≡ word ∷ more) × IsUnbuilt word)
 
 -- At a moment it broke off with that fault, while these words were left: of what was due, if anything was, the trace gained a
--- front. Host b and its inbox, now `b`, stayed as they were then, but for a packet that it had no memory to hear. What is not
--- built it found at the begin of a push, or at a word.
+-- front. Host b and its inbox, now `b`, stayed as they were then, but for a packet that it had no memory to hear to its end. What
+-- is not built it found at the begin of a push, or at a word.
 pub record Stops (words : List Word) (fault : WorldFault) (last : Moment) (b : Face) (trace trace' : Option (List ℕ)) : Type 0 where
   pub due : Option Entry
   pub is_due : IfSome due (λ entry. IsDue words entry last)
   pub front : GainedFront trace trace' (capture_octets (option_to_list due))
   pub stays : (fault ≡ TraceFault) ⊎ (IsForB due → ⊥) → b ≡ last.b
+  pub leaves : last.b.held ≡ Some [] → Leaves due last.b b trace trace'
   pub unbuilt : fault ≡ NotBuilt → IsUnbuiltAt words due
 
 -- ---- steps, and then it broke off

@@ -10,9 +10,11 @@ use Rattle.host_link.specs.PuttingOut.{put_out}
 use Rattle.host_link.specs.declared.news.ControllerFault.{ControllerFault}
 use Rattle.bt_host.specs.Clients as pushing
 use Rattle.bt_host.specs.Servers as serving
+use Rattle.bt_host.specs.Servers.{Served, Server, Kept}
+use Rattle.bt_host.specs.ServerHosts.{NotesInPart}
 use Rattle.world_model.specs.Insides.{Inside, Pushing, Serving, StaysShelved, client, server}
 use Rattle.world_model.specs.Faces.{Face}
-use Rattle.world_model.specs.Hearing.{acl_limit, HearsOne}
+use Rattle.world_model.specs.Hearing.{acl_limit, put_out_again, HearsOne}
 use Rattle.radio_world.specs.declared.host.HostFault.{HostFault}
 use Rattle.radio_world.specs.declared.host.HostFault.TheVariants.{Refused, NoMemory}
 
@@ -59,8 +61,40 @@ pub record RefusesPiece (held piece : List ℕ) (old new : Face) : Type 0 where
   pub heard_piece : HearsPiece held piece old new
   pub why : ((refusal : H4Refusal) × (n : ℕ) × GoesWrong acl_limit heard_piece.rest refusal n) ⊎ IsAtFault heard_piece.rest new.line
 
--- What a host makes of a piece. Nothing is said where no memory could be had, or where it went no further before.
+-- a server heard whole packets, and at the next one memory was wanting
+pub record BreaksPiece (held piece : List ℕ) (line : Line) (served : Served) (inbox inbox' : Kept) : Type 0 where
+  pub packets : List Packet
+  pub packet : Packet
+  pub rest : List ℕ
+  pub each : AllByRecursion (IsPacket acl_limit) (packets ++ packet ∷ [])
+  pub octets : held ++ piece ≡ spellings (packets ++ packet ∷ []) ++ rest
+  pub between : Kept
+  pub mid : Server
+  pub hears : serving.HearsAll inbox between packets (server (put_out line) served) mid
+  pub notes : NotesInPart between inbox' packet mid
+
+-- of a client nothing is said then
+abbrev pub BreaksIn : (held piece : List ℕ) → Line → (old new : Inside) → Type 0
+BreaksIn held piece line (Pushing course shelf) new = Unit {0}
+BreaksIn held piece line (Serving served inbox) (Serving served' inbox') = BreaksPiece held piece line served inbox inbox'
+BreaksIn held piece line (Serving served inbox) (Pushing course shelf) = ⊥
+
+-- What a host makes of a piece. Where no memory could be had it is said what an inbox has stored; nothing is said where the host
+-- went no further before.
 abbrev pub Hears : (piece : List ℕ) → (old new : Face) → Result (Unit {0}) HostFault → Type 0
 Hears piece old new (Ok _) = TakesPiece piece old new
 Hears piece old new (Err Refused) = (before : List ℕ) → old.held ≡ Some before → RefusesPiece before piece old new
-Hears piece old new (Err NoMemory) = Unit {0}
+Hears piece old new (Err NoMemory) = (before : List ℕ) → old.held ≡ Some before → BreaksIn before piece old.line old.inside new.inside
+
+-- ---- a packet
+
+-- Memory was wanting for a packet that came in whole: a server left its inbox as one that notes the packet in part, behind what it
+-- put out. Of a client nothing is said.
+abbrev pub LeavesIn : Packet → Line → (old new : Inside) → Type 0
+LeavesIn packet line (Pushing course shelf) new = Unit {0}
+LeavesIn packet line (Serving served inbox) (Serving served' inbox') = (times : ℕ) × NotesInPart inbox inbox' packet (server (put_out_again times line) served)
+LeavesIn packet line (Serving served inbox) (Pushing course shelf) = ⊥
+
+-- so where the octets of a whole packet were handed to a host that held nothing
+abbrev pub HearsShort : (octets : List ℕ) → (old new : Face) → Type 0
+HearsShort octets old new = (packet : Packet) → IsPacket acl_limit packet → octets ≡ spelling packet → old.held ≡ Some [] → LeavesIn packet old.line old.inside new.inside

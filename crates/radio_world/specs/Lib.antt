@@ -7,3 +7,4 @@ pub mod Worlds
 pub mod Blaming
 pub mod Breaking
 pub mod Unfinished
+pub mod Progressing

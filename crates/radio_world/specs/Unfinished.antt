@@ -1,5 +1,5 @@
 -- A run of a scenario that broke off (this project's own).
-use Rattle.std.specs.Prelude.{ℕ, ◌≡◌, List, [], ◌++◌, Option, option_to_list}
+use Rattle.std.specs.Prelude.{ℕ, ◌≡◌, List, [], ◌++◌, Option, Some, option_to_list}
 use Rattle.std.specs.List.{AllByRecursion}
 use Rattle.bt_base.specs.Streams.{gained}
 use Rattle.push_script.specs.declared.scenario.Scenario.{Scenario}
@@ -33,6 +33,8 @@ pub record HappensShort (fault : WorldFault) (scenario : Scenario) (shelf : Shel
   pub happenings : List Happening
   pub last : Moment
   pub runs : Runs happenings (beginning scenario shelf inbox) last
+  -- no packet is on its way into host b
+  pub whole_b : last.b.held ≡ Some []
   pub behind : List Word
   pub words : words_of scenario.script ≡ all_words happenings ++ behind
   pub stops : Stops behind fault last b (gained trace (capture_octets (all_entries happenings))) trace'

@@ -1,8 +1,8 @@
 //! A host as the world sees it.
 
-ghost use Rattle.std.specs.Prelude.{◌≡◌, ◌≤◌, ◌<◌, ℕ, Bool, true, List, Option, length, drop, OnOk, IsErrOf};
+ghost use Rattle.std.specs.Prelude.{◌≡◌, ◌≤◌, ◌<◌, ◌∷◌, [], ℕ, Bool, true, List, Option, length, drop, OnOk, IsErrOf};
 ghost use Rattle.bt_base.specs.Objects.{Object};
-ghost use Rattle.bt_host.specs.Shelves.{Stays};
+ghost use Rattle.bt_host.specs.Shelves.{Stays, LooksFor};
 ghost use Rattle.push_script.specs.Names.{utf16_length};
 ghost use Rattle.world_model.specs.Insides.{StartsPush, idles, came_of};
 ghost use Rattle.world_model.specs.Faces.{Face, with_out};
@@ -38,6 +38,9 @@ pub(crate) trait Host<P> {
     /// How often its port has found no memory.
     ghost shortages: { P → ℕ };
 
+    /// How often its port was asked for what it lacks, where that is a shelf.
+    ghost absences: { P → ℕ };
+
     /// The octets for its controller.
     fn out(&self) -> &[u8]
         ensures { (port : P) → result.now ≡ (face self.now port).line.out };
@@ -48,13 +51,14 @@ pub(crate) trait Host<P> {
         ensures face { face self.new port.now ≡ with_out (drop n (face self.old port.now).line.out) (face self.old port.now) }
         ensures may_hear { may_hear self.old port.now → may_hear self.new port.now };
 
-    /// Takes octets of its controller.
+    /// Takes octets of its controller. A shelf is asked for nothing that it lacks.
     fn hear(&mut self, piece: &[u8], port: &mut P) -> Result<(), HostFault>
         requires { may_hear self.old port.old }
         ensures hears { Hears piece.now (face self.old port.old) (face self.new port.new) result }
         ensures may_hear { may_hear self.new port.new }
         ensures stays { Stays (content port.old) (content port.new) (faults port.old) (faults port.new) (shortages port.old) (shortages port.new) }
-        ensures short { shortages port.old < shortages port.new → IsErrOf result HostFault.NoMemory };
+        ensures short { shortages port.old < shortages port.new → IsErrOf result HostFault.NoMemory }
+        ensures looks { LooksFor [] (content port.old) (absences port.old) (absences port.new) };
 }
 
 /// Why a push did not begin.
@@ -76,7 +80,7 @@ pub(crate) trait Pusher<P>: Host<P> {
     fn outcome(&self) -> Option<Outcome>
         ensures { (port : P) → result ≡ came_of (Self.face self.now port).inside };
 
-    /// Begins to push the object of that name.
+    /// Begins to push the object of that name, for which alone it asks a shelf.
     fn push(&mut self, name: &str, port: &mut P) -> Result<(), PushFault>
         requires idle { idles (Self.face self.old port.old).inside ≡ true }
         requires name { utf16_length name.now ≤ 100 }
@@ -86,5 +90,6 @@ pub(crate) trait Pusher<P>: Host<P> {
         ensures may_hear { Self.may_hear self.new port.new }
         ensures stays { Stays (Self.content port.old) (Self.content port.new) (Self.faults port.old) (Self.faults port.new) (Self.shortages port.old) (Self.shortages port.new) }
         ensures short { Self.shortages port.old < Self.shortages port.new → IsErrOf result PushFault.NoMemory }
-        ensures long { IsErrOf result PushFault.TooLarge → IsLong (Self.content port.old) name.now };
+        ensures long { IsErrOf result PushFault.TooLarge → IsLong (Self.content port.old) name.now }
+        ensures looks { LooksFor (name.now ∷ []) (Self.content port.old) (Self.absences port.old) (Self.absences port.new) };
 }

@@ -10,6 +10,7 @@ ghost use Rattle.world_model.specs.Moments.{first_medium};
 ghost use Rattle.radio_world.specs.Extending.{Extends};
 ghost use Rattle.radio_world.specs.Breaking.{MovesShort};
 ghost use Rattle.world_model.specs.Moving.{IsStillOut, IsStillIn};
+ghost use Rattle.bt_host.specs.Shelves.{LooksFor};
 ghost use Rattle.radio_world.specs.Blaming.{BlamesTrace, KeepsPort, IsUnbuilt};
 
 use crate::fault::WorldFault;
@@ -126,6 +127,7 @@ impl Medium {
         ensures may_hear { H.may_hear host.new port.new }
         ensures blame { BlamesTrace (T.faults trace.old) (T.faults trace.new) (T.shortages trace.old) (T.shortages trace.new) result }
         ensures keeps { KeepsPort (H.content port.old) (H.content port.new) (H.faults port.old) (H.faults port.new) (H.shortages port.old) (H.shortages port.new) result }
+        ensures looks { LooksFor [] (H.content port.old) (H.absences port.old) (H.absences port.new) }
         ensures built { IsErrOf result WorldFault.NotBuilt → ⊥ }
     {
         let mut room = [0; LONGEST_UNIT];

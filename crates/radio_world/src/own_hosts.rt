@@ -31,6 +31,8 @@ impl<F: Shelf> Host<F> for ClientHost {
 
     ghost shortages = { F.shortages };
 
+    ghost absences = { F.absences };
+
     fn out(&self) -> &[u8] {
         ClientHost::out(self)
     }
@@ -80,6 +82,8 @@ impl<B: Inbox> Host<B> for ServerHost {
     ghost faults = { B.faults };
 
     ghost shortages = { B.shortages };
+
+    ghost absences = { λ inbox. 0 };
 
     fn out(&self) -> &[u8] {
         ServerHost::out(self)

@@ -4,6 +4,7 @@ ghost use Rattle.std.specs.Prelude.{◌≡◌, ◌≤◌, ◌⊎◌, false, take
 ghost use Rattle.obex_session.specs.Rules.{is_under_way};
 ghost use Rattle.capture.specs.Air.{words_of};
 ghost use Rattle.bt_host.specs.ClientHosts.{IsSupplied};
+ghost use Rattle.bt_host.specs.Shelves.{LooksFor};
 ghost use Rattle.bt_host.specs.Servers.{kept};
 ghost use Rattle.radio_world.specs.OwnHosts.{shelved, client_face, server_face};
 ghost use Rattle.radio_world.specs.Breaking.{TurnsShort};
@@ -36,6 +37,7 @@ impl World {
         ensures pending { B.is_pending inbox.new ≡ is_under_way self.new.server.server.served.session.progress }
         ensures blame { BlamesTrace (T.faults trace.old) (T.faults trace.new) (T.shortages trace.old) (T.shortages trace.new) result }
         ensures shelf { KeepsPort (F.content shelf.old) (F.content shelf.new) (F.faults shelf.old) (F.faults shelf.new) (F.shortages shelf.old) (F.shortages shelf.new) result }
+        ensures looks { LooksFor self.old.scene.pushes.names (F.content shelf.old) (F.absences shelf.old) (F.absences shelf.new) }
         ensures inbox { KeepsCounts (B.faults inbox.old) (B.faults inbox.new) (B.shortages inbox.old) (B.shortages inbox.new) result }
         ensures built { IsErrOf result WorldFault.NotBuilt → HasLong (F.content shelf.old) self.old.scene.pushes.names ⊎ IsUnbuilt word }
     {
@@ -63,6 +65,7 @@ impl World {
         ensures pending { B.is_pending inbox.new ≡ is_under_way self.new.server.server.served.session.progress }
         ensures blame { BlamesTrace (T.faults trace.old) (T.faults trace.new) (T.shortages trace.old) (T.shortages trace.new) result }
         ensures shelf { KeepsPort (F.content shelf.old) (F.content shelf.new) (F.faults shelf.old) (F.faults shelf.new) (F.shortages shelf.old) (F.shortages shelf.new) result }
+        ensures looks { LooksFor self.old.scene.pushes.names (F.content shelf.old) (F.absences shelf.old) (F.absences shelf.new) }
         ensures inbox { KeepsCounts (B.faults inbox.old) (B.faults inbox.new) (B.shortages inbox.old) (B.shortages inbox.new) result }
         ensures built { IsErrOf result WorldFault.NotBuilt → IsNotBuilt (F.content shelf.old) self.old.scene.pushes.names script.now }
     {
@@ -95,6 +98,7 @@ impl World {
         ensures each { OnOk result (length self.new.scene.pushes.outcomes ≡ length scenario.now.names) }
         ensures blame { BlamesTrace (T.faults trace.old) (T.faults trace.new) (T.shortages trace.old) (T.shortages trace.new) result }
         ensures shelf { KeepsPort (F.content shelf.old) (F.content shelf.new) (F.faults shelf.old) (F.faults shelf.new) (F.shortages shelf.old) (F.shortages shelf.new) result }
+        ensures looks { LooksFor scenario.now.names (F.content shelf.old) (F.absences shelf.old) (F.absences shelf.new) }
         ensures inbox { KeepsCounts (B.faults inbox.old) (B.faults inbox.new) (B.shortages inbox.old) (B.shortages inbox.new) result }
         ensures built { IsErrOf result WorldFault.NotBuilt → IsNotBuilt (F.content shelf.old) scenario.now.names scenario.now.script }
     {

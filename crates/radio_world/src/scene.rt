@@ -10,6 +10,7 @@ ghost use Rattle.world_model.specs.Moments.{IsAtRest};
 ghost use Rattle.radio_world.specs.Running.{moment};
 ghost use Rattle.radio_world.specs.Going.{Begins, Ends, Goes, StaysPut, Turns, LastEnds, Finishes};
 ghost use Rattle.radio_world.specs.Breaking.{Breaks, TurnsShort, EndsShort, FinishesShort};
+ghost use Rattle.bt_host.specs.Shelves.{LooksFor};
 ghost use Rattle.radio_world.specs.Blaming.{BlamesTrace, KeepsPort, HasLong, IsUnbuilt};
 
 use crate::fault::WorldFault;
@@ -59,6 +60,7 @@ impl Scene {
         ensures may_hear { A.may_hear a.new shelf.new }
         ensures blame { BlamesTrace (T.faults trace.old) (T.faults trace.new) (T.shortages trace.old) (T.shortages trace.new) result }
         ensures keeps_a { KeepsPort (A.content shelf.old) (A.content shelf.new) (A.faults shelf.old) (A.faults shelf.new) (A.shortages shelf.old) (A.shortages shelf.new) result }
+        ensures looks { LooksFor self.old.pushes.names (A.content shelf.old) (A.absences shelf.old) (A.absences shelf.new) }
         ensures built { IsErrOf result WorldFault.NotBuilt → HasLong (A.content shelf.old) self.old.pushes.names }
     {
         if !a.idle() {
@@ -135,6 +137,7 @@ impl Scene {
         ensures may_hear_b { B.may_hear b.new inbox.new }
         ensures blame { BlamesTrace (T.faults trace.old) (T.faults trace.new) (T.shortages trace.old) (T.shortages trace.new) result }
         ensures keeps_a { KeepsPort (A.content shelf.old) (A.content shelf.new) (A.faults shelf.old) (A.faults shelf.new) (A.shortages shelf.old) (A.shortages shelf.new) result }
+        ensures looks { LooksFor [] (A.content shelf.old) (A.absences shelf.old) (A.absences shelf.new) }
         ensures keeps_b { KeepsPort (B.content inbox.old) (B.content inbox.new) (B.faults inbox.old) (B.faults inbox.new) (B.shortages inbox.old) (B.shortages inbox.new) result }
         ensures built { IsErrOf result WorldFault.NotBuilt → ⊥ }
     {
@@ -161,6 +164,7 @@ impl Scene {
         ensures may_hear_b { B.may_hear b.new inbox.new }
         ensures blame { BlamesTrace (T.faults trace.old) (T.faults trace.new) (T.shortages trace.old) (T.shortages trace.new) result }
         ensures keeps_a { KeepsPort (A.content shelf.old) (A.content shelf.new) (A.faults shelf.old) (A.faults shelf.new) (A.shortages shelf.old) (A.shortages shelf.new) result }
+        ensures looks { LooksFor self.old.pushes.names (A.content shelf.old) (A.absences shelf.old) (A.absences shelf.new) }
         ensures keeps_b { KeepsPort (B.content inbox.old) (B.content inbox.new) (B.faults inbox.old) (B.faults inbox.new) (B.shortages inbox.old) (B.shortages inbox.new) result }
         ensures built { IsErrOf result WorldFault.NotBuilt → HasLong (A.content shelf.old) self.old.pushes.names }
     {
@@ -188,6 +192,7 @@ impl Scene {
         ensures may_hear_b { B.may_hear b.new inbox.new }
         ensures blame { BlamesTrace (T.faults trace.old) (T.faults trace.new) (T.shortages trace.old) (T.shortages trace.new) result }
         ensures keeps_a { KeepsPort (A.content shelf.old) (A.content shelf.new) (A.faults shelf.old) (A.faults shelf.new) (A.shortages shelf.old) (A.shortages shelf.new) result }
+        ensures looks { LooksFor self.old.pushes.names (A.content shelf.old) (A.absences shelf.old) (A.absences shelf.new) }
         ensures keeps_b { KeepsPort (B.content inbox.old) (B.content inbox.new) (B.faults inbox.old) (B.faults inbox.new) (B.shortages inbox.old) (B.shortages inbox.new) result }
         ensures built { IsErrOf result WorldFault.NotBuilt → HasLong (A.content shelf.old) self.old.pushes.names }
     {
@@ -222,6 +227,7 @@ impl Scene {
         ensures may_hear_b { B.may_hear b.new inbox.new }
         ensures blame { BlamesTrace (T.faults trace.old) (T.faults trace.new) (T.shortages trace.old) (T.shortages trace.new) result }
         ensures keeps_a { KeepsPort (A.content shelf.old) (A.content shelf.new) (A.faults shelf.old) (A.faults shelf.new) (A.shortages shelf.old) (A.shortages shelf.new) result }
+        ensures looks { LooksFor self.old.pushes.names (A.content shelf.old) (A.absences shelf.old) (A.absences shelf.new) }
         ensures keeps_b { KeepsPort (B.content inbox.old) (B.content inbox.new) (B.faults inbox.old) (B.faults inbox.new) (B.shortages inbox.old) (B.shortages inbox.new) result }
         ensures built { IsErrOf result WorldFault.NotBuilt → HasLong (A.content shelf.old) self.old.pushes.names ⊎ IsUnbuilt word }
     {

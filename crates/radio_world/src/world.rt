@@ -5,10 +5,12 @@ ghost use Rattle.std.specs.Option.{option_map};
 ghost use Rattle.radio_air.specs.Radio.{frames};
 ghost use Rattle.obex_session.specs.Rules.{is_under_way};
 ghost use Rattle.bt_host.specs.ClientHosts.{IsSupplied};
+ghost use Rattle.bt_host.specs.Shelves.{LooksFor};
 ghost use Rattle.bt_host.specs.Servers.{kept};
 ghost use Rattle.radio_world.specs.OwnHosts.{shelved, client_face, server_face};
 ghost use Rattle.radio_world.specs.Breaking.{Breaks, TurnsShort, FinishesShort};
 ghost use Rattle.radio_world.specs.Worlds.{new_world, WorldGoes, WorldTurns, WorldFinishes, IsStill};
+ghost use Rattle.radio_world.specs.Progressing.{LowersPasses};
 ghost use Rattle.radio_world.specs.Blaming.{BlamesTrace, KeepsPort, KeepsCounts, HasLong, IsUnbuilt};
 
 use crate::fault::WorldFault;
@@ -124,6 +126,7 @@ impl World {
         ensures pending { B.is_pending inbox.new ≡ is_under_way self.new.server.server.served.session.progress }
         ensures blame { BlamesTrace (T.faults trace.old) (T.faults trace.new) (T.shortages trace.old) (T.shortages trace.new) result }
         ensures shelf { KeepsPort (F.content shelf.old) (F.content shelf.new) (F.faults shelf.old) (F.faults shelf.new) (F.shortages shelf.old) (F.shortages shelf.new) result }
+        ensures looks { LooksFor self.old.scene.pushes.names (F.content shelf.old) (F.absences shelf.old) (F.absences shelf.new) }
         ensures inbox { KeepsCounts (B.faults inbox.old) (B.faults inbox.new) (B.shortages inbox.old) (B.shortages inbox.new) result }
         ensures built { IsErrOf result WorldFault.NotBuilt → HasLong (F.content shelf.old) self.old.scene.pushes.names }
     {
@@ -135,6 +138,9 @@ impl World {
     /// Does what the next word of the script says in the air, and all moves that can. A word that
     /// finds nothing to act on does nothing. It needs that all is at rest, as `start` and `turn` leave
     /// it, and the ports as `start` does.
+    ///
+    /// In a scenario whose settings are sound it leaves no more passes ahead than there were, and one
+    /// less at least where the word is `pass` while a push goes on.
     ///
     /// It refuses as `start` does; `NotBuilt` also for all words but `pass` and `drop`.
     pub fn turn<T: Sink, F: Shelf, B: Inbox>(
@@ -150,10 +156,12 @@ impl World {
         ensures turns { OnOk result (WorldTurns (word ∷ []) self.old self.new (shelved (F.content shelf.old) (F.faults shelf.old)) (shelved (F.content shelf.new) (F.faults shelf.new)) (kept (B.content inbox.old) (B.faults inbox.old) (B.shortages inbox.old)) (kept (B.content inbox.new) (B.faults inbox.new) (B.shortages inbox.new)) (T.content trace.old) (T.content trace.new)) }
         ensures broken { IfErr result (λ fault. TurnsShort fault (word ∷ []) self.old.scene (client_face self.old.client (shelved (F.content shelf.old) (F.faults shelf.old))) (server_face self.old.server (kept (B.content inbox.old) (B.faults inbox.old) (B.shortages inbox.old))) (server_face self.new.server (kept (B.content inbox.new) (B.faults inbox.new) (B.shortages inbox.new))) (T.content trace.old) (T.content trace.new)) }
         ensures still { OnOk result (IsStill self.new (shelved (F.content shelf.new) (F.faults shelf.new)) (kept (B.content inbox.new) (B.faults inbox.new) (B.shortages inbox.new))) }
+        ensures passes { OnOk result (LowersPasses word self.old self.new (shelved (F.content shelf.old) (F.faults shelf.old)) (shelved (F.content shelf.new) (F.faults shelf.new)) (kept (B.content inbox.old) (B.faults inbox.old) (B.shortages inbox.old)) (kept (B.content inbox.new) (B.faults inbox.new) (B.shortages inbox.new))) }
         ensures supplied { IsSupplied (F.content shelf.new) self.new.client }
         ensures pending { B.is_pending inbox.new ≡ is_under_way self.new.server.server.served.session.progress }
         ensures blame { BlamesTrace (T.faults trace.old) (T.faults trace.new) (T.shortages trace.old) (T.shortages trace.new) result }
         ensures shelf { KeepsPort (F.content shelf.old) (F.content shelf.new) (F.faults shelf.old) (F.faults shelf.new) (F.shortages shelf.old) (F.shortages shelf.new) result }
+        ensures looks { LooksFor self.old.scene.pushes.names (F.content shelf.old) (F.absences shelf.old) (F.absences shelf.new) }
         ensures inbox { KeepsCounts (B.faults inbox.old) (B.faults inbox.new) (B.shortages inbox.old) (B.shortages inbox.new) result }
         ensures built { IsErrOf result WorldFault.NotBuilt → HasLong (F.content shelf.old) self.old.scene.pushes.names ⊎ IsUnbuilt word }
     {

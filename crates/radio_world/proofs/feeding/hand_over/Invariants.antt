@@ -1,5 +1,6 @@
 use Rattle.std.proofs.Common.{◌≡◌, [], Some, length, Ok}
 use Rattle.h4_framing.specs.Packets.{Packet, spelling, IsPacket}
+use Rattle.bt_host.specs.Shelves.{LooksFor}
 use Rattle.world_model.specs.Hearing.{acl_limit}
 use Rattle.radio_world.proofs.HandingOver.{Progress}
 use Rattle.radio_world.specs.Blaming.{KeepsPort}
@@ -11,6 +12,7 @@ invariant-loop-rest g l =
     → Progress packet l.rest (g.H.Host.face l.fn.host l.fn.port) (g.H.Host.face l.host l.port))
     × g.H.Host.may_hear l.host l.port
     × KeepsPort {A = Unit {0}} (g.H.Host.content l.fn.port) (g.H.Host.content l.port) (g.H.Host.faults l.fn.port) (g.H.Host.faults l.port) (g.H.Host.shortages l.fn.port) (g.H.Host.shortages l.port) (Ok tt)
+    × LooksFor [] (g.H.Host.content l.fn.port) (g.H.Host.absences l.fn.port) (g.H.Host.absences l.port)
 
 abbrev pub decreases-loop-rest : goal.decreases-loop-rest
 decreases-loop-rest g l = length l.rest

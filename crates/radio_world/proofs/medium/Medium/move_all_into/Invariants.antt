@@ -1,4 +1,5 @@
-use Rattle.std.proofs.Common.{length, Ok}
+use Rattle.std.proofs.Common.{[], length, Ok}
+use Rattle.bt_host.specs.Shelves.{LooksFor}
 use Rattle.radio_air.specs.Radio.{controller}
 use Rattle.radio_world.proofs.Exchanging.{MovesOn}
 use Rattle.radio_world.specs.Blaming.{BlamesTrace, KeepsPort}
@@ -10,6 +11,7 @@ invariant-loop-moved g l =
     × g.H.Host.may_hear l.host l.port
     × BlamesTrace {A = Unit {0}} (g.T.Sink.faults l.fn.trace) (g.T.Sink.faults l.trace) (g.T.Sink.shortages l.fn.trace) (g.T.Sink.shortages l.trace) (Ok tt)
     × KeepsPort {A = Unit {0}} (g.H.Host.content l.fn.port) (g.H.Host.content l.port) (g.H.Host.faults l.fn.port) (g.H.Host.faults l.port) (g.H.Host.shortages l.fn.port) (g.H.Host.shortages l.port) (Ok tt)
+    × LooksFor [] (g.H.Host.content l.fn.port) (g.H.Host.absences l.fn.port) (g.H.Host.absences l.port)
 
 abbrev pub decreases-loop-moved : goal.decreases-loop-moved
 decreases-loop-moved g l = length (controller l.side l.self.radio).owed

@@ -1,6 +1,10 @@
-use Rattle.std.proofs.Common.{rules, ◌≡◌, ℕ, ◌+◌, ◌^◌, ◌<◌, List, Option, Some, true, sym, ap, ◌∙◌}
+use Rattle.std.proofs.Common.{rules, ◌≡◌, ℕ, ◌+◌, ◌^◌, ◌<◌, List, [], ◌∷◌, Option, Some, None, Bool, true, false, sym, ap, ◌∙◌}
+use Rattle.std.specs.Prelude.{if◌then◌else◌, slice_get}
+use Rattle.bt_base.specs.Objects.{Object}
 use Rattle.bt_base.specs.Streams.{gained}
 use Rattle.capture.specs.Entries.{Begun, entry_octets}
+use Rattle.bt_host.specs.Shelves.{LooksFor}
+use Rattle.bt_host.proofs.Looking.{looks_none, looks_named}
 use Rattle.world_model.specs.Insides.{StartsPush, idles}
 use Rattle.world_model.specs.Faces.{Face}
 use Rattle.world_model.specs.Hearing.{PutsOut}
@@ -78,3 +82,36 @@ returns-in-Err-NoMemory-clause-broken g c =
     let idle : idles (g.A.Host.face c.args.a.now c.args.shelf.now).inside ≡ true = search rules in
     let next : next_name c.args.self.now.pushes ≡ Some c.in-Some.name.now = search rules in
     λ b. breaks_begun _ c.args.self.now (c.begun.result + 1) c.in-Some.name.now _ b _ _ next (ap (λ n. n + 1) is) few idle c.in_ok-record.ensures.front
+
+named_at : (going : Bool) (found : Option (List ℕ)) (name : List ℕ) → (if going then None else found) ≡ Some name → found ≡ Some name
+named_at true found name is = absurd cc
+named_at false found name is = is
+
+-- the shelf was asked for the object of the next name
+looks_next : (pushes : Pushes) (name : List ℕ) (content : Option (List Object)) (absences absences' : ℕ) → next_name pushes ≡ Some name → LooksFor (name ∷ []) content absences absences' → LooksFor pushes.names content absences absences'
+looks_next pushes name content absences absences' next looks =
+    looks_named name pushes.names pushes.begun content absences absences' (named_at pushes.going (slice_get pushes.names pushes.begun) name next) looks
+
+pub returns-then-not-idle-clause-looks : goal.returns-then-not-idle-clause-looks
+returns-then-not-idle-clause-looks g c = looks_none _ _ _
+
+pub returns-in_default-clause-looks : goal.returns-in_default-clause-looks
+returns-in_default-clause-looks g c = looks_none _ _ _
+
+pub returns-in_err-record-clause-looks : goal.returns-in_err-record-clause-looks
+returns-in_err-record-clause-looks g c = looks_none _ _ _
+
+pub returns-in-Err-TooLarge-clause-looks : goal.returns-in-Err-TooLarge-clause-looks
+returns-in-Err-TooLarge-clause-looks g c =
+    let next : next_name c.args.self.now.pushes ≡ Some c.in-Some.name.now = search rules in
+    looks_next c.args.self.now.pushes c.in-Some.name.now _ _ _ next c.in-Err-TooLarge.ensures.looks
+
+pub returns-in-Err-NoMemory-clause-looks : goal.returns-in-Err-NoMemory-clause-looks
+returns-in-Err-NoMemory-clause-looks g c =
+    let next : next_name c.args.self.now.pushes ≡ Some c.in-Some.name.now = search rules in
+    looks_next c.args.self.now.pushes c.in-Some.name.now _ _ _ next c.in-Err-NoMemory.ensures.looks
+
+pub returns-clause-looks : goal.returns-clause-looks
+returns-clause-looks g c =
+    let next : next_name c.args.self.now.pushes ≡ Some c.in-Some.name.now = search rules in
+    looks_next c.args.self.now.pushes c.in-Some.name.now _ _ _ next c.in-Ok.ensures.looks

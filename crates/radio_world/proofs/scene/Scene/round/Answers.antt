@@ -1,3 +1,4 @@
+use Rattle.bt_host.proofs.Looking.{looks_more, looks_then}
 use Rattle.radio_world.proofs.Going.{goes_then}
 use Rattle.radio_world.proofs.Breaking.{same_fault, goes_then_breaks}
 use Rattle.radio_world.proofs.scene.Scene.round.Goals as goal
@@ -25,3 +26,15 @@ returns-in_err-ended-clause-broken g c =
     same_fault _ _ c.in_err-ended.field-0.0 c.from_residual-in_err-ended.ensures.1
     (goes_then_breaks c.in_err-ended.field-0.0 c.args.self.now c.begin.new.self _ _ _ _ _ _ _ _ (c.in_ok-began.ensures.goes (g.B.Host.face c.args.b.now c.args.inbox.now))
     (goes_then_breaks c.in_err-ended.field-0.0 c.begin.new.self c.exchange.new.self _ _ _ _ _ _ _ _ c.in_ok-moved.ensures.goes (c.in_err-ended.ensures.broken (g.B.Host.face c.exchange.new.b c.exchange.new.inbox))))
+
+pub returns-then-moved-clause-looks : goal.returns-then-moved-clause-looks
+returns-then-moved-clause-looks g c = looks_then _ _ _ _ _ _ c.in_ok-began.ensures.keeps_a.told c.in_ok-began.ensures.looks (looks_more _ _ _ _ c.in_ok-moved.ensures.looks)
+
+pub returns-else-moved-clause-looks : goal.returns-else-moved-clause-looks
+returns-else-moved-clause-looks g c = looks_then _ _ _ _ _ _ c.in_ok-began.ensures.keeps_a.told c.in_ok-began.ensures.looks (looks_more _ _ _ _ c.in_ok-moved.ensures.looks)
+
+pub returns-in_err-moved-clause-looks : goal.returns-in_err-moved-clause-looks
+returns-in_err-moved-clause-looks g c = looks_then _ _ _ _ _ _ c.in_ok-began.ensures.keeps_a.told c.in_ok-began.ensures.looks (looks_more _ _ _ _ c.in_err-moved.ensures.looks)
+
+pub returns-in_err-ended-clause-looks : goal.returns-in_err-ended-clause-looks
+returns-in_err-ended-clause-looks g c = looks_then _ _ _ _ _ _ c.in_ok-began.ensures.keeps_a.told c.in_ok-began.ensures.looks (looks_more _ _ _ _ c.in_ok-moved.ensures.looks)

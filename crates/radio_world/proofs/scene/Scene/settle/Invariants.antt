@@ -1,4 +1,5 @@
 use Rattle.std.proofs.Common.{Ok}
+use Rattle.bt_host.specs.Shelves.{LooksFor}
 use Rattle.radio_world.specs.Going.{Goes}
 use Rattle.radio_world.specs.Blaming.{BlamesTrace, KeepsPort}
 use Rattle.radio_world.proofs.scene.Scene.settle.Given as goal
@@ -10,3 +11,4 @@ invariant-loop g l =
     × BlamesTrace {A = Unit {0}} (g.T.Sink.faults l.fn.trace) (g.T.Sink.faults l.trace) (g.T.Sink.shortages l.fn.trace) (g.T.Sink.shortages l.trace) (Ok tt)
     × KeepsPort {A = Unit {0}} (g.A.Host.content l.fn.shelf) (g.A.Host.content l.shelf) (g.A.Host.faults l.fn.shelf) (g.A.Host.faults l.shelf) (g.A.Host.shortages l.fn.shelf) (g.A.Host.shortages l.shelf) (Ok tt)
     × KeepsPort {A = Unit {0}} (g.B.Host.content l.fn.inbox) (g.B.Host.content l.inbox) (g.B.Host.faults l.fn.inbox) (g.B.Host.faults l.inbox) (g.B.Host.shortages l.fn.inbox) (g.B.Host.shortages l.inbox) (Ok tt)
+    × LooksFor l.fn.self.pushes.names (g.A.Host.content l.fn.shelf) (g.A.Host.absences l.fn.shelf) (g.A.Host.absences l.shelf)

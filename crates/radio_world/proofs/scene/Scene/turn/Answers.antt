@@ -1,4 +1,6 @@
 use Rattle.std.proofs.Common.{rules, ◌≡◌, ◌+◌, ◌^◌, ◌<◌, Ok, ap, subst, inl}
+use Rattle.bt_host.specs.Shelves.{LooksFor}
+use Rattle.bt_host.proofs.Looking.{looks_none}
 use Rattle.world_model.specs.Scenes.{Scene}
 use Rattle.radio_world.specs.Blaming.{HasLong}
 use Rattle.radio_world.proofs.Turned.{turns_to_nothing, turns_to_act}
@@ -46,3 +48,23 @@ returns-in_err-settle-clause-broken g c =
     same_fault _ _ c.in_err-settle.field-0.0 c.from_residual-in_err-settle.ensures.1
     (word_then_breaks c.in_err-settle.field-0.0 c.self.inside.medium c.act.new.self c.self.inside.pushes c.self.inside.turned c.in-Some.ordinal c.args.self.now c.args.word (g.A.Host.face c.args.a.now c.args.shelf.now) (g.B.Host.face c.args.b.now c.args.inbox.now) _ _ _ _
     c.self.view_is c.requires.rest (c.in_ok-acted.ensures.acts (ap Ok c.if-not-acted.false)) next below c.in_ok-record.ensures.ok c.in_err-settle.ensures.broken)
+
+pub returns-in_default-clause-looks : goal.returns-in_default-clause-looks
+returns-in_default-clause-looks g c = looks_none _ _ _
+
+pub returns-in_err-acted-clause-looks : goal.returns-in_err-acted-clause-looks
+returns-in_err-acted-clause-looks g c = looks_none _ _ _
+
+pub returns-then-not-acted-clause-looks : goal.returns-then-not-acted-clause-looks
+returns-then-not-acted-clause-looks g c = looks_none _ _ _
+
+pub returns-in_err-record-clause-looks : goal.returns-in_err-record-clause-looks
+returns-in_err-record-clause-looks g c = looks_none _ _ _
+
+pub returns-in_err-settle-clause-looks : goal.returns-in_err-settle-clause-looks
+returns-in_err-settle-clause-looks g c =
+    subst (λ (s : Scene). LooksFor s.pushes.names (g.A.Host.content c.args.shelf.now) (g.A.Host.absences c.args.shelf.now) (g.A.Host.absences c.settle.new.shelf)) c.self.view_is c.in_err-settle.ensures.looks
+
+pub returns-clause-looks : goal.returns-clause-looks
+returns-clause-looks g c =
+    subst (λ (s : Scene). LooksFor s.pushes.names (g.A.Host.content c.args.shelf.now) (g.A.Host.absences c.args.shelf.now) (g.A.Host.absences c.settle.new.shelf)) c.self.view_is c.in_ok-settle.ensures.looks

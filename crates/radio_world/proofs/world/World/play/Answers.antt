@@ -1,8 +1,12 @@
-use Rattle.std.proofs.Common.{rules, refl, sym, ap, subst, ◌∙◌}
+use Rattle.std.proofs.Common.{rules, ◌≡◌, ℕ, List, Option, refl, sym, ap, subst, ◌∙◌}
+use Rattle.bt_base.specs.Objects.{Object}
+use Rattle.push_script.specs.declared.scenario.Scenario.{Scenario}
+use Rattle.bt_host.specs.Shelves.{LooksFor}
 use Rattle.bt_host.specs.Servers.{kept}
-use Rattle.radio_world.specs.Worlds.{World}
+use Rattle.radio_world.specs.Worlds.{World, new_world}
 use Rattle.bt_host.specs.ServerHosts.{ServerState}
 use Rattle.radio_world.specs.OwnHosts.{shelved, client_face, server_face}
+use Rattle.radio_world.proofs.Looking.{looks_on}
 use Rattle.radio_world.proofs.Happening.{happens}
 use Rattle.radio_world.proofs.Blaming.{unbuilt_before}
 use Rattle.radio_world.specs.Unfinished.{HappensShort}
@@ -47,3 +51,23 @@ returns-in_err-finish-clause-broken g c =
     (subst (λ (w : World). Goes w.scene c.start.new.self.scene (client_face w.client (shelved (g.F.Shelf.content c.args.shelf.now) (g.F.Shelf.faults c.args.shelf.now))) (client_face c.start.new.self.client (shelved (g.F.Shelf.content c.start.new.shelf) (g.F.Shelf.faults c.start.new.shelf))) (server_face w.server (kept (g.B.Inbox.content c.args.inbox.now) (g.B.Inbox.faults c.args.inbox.now) (g.B.Inbox.shortages c.args.inbox.now))) (server_face c.start.new.self.server (kept (g.B.Inbox.content c.start.new.inbox) (g.B.Inbox.faults c.start.new.inbox) (g.B.Inbox.shortages c.start.new.inbox))) (g.T.Sink.content c.args.trace.now) (g.T.Sink.content c.start.new.trace)) c.requires.fresh c.in_ok-start.ensures.goes)
     (short_behind fault _ c.start.new.self.scene c.turn_all.new.self.scene _ _ _ _ _ _ _ _ c.in_ok-turn_all.ensures.turns
     (c.finish.ensures.front fault (client_face c.turn_all.new.self.client (shelved (g.F.Shelf.content c.turn_all.new.shelf) (g.F.Shelf.faults c.turn_all.new.shelf))) (server_face c.turn_all.new.self.server (kept (g.B.Inbox.content c.turn_all.new.inbox) (g.B.Inbox.faults c.turn_all.new.inbox) (g.B.Inbox.shortages c.turn_all.new.inbox))) refl not))))
+
+-- the names of a world at its beginning are those of the scenario
+looks_first : (scenario : Scenario) (world : World) (content : Option (List Object)) (absences absences' : ℕ) → world ≡ new_world scenario → LooksFor world.scene.pushes.names content absences absences'
+    → LooksFor scenario.names content absences absences'
+looks_first scenario world content absences absences' fresh looks = subst (λ (w : World). LooksFor w.scene.pushes.names content absences absences') fresh looks
+
+pub returns-in_err-start-clause-looks : goal.returns-in_err-start-clause-looks
+returns-in_err-start-clause-looks g c = looks_first c.args.scenario.now c.args.self.now _ _ _ c.requires.fresh c.in_err-start.ensures.looks
+
+pub returns-in_err-turn_all-clause-looks : goal.returns-in_err-turn_all-clause-looks
+returns-in_err-turn_all-clause-looks g c =
+    looks_first c.args.scenario.now c.args.self.now _ _ _ c.requires.fresh (looks_on c.in_ok-start.ensures.shelf.told c.in_ok-start.ensures.goes.names c.in_ok-start.ensures.looks c.in_err-turn_all.ensures.looks)
+
+pub returns-in_err-finish-clause-looks : goal.returns-in_err-finish-clause-looks
+returns-in_err-finish-clause-looks g c =
+    looks_first c.args.scenario.now c.args.self.now _ _ _ c.requires.fresh (looks_on c.in_ok-start.ensures.shelf.told c.in_ok-start.ensures.goes.names c.in_ok-start.ensures.looks c.in_ok-turn_all.ensures.looks)
+
+pub returns-clause-looks : goal.returns-clause-looks
+returns-clause-looks g c =
+    looks_first c.args.scenario.now c.args.self.now _ _ _ c.requires.fresh (looks_on c.in_ok-start.ensures.shelf.told c.in_ok-start.ensures.goes.names c.in_ok-start.ensures.looks c.in_ok-turn_all.ensures.looks)

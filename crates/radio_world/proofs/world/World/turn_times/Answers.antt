@@ -1,6 +1,8 @@
 use Rattle.std.proofs.Common.{rules, ◌<◌, ◌+◌, ◌-◌, List, [], ◌∷◌, ◌++◌, replicate, subst}
 use Rattle.push_script.specs.declared.word.Word.{Word}
 use Rattle.bt_host.specs.Servers.{kept}
+use Rattle.bt_host.proofs.Looking.{looks_none}
+use Rattle.radio_world.proofs.Looking.{looks_on}
 use Rattle.radio_world.specs.Worlds.{WorldTurns}
 use Rattle.radio_world.specs.OwnHosts.{shelved, client_face, server_face}
 use Rattle.radio_world.proofs.Turned.{turns_none, turns_then}
@@ -12,7 +14,7 @@ use Rattle.radio_world.proofs.Stopping.{turns_then_short, short_longer, in_times
 use Rattle.radio_world.proofs.world.World.turn_times.Goals as goal
 
 pub loop-i-init : goal.loop-i-init
-loop-i-init g c = (turns_none c.args.self.now.scene (client_face c.args.self.now.client (shelved (g.F.Shelf.content c.args.shelf.now) (g.F.Shelf.faults c.args.shelf.now))) (server_face c.args.self.now.server (kept (g.B.Inbox.content c.args.inbox.now) (g.B.Inbox.faults c.args.inbox.now) (g.B.Inbox.shortages c.args.inbox.now))) (g.T.Sink.content c.args.trace.now), c.requires.still, c.requires.supplied, c.requires.pending, blames_none, keeps_none, keeps_none)
+loop-i-init g c = (turns_none c.args.self.now.scene (client_face c.args.self.now.client (shelved (g.F.Shelf.content c.args.shelf.now) (g.F.Shelf.faults c.args.shelf.now))) (server_face c.args.self.now.server (kept (g.B.Inbox.content c.args.inbox.now) (g.B.Inbox.faults c.args.inbox.now) (g.B.Inbox.shortages c.args.inbox.now))) (g.T.Sink.content c.args.trace.now), c.requires.still, c.requires.supplied, c.requires.pending, blames_none, keeps_none, keeps_none, looks_none _ _ _)
 
 pub loop-i-preserved : goal.loop-i-preserved
 loop-i-preserved g c = (
@@ -24,6 +26,7 @@ loop-i-preserved g c = (
   blames_then c.loop-i.invariant.4 c.in_ok-turn.ensures.blame,
   keeps_then c.loop-i.invariant.5 c.in_ok-turn.ensures.shelf,
   keeps_then c.loop-i.invariant.6 c.in_ok-turn.ensures.inbox,
+  looks_on c.loop-i.invariant.5.told c.loop-i.invariant.0.names c.loop-i.invariant.7 c.in_ok-turn.ensures.looks,
 )
 
 pub returns-in_err-turn-clause-built : goal.returns-in_err-turn-clause-built
@@ -37,3 +40,6 @@ returns-in_err-turn-clause-broken g c =
     (in_times c.loop-i._i c.args.count c.args.word few)
     (short_longer c.in_err-turn.field-0.0 (replicate c.loop-i._i c.args.word ++ c.args.word ∷ []) (replicate (c.args.count - (c.loop-i._i + 1)) c.args.word) c.args.self.now.scene _ _ _ _ _
     (turns_then_short c.in_err-turn.field-0.0 (replicate c.loop-i._i c.args.word) (c.args.word ∷ []) c.args.self.now.scene c.loop-i.self.scene _ _ _ _ _ _ _ _ c.loop-i.invariant.0 c.in_err-turn.ensures.broken)))
+
+pub returns-in_err-turn-clause-looks : goal.returns-in_err-turn-clause-looks
+returns-in_err-turn-clause-looks g c = looks_on c.loop-i.invariant.5.told c.loop-i.invariant.0.names c.loop-i.invariant.7 c.in_err-turn.ensures.looks

@@ -2,6 +2,7 @@ use Rattle.std.proofs.Common.{◌≡◌, replicate, Ok}
 use Rattle.obex_session.specs.Rules.{is_under_way}
 use Rattle.bt_host.specs.ClientHosts.{IsSupplied}
 use Rattle.bt_host.specs.Servers.{kept}
+use Rattle.bt_host.specs.Shelves.{LooksFor}
 use Rattle.radio_world.specs.OwnHosts.{shelved}
 use Rattle.radio_world.specs.Worlds.{WorldTurns, IsStill}
 use Rattle.radio_world.specs.Blaming.{BlamesTrace, KeepsPort, KeepsCounts}
@@ -16,3 +17,4 @@ invariant-loop-i g l =
     × BlamesTrace {A = Unit {0}} (g.T.Sink.faults l.fn.trace) (g.T.Sink.faults l.trace) (g.T.Sink.shortages l.fn.trace) (g.T.Sink.shortages l.trace) (Ok tt)
     × KeepsPort {A = Unit {0}} (g.F.Shelf.content l.fn.shelf) (g.F.Shelf.content l.shelf) (g.F.Shelf.faults l.fn.shelf) (g.F.Shelf.faults l.shelf) (g.F.Shelf.shortages l.fn.shelf) (g.F.Shelf.shortages l.shelf) (Ok tt)
     × KeepsCounts {A = Unit {0}} (g.B.Inbox.faults l.fn.inbox) (g.B.Inbox.faults l.inbox) (g.B.Inbox.shortages l.fn.inbox) (g.B.Inbox.shortages l.inbox) (Ok tt)
+    × LooksFor l.fn.self.scene.pushes.names (g.F.Shelf.content l.fn.shelf) (g.F.Shelf.absences l.fn.shelf) (g.F.Shelf.absences l.shelf)
