@@ -68,6 +68,17 @@ fronts_one entries entry n trace trace' each all gains =
       }
     ]
 
+-- all of it
+abbrev pub fronts_whole : (entries : List Entry) (entry : Entry) (trace trace' : Option (List ℕ)) → AllByRecursion IsEntry (entries ++ entry ∷ []) → trace' ≡ gained (gained trace (capture_octets entries)) (capture_octets (entry ∷ []))
+    → Fronts entries (Some entry) trace trace'
+fronts_whole entries entry trace trace' all gains = record {
+  octets = capture_octets (entries ++ entry ∷ []);
+  written = gains ∙ gained-gained trace (capture_octets entries) (capture_octets (entry ∷ [])) ∙ ap (gained trace) (sym (octets-in_parts entries (entry ∷ [])));
+  found = entries ++ entry ∷ [];
+  whole = all_whole (entries ++ entry ∷ []) all;
+  found_are = inr refl;
+}
+
 nothing_taken : (n : ℕ) → take {A = ℕ} n [] ≡ []
 nothing_taken n = take_all n [] (omega arith)
 

@@ -7,7 +7,7 @@ use Rattle.btpush.proofs.Gained.{play_gains}
 use Rattle.push_course.specs.Conversations.{IsSetting}
 use Rattle.btpush.proofs.Ordered.{play_in_turn}
 use Rattle.btpush.proofs.Conversed.{play_converses}
-use Rattle.btpush.proofs.Resulted.{play_results, play_is_clean, play_is_done}
+use Rattle.btpush.proofs.Resulted.{play_results, play_has_causes, play_has_drops, play_is_clean, play_is_done}
 use Rattle.push_script.specs.declared.scenario.Scenario.{Scenario}
 use Rattle.world_model.specs.Faces.{Face}
 use Rattle.radio_world.specs.Worlds.{World, Happens}
@@ -47,6 +47,11 @@ plays_of scenario world played stock stock' trace trace' tells each beginning se
   converse = play_converses scenario.acl_length scenario.acl_count scenario.settings.mtu scenario.settings.obex scenario.names stock.shelf stock.inbox (words_of scenario.script) happens.last happens.entries setting happens.plays;
   results = play_results scenario.acl_length scenario.acl_count scenario.settings.mtu scenario.settings.obex scenario.names stock.shelf stock.inbox stock'.inbox (words_of scenario.script) happens.last happens.entries
       played.outcomes.items world.server.server.served setting happens.plays (ap (λ (f : Face). f.inside) (sym happens.ends.server)) (tells.outcomes ∙ happens.ends.outcomes);
+  causes = play_has_causes scenario.acl_length scenario.acl_count scenario.settings.mtu scenario.settings.obex scenario.names stock.shelf stock'.shelf stock.inbox stock'.inbox (words_of scenario.script) happens.last happens.entries
+      played.outcomes.items world.client.client.course world.server.server.served setting happens.plays (ap (λ (f : Face). f.inside) (sym happens.ends.client)) (ap (λ (f : Face). f.inside) (sym happens.ends.server))
+      (tells.outcomes ∙ happens.ends.outcomes);
+  drops = play_has_drops scenario.acl_length scenario.acl_count scenario.settings.mtu scenario.settings.obex scenario.names stock.shelf stock.inbox (words_of scenario.script) happens.last happens.entries
+      played.outcomes.items setting happens.plays (tells.outcomes ∙ happens.ends.outcomes);
   clean = play_is_clean scenario.acl_length scenario.acl_count scenario.settings.mtu scenario.settings.obex scenario.names stock.shelf stock'.shelf stock.inbox stock'.inbox (words_of scenario.script) happens.last happens.entries
       played.outcomes.items world.client.client.course world.server.server.served setting happens.plays (ap (λ (f : Face). f.inside) (sym happens.ends.client)) (ap (λ (f : Face). f.inside) (sym happens.ends.server))
       (tells.outcomes ∙ happens.ends.outcomes);

@@ -23,7 +23,7 @@ use Rattle.radio_world.proofs.Breaking.{breaks_none}
 use Rattle.radio_world.proofs.Going.{goes_none}
 use Rattle.radio_world.proofs.Unfinished.{start_short}
 use Rattle.push_course.specs.Conversations.{IsSetting}
-use Rattle.btpush.proofs.Fronted.{told_results}
+use Rattle.btpush.proofs.Fronted.{told, front_results}
 use Rattle.btpush.proofs.Untouched.{untouched, begins_there}
 use Rattle.btpush.proofs.Fronts.{Fronts, fronts_of, all_whole, last_is}
 
@@ -59,7 +59,11 @@ pub plays_short : (fault : WorldFault) (scenario : Scenario) (server : ServerSta
     → PlaysShort fault scenario stock stock' trace trace'
 plays_short fault scenario server stock stock' trace trace' setting short =
     let stops = short.stops in
-    let fronts : Fronts (all_entries short.happenings) stops.due trace trace' = fronts_of (all_entries short.happenings) stops.due trace trace' short.keeps.each short.keeps_due.each stops.front in
+    let told_so =
+    told scenario.acl_length scenario.acl_count scenario.settings.mtu scenario.settings.obex scenario.names stock.shelf stock.inbox stock'.inbox setting short.happenings short.last short.runs
+    stops.due short.behind stops.is_due (server_face server stock'.inbox) server.server.served refl trace trace' short.keeps_due.each (stops.leaves short.whole_b)
+    (fronts_of (all_entries short.happenings) stops.due trace trace' short.keeps.each short.keeps_due.each stops.front) in
+    let fronts : Fronts (all_entries short.happenings) stops.due trace trace' = told_so.fronts in
     record {
       octets = fronts.octets;
       written = fronts.written;
@@ -75,9 +79,7 @@ plays_short fault scenario server stock stock' trace trace' setting short =
       is_due = stops.is_due;
       entries_are = fronts.found_are;
       stays = λ why. (server.server.served, ap (λ (f : Face). f.inside) (sym (stops.stays why)));
-      results =
-          told_results scenario.acl_length scenario.acl_count scenario.settings.mtu scenario.settings.obex scenario.names stock.shelf stock.inbox stock'.inbox setting fault short.happenings short.last short.runs
-          stops.due short.behind stops.is_due (λ why. (server.server.served, ap (λ (f : Face). f.inside) (sym (stops.stays why)))) fronts.found fronts.found_are;
+      results = told_so.results;
       unbuilt = λ is few plain.
           let begins = begins_there scenario.script (all_words short.happenings) short.behind stops.due plain short.words (stops.unbuilt is) in
           let due : IsDue short.behind (Begun begins.0) short.last = subst (λ (o : Option Entry). IfSome o (λ entry. IsDue short.behind entry short.last)) begins.1 stops.is_due in
@@ -124,8 +126,8 @@ whole_short scenario world stock stock' trace trace' setting happens =
       entries_are = inr (plays.entries_are ∙ ap (λ xs. all_entries plays.happenings ++ xs) end.ended_is);
       stays = λ why. (world.server.server.served, ap (λ (f : Face). f.inside) (sym (happens.ends.server ∙ end.b)));
       results =
-          told_results scenario.acl_length scenario.acl_count scenario.settings.mtu scenario.settings.obex scenario.names stock.shelf stock.inbox stock'.inbox setting NoMemory plays.happenings plays.before plays.runs
-          end.due [] end.is_due (λ why. (world.server.server.served, ap (λ (f : Face). f.inside) (sym (happens.ends.server ∙ end.b)))) happens.entries
+          front_results scenario.acl_length scenario.acl_count scenario.settings.mtu scenario.settings.obex scenario.names stock.shelf stock.inbox stock'.inbox setting plays.happenings plays.before plays.runs
+          world.server.server.served (ap (λ (f : Face). f.inside) (sym (happens.ends.server ∙ end.b))) end.due [] end.is_due happens.entries
           (inr (plays.entries_are ∙ ap (λ xs. all_entries plays.happenings ++ xs) end.ended_is));
       unbuilt = λ is few plain. absurd cc;
     }

@@ -9,6 +9,7 @@ use Rattle.push_script.specs.declared.refusal.ScriptRefusal.TheVariants.{TooLong
 use Rattle.push_script.specs.Features.{missing_features}
 use Rattle.push_script.specs.Reading.{Script, reading, script_of, text_limit}
 use Rattle.push_script.specs.Refusals.{refusal_line, object_line}
+use Rattle.bt_host.specs.Shelves.{LooksFor}
 use Rattle.btpush.specs.declared.status.Status.{Status}
 use Rattle.btpush.specs.Gathering.{kept_limit, reading_limit, unread}
 use Rattle.btpush.specs.Plays.{Stocked}
@@ -46,11 +47,12 @@ not_taken input text given stock stock' left sink sink' trace trace_failed untou
 -- a scenario is kept whole, and nothing behind it is left
 pub taken : (input text given again : List ℕ) (stock stock' : Stocked) (left sink sink' trace trace' : Option (List ℕ)) (trace_failed untouched : Type 0) (scenario : Scenario) (line : ℕ) (result : Status)
     → text ≡ take kept_limit input → given ≡ text → again ≡ text → left ≡ unread input → reading missing_features given ≡ Ok (script_of scenario) → line ≡ object_line again
+    → LooksFor scenario.names stock.shelf.content stock.absences stock'.absences
     → Runs scenario line stock stock' sink sink' trace trace' trace_failed result → Pushes input stock stock' left sink sink' trace trace' trace_failed untouched result
-taken input text given again stock stock' left sink sink' trace trace' trace_failed untouched scenario line result e f a l read at runs =
+taken input text given again stock stock' left sink sink' trace trace' trace_failed untouched scenario line result e f a l read at looks runs =
     let whole : reading missing_features input ≡ Ok (script_of scenario) = sym (reading_kept missing_features input) ∙ ap (λ (t : List ℕ). reading missing_features t) (sym e ∙ sym f) ∙ read in
     let short : length input ≤ text_limit = short_read missing_features input (script_of scenario) whole in
     let same : again ≡ input = a ∙ e ∙ take_all kept_limit input (omega arith) in
     let line_is : line ≡ object_line input = at ∙ ap (λ (t : List ℕ). object_line t) same in
     let none : left ≡ Some [] = l ∙ ap (λ (t : List ℕ). Some t) (drop_all reading_limit input (omega (arith, short))) in
-    Taken scenario none whole (rw line_is at runs)
+    Taken scenario none whole looks (rw line_is at runs)

@@ -1,10 +1,10 @@
 -- What a run of a scenario comes to (this project's own).
-use Rattle.std.specs.Prelude.{ℕ, ◌++◌, replicate, ◌≡◌, ◌-◌, ◌*◌, ◌^◌, ◌<◌, ◌≤◌, min, List, length, Option, Some, None, IfSome}
-use Rattle.std.specs.List.{AllByRecursion}
+use Rattle.std.specs.Prelude.{ℕ, true, ◌++◌, replicate, ◌≡◌, ◌-◌, ◌*◌, ◌^◌, ◌<◌, ◌≤◌, min, List, length, Option, Some, None, IfSome}
+use Rattle.std.specs.List.{list_any, AllByRecursion}
 use Rattle.bt_base.specs.Counts.{last_count}
 use Rattle.bt_base.specs.Objects.{Object, Contents}
 use Rattle.bt_base.specs.Streams.{gained}
-use Rattle.push_script.specs.declared.outcome.Outcome.TheVariants.{Done, ScriptEnded}
+use Rattle.push_script.specs.declared.outcome.Outcome.TheVariants.{Done, LinkLost, ScriptEnded}
 use Rattle.push_script.specs.declared.scenario.Scenario.{Scenario}
 use Rattle.push_script.specs.declared.word.Side.TheVariants as sides
 use Rattle.push_script.specs.declared.word.Word.TheVariants.{Pass}
@@ -13,7 +13,8 @@ use Rattle.capture.specs.Entries.{Entry, IsEntry, capture_octets}
 use Rattle.capture.specs.Air.{Obeys, words_of}
 use Rattle.push_course.specs.Conversations.{Converse, sayings}
 use Rattle.push_progress.specs.Progress.{most_sayings}
-use Rattle.push_progress.specs.Success.{IsCaused}
+use Rattle.push_outcomes.specs.Causes.{is_drop}
+use Rattle.push_progress.specs.Success.{MayCome, IsCaused}
 use Rattle.push_results.specs.AllResults.{Results}
 use Rattle.capture.specs.Buffers.{KeepsWithin}
 use Rattle.capture.specs.Peaks.{buffers_peak}
@@ -34,10 +35,13 @@ HasRoom scenario = (416 ≤ scenario.settings.mtu) × (416 ≤ scenario.settings
 -- a shelf and an inbox, by their contents where they tell those, and by their counts
 pub record Stocked : Type 0 where
   pub shelf : Shelved
+  -- how often the shelf was asked for what it lacks
+  pub absences : ℕ
   pub inbox : Kept
 
-abbrev pub stocked : Option (List Object) → (shelf_faults : ℕ) → Option Contents → (inbox_faults inbox_shortages : ℕ) → Stocked
-stocked objects shelf_faults contents inbox_faults inbox_shortages = record { shelf = shelved objects shelf_faults; inbox = kept contents inbox_faults inbox_shortages }
+abbrev pub stocked : Option (List Object) → (shelf_faults absences : ℕ) → Option Contents → (inbox_faults inbox_shortages : ℕ) → Stocked
+stocked objects shelf_faults absences contents inbox_faults inbox_shortages =
+    record { shelf = shelved objects shelf_faults; absences = absences; inbox = kept contents inbox_faults inbox_shortages }
 
 -- At that moment host a has the shelf and host b the inbox, which say how many objects were stored. What came of the
 -- pushes is what came of them then, and the script ended those of the other objects.
@@ -84,6 +88,10 @@ pub record Plays (scenario : Scenario) (played : Played) (stock stock' : Stocked
   pub in_turn : InTurn played.outcomes.items entries
   pub converse : (n : ℕ) → Converse (sayings scenario.settings.mtu (min scenario.settings.obex scenario.settings.mtu)) entries n
   pub results : Results stock.shelf.content scenario.names entries played.outcomes.items stock.inbox stock'.inbox
+  -- whatever the script says, a push is done, loses its link or ends with the script, or the shelf or the inbox failed; and a link
+  -- is lost only where the word drop broke one
+  pub causes : AllByRecursion (MayCome stock.shelf.faults stock'.shelf.faults stock.inbox.faults stock'.inbox.faults) played.outcomes.items
+  pub drops : AllByRecursion (λ outcome. outcome ≡ LinkLost → list_any is_drop entries ≡ true) played.outcomes.items
   -- in a script of passes alone, 14 at least for each object, each push is done, or the shelf or the inbox failed
   pub clean : AllByRecursion (λ word. word ≡ Pass) (words_of scenario.script) → most_sayings * length scenario.names ≤ length (words_of scenario.script)
       → AllByRecursion (IsCaused stock.shelf.faults stock'.shelf.faults stock.inbox.faults stock'.inbox.faults) played.outcomes.items

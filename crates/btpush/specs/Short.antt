@@ -24,7 +24,8 @@ use Rattle.btpush.specs.Plays.{Stocked}
 -- trace gained are whole entries, and behind them less than one. At each moment of these entries the air obeys the script, and
 -- both hosts keep within the buffers of their controllers. They are of all that happened from the first moment of the world on,
 -- but for the last thing that was due then, of which they are or are not. The inbox is as host b had it then; where memory was
--- wanting, a packet that was due for host b may have changed it.
+-- wanting, a packet that was due for host b may have changed it. Whatever was due, some of the objects that host b heard in these
+-- entries were stored by then, in their order, with all whose success went out.
 pub record PlaysShort (fault : WorldFault) (scenario : Scenario) (stock stock' : Stocked) (trace trace' : Option (List ℕ)) : Type 0 where
   pub octets : List ℕ
   pub written : trace' ≡ gained trace octets
@@ -40,8 +41,6 @@ pub record PlaysShort (fault : WorldFault) (scenario : Scenario) (stock stock' :
   pub is_due : IfSome due (λ entry. IsDue behind entry last)
   pub entries_are : (entries ≡ all_entries happenings) ⊎ (entries ≡ all_entries happenings ++ option_to_list due)
   pub stays : (fault ≡ TraceFault) ⊎ (IsForB due → ⊥) → (served : Served) × (last.b.inside ≡ Serving served stock'.inbox)
-  -- some of what the packets of host b spell in these entries was stored by then, with all whose success went out; but nothing is
-  -- told where a packet for host b was due and memory was wanting, or the trace has that packet whole
-  pub results : (IsForB due → (fault ≡ TraceFault) × (entries ≡ all_entries happenings)) → ResultsSoFar stock.shelf.content scenario.names last.scene.pushes.begun entries stock.inbox stock'.inbox
+  pub results : ResultsSoFar stock.shelf.content scenario.names last.scene.pushes.begun entries stock.inbox stock'.inbox
   -- where the push of the one object of a scenario is not built, and its words are, the inbox is as it was
   pub unbuilt : fault ≡ NotBuilt → length scenario.names ≤ 1 → AllByRecursion (λ run. word_feature run.1 ≡ None) scenario.script → stock'.inbox ≡ stock.inbox

@@ -1,6 +1,7 @@
 //! A scenario is played in the simulated world.
 
 ghost use Rattle.std.specs.Prelude.{◌≡◌, false, IfOk, IfErr, IsErrOf};
+ghost use Rattle.bt_host.specs.Shelves.{LooksFor};
 ghost use Rattle.btpush.specs.Plays.{stocked, HasRoom, Plays};
 ghost use Rattle.btpush.specs.Short.{PlaysShort};
 ghost use Rattle.radio_world.specs.Blaming.{BlamesTrace, KeepsPort, KeepsCounts, IsNotBuilt};
@@ -40,10 +41,11 @@ pub(crate) fn play<F: Shelf, B: Inbox, T: Sink>(
 ) -> Result<Played, WorldFault>
     requires pending { B.is_pending inbox.old ≡ false }
     requires room { HasRoom scenario.now }
-    ensures plays { IfOk result (λ played. Plays scenario.now played (stocked (F.content shelf.old) (F.faults shelf.old) (B.content inbox.old) (B.faults inbox.old) (B.shortages inbox.old)) (stocked (F.content shelf.new) (F.faults shelf.new) (B.content inbox.new) (B.faults inbox.new) (B.shortages inbox.new)) (T.content trace.old) (T.content trace.new)) }
-    ensures broken { IfErr result (λ fault. PlaysShort fault scenario.now (stocked (F.content shelf.old) (F.faults shelf.old) (B.content inbox.old) (B.faults inbox.old) (B.shortages inbox.old)) (stocked (F.content shelf.new) (F.faults shelf.new) (B.content inbox.new) (B.faults inbox.new) (B.shortages inbox.new)) (T.content trace.old) (T.content trace.new)) }
+    ensures plays { IfOk result (λ played. Plays scenario.now played (stocked (F.content shelf.old) (F.faults shelf.old) (F.absences shelf.old) (B.content inbox.old) (B.faults inbox.old) (B.shortages inbox.old)) (stocked (F.content shelf.new) (F.faults shelf.new) (F.absences shelf.new) (B.content inbox.new) (B.faults inbox.new) (B.shortages inbox.new)) (T.content trace.old) (T.content trace.new)) }
+    ensures broken { IfErr result (λ fault. PlaysShort fault scenario.now (stocked (F.content shelf.old) (F.faults shelf.old) (F.absences shelf.old) (B.content inbox.old) (B.faults inbox.old) (B.shortages inbox.old)) (stocked (F.content shelf.new) (F.faults shelf.new) (F.absences shelf.new) (B.content inbox.new) (B.faults inbox.new) (B.shortages inbox.new)) (T.content trace.old) (T.content trace.new)) }
     ensures blame { BlamesTrace (T.faults trace.old) (T.faults trace.new) (T.shortages trace.old) (T.shortages trace.new) result }
     ensures shelf { KeepsPort (F.content shelf.old) (F.content shelf.new) (F.faults shelf.old) (F.faults shelf.new) (F.shortages shelf.old) (F.shortages shelf.new) result }
+    ensures looks { LooksFor scenario.now.names (F.content shelf.old) (F.absences shelf.old) (F.absences shelf.new) }
     ensures inbox { KeepsCounts (B.faults inbox.old) (B.faults inbox.new) (B.shortages inbox.old) (B.shortages inbox.new) result }
     ensures built { IsErrOf result WorldFault.NotBuilt → IsNotBuilt (F.content shelf.old) scenario.now.names scenario.now.script }
 {

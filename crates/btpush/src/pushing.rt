@@ -3,6 +3,7 @@
 ghost use Rattle.std.specs.Prelude.{◌≡◌, ◌≢◌, ◌≤◌, false, [], List, length, None, IfSome};
 ghost use Rattle.std.specs.List.{list_all, AllByRecursion};
 ghost use Rattle.bt_base.specs.Counts.{HasRisen};
+ghost use Rattle.bt_host.specs.Shelves.{LooksFor};
 ghost use Rattle.h4_view.specs.View.{IsAnswered};
 ghost use Rattle.push_script.specs.Features.{missing_features, word_feature};
 ghost use Rattle.push_script.specs.Reading.{text_limit};
@@ -86,10 +87,11 @@ fn run_scenario<K: Sink, T: Sink, F: Shelf, B: Inbox>(
     requires room { HasRoom scenario.now }
     requires one { length scenario.now.names ≤ 1 }
     requires plain { AllByRecursion (λ run. word_feature run.1 ≡ None) scenario.now.script }
-    ensures runs { Runs scenario.now line (stocked (F.content shelf.old) (F.faults shelf.old) (B.content inbox.old) (B.faults inbox.old) (B.shortages inbox.old)) (stocked (F.content shelf.new) (F.faults shelf.new) (B.content inbox.new) (B.faults inbox.new) (B.shortages inbox.new)) (K.content sink.old) (K.content sink.new) (T.content trace.old) (T.content trace.new) (HasRisen (T.faults trace.old) (T.faults trace.new)) result }
+    ensures runs { Runs scenario.now line (stocked (F.content shelf.old) (F.faults shelf.old) (F.absences shelf.old) (B.content inbox.old) (B.faults inbox.old) (B.shortages inbox.old)) (stocked (F.content shelf.new) (F.faults shelf.new) (F.absences shelf.new) (B.content inbox.new) (B.faults inbox.new) (B.shortages inbox.new)) (K.content sink.old) (K.content sink.new) (T.content trace.old) (T.content trace.new) (HasRisen (T.faults trace.old) (T.faults trace.new)) result }
     ensures causes { HasCauses 0 0 (K.faults sink.old) (K.faults sink.new) (T.faults trace.old) (T.faults trace.new) result }
     ensures sink_short { IsAnswered (K.shortages sink.old) (K.shortages sink.new) (result ≡ Status.NoMemory) }
     ensures trace_short { IsAnswered (T.shortages trace.old) (T.shortages trace.new) (result ≡ Status.NoMemory) }
+    ensures looks { LooksFor scenario.now.names (F.content shelf.old) (F.absences shelf.old) (F.absences shelf.new) }
     ensures shelf_content { F.content shelf.new ≡ F.content shelf.old }
     ensures shelf_faults { F.faults shelf.old ≤ F.faults shelf.new }
     ensures shelf_short { IsAnswered (F.shortages shelf.old) (F.shortages shelf.new) (result ≡ Status.NoMemory) }
@@ -120,7 +122,7 @@ pub(crate) fn push<S: Source, K: Sink, T: Sink, F: Shelf, B: Inbox>(
     inbox: &mut B,
 ) -> Status
     requires pending { B.is_pending inbox.old ≡ false }
-    ensures pushes { IfSome (S.content source.old) (λ input. Pushes input (stocked (F.content shelf.old) (F.faults shelf.old) (B.content inbox.old) (B.faults inbox.old) (B.shortages inbox.old)) (stocked (F.content shelf.new) (F.faults shelf.new) (B.content inbox.new) (B.faults inbox.new) (B.shortages inbox.new)) (S.content source.new) (K.content sink.old) (K.content sink.new) (T.content trace.old) (T.content trace.new) (HasRisen (T.faults trace.old) (T.faults trace.new)) ((trace.new ≡ trace.old) × (shelf.new ≡ shelf.old) × (inbox.new ≡ inbox.old)) result) }
+    ensures pushes { IfSome (S.content source.old) (λ input. Pushes input (stocked (F.content shelf.old) (F.faults shelf.old) (F.absences shelf.old) (B.content inbox.old) (B.faults inbox.old) (B.shortages inbox.old)) (stocked (F.content shelf.new) (F.faults shelf.new) (F.absences shelf.new) (B.content inbox.new) (B.faults inbox.new) (B.shortages inbox.new)) (S.content source.new) (K.content sink.old) (K.content sink.new) (T.content trace.old) (T.content trace.new) (HasRisen (T.faults trace.old) (T.faults trace.new)) ((trace.new ≡ trace.old) × (shelf.new ≡ shelf.old) × (inbox.new ≡ inbox.old)) result) }
     ensures known { result ≢ Status.BadWords }
     ensures finish { HasEnded result → IfSome (S.content source.new) (λ left. left ≡ []) }
     ensures causes { HasCauses (S.faults source.old) (S.faults source.new) (K.faults sink.old) (K.faults sink.new) (T.faults trace.old) (T.faults trace.new) result }

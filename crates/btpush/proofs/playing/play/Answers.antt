@@ -39,13 +39,13 @@ returns-in_err-play-clause-inbox g c =
     rw handed.1 (keeps_err handed.2 c.in_err-play.ensures.inbox)
 
 pub returns-in_err-world-clause-broken : goal.returns-in_err-world-clause-broken
-returns-in_err-world-clause-broken g c = same_fault _ _ world.NoMemory c.from_residual.ensures.1 (unbegun_short c.args.scenario.now (stocked (g.F.Shelf.content c.args.shelf.now) (g.F.Shelf.faults c.args.shelf.now) (g.B.Inbox.content c.args.inbox.now) (g.B.Inbox.faults c.args.inbox.now) (g.B.Inbox.shortages c.args.inbox.now)) (g.T.Sink.content c.args.trace.now) (setting_of c.args.scenario.now c.requires.room))
+returns-in_err-world-clause-broken g c = same_fault _ _ world.NoMemory c.from_residual.ensures.1 (unbegun_short c.args.scenario.now (stocked (g.F.Shelf.content c.args.shelf.now) (g.F.Shelf.faults c.args.shelf.now) (g.F.Shelf.absences c.args.shelf.now) (g.B.Inbox.content c.args.inbox.now) (g.B.Inbox.faults c.args.inbox.now) (g.B.Inbox.shortages c.args.inbox.now)) (g.T.Sink.content c.args.trace.now) (setting_of c.args.scenario.now c.requires.room))
 
 pub returns-in_err-play-clause-broken : goal.returns-in_err-play-clause-broken
 returns-in_err-play-clause-broken g c =
     same_fault _ _ c.in_err-play.field-0.0 c.from_residual-in_err-play.ensures.1
-    (plays_short c.in_err-play.field-0.0 c.args.scenario.now c.play.new.self.server (stocked (g.F.Shelf.content c.args.shelf.now) (g.F.Shelf.faults c.args.shelf.now) (g.B.Inbox.content c.args.inbox.now) (g.B.Inbox.faults c.args.inbox.now) (g.B.Inbox.shortages c.args.inbox.now)) (stocked (g.F.Shelf.content c.play.new.shelf) (g.F.Shelf.faults c.play.new.shelf) (g.B.Inbox.content c.play.new.inbox) (g.B.Inbox.faults c.play.new.inbox) (g.B.Inbox.shortages c.play.new.inbox)) (g.T.Sink.content c.args.trace.now) (g.T.Sink.content c.play.new.trace) (setting_of c.args.scenario.now c.requires.room) c.in_err-play.ensures.broken)
+    (plays_short c.in_err-play.field-0.0 c.args.scenario.now c.play.new.self.server (stocked (g.F.Shelf.content c.args.shelf.now) (g.F.Shelf.faults c.args.shelf.now) (g.F.Shelf.absences c.args.shelf.now) (g.B.Inbox.content c.args.inbox.now) (g.B.Inbox.faults c.args.inbox.now) (g.B.Inbox.shortages c.args.inbox.now)) (stocked (g.F.Shelf.content c.play.new.shelf) (g.F.Shelf.faults c.play.new.shelf) (g.F.Shelf.absences c.play.new.shelf) (g.B.Inbox.content c.play.new.inbox) (g.B.Inbox.faults c.play.new.inbox) (g.B.Inbox.shortages c.play.new.inbox)) (g.T.Sink.content c.args.trace.now) (g.T.Sink.content c.play.new.trace) (setting_of c.args.scenario.now c.requires.room) c.in_err-play.ensures.broken)
 
 pub returns-in_err-outcomes_of-clause-broken : goal.returns-in_err-outcomes_of-clause-broken
 returns-in_err-outcomes_of-clause-broken g c =
-    same_fault _ _ world.NoMemory c.from_residual-in_err-outcomes_of.ensures.1 (whole_short c.args.scenario.now c.play.new.self (stocked (g.F.Shelf.content c.args.shelf.now) (g.F.Shelf.faults c.args.shelf.now) (g.B.Inbox.content c.args.inbox.now) (g.B.Inbox.faults c.args.inbox.now) (g.B.Inbox.shortages c.args.inbox.now)) (stocked (g.F.Shelf.content c.play.new.shelf) (g.F.Shelf.faults c.play.new.shelf) (g.B.Inbox.content c.play.new.inbox) (g.B.Inbox.faults c.play.new.inbox) (g.B.Inbox.shortages c.play.new.inbox)) (g.T.Sink.content c.args.trace.now) (g.T.Sink.content c.play.new.trace) (setting_of c.args.scenario.now c.requires.room) c.in_ok-play.ensures.happens)
+    same_fault _ _ world.NoMemory c.from_residual-in_err-outcomes_of.ensures.1 (whole_short c.args.scenario.now c.play.new.self (stocked (g.F.Shelf.content c.args.shelf.now) (g.F.Shelf.faults c.args.shelf.now) (g.F.Shelf.absences c.args.shelf.now) (g.B.Inbox.content c.args.inbox.now) (g.B.Inbox.faults c.args.inbox.now) (g.B.Inbox.shortages c.args.inbox.now)) (stocked (g.F.Shelf.content c.play.new.shelf) (g.F.Shelf.faults c.play.new.shelf) (g.F.Shelf.absences c.play.new.shelf) (g.B.Inbox.content c.play.new.inbox) (g.B.Inbox.faults c.play.new.inbox) (g.B.Inbox.shortages c.play.new.inbox)) (g.T.Sink.content c.args.trace.now) (g.T.Sink.content c.play.new.trace) (setting_of c.args.scenario.now c.requires.room) c.in_ok-play.ensures.happens)

@@ -38,7 +38,7 @@ pub run_scenario-requires-clause-plain : goal.run_scenario-requires-clause-plain
 run_scenario-requires-clause-plain g c = has_plain_words c.deref.result.now (script_of c.in-Ok-scenario_of.scenario) c.in-Ok-scenario_of.ensures
 
 pub returns-clause-pushes : goal.returns-clause-pushes
-returns-clause-pushes g c = if_some _ (λ input h. taken input _ _ _ _ _ _ _ _ _ _ _ _ c.in-Ok-scenario_of.scenario _ _ h.0 c.deref.ensures.value c.deref-2.ensures.value h.1 c.in-Ok-scenario_of.ensures c.object_line.ensures c.run_scenario.ensures.runs) c.in-Ok.ensures.gathers
+returns-clause-pushes g c = if_some _ (λ input h. taken input _ _ _ _ _ _ _ _ _ _ _ _ c.in-Ok-scenario_of.scenario _ _ h.0 c.deref.ensures.value c.deref-2.ensures.value h.1 c.in-Ok-scenario_of.ensures c.object_line.ensures c.run_scenario.ensures.looks c.run_scenario.ensures.runs) c.in-Ok.ensures.gathers
 
 pub returns-clause-finish : goal.returns-clause-finish
 returns-clause-finish g c ended = c.in-Ok.ensures.finish (omega (arith, short_read missing_features c.deref.result.now (script_of c.in-Ok-scenario_of.scenario) c.in-Ok-scenario_of.ensures, ap (λ (t : List ℕ). length t) c.deref.ensures.value))
