@@ -80,6 +80,7 @@ plays_short fault scenario server stock stock' trace trace' setting short =
       entries_are = fronts.found_are;
       stays = λ why. (server.server.served, ap (λ (f : Face). f.inside) (sym (stops.stays why)));
       results = told_so.results;
+      found = stops.unbuilt;
       unbuilt = λ is few plain.
           let begins = begins_there scenario.script (all_words short.happenings) short.behind stops.due plain short.words (stops.unbuilt is) in
           let due : IsDue short.behind (Begun begins.0) short.last = subst (λ (o : Option Entry). IfSome o (λ entry. IsDue short.behind entry short.last)) begins.1 stops.is_due in
@@ -129,6 +130,7 @@ whole_short scenario world stock stock' trace trace' setting happens =
           front_results scenario.acl_length scenario.acl_count scenario.settings.mtu scenario.settings.obex scenario.names stock.shelf stock.inbox stock'.inbox setting plays.happenings plays.before plays.runs
           world.server.server.served (ap (λ (f : Face). f.inside) (sym (happens.ends.server ∙ end.b))) end.due [] end.is_due happens.entries
           (inr (plays.entries_are ∙ ap (λ xs. all_entries plays.happenings ++ xs) end.ended_is));
+      found = λ is. absurd cc;
       unbuilt = λ is few plain. absurd cc;
     }
 

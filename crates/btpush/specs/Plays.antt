@@ -43,7 +43,7 @@ abbrev pub stocked : Option (List Object) → (shelf_faults absences : ℕ) → 
 stocked objects shelf_faults absences contents inbox_faults inbox_shortages =
     record { shelf = shelved objects shelf_faults; absences = absences; inbox = kept contents inbox_faults inbox_shortages }
 
--- At that moment host a has the shelf and host b the inbox, which say how many objects were stored. What came of the
+-- At that moment host a has the shelf and host b the inbox, and host b says how many objects were stored. What came of the
 -- pushes is what came of them then, and the script ended those of the other objects.
 pub record EndsWith (names : List (List ℕ)) (played : Played) (last : Moment) (stock : Stocked) : Type 0 where
   pub course : Course
@@ -68,9 +68,10 @@ Gains (Some before) kept after = IfSome after (IsGained before kept)
 -- both hosts kept within the buffers of their controllers at each moment, and the peaks are those of the capture. No
 -- frame of an enhanced channel and no credit is there yet. Each object has its outcome, and the pushes are in turn: each
 -- that was begun has its begin, its link, one at most, and its end, which states its outcome. On each link both hosts are
--- the two ends of one conversation. The inbox gains what the packets that host b heard spell, each the object of its push,
--- and each outcome is the first cause of its push. All that happened is what may happen in a world from its first moment
--- on, and ends as it says. Behind what the inbox held stand the objects that it gained, as many as are reported.
+-- the two ends of one conversation. The inbox gains what the packets that host b heard spell, but for what it failed to
+-- store, each the object of its push; and each outcome is the first cause of its push, or that the script ended, or that the
+-- shelf failed before a link was asked for. All that happened is what may happen in a world from its first moment on, and ends
+-- as it says. Behind what the inbox held stand the objects that it gained, as many as are reported.
 pub record Plays (scenario : Scenario) (played : Played) (stock stock' : Stocked) (trace trace' : Option (List ℕ)) : Type 0 where
   pub entries : List Entry
   pub entries_are : AllByRecursion IsEntry entries
@@ -89,7 +90,7 @@ pub record Plays (scenario : Scenario) (played : Played) (stock stock' : Stocked
   pub converse : (n : ℕ) → Converse (sayings scenario.settings.mtu (min scenario.settings.obex scenario.settings.mtu)) entries n
   pub results : Results stock.shelf.content scenario.names entries played.outcomes.items stock.inbox stock'.inbox
   -- whatever the script says, a push is done, loses its link or ends with the script, or the shelf or the inbox failed; and a link
-  -- is lost only where the word drop broke one
+  -- is lost only where the capture has an entry of the word drop
   pub causes : AllByRecursion (MayCome stock.shelf.faults stock'.shelf.faults stock.inbox.faults stock'.inbox.faults) played.outcomes.items
   pub drops : AllByRecursion (λ outcome. outcome ≡ LinkLost → list_any is_drop entries ≡ true) played.outcomes.items
   -- in a script of passes alone, 14 at least for each object, each push is done, or the shelf or the inbox failed

@@ -80,5 +80,5 @@ pub data Pushes (input : List ℕ) (stock stock' : Stocked) (left sink sink' tra
   NotRead : (n : ℕ) → left ≡ Some (drop n input) → sink' ≡ sink → untouched → IsUnread result → Pushes input stock stock' left sink sink' trace trace' trace_failed untouched result
   -- it is no scenario, and the first refusal is told
   NotTaken : (line : ℕ) (refusal : ScriptRefusal) → left ≡ unread input → reading missing_features input ≡ Err (line, refusal) → Refuses (refusal_line line refusal) sink sink' result → untouched → Pushes input stock stock' left sink sink' trace trace' trace_failed untouched result
-  -- it is a scenario, which is run; the shelf is asked for the objects that it names and for no others
+  -- it is a scenario, which is run; of what the shelf lacks only the objects that it names are asked for
   Taken : (scenario : Scenario) → left ≡ Some [] → reading missing_features input ≡ Ok (script_of scenario) → LooksFor scenario.names stock.shelf.content stock.absences stock'.absences → Runs scenario (object_line input) stock stock' sink sink' trace trace' trace_failed result → Pushes input stock stock' left sink sink' trace trace' trace_failed untouched result

@@ -13,7 +13,7 @@ use Rattle.world_model.specs.Insides.{Serving}
 use Rattle.world_model.specs.Moments.{Moment}
 use Rattle.world_model.specs.Happenings.{Happening, Runs, all_entries, all_words}
 use Rattle.push_results.specs.AllResults.{ResultsSoFar}
-use Rattle.radio_world.specs.Breaking.{IsDue, IsForB}
+use Rattle.radio_world.specs.Breaking.{IsDue, IsForB, IsUnbuiltAt}
 use Rattle.radio_world.specs.Unfinished.{KeepsAll}
 use Rattle.radio_world.specs.Worlds.{beginning}
 use Rattle.radio_world.specs.declared.fault.WorldFault.{WorldFault}
@@ -42,5 +42,7 @@ pub record PlaysShort (fault : WorldFault) (scenario : Scenario) (stock stock' :
   pub entries_are : (entries ≡ all_entries happenings) ⊎ (entries ≡ all_entries happenings ++ option_to_list due)
   pub stays : (fault ≡ TraceFault) ⊎ (IsForB due → ⊥) → (served : Served) × (last.b.inside ≡ Serving served stock'.inbox)
   pub results : ResultsSoFar stock.shelf.content scenario.names last.scene.pushes.begun entries stock.inbox stock'.inbox
+  -- what is not built was found where a push was to begin, or at the next word
+  pub found : fault ≡ NotBuilt → IsUnbuiltAt behind due
   -- where the push of the one object of a scenario is not built, and its words are, the inbox is as it was
   pub unbuilt : fault ≡ NotBuilt → length scenario.names ≤ 1 → AllByRecursion (λ run. word_feature run.1 ≡ None) scenario.script → stock'.inbox ≡ stock.inbox
