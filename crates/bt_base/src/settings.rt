@@ -45,7 +45,7 @@ pub struct Settings {
     pub ghost mps_low: { 48 ≤ mps },
     pub ghost mps_high: { mps ≤ 1010 },
     pub ghost window_low: { 1 ≤ window },
-    pub ghost window_high: { window ≤ 32 },
+    pub ghost window_high: { window ≤ 63 },
     pub ghost tries_low: { 2 ≤ tries },
     pub ghost tries_high: { tries ≤ 20 },
     pub ghost credits_low: { 1 ≤ credits },

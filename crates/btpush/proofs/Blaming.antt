@@ -3,9 +3,9 @@ use Rattle.std.proofs.Common.{◌≡◌, ℕ, ◌⊎◌, Result, arith, inl, inr
 use Rattle.std.specs.Prelude.{IsErrOf}
 use Rattle.std.proofs.lemmas.Bool.{cases_lt}
 use Rattle.bt_base.specs.Counts.{HasRisen}
-use Rattle.radio_world.specs.Blaming.{BlamesTrace}
-use Rattle.radio_world.specs.declared.fault.WorldFault.{WorldFault}
-use Rattle.radio_world.specs.declared.fault.WorldFault.TheVariants.{TraceFault}
+use Rattle.small_world.specs.Blaming.{BlamesTrace}
+use Rattle.small_world.specs.declared.fault.WorldFault.{WorldFault}
+use Rattle.small_world.specs.declared.fault.WorldFault.TheVariants.{TraceFault}
 use Rattle.btpush.specs.declared.status.Status.{Status}
 use Rattle.btpush.specs.Run.{HasCauses}
 

@@ -6,16 +6,16 @@ use Rattle.bt_base.specs.Objects.{Object}
 use Rattle.bt_base.specs.Streams.{gained}
 use Rattle.std.proofs.lemmas.List.{append-nil, flat_map_more}
 use Rattle.h4_framing.specs.Packets.{Packet}
-use Rattle.push_script.specs.declared.word.Side.TheVariants as sides
-use Rattle.push_script.specs.declared.word.Word.{Word}
+use Rattle.push_terms.specs.declared.word.Side.TheVariants as sides
+use Rattle.push_terms.specs.declared.word.Word.{Word}
 use Rattle.capture.specs.declared.flow.Flow.TheVariants.{Out, Into}
 use Rattle.capture.specs.Entries.{Entry, Moved, Begun, Ended, Acted, IsEntry, capture_octets}
-use Rattle.bt_host.specs.Servers.{Served, Kept}
-use Rattle.world_model.specs.Faces.{Face, with_out}
-use Rattle.world_model.specs.Insides.{Inside, Shelved, Pushing, Serving}
-use Rattle.world_model.specs.Media.{after_moving}
-use Rattle.world_model.specs.Moments.{Moment, first_moment, with_face, with_medium}
-use Rattle.world_model.specs.Happenings.{Happening, Departure, Departs, Runs, entries_of, all_entries}
+use Rattle.small_host.specs.Servers.{Served, Kept}
+use Rattle.small_model.specs.Faces.{Face, with_out}
+use Rattle.small_model.specs.Insides.{Inside, Shelved, Pushing, Serving}
+use Rattle.small_model.specs.Media.{after_moving}
+use Rattle.small_model.specs.Moments.{Moment, first_moment, with_face, with_medium}
+use Rattle.small_model.specs.Happenings.{Happening, Departure, Departs, Runs, entries_of, all_entries}
 use Rattle.push_order.proofs.Following.{runs_more}
 use Rattle.push_course.specs.Conversations.{IsSetting}
 use Rattle.push_results.specs.AllResults.{ResultsSoFar, ResultsSoFarIn}
@@ -23,8 +23,8 @@ use Rattle.push_results.proofs.Beside.{results_beside}
 use Rattle.push_endings.proofs.Accounts.{results_of_runs}
 use Rattle.push_breaks.specs.Breaks.{LeavesInbox}
 use Rattle.push_breaks.proofs.Results.{results_from}
-use Rattle.radio_world.specs.Feeding.{LeavesIn}
-use Rattle.radio_world.specs.Breaking.{IsDue, Leaves}
+use Rattle.small_world.specs.Feeding.{LeavesIn}
+use Rattle.small_world.specs.Breaking.{IsDue, Leaves}
 use Rattle.btpush.proofs.Fronts.{Fronts, fronts_whole}
 
 -- what host b had within

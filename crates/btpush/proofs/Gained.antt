@@ -3,14 +3,14 @@ use Rattle.std.proofs.Common.{◌≡◌, ℕ, min, List, [], Bool, true, false, 
 use Rattle.std.specs.Prelude.{is_some, IfSome}
 use Rattle.std.proofs.lemmas.List.{append-nil}
 use Rattle.bt_base.specs.Objects.{Contents}
-use Rattle.push_script.specs.declared.word.Word.{Word}
+use Rattle.push_terms.specs.declared.word.Word.{Word}
 use Rattle.capture.specs.Entries.{Entry}
-use Rattle.obex_session.specs.declared.ruling.Progress.TheVariants.{Unnamed}
-use Rattle.bt_host.specs.Channels.{fresh}
-use Rattle.bt_host.specs.Servers.{Served, Kept}
-use Rattle.world_model.specs.Insides.{Shelved, Serving}
-use Rattle.world_model.specs.Moments.{Moment, first_moment}
-use Rattle.world_model.specs.Happenings.{Plays, EndsScript}
+use Rattle.small_session.specs.declared.ruling.Progress.TheVariants.{Unnamed}
+use Rattle.small_host.specs.Channels.{fresh}
+use Rattle.small_host.specs.Servers.{Served, Kept}
+use Rattle.small_model.specs.Insides.{Shelved, Serving}
+use Rattle.small_model.specs.Moments.{Moment, first_moment}
+use Rattle.small_model.specs.Happenings.{Plays, EndsScript}
 use Rattle.push_store.specs.Gaining as store
 use Rattle.push_store.proofs.Gaining.{keeps_what_is_stored}
 use Rattle.btpush.specs.Plays.{IsGained, Gains}

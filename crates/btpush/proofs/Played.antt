@@ -9,8 +9,8 @@ use Rattle.btpush.proofs.Ordered.{play_in_turn}
 use Rattle.btpush.proofs.Conversed.{play_converses}
 use Rattle.btpush.proofs.Resulted.{play_results, play_has_causes, play_has_drops, play_is_clean, play_is_done}
 use Rattle.push_script.specs.declared.scenario.Scenario.{Scenario}
-use Rattle.world_model.specs.Faces.{Face}
-use Rattle.radio_world.specs.Worlds.{World, Happens}
+use Rattle.small_model.specs.Faces.{Face}
+use Rattle.small_world.specs.Worlds.{World, Happens}
 use Rattle.btpush.specs.declared.playing.Played.{Played}
 use Rattle.btpush.specs.Plays.{Stocked, Plays}
 

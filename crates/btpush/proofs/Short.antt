@@ -6,22 +6,22 @@ use Rattle.std.proofs.lemmas.List.{append-nil}
 use Rattle.push_script.specs.declared.scenario.Scenario.{Scenario}
 use Rattle.capture.specs.Entries.{Entry, Begun, Ended, IsEntry, capture_octets}
 use Rattle.capture.specs.Air.{words_of}
-use Rattle.bt_host.specs.ServerHosts.{ServerState}
-use Rattle.world_model.specs.Faces.{Face}
-use Rattle.world_model.specs.Moments.{Moment}
-use Rattle.world_model.specs.Happenings.{Plays, EndsScript, all_entries, all_words, last_outcome}
-use Rattle.radio_world.specs.Breaking.{IsDue, IsForB}
-use Rattle.radio_world.specs.Unfinished.{KeepsAll, HappensShort}
-use Rattle.radio_world.specs.OwnHosts.{server_face}
-use Rattle.radio_world.specs.Worlds.{World, Happens, beginning, new_world}
-use Rattle.radio_world.specs.declared.fault.WorldFault.{WorldFault}
-use Rattle.radio_world.specs.declared.fault.WorldFault.TheVariants.{NoMemory}
+use Rattle.small_host.specs.ServerHosts.{ServerState}
+use Rattle.small_model.specs.Faces.{Face}
+use Rattle.small_model.specs.Moments.{Moment}
+use Rattle.small_model.specs.Happenings.{Plays, EndsScript, all_entries, all_words, last_outcome}
+use Rattle.small_world.specs.Breaking.{IsDue, IsForB}
+use Rattle.small_world.specs.Unfinished.{KeepsAll, HappensShort}
+use Rattle.small_world.specs.OwnHosts.{server_face}
+use Rattle.small_world.specs.Worlds.{World, Happens, beginning, new_world}
+use Rattle.small_world.specs.declared.fault.WorldFault.{WorldFault}
+use Rattle.small_world.specs.declared.fault.WorldFault.TheVariants.{NoMemory}
 use Rattle.world_links.specs.LinkFacts.{IsBeginning}
 use Rattle.btpush.specs.Plays.{Stocked, HasRoom}
 use Rattle.btpush.specs.Short.{PlaysShort}
-use Rattle.radio_world.proofs.Breaking.{breaks_none}
-use Rattle.radio_world.proofs.Going.{goes_none}
-use Rattle.radio_world.proofs.Unfinished.{start_short}
+use Rattle.small_world.proofs.Breaking.{breaks_none}
+use Rattle.small_world.proofs.Going.{goes_none}
+use Rattle.small_world.proofs.Unfinished.{start_short}
 use Rattle.push_course.specs.Conversations.{IsSetting}
 use Rattle.btpush.proofs.Fronted.{told, front_results}
 use Rattle.btpush.proofs.Untouched.{untouched, begins_there}

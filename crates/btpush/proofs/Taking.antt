@@ -9,7 +9,7 @@ use Rattle.push_script.specs.declared.refusal.ScriptRefusal.TheVariants.{TooLong
 use Rattle.push_script.specs.Features.{missing_features}
 use Rattle.push_script.specs.Reading.{Script, reading, script_of, text_limit}
 use Rattle.push_script.specs.Refusals.{refusal_line, object_line}
-use Rattle.bt_host.specs.Shelves.{LooksFor}
+use Rattle.small_host.specs.Shelves.{LooksFor}
 use Rattle.btpush.specs.declared.status.Status.{Status}
 use Rattle.btpush.specs.Gathering.{kept_limit, reading_limit, unread}
 use Rattle.btpush.specs.Plays.{Stocked}

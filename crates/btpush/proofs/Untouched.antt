@@ -5,23 +5,23 @@ use Rattle.std.specs.List.{AllByRecursion}
 use Rattle.std.proofs.lemmas.Option.{slice_get_within}
 use Rattle.capture.specs.Entries.{Entry, Begun}
 use Rattle.capture.specs.Air.{words_of}
-use Rattle.push_script.specs.declared.word.Word.{Word}
-use Rattle.push_script.specs.declared.word.Word.TheVariants.{Pass, Lose, Repeat, Damage, Cut, Timer, Drop, Cancel}
+use Rattle.push_terms.specs.declared.word.Word.{Word}
+use Rattle.push_terms.specs.declared.word.Word.TheVariants.{Pass, Lose, Repeat, Damage, Cut, Timer, Drop, Cancel}
 use Rattle.push_script.specs.Features.{word_feature}
-use Rattle.bt_host.specs.Servers.{Served, Kept}
-use Rattle.world_model.specs.Insides.{Inside, Shelved, Serving}
-use Rattle.world_model.specs.Ordering.{Pushes}
-use Rattle.world_model.specs.Moments.{Moment, first_moment}
-use Rattle.world_model.specs.Happenings.{Happening, Departure, Arrival, GivingBack, Opening, Closing, Deed, Miss, Does, Runs, entries_of}
-use Rattle.world_model.proofs.Holding.{kept_along}
+use Rattle.small_host.specs.Servers.{Served, Kept}
+use Rattle.small_model.specs.Insides.{Inside, Shelved, Serving}
+use Rattle.small_model.specs.Ordering.{Pushes}
+use Rattle.small_model.specs.Moments.{Moment, first_moment}
+use Rattle.small_model.specs.Happenings.{Happening, Departure, Arrival, GivingBack, Opening, Closing, Deed, Miss, Does, Runs, entries_of}
+use Rattle.small_model.proofs.Holding.{kept_along}
 use Rattle.world_links.specs.LinkFacts.{IsBeginning}
 use Rattle.world_links.proofs.Upholding.{facts_of}
 use Rattle.world_links.proofs.Running.{Stood, stood_on, first_stood}
 use Rattle.push_order.proofs.Following.{none_goes, pushes_of_face}
 use Rattle.push_results.proofs.Telling.{HasInbox}
 use Rattle.push_results.proofs.Apart.{stays_apart}
-use Rattle.radio_world.specs.Blaming.{IsUnbuilt}
-use Rattle.radio_world.specs.Breaking.{IsDue, IsUnbuiltAt}
+use Rattle.small_world.specs.Blaming.{IsUnbuilt}
+use Rattle.small_world.specs.Breaking.{IsDue, IsUnbuiltAt}
 
 abbrev pushes_of : Moment → Pushes
 pushes_of moment = moment.scene.pushes

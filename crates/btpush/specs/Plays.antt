@@ -4,10 +4,10 @@ use Rattle.std.specs.List.{list_any, AllByRecursion}
 use Rattle.bt_base.specs.Counts.{last_count}
 use Rattle.bt_base.specs.Objects.{Object, Contents}
 use Rattle.bt_base.specs.Streams.{gained}
-use Rattle.push_script.specs.declared.outcome.Outcome.TheVariants.{Done, LinkLost, ScriptEnded}
+use Rattle.push_terms.specs.declared.outcome.Outcome.TheVariants.{Done, LinkLost, ScriptEnded}
 use Rattle.push_script.specs.declared.scenario.Scenario.{Scenario}
-use Rattle.push_script.specs.declared.word.Side.TheVariants as sides
-use Rattle.push_script.specs.declared.word.Word.TheVariants.{Pass}
+use Rattle.push_terms.specs.declared.word.Side.TheVariants as sides
+use Rattle.push_terms.specs.declared.word.Word.TheVariants.{Pass}
 use Rattle.capture.specs.Pushes.{InTurn}
 use Rattle.capture.specs.Entries.{Entry, IsEntry, capture_octets}
 use Rattle.capture.specs.Air.{Obeys, words_of}
@@ -18,13 +18,13 @@ use Rattle.push_progress.specs.Success.{MayCome, IsCaused}
 use Rattle.push_results.specs.AllResults.{Results}
 use Rattle.capture.specs.Buffers.{KeepsWithin}
 use Rattle.capture.specs.Peaks.{buffers_peak}
-use Rattle.bt_host.specs.Courses.{Course}
-use Rattle.bt_host.specs.Servers.{Served, Kept, kept}
-use Rattle.world_model.specs.Insides.{Shelved, Pushing, Serving}
-use Rattle.world_model.specs.Moments.{Moment}
-use Rattle.world_model.specs.Happenings as world
-use Rattle.radio_world.specs.OwnHosts.{shelved}
-use Rattle.radio_world.specs.Worlds.{beginning}
+use Rattle.small_host.specs.Courses.{Course}
+use Rattle.small_host.specs.Servers.{Served, Kept, kept}
+use Rattle.small_model.specs.Insides.{Shelved, Pushing, Serving}
+use Rattle.small_model.specs.Moments.{Moment}
+use Rattle.small_model.specs.Happenings as world
+use Rattle.small_world.specs.OwnHosts.{shelved}
+use Rattle.small_world.specs.Worlds.{beginning}
 use Rattle.btpush.specs.declared.playing.Played.{Played}
 
 -- MTU and longest packet of OBEX have room for CONNECT and the PUT of each object that a scenario may name: 100 units of name and

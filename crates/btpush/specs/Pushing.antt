@@ -2,8 +2,8 @@
 use Rattle.std.specs.Prelude.{ℕ, ◌≡◌, Bool, true, false, List, [], drop, Option, Some, Ok, Err}
 use Rattle.std.specs.List.{list_all}
 use Rattle.bt_base.specs.Streams.{gained, GainedFront}
-use Rattle.push_script.specs.declared.outcome.Outcome.{Outcome}
-use Rattle.push_script.specs.declared.outcome.Outcome.TheVariants as outcomes
+use Rattle.push_terms.specs.declared.outcome.Outcome.{Outcome}
+use Rattle.push_terms.specs.declared.outcome.Outcome.TheVariants as outcomes
 use Rattle.push_script.specs.declared.scenario.Scenario.{Scenario}
 use Rattle.push_script.specs.declared.refusal.ScriptRefusal.{ScriptRefusal}
 use Rattle.push_script.specs.declared.refusal.ScriptRefusal.TheVariants.{NotBuilt}
@@ -11,16 +11,16 @@ use Rattle.push_script.specs.Features.{missing_features}
 use Rattle.push_script.specs.Reading.{reading, script_of}
 use Rattle.push_script.specs.Refusals.{refusal_line, object_line}
 use Rattle.push_script.specs.Reports.{report_text}
-use Rattle.bt_host.specs.Shelves.{LooksFor}
+use Rattle.small_host.specs.Shelves.{LooksFor}
 use Rattle.btpush.specs.declared.status.Status.{Status}
 use Rattle.btpush.specs.declared.status.Status.TheVariants as status
 use Rattle.btpush.specs.declared.playing.Played.{Played}
 use Rattle.btpush.specs.Gathering.{unread}
 use Rattle.btpush.specs.Plays.{Stocked, Plays}
 use Rattle.btpush.specs.Short.{PlaysShort}
-use Rattle.radio_world.specs.Blaming.{IsNotBuilt}
-use Rattle.radio_world.specs.declared.fault.WorldFault.{WorldFault}
-use Rattle.radio_world.specs.declared.fault.WorldFault.TheVariants as world
+use Rattle.small_world.specs.Blaming.{IsNotBuilt}
+use Rattle.small_world.specs.declared.fault.WorldFault.{WorldFault}
+use Rattle.small_world.specs.declared.fault.WorldFault.TheVariants as world
 
 -- A refusal is told by this line, all of it, or after a fault a front of it.
 abbrev pub Refuses : List ℕ → Option (List ℕ) → Option (List ℕ) → Status → Type 0

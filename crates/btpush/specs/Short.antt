@@ -3,21 +3,21 @@ use Rattle.std.specs.Prelude.{ℕ, ◌≡◌, ◌≤◌, ◌⊎◌, List, ◌++�
 use Rattle.std.specs.List.{AllByRecursion}
 use Rattle.bt_base.specs.Streams.{gained}
 use Rattle.push_script.specs.declared.scenario.Scenario.{Scenario}
-use Rattle.push_script.specs.declared.word.Word.{Word}
+use Rattle.push_terms.specs.declared.word.Word.{Word}
 use Rattle.push_script.specs.Features.{word_feature}
 use Rattle.capture.specs.Entries.{Entry}
 use Rattle.capture.specs.Front.{HasWhole}
 use Rattle.capture.specs.Air.{words_of}
-use Rattle.bt_host.specs.Servers.{Served}
-use Rattle.world_model.specs.Insides.{Serving}
-use Rattle.world_model.specs.Moments.{Moment}
-use Rattle.world_model.specs.Happenings.{Happening, Runs, all_entries, all_words}
+use Rattle.small_host.specs.Servers.{Served}
+use Rattle.small_model.specs.Insides.{Serving}
+use Rattle.small_model.specs.Moments.{Moment}
+use Rattle.small_model.specs.Happenings.{Happening, Runs, all_entries, all_words}
 use Rattle.push_results.specs.AllResults.{ResultsSoFar}
-use Rattle.radio_world.specs.Breaking.{IsDue, IsForB, IsUnbuiltAt}
-use Rattle.radio_world.specs.Unfinished.{KeepsAll}
-use Rattle.radio_world.specs.Worlds.{beginning}
-use Rattle.radio_world.specs.declared.fault.WorldFault.{WorldFault}
-use Rattle.radio_world.specs.declared.fault.WorldFault.TheVariants.{TraceFault, NotBuilt}
+use Rattle.small_world.specs.Breaking.{IsDue, IsForB, IsUnbuiltAt}
+use Rattle.small_world.specs.Unfinished.{KeepsAll}
+use Rattle.small_world.specs.Worlds.{beginning}
+use Rattle.small_world.specs.declared.fault.WorldFault.{WorldFault}
+use Rattle.small_world.specs.declared.fault.WorldFault.TheVariants.{TraceFault, NotBuilt}
 use Rattle.btpush.specs.Plays.{Stocked}
 
 -- A scenario was played until the trace failed, or memory was wanting, or there was something that is not built yet. What the

@@ -1,14 +1,14 @@
 //! A scenario is played in the simulated world.
 
 ghost use Rattle.std.specs.Prelude.{◌≡◌, false, IfOk, IfErr, IsErrOf};
-ghost use Rattle.bt_host.specs.Shelves.{LooksFor};
+ghost use Rattle.small_host.specs.Shelves.{LooksFor};
 ghost use Rattle.btpush.specs.Plays.{stocked, HasRoom, Plays};
 ghost use Rattle.btpush.specs.Short.{PlaysShort};
-ghost use Rattle.radio_world.specs.Blaming.{BlamesTrace, KeepsPort, KeepsCounts, IsNotBuilt};
+ghost use Rattle.small_world.specs.Blaming.{BlamesTrace, KeepsPort, KeepsCounts, IsNotBuilt};
 
 use bt_base::{Inbox, NoMemory, Shelf, Sink};
 use push_script::{Outcome, Peaks, Scenario};
-use radio_world::{World, WorldFault};
+use small_world::{World, WorldFault};
 use std::alloc::Global;
 
 /// What a run of a scenario came to.

@@ -59,7 +59,7 @@ const REFUSED: [(&str, &str); 9] = [
         "refused line 2 UnknownKey\n",
     ),
     (
-        "transport l2cap\nwindow 33\n",
+        "transport l2cap\nwindow 64\n",
         "refused line 2 OutOfRange\n",
     ),
     ("transport l2cap\nradio\n", "refused line 2 NoObject\n"),

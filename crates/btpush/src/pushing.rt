@@ -3,7 +3,7 @@
 ghost use Rattle.std.specs.Prelude.{◌≡◌, ◌≢◌, ◌≤◌, false, [], List, length, None, IfSome};
 ghost use Rattle.std.specs.List.{list_all, AllByRecursion};
 ghost use Rattle.bt_base.specs.Counts.{HasRisen};
-ghost use Rattle.bt_host.specs.Shelves.{LooksFor};
+ghost use Rattle.small_host.specs.Shelves.{LooksFor};
 ghost use Rattle.h4_view.specs.View.{IsAnswered};
 ghost use Rattle.push_script.specs.Features.{missing_features, word_feature};
 ghost use Rattle.push_script.specs.Reading.{text_limit};
@@ -20,7 +20,7 @@ use push_script::{
     Outcome, Scenario, ScriptFault, ScriptRefusal, object_line, put_refusal, put_report,
     scenario_of,
 };
-use radio_world::WorldFault;
+use small_world::WorldFault;
 use std::alloc::Global;
 
 /// Writes the line that tells of a refused scenario.

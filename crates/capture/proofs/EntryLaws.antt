@@ -9,12 +9,12 @@ use Rattle.bt_base.specs.Octets.{be16}
 use Rattle.bt_base.proofs.OctetLemmas.{be16-same}
 use Rattle.h4_framing.specs.Packets.{Packet, spelling, IsPacket}
 use Rattle.h4_framing.proofs.SpellingLemmas.{one_spelling}
-use Rattle.push_script.specs.declared.word.Side.{Side}
-use Rattle.push_script.specs.declared.word.Side.TheVariants as sides
-use Rattle.push_script.specs.declared.word.Word.{Word}
-use Rattle.push_script.specs.declared.outcome.Outcome.{Outcome}
-use Rattle.push_script.specs.Words.{word_text}
-use Rattle.push_script.specs.Outcomes.{outcome_text}
+use Rattle.push_terms.specs.declared.word.Side.{Side}
+use Rattle.push_terms.specs.declared.word.Side.TheVariants as sides
+use Rattle.push_terms.specs.declared.word.Word.{Word}
+use Rattle.push_terms.specs.declared.outcome.Outcome.{Outcome}
+use Rattle.push_terms.specs.Words.{word_text}
+use Rattle.push_terms.specs.Outcomes.{outcome_text}
 use Rattle.push_script.proofs.Lengths.{word_short, outcome_short}
 use Rattle.push_script.proofs.WordsWritten.{one_word}
 use Rattle.push_script.proofs.OutcomesWritten.{one_outcome}

@@ -7,12 +7,12 @@ use Rattle.capture.specs.Histories.{led_by, EachAfter}
 use Rattle.h4_framing.specs.Packets.{Packet, Command, Acl, Event}
 use Rattle.hci_packets.specs.AclWords.{flag_of}
 use Rattle.acl_fragments.specs.Pieces.{Piece}
-use Rattle.push_script.specs.declared.word.Side.{Side}
-use Rattle.push_script.specs.declared.word.Side.TheVariants as sides
-use Rattle.push_script.specs.declared.word.Way.{Way}
-use Rattle.push_script.specs.declared.word.Way.TheVariants.{Ab, Ba}
-use Rattle.push_script.specs.declared.word.Word.{Word}
-use Rattle.push_script.specs.declared.word.Word.TheVariants as words
+use Rattle.push_terms.specs.declared.word.Side.{Side}
+use Rattle.push_terms.specs.declared.word.Side.TheVariants as sides
+use Rattle.push_terms.specs.declared.word.Way.{Way}
+use Rattle.push_terms.specs.declared.word.Way.TheVariants.{Ab, Ba}
+use Rattle.push_terms.specs.declared.word.Word.{Word}
+use Rattle.push_terms.specs.declared.word.Word.TheVariants as words
 use Rattle.capture.specs.declared.flow.Flow.TheVariants.{Out, Into}
 use Rattle.capture.specs.Entries.{Entry, Moved, Acted, Begun, Ended}
 use Rattle.capture.specs.Moves.{Move}

@@ -5,7 +5,7 @@ use Rattle.capture.specs.Histories.{AtEach}
 use Rattle.h4_framing.specs.Packets.{Packet, Acl, Event}
 use Rattle.hci_packets.specs.Events.{event_refusal, entries_of}
 use Rattle.acl_credits.specs.Histories.{BufferEvent, Sent, Completed, outstanding_in}
-use Rattle.push_script.specs.declared.word.Side.{Side}
+use Rattle.push_terms.specs.declared.word.Side.{Side}
 use Rattle.capture.specs.declared.flow.Flow.{Flow}
 use Rattle.capture.specs.declared.flow.Flow.TheVariants.{Out, Into}
 use Rattle.capture.specs.Entries.{Entry}

@@ -5,12 +5,12 @@ use Rattle.std.specs.List.{flat_map, AllByRecursion}
 use Rattle.byteorder.specs.Endian.{big_bytes}
 use Rattle.bt_base.specs.Octets.{be16}
 use Rattle.h4_framing.specs.Packets.{Packet, spelling, IsPacket}
-use Rattle.push_script.specs.declared.word.Side.{Side}
-use Rattle.push_script.specs.declared.word.Side.TheVariants as sides
-use Rattle.push_script.specs.declared.word.Word.{Word}
-use Rattle.push_script.specs.declared.outcome.Outcome.{Outcome}
-use Rattle.push_script.specs.Words.{word_text}
-use Rattle.push_script.specs.Outcomes.{outcome_text, IsOutcome}
+use Rattle.push_terms.specs.declared.word.Side.{Side}
+use Rattle.push_terms.specs.declared.word.Side.TheVariants as sides
+use Rattle.push_terms.specs.declared.word.Word.{Word}
+use Rattle.push_terms.specs.declared.outcome.Outcome.{Outcome}
+use Rattle.push_terms.specs.Words.{word_text}
+use Rattle.push_terms.specs.Outcomes.{outcome_text, IsOutcome}
 use Rattle.push_script.specs.Runs.{IsWord}
 use Rattle.capture.specs.declared.flow.Flow.{Flow}
 use Rattle.capture.specs.declared.flow.Flow.TheVariants.{Out, Into}

@@ -7,7 +7,7 @@ use Rattle.hci_packets.specs.Commands.{command_refusal}
 use Rattle.hci_packets.specs.Events.{event_refusal}
 use Rattle.capture.specs.declared.flow.Flow.{Flow}
 use Rattle.capture.specs.declared.flow.Flow.TheVariants.{Out, Into}
-use Rattle.push_script.specs.declared.word.Side.{Side}
+use Rattle.push_terms.specs.declared.word.Side.{Side}
 use Rattle.capture.specs.Entries.{Entry}
 use Rattle.capture.specs.Moves.{Move, moves}
 

@@ -1,7 +1,7 @@
 -- The greatest numbers of a capture (this project's own).
 use Rattle.std.specs.Prelude.{ℕ, ◌∷◌, ◌++◌, List, [], fold, max}
 use Rattle.capture.specs.Histories.{given_by}
-use Rattle.push_script.specs.declared.word.Side.{Side}
+use Rattle.push_terms.specs.declared.word.Side.{Side}
 use Rattle.capture.specs.Entries.{Entry}
 use Rattle.capture.specs.Buffers.{all_outstanding}
 

@@ -6,10 +6,10 @@ use Rattle.std.specs.Char.{encode_utf8}
 use Rattle.capture.specs.Histories.{given_by}
 use Rattle.bt_base.specs.Counts.{last_count}
 use Rattle.bt_base.specs.Objects.{Object, octets_of}
-use Rattle.push_script.specs.declared.word.Word.TheVariants.{Drop}
-use Rattle.push_script.specs.declared.word.Side.TheVariants as sides
-use Rattle.push_script.specs.declared.outcome.Outcome.{Outcome}
-use Rattle.push_script.specs.declared.outcome.Outcome.TheVariants.{Done, LinkLost, RetryLimit, Refused, NoService, ShelfFault, Cancelled, PeerClosed, PeerFault, ScriptEnded}
+use Rattle.push_terms.specs.declared.word.Word.TheVariants.{Drop}
+use Rattle.push_terms.specs.declared.word.Side.TheVariants as sides
+use Rattle.push_terms.specs.declared.outcome.Outcome.{Outcome}
+use Rattle.push_terms.specs.declared.outcome.Outcome.TheVariants.{Done, LinkLost, RetryLimit, Refused, NoService, ShelfFault, Cancelled, PeerClosed, PeerFault, ScriptEnded}
 use Rattle.capture.specs.Entries.{Entry, Moved, Acted}
 use Rattle.capture.specs.Moves.{moves}
 use Rattle.capture.specs.Links.{is_asked, link_news}

@@ -4,7 +4,7 @@ use Rattle.std.specs.List.{flat_map}
 use Rattle.capture.specs.Histories.{given_by}
 use Rattle.bt_base.specs.Objects.{Object}
 use Rattle.obex_headers.specs.Runs.{spelled}
-use Rattle.push_script.specs.declared.word.Side.{Side}
+use Rattle.push_terms.specs.declared.word.Side.{Side}
 use Rattle.capture.specs.Entries.{Entry}
 use Rattle.capture.specs.Links.{Link, links}
 use Rattle.capture.specs.Talk.{talk}

@@ -3,8 +3,8 @@
 ghost use Rattle.std.specs.Prelude.{◌≡◌, ◌+◌, ◌≤◌, ◌<◌, ◌^◌, ◌++◌, length, drop};
 ghost use Rattle.bt_base.specs.Octets.{be16};
 ghost use Rattle.byteorder.specs.Endian.{big_bytes};
-ghost use Rattle.push_script.specs.Words.{word_text};
-ghost use Rattle.push_script.specs.Outcomes.{outcome_text};
+ghost use Rattle.push_terms.specs.Words.{word_text};
+ghost use Rattle.push_terms.specs.Outcomes.{outcome_text};
 ghost use Rattle.capture.specs.Entries.{IsEntry, entry_octets, moved_tag, payload_of, tag_of};
 ghost use Rattle.capture.specs.Lent.{plain_entry};
 

@@ -3,3 +3,7 @@ pub mod Judging
 pub mod Written
 pub mod Spelled
 pub mod Joined
+pub mod Picked
+pub mod Longest
+pub mod WorkedOut
+pub mod Telling

@@ -3,3 +3,7 @@ pub mod Answers
 pub mod Steps
 pub mod Segments
 pub mod Laws
+pub mod Joining
+pub mod Reading
+pub mod Picking
+pub mod PickingLaws

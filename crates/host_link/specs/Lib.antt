@@ -1,3 +1,4 @@
+pub mod Opcodes
 pub mod HostCommands
 pub mod CommandFlows
 pub mod Waiting

@@ -1,5 +1,5 @@
 -- What a host puts out (Core 5.1, Volume 2 Part E, 4.1.1 and 4.4).
-use Rattle.std.specs.Prelude.{ℕ, ◌+◌, Bool, ◌&&◌, ◌||◌, ◌==◌, not, nat_lt, List, [], ◌∷◌, ◌++◌, length, Option, Some, None, if◌then◌else◌}
+use Rattle.std.specs.Prelude.{ℕ, ◌+◌, Bool, ◌&&◌, ◌||◌, ◌==◌, not, nat_lt, List, [], ◌∷◌, ◌++◌, length, Option, Some, None, is_some, if◌then◌else◌}
 use Rattle.h4_framing.specs.Packets.{Packet, Acl, spelling}
 use Rattle.hci_packets.specs.AclWords.{acl_word_of}
 use Rattle.acl_fragments.specs.Pieces.{Piece}
@@ -21,7 +21,7 @@ has_room line = nat_lt (length line.out) 65536
 abbrev pub has_buffer : Line → Bool
 has_buffer line = nat_lt (packets_of line.ledger.held) line.ledger.total
 
--- a PDU, or the rest of one, waits to be put out
+-- a piece of a PDU waits to be put out
 abbrev pub is_waiting : Line → Bool
 is_waiting line = not (length line.pieces == 0)
 
@@ -86,7 +86,13 @@ abbrev pub ending : Option ℕ → Line → Line
 ending None line = line
 ending (Some handle) line = record line { commands = with_command (Disconnect handle) line.commands }
 
--- a PDU waits behind those that wait, where a link is up
-abbrev pub with_pdu : Option ℕ → List ℕ → Line → Line
-with_pdu None pdu line = line
-with_pdu (Some handle) pdu line = record line { pieces = line.pieces ++ cut line.size First pdu }
+-- a PDU is taken only where no piece of the PDU before waits, and its first piece may go out at once
+abbrev pub can_take_pdu : Line → Bool
+can_take_pdu line = is_some line.link && (not (is_waiting line) && (has_buffer line && has_room line))
+
+-- its pieces wait, and go out as long as there is room and a buffer for the next
+abbrev pub with_pdu : List ℕ → Line → Line
+with_pdu pdu line = record line { pieces = cut line.size First pdu }
+
+abbrev pub take_pdu : List ℕ → Line → Line
+take_pdu pdu line = put_pieces (with_pdu pdu line)

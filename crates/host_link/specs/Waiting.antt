@@ -1,6 +1,5 @@
--- PDUs that wait to be put out, as the pieces that their ACL packets will carry (Core 5.1, Volume 2 Part E, 5.4.2).
-use Rattle.std.specs.Prelude.{ℕ, zero, suc, ◌≤◌, ◌<◌, List, [], ◌∷◌, ◌++◌, length, drop}
-use Rattle.std.specs.List.{AllByRecursion}
+-- A PDU that is put out, as the pieces that its ACL packets will carry (Core 5.1, Volume 2 Part E, 5.4.2).
+use Rattle.std.specs.Prelude.{ℕ, zero, suc, ◌≤◌, List, length, drop}
 use Rattle.hci_packets.specs.declared.acl.Boundary.{Boundary}
 use Rattle.hci_packets.specs.declared.acl.Boundary.TheVariants.{First, Continuing}
 use Rattle.acl_fragments.specs.Pieces.{Piece}
@@ -16,12 +15,16 @@ abbrev pub boundary_after : ℕ → Boundary
 boundary_after zero = First
 boundary_after (suc gone) = Continuing
 
--- the pieces of PDUs, of whose first one some octets are gone
-abbrev pub pieces_left : ℕ → ℕ → List (List ℕ) → List Piece
-pieces_left size gone [] = []
-pieces_left size gone (pdu ∷ rest) = cut size (boundary_after gone) (drop gone pdu) ++ pieces_left size 0 rest
+-- the pieces of a PDU of which some octets are gone
+abbrev pub waiting_of : (size gone : ℕ) → List ℕ → Waiting
+waiting_of size gone pdu = record { size = size; pieces = cut size (boundary_after gone) (drop gone pdu) }
 
--- some octets of the first PDU are left, and each of the others has some; where no PDU waits, nothing is gone
-abbrev pub IsBegun : ℕ → List (List ℕ) → Type 0
-IsBegun gone [] = gone ≤ 0
-IsBegun gone (pdu ∷ rest) = (gone < length pdu) × AllByRecursion (λ other. 0 < length other) rest
+-- the longest PDU that is put out: as long as its length field can say
+abbrev pub longest_put : ℕ
+longest_put = 65539
+
+-- memory is reserved for the longest PDU
+pub record IsOutbox (size gone : ℕ) (pdu : List ℕ) (room : ℕ) : Type 0 where
+  pub some : 1 ≤ size
+  pub within : gone ≤ length pdu
+  pub reserved : longest_put ≤ room

@@ -6,10 +6,7 @@ ghost use Rattle.hci_packets.specs.Commands.{command_params, plain_command, Allo
 ghost use Rattle.hci_packets.specs.Units.{command_unit};
 ghost use Rattle.host_link.specs.HostCommands.{IsWhole, command_of, command_packet, opcode, asks, accepts};
 
-use crate::opcodes::{
-    ACCEPT_CONNECTION, CREATE_CONNECTION, DISCONNECT, READ_BD_ADDR, READ_BUFFER_SIZE, RESET,
-    WRITE_SCAN_ENABLE,
-};
+use crate::opcode::Opcode;
 use bt_base::{BdAddr, Handle};
 use hci_packets::{Command, put_command};
 
@@ -73,15 +70,16 @@ impl HostCommand {
     pub fn opcode(&self) -> u16
         ensures { result ≡ opcode self.now }
     {
-        match self {
-            HostCommand::Reset => RESET,
-            HostCommand::ReadBufferSize => READ_BUFFER_SIZE,
-            HostCommand::ReadBdAddr => READ_BD_ADDR,
-            HostCommand::WriteScanEnable => WRITE_SCAN_ENABLE,
-            HostCommand::CreateConnection(_) => CREATE_CONNECTION,
-            HostCommand::AcceptConnection(_) => ACCEPT_CONNECTION,
-            HostCommand::Disconnect(_) => DISCONNECT,
-        }
+        let code = match self {
+            HostCommand::Reset => Opcode::Reset,
+            HostCommand::ReadBufferSize => Opcode::ReadBufferSize,
+            HostCommand::ReadBdAddr => Opcode::ReadBdAddr,
+            HostCommand::WriteScanEnable => Opcode::WriteScanEnable,
+            HostCommand::CreateConnection(_) => Opcode::CreateConnection,
+            HostCommand::AcceptConnection(_) => Opcode::AcceptConnection,
+            HostCommand::Disconnect(_) => Opcode::Disconnect,
+        };
+        code.number()
     }
 
     /// Whether a Connection Complete is awaited once it is out.

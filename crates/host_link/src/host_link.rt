@@ -3,7 +3,6 @@
 use crate::command_flow::CommandFlow;
 use crate::host_command::HostCommand;
 use crate::outbox::Outbox;
-use crate::pdu::Pdu;
 use crate::role::Role;
 use acl_credits::Ledger;
 use acl_fragments::Joiner;
@@ -52,14 +51,15 @@ impl Model for HostLink {
 }
 
 impl HostLink {
-    ghost use Rattle.std.specs.Prelude.{◌≡◌, ◌≤◌, ◌<◌, [], length, drop, IfOk, OnOk, OnErr};
+    ghost use Rattle.std.specs.Prelude.{◌≡◌, ◌≤◌, ◌<◌, true, [], length, drop, IfOk};
     ghost use Rattle.host_link.specs.Lines.{IsSound, fresh};
-    ghost use Rattle.host_link.specs.PuttingOut.{connecting, ending, with_pdu, is_waiting, started};
+    ghost use Rattle.host_link.specs.PuttingOut.{connecting, ending, can_take_pdu, take_pdu, is_waiting, started};
+    ghost use Rattle.host_link.specs.Waiting.{longest_put};
     ghost use Rattle.host_link.specs.Stands.{Stands, Says, StandsStill};
 
     /// A host whose first command stands in `out`, where the others wait behind it. It reserves
-    /// `out`, 66,562 octets, and what joins PDUs, 32,775 octets. `NoMemory` where these cannot be
-    /// had.
+    /// `out`, 66,562 octets, what joins PDUs, 32,775 octets, and the PDU that is put out, 65,539
+    /// octets. `NoMemory` where these cannot be had; no other call takes memory.
     pub fn new(alloc: Global, role: Role) -> Result<HostLink, NoMemory>
         ensures line { IfOk result (λ host. host ≡ started role) }
         ensures sound { IfOk result (λ host. IsSound host) }
@@ -69,7 +69,7 @@ impl HostLink {
         let mut host = HostLink {
             role,
             commands: CommandFlow::new(role),
-            outbox: Outbox::new(alloc),
+            outbox: Outbox::new(alloc)?,
             ledger: Ledger::new(0),
             asked: false,
             link: None,
@@ -98,17 +98,30 @@ impl HostLink {
         }
     }
 
-    /// Lets a PDU wait behind those that wait. Where no link is up it is dropped. `NoMemory` where
-    /// there is no room for it: then all is as it was.
-    pub fn send(&mut self, pdu: Pdu) -> Result<(), NoMemory>
-        ensures ok { OnOk result (self.new ≡ with_pdu self.old.link pdu self.old) }
-        ensures unchanged { OnErr result (self.new ≡ self.old) }
-        ensures history { StandsStill self.old self.new }
+    /// Whether a PDU may be taken now: a link is up, no piece of the PDU before waits, and there is a
+    /// buffer and room for its first piece.
+    pub fn can_take_pdu(&self) -> bool
+        ensures { result ≡ can_take_pdu self.now }
     {
-        if self.link.is_none() {
-            return Ok(());
-        }
-        self.outbox.push(pdu)
+        self.link.is_some()
+            && self.outbox.is_over()
+            && self.ledger.may_send()
+            && self.out.len() < ROOM
+    }
+
+    /// Takes a PDU, and puts its pieces out as long as there is a buffer and room for the next; the
+    /// others wait. It takes no memory.
+    ///
+    /// It needs that a PDU may be taken, and that this one has at most 65,539 octets.
+    pub fn take_pdu(&mut self, pdu: &[u8])
+        requires may { can_take_pdu self.old ≡ true }
+        requires short { length pdu.now ≤ longest_put }
+        ensures line { self.new ≡ take_pdu pdu.now self.old }
+        ensures history { Says self.old self.new }
+        ensures sound { IsSound self.new }
+    {
+        self.outbox.take(pdu);
+        self.put_pieces();
     }
 
     /// The octets for the controller, in their order.
@@ -127,11 +140,11 @@ impl HostLink {
         let _taken = self.out.drain(..n);
     }
 
-    /// Whether a PDU, or the rest of one, waits to be put out.
+    /// Whether a piece of a PDU waits to be put out.
     pub fn waits(&self) -> bool
         ensures { result ≡ is_waiting self.now }
     {
-        self.outbox.first().is_some()
+        !self.outbox.is_over()
     }
 
     /// What the controller holds of the packets that went out.

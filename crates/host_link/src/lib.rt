@@ -9,16 +9,15 @@ mod host_command;
 mod host_link;
 pub mod laws;
 mod news;
-mod opcodes;
+mod opcode;
 mod outbox;
-mod pdu;
 mod putting_out;
 mod returned;
 mod role;
 
 pub use host_link::HostLink;
 pub use news::{ControllerFault, News};
-pub use pdu::Pdu;
+pub use opcode::Opcode;
 pub use role::Role;
 
 #[cfg(test)]

@@ -1,39 +1,40 @@
-//! The PDUs that wait to be put out.
+//! The PDU that is put out.
 
-ghost use Rattle.std.specs.Prelude.{◌≡◌, ◌≢◌, ◌≤◌, ◌++◌, ◌∷◌, [], drop, length, IfSome, IfNone, OnOk, OnErr};
+ghost use Rattle.std.specs.Prelude.{◌≡◌, ◌≢◌, ◌≤◌, ◌==◌, ◌∷◌, [], drop, length, vec_capacity, IfOk, IfSome, IfNone};
 ghost use Rattle.hci_packets.specs.declared.acl.Boundary.TheVariants.{First};
 ghost use Rattle.acl_fragments.specs.Cuts.{cut};
-ghost use Rattle.host_link.specs.Waiting.{boundary_after};
+ghost use Rattle.host_link.specs.Waiting.{boundary_after, longest_put};
 
-use crate::pdu::Pdu;
 use bt_base::NoMemory;
 use hci_packets::Boundary;
 use std::alloc::Global;
-use std::collections::VecDeque;
 use std::marker::Model;
 
 /// The fewest octets that an ACL packet carries (Core 5.1, Volume 2 Part E, 7.4.5).
 const LEAST_SIZE: u16 = 27;
 
-/// The PDUs that wait to be put out, in their order. A clause sees how many octets an ACL packet
-/// carries at most, and the pieces that are left of the PDUs.
+/// How many octets the longest PDU has.
+const LONGEST_PUT: usize = 65_539;
+
+/// The PDU that is put out, piece by piece. A clause sees how many octets an ACL packet carries at
+/// most, and the pieces that are left.
 #[derive(Drop)]
 pub struct Outbox {
     size: u16,
-    pdus: VecDeque<Pdu>,
-    /// How many octets of the first PDU are gone.
+    pdu: Vec<u8>,
+    /// How many octets of the PDU are gone.
     gone: usize,
 }
 
 impl Model for Outbox {
-    ghost use Rattle.std.specs.Prelude.{◌≤◌};
-    ghost use Rattle.host_link.specs.Waiting.{Waiting, pieces_left, IsBegun};
+    ghost use Rattle.std.specs.Prelude.{vec_capacity};
+    ghost use Rattle.host_link.specs.Waiting.{Waiting, waiting_of, IsOutbox};
 
     ghost Value = { Waiting };
 
-    ghost view = { λ outbox. record { size = outbox.size; pieces = pieces_left outbox.size outbox.gone outbox.pdus.items } };
+    ghost view = { λ outbox. waiting_of outbox.size outbox.gone outbox.pdu.items };
 
-    ghost invariant = { λ outbox. (1 ≤ outbox.size) × IsBegun outbox.gone outbox.pdus.items };
+    ghost invariant = { λ outbox. IsOutbox outbox.size outbox.gone outbox.pdu.items (vec_capacity outbox.pdu) };
 }
 
 /// Where the next piece of a PDU stands, of which so many octets are gone.
@@ -47,16 +48,27 @@ fn boundary_after(gone: usize) -> Boundary
     }
 }
 
+/// Puts octets in the place of those that were there. It needs room for them.
+fn fill(buffer: &mut Vec<u8>, octets: &[u8])
+    requires { length octets.now ≤ vec_capacity buffer.old }
+    ensures items { buffer.new.items ≡ octets.now }
+    ensures capacity { vec_capacity buffer.old ≤ vec_capacity buffer.new }
+{
+    buffer.clear();
+    let _room_was_reserved = buffer.extend_from_slice(octets);
+}
+
 impl Outbox {
-    /// Nothing waits, and 27 octets fit a packet.
-    pub fn new(alloc: Global) -> Outbox
-        ensures { result ≡ record { size = 27; pieces = [] } }
+    /// Nothing waits, and 27 octets fit a packet. It reserves memory for the longest PDU; `NoMemory`
+    /// where that cannot be had.
+    pub fn new(alloc: Global) -> Result<Outbox, NoMemory>
+        ensures { IfOk result (λ outbox. outbox ≡ record { size = 27; pieces = [] }) }
     {
-        Outbox {
+        Ok(Outbox {
             size: LEAST_SIZE,
-            pdus: VecDeque::new(alloc),
+            pdu: Vec::with_capacity(alloc, LONGEST_PUT)?,
             gone: 0,
-        }
+        })
     }
 
     /// Begins anew with packets of that many octets: nothing waits.
@@ -64,8 +76,7 @@ impl Outbox {
         requires { 1 ≤ size }
         ensures { self.new ≡ record { size = size; pieces = [] } }
     {
-        self.pdus.clear();
-        self.gone = 0;
+        self.clear();
         self.size = size;
     }
 
@@ -73,20 +84,25 @@ impl Outbox {
     pub fn clear(&mut self)
         ensures { self.new ≡ record { size = self.old.size; pieces = [] } }
     {
-        self.pdus.clear();
+        self.pdu.clear();
         self.gone = 0;
     }
 
-    /// Lets a PDU wait behind the others. `NoMemory` where there is no room for it: then all is as
-    /// it was.
-    pub fn push(&mut self, pdu: Pdu) -> Result<(), NoMemory>
-        ensures ok { OnOk result (self.new ≡ record { size = self.old.size; pieces = self.old.pieces ++ cut self.old.size First pdu }) }
-        ensures unchanged { OnErr result (self.new ≡ self.old) }
+    /// Lets a PDU wait in the place of what was there. It takes no memory.
+    pub fn take(&mut self, pdu: &[u8])
+        requires { length pdu.now ≤ longest_put }
+        ensures { self.new ≡ record { size = self.old.size; pieces = cut self.old.size First pdu.now } }
     {
-        let has_header = pdu.octets().len() >= 4;
-        prove!(has_header);
-        self.pdus.push_back(pdu)?;
-        Ok(())
+        fill(&mut self.pdu, pdu);
+        self.gone = 0;
+    }
+
+    /// Whether nothing waits.
+    pub fn is_over(&self) -> bool
+        ensures { result ≡ (length self.now.pieces == 0) }
+    {
+        let (_gone, rest) = self.pdu.split_at(self.gone);
+        rest.is_empty()
     }
 
     /// The piece that comes next, none where nothing waits.
@@ -95,8 +111,10 @@ impl Outbox {
         ensures none { IfNone result (self.now.pieces ≡ []) }
         ensures short { IfSome result (λ piece. length piece.1.now ≤ self.now.size) }
     {
-        let pdu = self.pdus.front()?;
-        let (_gone, rest) = pdu.octets().split_at(self.gone);
+        let (_gone, rest) = self.pdu.split_at(self.gone);
+        if rest.is_empty() {
+            return None;
+        }
         let size = rest.len().min(usize::from(self.size));
         Some((boundary_after(self.gone), &rest[..size]))
     }
@@ -106,16 +124,8 @@ impl Outbox {
         requires { self.old.pieces ≢ [] }
         ensures { self.new ≡ record { size = self.old.size; pieces = drop 1 self.old.pieces } }
     {
-        let Some(pdu) = self.pdus.front() else {
-            return;
-        };
-        let left = pdu.octets().len() - self.gone;
-        let size = usize::from(self.size);
-        if left > size {
-            self.gone += size;
-        } else {
-            let _all_gone = self.pdus.pop_front();
-            self.gone = 0;
-        }
+        let (_gone, rest) = self.pdu.split_at(self.gone);
+        let size = rest.len().min(usize::from(self.size));
+        self.gone += size;
     }
 }

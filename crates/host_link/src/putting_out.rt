@@ -74,9 +74,10 @@ impl HostLink {
     }
 
     /// Puts out the pieces that wait, as long as there is room and a buffer for the next.
-    fn put_pieces(&mut self)
+    pub fn put_pieces(&mut self)
         ensures line { self.new ≡ put_pieces self.old }
         ensures history { Says self.old self.new }
+        ensures sound { IsSound self.new }
     {
         let Some(handle) = self.link else {
             return;
@@ -88,9 +89,10 @@ impl HostLink {
 
     /// Whether a piece waits, and there is room and a buffer for it.
     fn may_put_piece(&self) -> bool
-        ensures { result ≡ (has_room self.now && has_buffer self.now && not (length self.now.pieces == 0)) }
+        ensures piece { result ≡ (has_room self.now && has_buffer self.now && not (length self.now.pieces == 0)) }
+        ensures sound { IsSound self.now }
     {
-        self.out.len() < ROOM && self.ledger.may_send() && self.outbox.first().is_some()
+        self.out.len() < ROOM && self.ledger.may_send() && !self.outbox.is_over()
     }
 
     /// Puts out the next piece. It needs one, with room and a buffer for it.
@@ -112,7 +114,7 @@ impl HostLink {
     }
 
     /// Puts out the next command, where there is room and the flow of commands permits one.
-    fn put_command(&mut self)
+    pub fn put_command(&mut self)
         ensures line { self.new ≡ put_command self.old }
         ensures history { Says self.old self.new }
         ensures sound { IsSound self.new }

@@ -4,7 +4,7 @@ ghost use Rattle.std.specs.Prelude.{◌≡◌, ◌≤◌, MatchResult, Some, Non
 ghost use Rattle.host_link.specs.Returning.{returned_by, status_in, buffers_in, returned_fault, completes};
 
 use crate::news::ControllerFault;
-use crate::opcodes::{READ_BD_ADDR, READ_BUFFER_SIZE, RESET, WRITE_SCAN_ENABLE};
+use crate::opcode::Opcode;
 use hci_packets::buffers_of;
 
 /// The return parameters of Command Complete.
@@ -25,10 +25,10 @@ pub enum Returned {
 pub fn returned_by(opcode: u16, params: &[u8]) -> Returned
     ensures { result ≡ returned_by opcode params.now }
 {
-    match opcode {
-        RESET | WRITE_SCAN_ENABLE => status_in(1, params),
-        READ_BD_ADDR => status_in(7, params),
-        READ_BUFFER_SIZE => buffers_in(params),
+    match Opcode::of(opcode) {
+        Some(Opcode::Reset | Opcode::WriteScanEnable) => status_in(1, params),
+        Some(Opcode::ReadBdAddr) => status_in(7, params),
+        Some(Opcode::ReadBufferSize) => buffers_in(params),
         _ => Returned::Unlisted,
     }
 }
@@ -63,8 +63,8 @@ pub fn completes(opcode: u16) -> bool
     ensures { result ≡ completes opcode }
 {
     matches!(
-        opcode,
-        RESET | WRITE_SCAN_ENABLE | READ_BD_ADDR | READ_BUFFER_SIZE
+        Opcode::of(opcode),
+        Some(Opcode::Reset | Opcode::WriteScanEnable | Opcode::ReadBdAddr | Opcode::ReadBufferSize)
     )
 }
 

@@ -136,11 +136,10 @@ fn outstanding(host: &HostLink) -> Result<u16, Fail> {
 #[test]
 fn packets_wait_for_buffers(rt: HostRuntime) -> Result<(), Fail> {
     let mut host = linked_client(&rt, rt.alloc())?;
-    let octets = Vec::from_slice(rt.alloc(), &[7; 58])
-        .ok()
-        .ok_or("there is memory")?;
-    let pdu = Pdu::of(octets).ok_or("58 octets are a PDU")?;
-    assert!(rt; host.send(pdu).is_ok());
+    assert!(rt; host.can_take_pdu());
+    host.take_pdu(&[7; 58]);
+    assert!(rt; host.waits());
+    assert!(rt; !host.can_take_pdu());
     puts_out(
         &rt,
         &mut host,
@@ -160,6 +159,26 @@ fn packets_wait_for_buffers(rt: HostRuntime) -> Result<(), Fail> {
         )],
     )?;
     assert_eq!(rt; outstanding(&host)?, 2);
+    assert!(rt; !host.waits());
+    assert!(rt; !host.can_take_pdu());
+    Ok(())
+}
+
+/// The packets of a PDU stand before a command that was asked for ahead of it.
+#[test]
+fn packets_stand_before_commands(rt: HostRuntime) -> Result<(), Fail> {
+    let mut host = linked_client(&rt, rt.alloc())?;
+    host.disconnect();
+    assert!(rt; host.can_take_pdu());
+    host.take_pdu(&[0x01, 0x00, 0x40, 0x00, 0x68]);
+    puts_out(
+        &rt,
+        &mut host,
+        &[
+            0x02, 0x01, 0x00, 0x05, 0x00, 0x01, 0x00, 0x40, 0x00, 0x68, 0x01, 0x06, 0x04, 0x03,
+            0x01, 0x00, 0x13,
+        ],
+    );
     Ok(())
 }
 

@@ -5,34 +5,34 @@ use Rattle.std.proofs.lemmas.Bool.{cases_lt}
 use Rattle.std.specs.Prelude.{nat_lt}
 use Rattle.bt_base.specs.Objects.{Object}
 use Rattle.h4_framing.specs.Packets.{Packet}
-use Rattle.push_script.specs.declared.word.Side.{Side}
+use Rattle.push_terms.specs.declared.word.Side.{Side}
 use Rattle.capture.specs.declared.flow.Flow.TheVariants.{Into}
 use Rattle.capture.specs.Entries.{Entry, Moved}
 use Rattle.capture.specs.Moves.{moves}
 use Rattle.capture.specs.Links.{Linking, linking}
-use Rattle.host_link.specs.declared.host_command.HostCommand.TheVariants.{CreateConnection}
-use Rattle.host_link.specs.HostCommands.{asks}
-use Rattle.host_link.specs.CommandFlows.{Flow}
-use Rattle.host_link.specs.Hearing.{PlainNews, Nothing, is_server, heard, news_of}
-use Rattle.host_link.specs.Lines.{Line}
-use Rattle.host_link.specs.PuttingOut.{put_out, connecting}
-use Rattle.bt_host.specs.declared.stages.Stage.TheVariants.{Idle, Paging}
-use Rattle.bt_host.specs.declared.steps.Step.{Step}
-use Rattle.bt_host.specs.Courses.{Course, at, begun}
-use Rattle.bt_host.specs.Steps.{next_step}
-use Rattle.bt_host.specs.Channels.{Channel, sent}
-use Rattle.bt_host.specs.Clients as client
-use Rattle.bt_host.specs.Clients.{Client, peer_address, after_step}
-use Rattle.bt_host.specs.ClientHosts.{PushesOn}
-use Rattle.bt_host.specs.Servers as server
-use Rattle.bt_host.specs.Servers.{Server, with_response}
-use Rattle.bt_host.proofs.OutLaws.{heard_out}
-use Rattle.radio_air.specs.Controllers.{Answer, packet_of}
-use Rattle.radio_air.specs.Radio.{Radio, controller, is_together}
-use Rattle.radio_air.specs.Showing.{Shows, IsOwed}
-use Rattle.world_model.proofs.Lists.{chosen}
-use Rattle.world_model.proofs.Hearing.{tells_of}
-use Rattle.world_model.proofs.Letting.{connecting_stands}
+use Rattle.small_link.specs.declared.host_command.HostCommand.TheVariants.{CreateConnection}
+use Rattle.small_link.specs.HostCommands.{asks}
+use Rattle.small_link.specs.CommandFlows.{Flow}
+use Rattle.small_link.specs.Hearing.{PlainNews, Nothing, is_server, heard, news_of}
+use Rattle.small_link.specs.Lines.{Line}
+use Rattle.small_link.specs.PuttingOut.{put_out, connecting}
+use Rattle.small_host.specs.declared.stages.Stage.TheVariants.{Idle, Paging}
+use Rattle.small_host.specs.declared.steps.Step.{Step}
+use Rattle.small_host.specs.Courses.{Course, at, begun}
+use Rattle.small_host.specs.Steps.{next_step}
+use Rattle.small_host.specs.Channels.{Channel, sent}
+use Rattle.small_host.specs.Clients as client
+use Rattle.small_host.specs.Clients.{Client, peer_address, after_step}
+use Rattle.small_host.specs.ClientHosts.{PushesOn}
+use Rattle.small_host.specs.Servers as server
+use Rattle.small_host.specs.Servers.{Server, with_response}
+use Rattle.small_host.proofs.OutLaws.{heard_out}
+use Rattle.small_air.specs.Controllers.{Answer, packet_of}
+use Rattle.small_air.specs.Radio.{Radio, controller, is_together}
+use Rattle.small_air.specs.Showing.{Shows, IsOwed}
+use Rattle.small_model.proofs.Lists.{chosen}
+use Rattle.small_model.proofs.Hearing.{tells_of}
+use Rattle.small_model.proofs.Letting.{connecting_stands}
 use Rattle.host_wire.proofs.Asking.{bit, tally_push, AsksOf}
 use Rattle.host_wire.proofs.AskingOut.{Asking, AskingOn, out_asks}
 use Rattle.host_wire.proofs.AskingHeard.{asks_heard, both_ways}

@@ -5,17 +5,17 @@ use Rattle.std.specs.List.{AllByRecursion}
 use Rattle.h4_framing.specs.Packets.{Packet, Command, Acl, Sync, Event}
 use Rattle.capture.specs.Moves.{Move}
 use Rattle.capture.specs.Links.{Linking, Asked, NoNews, is_asked, link_news, after_news, after_move, no_links}
-use Rattle.host_link.specs.declared.role.Role.{Role}
-use Rattle.host_link.specs.declared.host_command.HostCommand.{HostCommand}
-use Rattle.host_link.specs.declared.host_command.HostCommand.TheVariants.{CreateConnection}
-use Rattle.host_link.specs.HostCommands.{command_packet, asks}
-use Rattle.host_link.specs.CommandFlows.{first_of}
-use Rattle.host_link.specs.Hearing.{is_server}
-use Rattle.host_link.specs.Lines.{Line}
-use Rattle.host_link.specs.Stands.{out_of}
-use Rattle.world_model.specs.Hosts.{IsAddressed}
-use Rattle.world_model.proofs.Lists.{all_behind}
-use Rattle.world_model.proofs.Commanding.{asked_out}
+use Rattle.small_link.specs.declared.role.Role.{Role}
+use Rattle.small_link.specs.declared.host_command.HostCommand.{HostCommand}
+use Rattle.small_link.specs.declared.host_command.HostCommand.TheVariants.{CreateConnection}
+use Rattle.small_link.specs.HostCommands.{command_packet, asks}
+use Rattle.small_link.specs.CommandFlows.{first_of}
+use Rattle.small_link.specs.Hearing.{is_server}
+use Rattle.small_link.specs.Lines.{Line}
+use Rattle.small_link.specs.Stands.{out_of}
+use Rattle.small_model.specs.Hosts.{IsAddressed}
+use Rattle.small_model.proofs.Lists.{all_behind}
+use Rattle.small_model.proofs.Commanding.{asked_out}
 
 abbrev pub bit : Bool → ℕ
 bit test = cond test 1 0

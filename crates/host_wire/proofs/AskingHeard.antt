@@ -8,27 +8,27 @@ use Rattle.h4_framing.specs.Packets.{Packet, Event, Acl}
 use Rattle.hci_packets.specs.AclWords.{flag_of}
 use Rattle.hci_packets.specs.Events.{PlainEvent, ConnectionRequest, CommandComplete, CommandStatus, CompletedPackets, event_params, event_refusal}
 use Rattle.acl_fragments.specs.Pieces.{Piece}
-use Rattle.push_script.specs.declared.word.Side.{Side}
+use Rattle.push_terms.specs.declared.word.Side.{Side}
 use Rattle.capture.specs.Moves.{Move}
 use Rattle.capture.specs.Links.{Link, LinkNews, Linking, NoNews, LinkEnded, link_news, after_news, after_move}
-use Rattle.host_link.specs.declared.news.ControllerFault.{ControllerFault}
-use Rattle.host_link.specs.declared.returned.Returned.{Returned as Return}
-use Rattle.host_link.specs.declared.returned.Returned.TheVariants.{Refused, Unlisted, Status, Buffers}
-use Rattle.host_link.specs.declared.host_command.HostCommand.{HostCommand}
-use Rattle.host_link.specs.declared.host_command.HostCommand.TheVariants.{Reset, ReadBufferSize, ReadBdAddr, WriteScanEnable, CreateConnection, AcceptConnection, Disconnect}
-use Rattle.host_link.specs.HostCommands.{accepts, asks}
-use Rattle.host_link.specs.CommandFlows.{Flow, with_command, awaits, stated, answered, is_number}
-use Rattle.host_link.specs.EventReading.{event_at}
-use Rattle.host_link.specs.Returning.{returned_by, completes}
-use Rattle.host_link.specs.Hearing.{PlainNews, Nothing, LinkDown, is_server, with_flow, learn, after_answer, after_other, after_complete, complete_fault, command_fault, after_status, makes_link, after_connection, may_accept, after_request, after_disconnection, disconnection_news, piece_on, after_piece, piece_news, event_news, unless_fault, heard, news_of}
-use Rattle.host_link.specs.Lines.{Line}
-use Rattle.host_link.specs.Stands.{into}
-use Rattle.radio_air.specs.Controllers.{Answer, Returned, Stated, Called, LinkMade, LinkGone, GivenBack, Carried, Controller, event_of, packet_of}
-use Rattle.radio_air.specs.Showing.{IsOwed}
-use Rattle.world_model.proofs.Lists.{all_both, chosen}
-use Rattle.world_model.proofs.Reading.{heard_by, link_made_again, link_gone_again, returned_news, stated_news, called_news, given_back_news, link_made_news, link_gone_news}
-use Rattle.world_model.proofs.Telling.{let_go}
-use Rattle.world_model.proofs.Hearing.{Tells, owed_below}
+use Rattle.small_link.specs.declared.news.ControllerFault.{ControllerFault}
+use Rattle.small_link.specs.declared.returned.Returned.{Returned as Return}
+use Rattle.small_link.specs.declared.returned.Returned.TheVariants.{Refused, Unlisted, Status, Buffers}
+use Rattle.small_link.specs.declared.host_command.HostCommand.{HostCommand}
+use Rattle.small_link.specs.declared.host_command.HostCommand.TheVariants.{Reset, ReadBufferSize, ReadBdAddr, WriteScanEnable, CreateConnection, AcceptConnection, Disconnect}
+use Rattle.small_link.specs.HostCommands.{accepts, asks}
+use Rattle.small_link.specs.CommandFlows.{Flow, with_command, awaits, stated, answered, is_number}
+use Rattle.small_link.specs.EventReading.{event_at}
+use Rattle.small_link.specs.Returning.{returned_by, completes}
+use Rattle.small_link.specs.Hearing.{PlainNews, Nothing, LinkDown, is_server, with_flow, learn, after_answer, after_other, after_complete, complete_fault, command_fault, after_status, makes_link, after_connection, may_accept, after_request, after_disconnection, disconnection_news, piece_on, after_piece, piece_news, event_news, unless_fault, heard, news_of}
+use Rattle.small_link.specs.Lines.{Line}
+use Rattle.small_link.specs.Stands.{into}
+use Rattle.small_air.specs.Controllers.{Answer, Returned, Stated, Called, LinkMade, LinkGone, GivenBack, Carried, Controller, event_of, packet_of}
+use Rattle.small_air.specs.Showing.{IsOwed}
+use Rattle.small_model.proofs.Lists.{all_both, chosen}
+use Rattle.small_model.proofs.Reading.{heard_by, link_made_again, link_gone_again, returned_news, stated_news, called_news, given_back_news, link_made_news, link_gone_news}
+use Rattle.small_model.proofs.Telling.{let_go}
+use Rattle.small_model.proofs.Hearing.{Tells, owed_below}
 use Rattle.host_wire.proofs.Hearing.{gone_news}
 use Rattle.host_wire.proofs.Asking.{bit, tally, tally_push, IsNoConnect, Asks, AsksOf}
 

@@ -7,18 +7,18 @@ use Rattle.obex_headers.specs.declared.fault.ObexRefusal.{ObexRefusal}
 use Rattle.obex_headers.specs.declared.packet.Phase.TheVariants.{Response, ConnectResponse}
 use Rattle.obex_headers.specs.Packets.{PlainPacket, maximum_of}
 use Rattle.obex_headers.specs.Reading.{packet_in}
-use Rattle.push_script.specs.declared.outcome.Outcome.TheVariants.{Refused, PeerFault}
-use Rattle.bt_host.specs.declared.stages.Stage.{Stage}
-use Rattle.bt_host.specs.declared.stages.Stage.TheVariants.{Idle, ToPage, Paging, Linked, Connecting, Connected, Configuring, Greeting, Greeted, Putting, ToPart, Parting, ToClose, Closing, ToLeave, Leaving}
-use Rattle.bt_host.specs.declared.stages.PeerRequest.TheVariants.{Awaited, Heard, Accepted}
-use Rattle.bt_host.specs.declared.steps.Step.{Step}
-use Rattle.bt_host.specs.declared.steps.Step.TheVariants.{Page}
-use Rattle.bt_host.specs.Courses.{Course, at, caused}
-use Rattle.bt_host.specs.Pdus.{own_endpoint}
-use Rattle.bt_host.specs.Events as events
-use Rattle.bt_host.specs.Steps.{step_at}
-use Rattle.bt_host.specs.Clients.{commands_in, after_commands, after_pdu}
-use Rattle.world_model.proofs.Lists.{chosen}
+use Rattle.push_terms.specs.declared.outcome.Outcome.TheVariants.{Refused, PeerFault}
+use Rattle.small_host.specs.declared.stages.Stage.{Stage}
+use Rattle.small_host.specs.declared.stages.Stage.TheVariants.{Idle, ToPage, Paging, Linked, Connecting, Connected, Configuring, Greeting, Greeted, Putting, ToPart, Parting, ToClose, Closing, ToLeave, Leaving}
+use Rattle.small_host.specs.declared.stages.PeerRequest.TheVariants.{Awaited, Heard, Accepted}
+use Rattle.small_host.specs.declared.steps.Step.{Step}
+use Rattle.small_host.specs.declared.steps.Step.TheVariants.{Page}
+use Rattle.small_host.specs.Courses.{Course, at, caused}
+use Rattle.small_host.specs.Pdus.{own_endpoint}
+use Rattle.small_host.specs.Events as events
+use Rattle.small_host.specs.Steps.{step_at}
+use Rattle.small_host.specs.Clients.{commands_in, after_commands, after_pdu}
+use Rattle.small_model.proofs.Lists.{chosen}
 
 abbrev pub busy : Stage → Bool
 busy Idle = false

@@ -11,10 +11,10 @@ use Rattle.hci_packets.specs.AclWords.{flag_of}
 use Rattle.acl_fragments.specs.Pieces.{Piece}
 use Rattle.capture.specs.PieceHeads.{boundary_of}
 use Rattle.capture.specs.Pdus.{piece_with, piece_of}
-use Rattle.host_link.specs.declared.host_command.HostCommand.{HostCommand}
-use Rattle.host_link.specs.HostCommands.{command_packet}
-use Rattle.host_link.specs.PuttingOut.{piece_packet}
-use Rattle.world_model.proofs.Saying.{on_handle}
+use Rattle.small_link.specs.declared.host_command.HostCommand.{HostCommand}
+use Rattle.small_link.specs.HostCommands.{command_packet}
+use Rattle.small_link.specs.PuttingOut.{piece_packet}
+use Rattle.small_model.proofs.Saying.{on_handle}
 use Rattle.host_wire.specs.Wiring.{pieces_on}
 
 -- ---- the packet of a piece carries it

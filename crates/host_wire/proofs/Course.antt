@@ -5,23 +5,23 @@ use Rattle.h4_framing.specs.Packets.{Packet, Command, Acl, Sync, Event}
 use Rattle.hci_packets.specs.Events.{PlainEvent, ConnectionComplete, ConnectionRequest, DisconnectionComplete, CommandComplete, CommandStatus, CompletedPackets, Other}
 use Rattle.acl_fragments.specs.Pieces.{Piece, starts}
 use Rattle.acl_fragments.specs.Answers.{Answer as Joined, Pdu as Whole, More, Dropped, answer}
-use Rattle.host_link.specs.declared.host_command.HostCommand.TheVariants.{Disconnect}
-use Rattle.host_link.specs.HostCommands.{asks}
-use Rattle.host_link.specs.CommandFlows.{Flow}
-use Rattle.host_link.specs.EventReading.{event_in}
-use Rattle.host_link.specs.Hearing.{PlainNews, Nothing, LinkUp, LinkFailed, LinkDown, Pdu, ends_link, piece_on, piece_news, joined_news, event_news, news_of}
-use Rattle.host_link.specs.Lines.{Line, longest_pdu}
-use Rattle.host_link.specs.PuttingOut.{ending, with_pdu}
-use Rattle.bt_host.specs.declared.stages.Stage.{Stage}
-use Rattle.bt_host.specs.declared.stages.Stage.TheVariants.{Paging}
-use Rattle.bt_host.specs.declared.steps.Step.{Step}
-use Rattle.bt_host.specs.declared.steps.Step.TheVariants.{Wait, Page, Send, BreakLink}
-use Rattle.bt_host.specs.Courses.{Course}
-use Rattle.bt_host.specs.Events.{is_idle, after_link_up}
-use Rattle.bt_host.specs.Steps.{step_at, next_step}
-use Rattle.bt_host.specs.Clients.{after_news, after_step}
-use Rattle.bt_host.specs.Servers.{with_response}
-use Rattle.world_model.proofs.Lists.{all_both, chosen}
+use Rattle.small_link.specs.declared.host_command.HostCommand.TheVariants.{Disconnect}
+use Rattle.small_link.specs.HostCommands.{asks}
+use Rattle.small_link.specs.CommandFlows.{Flow}
+use Rattle.small_link.specs.EventReading.{event_in}
+use Rattle.small_link.specs.Hearing.{PlainNews, Nothing, LinkUp, LinkFailed, LinkDown, Pdu, ends_link, piece_on, piece_news, joined_news, event_news, news_of}
+use Rattle.small_link.specs.Lines.{Line, longest_pdu}
+use Rattle.small_link.specs.PuttingOut.{ending, with_pdu}
+use Rattle.small_host.specs.declared.stages.Stage.{Stage}
+use Rattle.small_host.specs.declared.stages.Stage.TheVariants.{Paging}
+use Rattle.small_host.specs.declared.steps.Step.{Step}
+use Rattle.small_host.specs.declared.steps.Step.TheVariants.{Wait, Page, Send, BreakLink}
+use Rattle.small_host.specs.Courses.{Course}
+use Rattle.small_host.specs.Events.{is_idle, after_link_up}
+use Rattle.small_host.specs.Steps.{step_at, next_step}
+use Rattle.small_host.specs.Clients.{after_news, after_step}
+use Rattle.small_host.specs.Servers.{with_response}
+use Rattle.small_model.proofs.Lists.{all_both, chosen}
 use Rattle.host_wire.specs.WireLaws.{IsLinkedBy}
 use Rattle.host_wire.proofs.Asking.{tally_push, IsNoConnect, AsksOf}
 use Rattle.host_wire.proofs.Busy.{busy, pages, pdu_busy, step_busy, IsNoPage, busy_is_ready}

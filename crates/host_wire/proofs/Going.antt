@@ -5,30 +5,30 @@ use Rattle.std.specs.List.{AllByRecursion}
 use Rattle.bt_base.specs.Objects.{Object}
 use Rattle.h4_framing.specs.Packets.{Packet}
 use Rattle.h4_framing.proofs.OctetLists.{IsOctets-cons, IsOctets-zeros}
-use Rattle.push_script.specs.declared.word.Side.{Side}
+use Rattle.push_terms.specs.declared.word.Side.{Side}
 use Rattle.capture.specs.declared.flow.Flow.TheVariants.{Into}
 use Rattle.capture.specs.Entries.{Entry, Moved}
 use Rattle.capture.specs.Moves.{moves}
 use Rattle.capture.specs.Links.{Link, linking, link_up}
-use Rattle.host_link.specs.Lines.{Line}
-use Rattle.host_link.specs.Hearing.{heard, news_of}
-use Rattle.host_link.specs.PuttingOut.{put_out}
-use Rattle.bt_host.specs.declared.steps.Step.{Step}
-use Rattle.bt_host.specs.declared.steps.Step.TheVariants.{Wait, Page, Send, BreakLink}
-use Rattle.bt_host.specs.Steps.{next_step}
-use Rattle.bt_host.specs.Courses.{Course}
-use Rattle.bt_host.specs.Channels.{Channel, sent}
-use Rattle.bt_host.specs.Clients as client
-use Rattle.bt_host.specs.Clients.{Client, peer_address, after_step}
-use Rattle.bt_host.specs.Servers as server
-use Rattle.bt_host.specs.Servers.{Server, with_response, answering}
-use Rattle.bt_host.proofs.OutLaws.{heard_out, pdu_out, ending_out}
-use Rattle.radio_air.specs.Controllers.{Answer, packet_of}
-use Rattle.radio_air.specs.Radio.{Radio, controller, is_together}
-use Rattle.radio_air.specs.Showing.{Shows, IsOwed}
-use Rattle.world_model.specs.Hosts.{IsAddress, IsWithin, links_told, HostStands}
-use Rattle.world_model.proofs.Hearing.{tells_of}
-use Rattle.world_model.proofs.Letting.{connecting_stands, ending_stands, pdu_stands}
+use Rattle.small_link.specs.Lines.{Line}
+use Rattle.small_link.specs.Hearing.{heard, news_of}
+use Rattle.small_link.specs.PuttingOut.{put_out}
+use Rattle.small_host.specs.declared.steps.Step.{Step}
+use Rattle.small_host.specs.declared.steps.Step.TheVariants.{Wait, Page, Send, BreakLink}
+use Rattle.small_host.specs.Steps.{next_step}
+use Rattle.small_host.specs.Courses.{Course}
+use Rattle.small_host.specs.Channels.{Channel, sent}
+use Rattle.small_host.specs.Clients as client
+use Rattle.small_host.specs.Clients.{Client, peer_address, after_step}
+use Rattle.small_host.specs.Servers as server
+use Rattle.small_host.specs.Servers.{Server, with_response, answering}
+use Rattle.small_host.proofs.OutLaws.{heard_out, pdu_out, ending_out}
+use Rattle.small_air.specs.Controllers.{Answer, packet_of}
+use Rattle.small_air.specs.Radio.{Radio, controller, is_together}
+use Rattle.small_air.specs.Showing.{Shows, IsOwed}
+use Rattle.small_model.specs.Hosts.{IsAddress, IsWithin, links_told, HostStands}
+use Rattle.small_model.proofs.Hearing.{tells_of}
+use Rattle.small_model.proofs.Letting.{connecting_stands, ending_stands, pdu_stands}
 use Rattle.host_wire.specs.Wiring.{Wired, Wires}
 use Rattle.host_wire.specs.Sending.{put_heard, sent_by, sent_in_steps, sent_in_answer, on_link}
 use Rattle.host_wire.proofs.Same.{same_said}

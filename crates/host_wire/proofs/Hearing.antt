@@ -9,19 +9,19 @@ use Rattle.hci_packets.specs.AclWords.{flag_of}
 use Rattle.hci_packets.specs.Events.{PlainEvent, ConnectionRequest, CommandComplete, CommandStatus, CompletedPackets, DisconnectionComplete, event_params, event_refusal}
 use Rattle.acl_fragments.specs.Pieces.{Piece, starts}
 use Rattle.acl_fragments.specs.Answers.{Answer as Joined, Pdu, More, Dropped, answer}
-use Rattle.push_script.specs.declared.word.Side.{Side}
+use Rattle.push_terms.specs.declared.word.Side.{Side}
 use Rattle.capture.specs.Links.{Link, LinkNews, Linking, NoNews, Answered, LinkEnded, longer, link_news, after_news, after_move}
-use Rattle.host_link.specs.EventReading.{event_at}
-use Rattle.host_link.specs.Returning.{returned_by}
-use Rattle.host_link.specs.Hearing.{PlainNews, Nothing, event_news, complete_fault, command_fault, after_complete, after_status, heard, news_of, disconnection_news, joined_news, piece_on, after_piece, piece_news}
-use Rattle.host_link.specs.Lines.{Line, longest_pdu}
-use Rattle.host_link.specs.Stands.{into}
-use Rattle.radio_air.specs.Controllers.{Answer, Returned, Stated, Called, LinkMade, LinkGone, GivenBack, Carried, Controller, event_of, packet_of}
-use Rattle.radio_air.specs.Showing.{IsOwed}
-use Rattle.world_model.specs.Hosts.{IsWithin, links_told}
-use Rattle.world_model.proofs.Reading.{heard_by, link_made_again, link_gone_again, returned_news, stated_news, called_news, given_back_news, link_made_news, link_gone_news}
-use Rattle.world_model.proofs.Telling.{IsUp}
-use Rattle.world_model.proofs.Hearing.{Tells, owed_below, none_up, one_up}
+use Rattle.small_link.specs.EventReading.{event_at}
+use Rattle.small_link.specs.Returning.{returned_by}
+use Rattle.small_link.specs.Hearing.{PlainNews, Nothing, event_news, complete_fault, command_fault, after_complete, after_status, heard, news_of, disconnection_news, joined_news, piece_on, after_piece, piece_news}
+use Rattle.small_link.specs.Lines.{Line, longest_pdu}
+use Rattle.small_link.specs.Stands.{into}
+use Rattle.small_air.specs.Controllers.{Answer, Returned, Stated, Called, LinkMade, LinkGone, GivenBack, Carried, Controller, event_of, packet_of}
+use Rattle.small_air.specs.Showing.{IsOwed}
+use Rattle.small_model.specs.Hosts.{IsWithin, links_told}
+use Rattle.small_model.proofs.Reading.{heard_by, link_made_again, link_gone_again, returned_news, stated_news, called_news, given_back_news, link_made_news, link_gone_news}
+use Rattle.small_model.proofs.Telling.{IsUp}
+use Rattle.small_model.proofs.Hearing.{Tells, owed_below, none_up, one_up}
 use Rattle.host_wire.specs.Wiring.{Wired}
 use Rattle.host_wire.specs.Sending.{put_heard}
 use Rattle.host_wire.proofs.Told.{Held, wired_none, wired_piece_in, held_ledger, held_complete, held_status, held_request, held_unless}

@@ -3,26 +3,26 @@ use Rattle.std.proofs.Common.{◌≡◌, ℕ, ◌≤◌, List, [], ◌∷◌, �
 use Rattle.std.specs.List.{AllByRecursion}
 use Rattle.std.proofs.lemmas.List.{append_cancel_left}
 use Rattle.h4_framing.specs.Packets.{Packet, spelling, spellings, IsPacket}
-use Rattle.push_script.specs.declared.word.Side.{Side}
+use Rattle.push_terms.specs.declared.word.Side.{Side}
 use Rattle.capture.specs.declared.flow.Flow.TheVariants.{Into}
 use Rattle.capture.specs.Entries.{Entry, Moved}
 use Rattle.capture.specs.Moves.{moves}
 use Rattle.capture.specs.Links.{Link, Linking, linking, after_move}
-use Rattle.host_link.specs.Hearing.{is_server, heard, news_of}
-use Rattle.host_link.specs.Lines.{Line}
-use Rattle.host_link.specs.Stands.{out_of}
-use Rattle.bt_host.specs.Clients.{after_news, told}
-use Rattle.radio_air.specs.Controllers.{Answer, packet_of}
-use Rattle.radio_air.specs.Radio.{Radio, controller, is_together}
-use Rattle.radio_air.specs.Showing.{Shows, IsOwed}
-use Rattle.world_model.specs.Faces.{Face}
-use Rattle.world_model.specs.Hosts.{HostStands, OwesHonestly}
-use Rattle.world_model.specs.Hearing.{acl_limit, HearsBehind}
-use Rattle.world_model.specs.Insides.{Inside, Pushing, Serving, Tells, client, server}
-use Rattle.world_model.proofs.Departing.{first_is}
-use Rattle.world_model.proofs.Hearing.{tells_of}
-use Rattle.world_model.proofs.HostSteps.{stands_hearing}
-use Rattle.world_model.proofs.Longer.{goes_out}
+use Rattle.small_link.specs.Hearing.{is_server, heard, news_of}
+use Rattle.small_link.specs.Lines.{Line}
+use Rattle.small_link.specs.Stands.{out_of}
+use Rattle.small_host.specs.Clients.{after_news, told}
+use Rattle.small_air.specs.Controllers.{Answer, packet_of}
+use Rattle.small_air.specs.Radio.{Radio, controller, is_together}
+use Rattle.small_air.specs.Showing.{Shows, IsOwed}
+use Rattle.small_model.specs.Faces.{Face}
+use Rattle.small_model.specs.Hosts.{HostStands, OwesHonestly}
+use Rattle.small_model.specs.Hearing.{acl_limit, HearsBehind}
+use Rattle.small_model.specs.Insides.{Inside, Pushing, Serving, Tells, client, server}
+use Rattle.small_model.proofs.Departing.{first_is}
+use Rattle.small_model.proofs.Hearing.{tells_of}
+use Rattle.small_model.proofs.HostSteps.{stands_hearing}
+use Rattle.small_model.proofs.Longer.{goes_out}
 use Rattle.host_wire.specs.Sending.{line_hearing}
 use Rattle.host_wire.proofs.Asking.{AsksOf, moved_asks, asks_moved}
 use Rattle.host_wire.proofs.AskingOut.{Asking, AskingOn, again_asks}

@@ -2,33 +2,33 @@
 use Rattle.std.proofs.Common.{◌≡◌, ℕ, ◌≤◌, List, [], ◌∷◌, ◌++◌, true, false, Option, Some, None, option_map, refl, sym, ap, subst, ◌∙◌, arith}
 use Rattle.std.proofs.lemmas.List.{append-nil}
 use Rattle.h4_framing.specs.Packets.{Packet}
-use Rattle.push_script.specs.declared.word.Side.{Side}
-use Rattle.push_script.specs.declared.word.Side.TheVariants as sides
+use Rattle.push_terms.specs.declared.word.Side.{Side}
+use Rattle.push_terms.specs.declared.word.Side.TheVariants as sides
 use Rattle.capture.specs.declared.flow.Flow.TheVariants.{Out, Into}
 use Rattle.capture.specs.Entries.{Entry, Moved, Begun, Ended, Acted}
 use Rattle.capture.specs.Moves.{Move, moves, move_of}
 use Rattle.capture.specs.Links.{Link, Linking, linking, link_up}
 use Rattle.capture.specs.Laws.{led_on}
 use Rattle.capture.proofs.FurtherLaws.{entry_links-more}
-use Rattle.host_link.specs.declared.role.Role.{Role}
-use Rattle.host_link.specs.declared.role.Role.TheVariants as role
-use Rattle.host_link.specs.Hearing.{is_server}
-use Rattle.host_link.specs.Lines.{Line, fresh}
-use Rattle.host_link.specs.PuttingOut.{started}
-use Rattle.bt_host.specs.declared.stages.Stage.{Stage}
-use Rattle.bt_host.specs.declared.stages.Stage.TheVariants.{Idle}
-use Rattle.bt_host.specs.Events.{is_idle}
-use Rattle.bt_host.specs.Servers.{Kept}
-use Rattle.world_model.specs.Faces.{Face, with_out}
-use Rattle.world_model.specs.Hosts.{RunsAhead}
-use Rattle.world_model.specs.Insides.{Shelved, Inside, Pushing, Serving, StartsPush, idles, client}
-use Rattle.world_model.specs.Moments.{Moment, face_at, first_moment}
-use Rattle.world_model.specs.Happenings.{Happening, Departure, Arrival, GivingBack, Opening, Closing, Deed, Miss, Does, Opens, entries_of, all_entries}
-use Rattle.world_model.specs.Holding.{Holds}
-use Rattle.world_model.proofs.Beginning.{stands_started, shows_nothing, honest_at_first}
-use Rattle.world_model.proofs.Holding.{holds_on, kept_along}
-use Rattle.world_model.proofs.HostSteps.{stands_beside}
-use Rattle.world_model.proofs.Letting.{fresh_stands}
+use Rattle.small_link.specs.declared.role.Role.{Role}
+use Rattle.small_link.specs.declared.role.Role.TheVariants as role
+use Rattle.small_link.specs.Hearing.{is_server}
+use Rattle.small_link.specs.Lines.{Line, fresh}
+use Rattle.small_link.specs.PuttingOut.{started}
+use Rattle.small_host.specs.declared.stages.Stage.{Stage}
+use Rattle.small_host.specs.declared.stages.Stage.TheVariants.{Idle}
+use Rattle.small_host.specs.Events.{is_idle}
+use Rattle.small_host.specs.Servers.{Kept}
+use Rattle.small_model.specs.Faces.{Face, with_out}
+use Rattle.small_model.specs.Hosts.{RunsAhead}
+use Rattle.small_model.specs.Insides.{Shelved, Inside, Pushing, Serving, StartsPush, idles, client}
+use Rattle.small_model.specs.Moments.{Moment, face_at, first_moment}
+use Rattle.small_model.specs.Happenings.{Happening, Departure, Arrival, GivingBack, Opening, Closing, Deed, Miss, Does, Opens, entries_of, all_entries}
+use Rattle.small_model.specs.Holding.{Holds}
+use Rattle.small_model.proofs.Beginning.{stands_started, shows_nothing, honest_at_first}
+use Rattle.small_model.proofs.Holding.{holds_on, kept_along}
+use Rattle.small_model.proofs.HostSteps.{stands_beside}
+use Rattle.small_model.proofs.Letting.{fresh_stands}
 use Rattle.host_wire.specs.WireLaws.{KnowsItsLink}
 use Rattle.host_wire.proofs.AskingOut.{Asking, AskingOn, out_asks}
 use Rattle.host_wire.proofs.Asked.{begins_asks}

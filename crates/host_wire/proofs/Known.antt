@@ -4,17 +4,17 @@ use Rattle.std.specs.Prelude.{is_none}
 use Rattle.h4_framing.specs.Packets.{Packet, Event, Acl}
 use Rattle.hci_packets.specs.AclWords.{flag_of}
 use Rattle.hci_packets.specs.Events.{PlainEvent, event_params, event_refusal}
-use Rattle.push_script.specs.declared.word.Side.{Side}
+use Rattle.push_terms.specs.declared.word.Side.{Side}
 use Rattle.capture.specs.Moves.{Move}
 use Rattle.capture.specs.Links.{Link, LinkNews, Linking, NoNews, LinkEnded, longer, link_news, after_news, after_move}
-use Rattle.host_link.specs.EventReading.{event_at}
-use Rattle.host_link.specs.Hearing.{PlainNews, Nothing, event_news, heard, piece_on, after_connection}
-use Rattle.host_link.specs.Lines.{Line}
-use Rattle.host_link.specs.Stands.{into}
-use Rattle.radio_air.specs.Controllers.{Answer, Returned, Stated, Called, LinkMade, LinkGone, GivenBack, Carried, Controller, event_of, packet_of}
-use Rattle.radio_air.specs.Showing.{IsOwed}
-use Rattle.world_model.proofs.Reading.{link_made_again, returned_news, stated_news, called_news, given_back_news, link_gone_news}
-use Rattle.world_model.proofs.Hearing.{Tells, owed_below, one_up}
+use Rattle.small_link.specs.EventReading.{event_at}
+use Rattle.small_link.specs.Hearing.{PlainNews, Nothing, event_news, heard, piece_on, after_connection}
+use Rattle.small_link.specs.Lines.{Line}
+use Rattle.small_link.specs.Stands.{into}
+use Rattle.small_air.specs.Controllers.{Answer, Returned, Stated, Called, LinkMade, LinkGone, GivenBack, Carried, Controller, event_of, packet_of}
+use Rattle.small_air.specs.Showing.{IsOwed}
+use Rattle.small_model.proofs.Reading.{link_made_again, returned_news, stated_news, called_news, given_back_news, link_gone_news}
+use Rattle.small_model.proofs.Hearing.{Tells, owed_below, one_up}
 use Rattle.host_wire.specs.WireLaws.{IsLinkedBy}
 use Rattle.host_wire.proofs.Asking.{bit, AsksOf}
 use Rattle.host_wire.proofs.Hearing.{link_kept}

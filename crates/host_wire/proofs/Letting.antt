@@ -10,12 +10,12 @@ use Rattle.acl_fragments.specs.Laws.{all_cut}
 use Rattle.capture.specs.declared.flow.Flow.TheVariants.{Out}
 use Rattle.capture.specs.Links.{Link}
 use Rattle.capture.specs.Pdus.{pieces}
-use Rattle.host_link.specs.Lines.{Line}
-use Rattle.host_link.specs.PuttingOut.{connecting, ending, with_pdu}
-use Rattle.bt_host.specs.declared.steps.Step.{Step}
-use Rattle.bt_host.specs.declared.steps.Step.TheVariants.{Wait, Page, Send, BreakLink}
-use Rattle.bt_host.specs.Clients.{peer_address, after_step}
-use Rattle.bt_host.specs.Servers.{with_response}
+use Rattle.small_link.specs.Lines.{Line}
+use Rattle.small_link.specs.PuttingOut.{connecting, ending, with_pdu}
+use Rattle.small_host.specs.declared.steps.Step.{Step}
+use Rattle.small_host.specs.declared.steps.Step.TheVariants.{Wait, Page, Send, BreakLink}
+use Rattle.small_host.specs.Clients.{peer_address, after_step}
+use Rattle.small_host.specs.Servers.{with_response}
 use Rattle.host_wire.specs.Wiring.{pieces_on, Wired}
 use Rattle.host_wire.specs.Sending.{sent_by, on_link}
 use Rattle.host_wire.proofs.Told.{Held, held_flow}

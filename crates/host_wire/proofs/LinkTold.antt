@@ -1,14 +1,14 @@
 -- A host that heard a packet and went on knows of the link that the packet told.
 use Rattle.std.proofs.Common.{◌≡◌, ℕ, zero, suc, List, [], ◌∷◌, fold, Option, refl, sym, ap, subst, ◌∙◌}
 use Rattle.h4_framing.specs.Packets.{Packet}
-use Rattle.push_script.specs.declared.word.Side.{Side}
-use Rattle.push_script.specs.declared.word.Side.TheVariants as sides
-use Rattle.host_link.specs.Lines.{Line}
-use Rattle.host_link.specs.Hearing.{PlainNews, heard, news_of}
-use Rattle.world_model.specs.Faces.{Face}
-use Rattle.world_model.specs.Hearing.{put_out_again, Want, Connect, End, Send, after_want, PutsOut, HearsBehind}
-use Rattle.world_model.specs.Moments.{Moment, face_at}
-use Rattle.world_model.specs.Happenings.{Arrives}
+use Rattle.push_terms.specs.declared.word.Side.{Side}
+use Rattle.push_terms.specs.declared.word.Side.TheVariants as sides
+use Rattle.small_link.specs.Lines.{Line}
+use Rattle.small_link.specs.Hearing.{PlainNews, heard, news_of}
+use Rattle.small_model.specs.Faces.{Face}
+use Rattle.small_model.specs.Hearing.{put_out_again, Want, Connect, End, Send, after_want, PutsOut, HearsBehind}
+use Rattle.small_model.specs.Moments.{Moment, face_at}
+use Rattle.small_model.specs.Happenings.{Arrives}
 use Rattle.host_wire.specs.Sending.{line_hearing}
 use Rattle.host_wire.specs.WireLaws.{IsLinkedBy, LinkIsTold}
 use Rattle.host_wire.proofs.Letting.{link_with, ending_link}

@@ -7,11 +7,11 @@ use Rattle.capture.specs.PieceHeads.{is_no_piece, boundary_of}
 use Rattle.capture.specs.Moves.{Move}
 use Rattle.capture.specs.Links.{Link, Linking, Answered, LinkEnded, after_news}
 use Rattle.capture.specs.Pdus.{piece_with, piece_of}
-use Rattle.host_link.specs.CommandFlows.{is_number}
-use Rattle.host_link.specs.Hearing.{PlainNews, Nothing, LinkUp, LinkFailed, LinkDown, Pdu, makes_link, after_connection, after_disconnection, disconnection_news}
-use Rattle.host_link.specs.Lines.{Line}
-use Rattle.world_model.specs.Hosts.{IsWithin}
-use Rattle.world_model.proofs.Telling.{new_link, IsUp, let_go}
+use Rattle.small_link.specs.CommandFlows.{is_number}
+use Rattle.small_link.specs.Hearing.{PlainNews, Nothing, LinkUp, LinkFailed, LinkDown, Pdu, makes_link, after_connection, after_disconnection, disconnection_news}
+use Rattle.small_link.specs.Lines.{Line}
+use Rattle.small_model.specs.Hosts.{IsWithin}
+use Rattle.small_model.proofs.Telling.{new_link, IsUp, let_go}
 use Rattle.host_wire.specs.Wiring.{pieces_on, Wired}
 use Rattle.host_wire.specs.Sending.{put_heard}
 use Rattle.host_wire.proofs.Told.{Held}

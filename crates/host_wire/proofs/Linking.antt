@@ -6,18 +6,18 @@ use Rattle.hci_packets.specs.Events.{PlainEvent, ConnectionComplete, ConnectionR
 use Rattle.acl_credits.specs.Ledgers.{without}
 use Rattle.acl_fragments.specs.Pieces.{Piece, starts}
 use Rattle.acl_fragments.specs.Answers.{Answer as Joined, Pdu, More, Dropped, answer}
-use Rattle.host_link.specs.declared.news.ControllerFault.{ControllerFault}
-use Rattle.host_link.specs.declared.returned.Returned.{Returned}
-use Rattle.host_link.specs.declared.returned.Returned.TheVariants.{Refused, Unlisted, Status, Buffers}
-use Rattle.host_link.specs.declared.host_command.HostCommand.{HostCommand}
-use Rattle.host_link.specs.declared.host_command.HostCommand.TheVariants.{AcceptConnection}
-use Rattle.host_link.specs.CommandFlows.{with_command, next_command, awaits, answered, stated}
-use Rattle.host_link.specs.EventReading.{event_in}
-use Rattle.host_link.specs.Returning.{returned_by}
-use Rattle.host_link.specs.Hearing.{Nothing, LinkUp, LinkFailed, LinkDown, with_flow, learn, after_answer, after_other, after_complete, complete_fault, command_fault, after_status, may_accept, ends_link, piece_on, after_piece, joined_news, piece_news, after_event, event_news, event_fault, news_of, heard, unless_fault}
-use Rattle.host_link.specs.Lines.{Line, longest_pdu}
-use Rattle.host_link.specs.PuttingOut.{has_room, has_buffer, with_piece, with_pieces, put_pieces_on, put_pieces, with_next, put_out}
-use Rattle.world_model.proofs.Lists.{chosen}
+use Rattle.small_link.specs.declared.news.ControllerFault.{ControllerFault}
+use Rattle.small_link.specs.declared.returned.Returned.{Returned}
+use Rattle.small_link.specs.declared.returned.Returned.TheVariants.{Refused, Unlisted, Status, Buffers}
+use Rattle.small_link.specs.declared.host_command.HostCommand.{HostCommand}
+use Rattle.small_link.specs.declared.host_command.HostCommand.TheVariants.{AcceptConnection}
+use Rattle.small_link.specs.CommandFlows.{with_command, next_command, awaits, answered, stated}
+use Rattle.small_link.specs.EventReading.{event_in}
+use Rattle.small_link.specs.Returning.{returned_by}
+use Rattle.small_link.specs.Hearing.{Nothing, LinkUp, LinkFailed, LinkDown, with_flow, learn, after_answer, after_other, after_complete, complete_fault, command_fault, after_status, may_accept, ends_link, piece_on, after_piece, joined_news, piece_news, after_event, event_news, event_fault, news_of, heard, unless_fault}
+use Rattle.small_link.specs.Lines.{Line, longest_pdu}
+use Rattle.small_link.specs.PuttingOut.{has_room, has_buffer, with_piece, with_pieces, put_pieces_on, put_pieces, with_next, put_out}
+use Rattle.small_model.proofs.Lists.{chosen}
 use Rattle.host_wire.specs.WireLaws.{IsLinkedBy}
 use Rattle.host_wire.proofs.Hearing.{link_kept}
 

@@ -6,7 +6,7 @@ use Rattle.std.proofs.lemmas.List.Elements.{filter_map-append}
 use Rattle.h4_framing.specs.Packets.{Packet, spelling, spellings, IsPacket}
 use Rattle.acl_fragments.specs.Pieces.{Piece}
 use Rattle.acl_fragments.specs.Answers.{open_after}
-use Rattle.push_script.specs.declared.word.Side.{Side}
+use Rattle.push_terms.specs.declared.word.Side.{Side}
 use Rattle.capture.specs.declared.flow.Flow.{Flow}
 use Rattle.capture.specs.declared.flow.Flow.TheVariants.{Out}
 use Rattle.capture.specs.Entries.{Entry, Moved}
@@ -15,12 +15,12 @@ use Rattle.capture.specs.Links.{Link, Linking, longer, after_move, linking, link
 use Rattle.capture.specs.Pdus.{piece_of, pieces}
 use Rattle.capture.specs.Laws.{led_on}
 use Rattle.capture.proofs.FurtherLaws.{entry_links-more}
-use Rattle.host_link.specs.Lines.{Line, longest_pdu}
-use Rattle.host_link.specs.Stands.{out_of}
-use Rattle.world_model.specs.Hearing.{acl_limit}
-use Rattle.world_model.proofs.Longer.{pieces-none, goes_out}
-use Rattle.world_model.proofs.Moving.{own_move}
-use Rattle.world_model.proofs.Departing.{first_is}
+use Rattle.small_link.specs.Lines.{Line, longest_pdu}
+use Rattle.small_link.specs.Stands.{out_of}
+use Rattle.small_model.specs.Hearing.{acl_limit}
+use Rattle.small_model.proofs.Longer.{pieces-none, goes_out}
+use Rattle.small_model.proofs.Moving.{own_move}
+use Rattle.small_model.proofs.Departing.{first_is}
 use Rattle.host_wire.specs.Wiring.{pieces_on, IsSilent, Wired, Wires}
 
 -- ---- the link that is up with an entry more

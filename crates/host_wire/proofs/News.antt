@@ -7,10 +7,10 @@ use Rattle.acl_fragments.proofs.Given.{answered_is_given}
 use Rattle.capture.specs.declared.flow.Flow.TheVariants.{Into}
 use Rattle.capture.specs.Links.{Link, link_up}
 use Rattle.capture.specs.Pdus.{piece_of, pieces, whole_of, completed_by, completed}
-use Rattle.host_link.specs.Hearing.{PlainNews, joined_news, piece_on, piece_news, news_of}
-use Rattle.host_link.specs.Hearing as host
-use Rattle.host_link.specs.Lines.{Line, longest_pdu}
-use Rattle.host_link.specs.Stands.{into}
+use Rattle.small_link.specs.Hearing.{PlainNews, joined_news, piece_on, piece_news, news_of}
+use Rattle.small_link.specs.Hearing as host
+use Rattle.small_link.specs.Lines.{Line, longest_pdu}
+use Rattle.small_link.specs.Stands.{into}
 use Rattle.host_wire.specs.Wiring.{Wired}
 use Rattle.host_wire.specs.Spoken.{news_by}
 use Rattle.host_wire.specs.WireLaws.{HeardNews, LinkIsKnown}

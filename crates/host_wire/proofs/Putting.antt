@@ -8,23 +8,23 @@ use Rattle.acl_fragments.specs.Pieces.{Piece}
 use Rattle.acl_fragments.specs.Laws.{all_cut}
 use Rattle.acl_credits.specs.Ledgers.{packets_of}
 use Rattle.hci_packets.specs.declared.acl.Boundary.TheVariants.{First}
-use Rattle.push_script.specs.declared.word.Side.{Side}
+use Rattle.push_terms.specs.declared.word.Side.{Side}
 use Rattle.capture.specs.declared.flow.Flow.TheVariants.{Out}
 use Rattle.capture.specs.Entries.{Entry}
 use Rattle.capture.specs.Moves.{moves}
 use Rattle.capture.specs.Links.{Link, linking, link_up}
 use Rattle.capture.specs.Pdus.{pieces}
-use Rattle.host_link.specs.declared.host_command.HostCommand.{HostCommand}
-use Rattle.host_link.specs.HostCommands.{command_packet}
-use Rattle.host_link.specs.CommandFlows.{next_command}
-use Rattle.host_link.specs.Lines.{Line}
-use Rattle.host_link.specs.PuttingOut.{has_room, has_buffer, piece_packet, with_piece, with_pieces, put_pieces_on, put_pieces, with_next, put_command, put_out}
-use Rattle.world_model.specs.Hearing.{put_out_again}
-use Rattle.world_model.specs.Hosts.{IsShort, links_told, HostStands}
-use Rattle.world_model.proofs.Lists.{all_both, chosen}
-use Rattle.world_model.proofs.Saying.{piece_is_packet, out_said}
-use Rattle.world_model.proofs.Commanding.{command_is_packet, first_addressed, next_waits}
-use Rattle.world_model.proofs.Putting.{is_last, piece_stands, pieces_stand, command_stands}
+use Rattle.small_link.specs.declared.host_command.HostCommand.{HostCommand}
+use Rattle.small_link.specs.HostCommands.{command_packet}
+use Rattle.small_link.specs.CommandFlows.{next_command}
+use Rattle.small_link.specs.Lines.{Line}
+use Rattle.small_link.specs.PuttingOut.{has_room, has_buffer, piece_packet, with_piece, with_pieces, put_pieces_on, put_pieces, with_next, put_command, put_out}
+use Rattle.small_model.specs.Hearing.{put_out_again}
+use Rattle.small_model.specs.Hosts.{IsShort, links_told, HostStands}
+use Rattle.small_model.proofs.Lists.{all_both, chosen}
+use Rattle.small_model.proofs.Saying.{piece_is_packet, out_said}
+use Rattle.small_model.proofs.Commanding.{command_is_packet, first_addressed, next_waits}
+use Rattle.small_model.proofs.Putting.{is_last, piece_stands, pieces_stand, command_stands}
 use Rattle.host_wire.specs.Wiring.{pieces_on, IsSilent, Wired, Wires}
 use Rattle.host_wire.proofs.Carried.{piece_carried, pieces_push, none_pushed, command_carries_none}
 

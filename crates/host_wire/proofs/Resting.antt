@@ -6,25 +6,25 @@ use Rattle.std.proofs.lemmas.Bool.{lt-ltb}
 use Rattle.h4_framing.specs.Packets.{Packet, spellings, IsPacket}
 use Rattle.acl_fragments.specs.Pieces.{Piece}
 use Rattle.acl_credits.specs.Ledgers.{packets_of, packets_on}
-use Rattle.push_script.specs.declared.word.Side.{Side}
-use Rattle.push_script.specs.declared.word.Side.TheVariants as sides
+use Rattle.push_terms.specs.declared.word.Side.{Side}
+use Rattle.push_terms.specs.declared.word.Side.TheVariants as sides
 use Rattle.capture.specs.Moves.{moves}
 use Rattle.capture.specs.Links.{Link, linking, link_up}
 use Rattle.capture.specs.Buffers as buffers
 use Rattle.capture.specs.Buffers.{outstanding_of, outstanding_on_link}
-use Rattle.host_link.specs.Lines.{Line}
-use Rattle.host_link.specs.PuttingOut.{has_room, has_buffer}
-use Rattle.bt_host.specs.Settling.{has_piece}
-use Rattle.bt_host.proofs.Settling.{settles}
-use Rattle.radio_air.specs.Controllers.{Answer, Controller}
-use Rattle.radio_air.specs.Radio.{controller}
-use Rattle.radio_air.specs.Showing.{back}
-use Rattle.world_model.specs.Hearing.{after_want, PutsOut}
-use Rattle.world_model.specs.Hosts.{RunsAhead}
-use Rattle.world_model.specs.Moving.{IsStillOut, HasNoPacket}
-use Rattle.world_model.specs.Moments.{Moment, face_at, IsAtRest}
-use Rattle.world_model.specs.Happenings.{Departure, Arrival, GivingBack, Opening, Closing, Deed, Miss, Departs, Arrives, GivesBack, Opens}
-use Rattle.world_model.proofs.Stepping.{outstanding_is}
+use Rattle.small_link.specs.Lines.{Line}
+use Rattle.small_link.specs.PuttingOut.{has_room, has_buffer}
+use Rattle.small_host.specs.Settling.{has_piece}
+use Rattle.small_host.proofs.Settling.{settles}
+use Rattle.small_air.specs.Controllers.{Answer, Controller}
+use Rattle.small_air.specs.Radio.{controller}
+use Rattle.small_air.specs.Showing.{back}
+use Rattle.small_model.specs.Hearing.{after_want, PutsOut}
+use Rattle.small_model.specs.Hosts.{RunsAhead}
+use Rattle.small_model.specs.Moving.{IsStillOut, HasNoPacket}
+use Rattle.small_model.specs.Moments.{Moment, face_at, IsAtRest}
+use Rattle.small_model.specs.Happenings.{Departure, Arrival, GivingBack, Opening, Closing, Deed, Miss, Departs, Arrives, GivesBack, Opens}
+use Rattle.small_model.proofs.Stepping.{outstanding_is}
 use Rattle.host_wire.specs.Wiring.{Wired}
 use Rattle.host_wire.specs.WireLaws.{IsFlowing, FlowsOn, WaitsNowhere}
 use Rattle.host_wire.proofs.Stepping.{host_of}

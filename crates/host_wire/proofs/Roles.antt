@@ -4,19 +4,19 @@ use Rattle.std.specs.Prelude.{◌&&◌, is_none}
 use Rattle.h4_framing.specs.Packets.{Packet, Command, Acl, Sync, Event}
 use Rattle.hci_packets.specs.Events.{PlainEvent, ConnectionComplete, ConnectionRequest, DisconnectionComplete, CommandComplete, CommandStatus, CompletedPackets, Other}
 use Rattle.acl_fragments.specs.Pieces.{Piece}
-use Rattle.host_link.specs.declared.news.ControllerFault.{ControllerFault}
-use Rattle.host_link.specs.declared.returned.Returned.{Returned}
-use Rattle.host_link.specs.declared.returned.Returned.TheVariants.{Refused, Unlisted, Status, Buffers}
-use Rattle.host_link.specs.declared.host_command.HostCommand.{HostCommand}
-use Rattle.host_link.specs.CommandFlows.{next_command, awaits, answered, stated}
-use Rattle.host_link.specs.EventReading.{event_in}
-use Rattle.host_link.specs.Returning.{returned_by}
-use Rattle.host_link.specs.Hearing.{with_flow, after_answer, after_other, makes_link, may_accept, ends_link, piece_on, after_piece, after_event, event_fault, heard, unless_fault}
-use Rattle.host_link.specs.Lines.{Line}
-use Rattle.host_link.specs.PuttingOut.{has_room, has_buffer, with_piece, with_pieces, put_pieces_on, put_pieces, with_next, put_out, ending, with_pdu}
-use Rattle.world_model.specs.Faces.{Face}
-use Rattle.world_model.specs.Hearing.{put_out_again, Want, Connect, End, Send, after_want, PutsOut, HearsBehind}
-use Rattle.world_model.proofs.Lists.{chosen}
+use Rattle.small_link.specs.declared.news.ControllerFault.{ControllerFault}
+use Rattle.small_link.specs.declared.returned.Returned.{Returned}
+use Rattle.small_link.specs.declared.returned.Returned.TheVariants.{Refused, Unlisted, Status, Buffers}
+use Rattle.small_link.specs.declared.host_command.HostCommand.{HostCommand}
+use Rattle.small_link.specs.CommandFlows.{next_command, awaits, answered, stated}
+use Rattle.small_link.specs.EventReading.{event_in}
+use Rattle.small_link.specs.Returning.{returned_by}
+use Rattle.small_link.specs.Hearing.{with_flow, after_answer, after_other, makes_link, may_accept, ends_link, piece_on, after_piece, after_event, event_fault, heard, unless_fault}
+use Rattle.small_link.specs.Lines.{Line}
+use Rattle.small_link.specs.PuttingOut.{has_room, has_buffer, with_piece, with_pieces, put_pieces_on, put_pieces, with_next, put_out, ending, with_pdu}
+use Rattle.small_model.specs.Faces.{Face}
+use Rattle.small_model.specs.Hearing.{put_out_again, Want, Connect, End, Send, after_want, PutsOut, HearsBehind}
+use Rattle.small_model.proofs.Lists.{chosen}
 
 abbrev pub SameRole : Line → Line → Type 0
 SameRole old new = new.role ≡ old.role

@@ -3,7 +3,7 @@ use Rattle.std.proofs.Common.{◌≡◌, List, [], ◌∷◌, refl, sym, ap, ◌
 use Rattle.std.specs.List.{AllByRecursion}
 use Rattle.h4_framing.specs.Packets.{Packet, spellings, IsPacket}
 use Rattle.h4_framing.proofs.SpellingLemmas.{one_spelling}
-use Rattle.world_model.proofs.Departing.{first_is}
+use Rattle.small_model.proofs.Departing.{first_is}
 
 pub same_said : (one other : List Packet) → AllByRecursion (IsPacket 1021) one → AllByRecursion (IsPacket 1021) other → spellings one ≡ spellings other → one ≡ other
 same_said [] [] each_one each_other same = refl

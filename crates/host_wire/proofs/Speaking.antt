@@ -16,7 +16,7 @@ use Rattle.capture.specs.Moves.{Move}
 use Rattle.capture.specs.Links.{Link}
 use Rattle.capture.specs.Pdus as pdu
 use Rattle.capture.specs.Pdus.{pdu_limit, same_flow, piece_of, piece_in, pieces, whole_of, completed_by, completed}
-use Rattle.host_link.specs.Lines.{Line}
+use Rattle.small_link.specs.Lines.{Line}
 use Rattle.host_wire.specs.Wiring.{pieces_on, Wired}
 use Rattle.host_wire.specs.Spoken.{said_on, IsFront}
 use Rattle.host_wire.specs.WireLaws.{IsFrame}

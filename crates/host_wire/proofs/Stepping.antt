@@ -2,23 +2,23 @@
 use Rattle.std.proofs.Common.{◌≡◌, ℕ, List, [], ◌∷◌, ◌++◌, Option, refl, sym, subst}
 use Rattle.std.proofs.lemmas.List.{append-nil}
 use Rattle.h4_framing.specs.Packets.{Packet}
-use Rattle.push_script.specs.declared.word.Side.{Side}
-use Rattle.push_script.specs.declared.word.Side.TheVariants as sides
-use Rattle.push_script.specs.declared.word.Word.{Word}
-use Rattle.push_script.specs.declared.outcome.Outcome.{Outcome}
+use Rattle.push_terms.specs.declared.word.Side.{Side}
+use Rattle.push_terms.specs.declared.word.Side.TheVariants as sides
+use Rattle.push_terms.specs.declared.word.Word.{Word}
+use Rattle.push_terms.specs.declared.outcome.Outcome.{Outcome}
 use Rattle.capture.specs.declared.flow.Flow.TheVariants.{Out, Into}
 use Rattle.capture.specs.Entries.{Entry, Moved, Begun, Ended, Acted}
 use Rattle.capture.specs.Links.{Link}
-use Rattle.host_link.specs.Lines.{Line, fresh}
-use Rattle.host_link.specs.PuttingOut.{started}
-use Rattle.host_link.specs.declared.role.Role.{Role}
-use Rattle.host_link.specs.declared.role.Role.TheVariants as role
-use Rattle.world_model.specs.Hosts.{HostStands}
-use Rattle.world_model.specs.Moments.{Moment, face_at}
-use Rattle.world_model.specs.Happenings.{Departure, Arrival, GivingBack, Opening, Closing, Deed, Miss, Departs, Arrives, GivesBack, Opens, Closes, Acts, Misses}
-use Rattle.world_model.specs.Holding.{Holds}
-use Rattle.world_model.proofs.Letting.{fresh_stands}
-use Rattle.world_model.proofs.HostSteps.{stands_beside}
+use Rattle.small_link.specs.Lines.{Line, fresh}
+use Rattle.small_link.specs.PuttingOut.{started}
+use Rattle.small_link.specs.declared.role.Role.{Role}
+use Rattle.small_link.specs.declared.role.Role.TheVariants as role
+use Rattle.small_model.specs.Hosts.{HostStands}
+use Rattle.small_model.specs.Moments.{Moment, face_at}
+use Rattle.small_model.specs.Happenings.{Departure, Arrival, GivingBack, Opening, Closing, Deed, Miss, Departs, Arrives, GivesBack, Opens, Closes, Acts, Misses}
+use Rattle.small_model.specs.Holding.{Holds}
+use Rattle.small_model.proofs.Letting.{fresh_stands}
+use Rattle.small_model.proofs.HostSteps.{stands_beside}
 use Rattle.host_wire.specs.Wiring.{Wired, Wires}
 use Rattle.host_wire.specs.Sending.{put_on, put_behind, on_link, sent_starting}
 use Rattle.host_wire.specs.WireLaws.{WiresAtFirst, WiresStep, WiresAgain, WireSays}

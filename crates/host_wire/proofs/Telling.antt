@@ -1,20 +1,20 @@
 -- A packet arrives at a host, which goes on; and a push begins.
 use Rattle.std.proofs.Common.{◌≡◌, ℕ, List, [], ◌∷◌, ◌++◌, sym, subst}
 use Rattle.h4_framing.specs.Packets.{Packet}
-use Rattle.push_script.specs.declared.word.Side.{Side}
+use Rattle.push_terms.specs.declared.word.Side.{Side}
 use Rattle.capture.specs.declared.flow.Flow.TheVariants.{Into}
 use Rattle.capture.specs.Entries.{Entry, Moved}
-use Rattle.host_link.specs.Lines.{Line}
-use Rattle.host_link.specs.Hearing.{heard, news_of}
-use Rattle.bt_host.specs.Clients.{told}
-use Rattle.radio_air.specs.Controllers.{Answer, packet_of}
-use Rattle.radio_air.specs.Radio.{Radio, controller}
-use Rattle.radio_air.specs.Showing.{Shows}
-use Rattle.world_model.specs.Faces.{Face}
-use Rattle.world_model.specs.Hearing.{HearsBehind}
-use Rattle.world_model.specs.Hosts.{HostStands, OwesHonestly}
-use Rattle.world_model.specs.Insides.{Inside, Pushing, Serving, Tells, StartsPush, client, server}
-use Rattle.world_model.proofs.HostSteps.{stands_hearing}
+use Rattle.small_link.specs.Lines.{Line}
+use Rattle.small_link.specs.Hearing.{heard, news_of}
+use Rattle.small_host.specs.Clients.{told}
+use Rattle.small_air.specs.Controllers.{Answer, packet_of}
+use Rattle.small_air.specs.Radio.{Radio, controller}
+use Rattle.small_air.specs.Showing.{Shows}
+use Rattle.small_model.specs.Faces.{Face}
+use Rattle.small_model.specs.Hearing.{HearsBehind}
+use Rattle.small_model.specs.Hosts.{HostStands, OwesHonestly}
+use Rattle.small_model.specs.Insides.{Inside, Pushing, Serving, Tells, StartsPush, client, server}
+use Rattle.small_model.proofs.HostSteps.{stands_hearing}
 use Rattle.host_wire.specs.Wiring.{Wires}
 use Rattle.host_wire.specs.Sending.{put_heard, on_link, sent_told, sent_starting, line_hearing, put_behind}
 use Rattle.host_wire.proofs.Putting.{Both, wires_again}

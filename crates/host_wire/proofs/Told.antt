@@ -13,17 +13,17 @@ use Rattle.acl_fragments.proofs.Holding.{open_after-append}
 use Rattle.capture.specs.declared.flow.Flow.TheVariants.{Out, Into}
 use Rattle.capture.specs.Links.{Link, longer}
 use Rattle.capture.specs.Pdus.{piece_of, pieces}
-use Rattle.host_link.specs.declared.news.ControllerFault.{ControllerFault}
-use Rattle.host_link.specs.declared.returned.Returned.{Returned as Return}
-use Rattle.host_link.specs.declared.returned.Returned.TheVariants.{Refused, Unlisted, Status, Buffers}
-use Rattle.host_link.specs.declared.host_command.HostCommand.TheVariants.{AcceptConnection}
-use Rattle.host_link.specs.CommandFlows.{Flow, with_command, awaits, stated, answered}
-use Rattle.host_link.specs.Returning.{completes}
-use Rattle.host_link.specs.Hearing.{with_flow, learn, after_answer, after_other, after_complete, after_status, may_accept, after_request, unless_fault, piece_on, after_piece}
-use Rattle.host_link.specs.Lines.{Line, longest_pdu}
-use Rattle.host_link.specs.Stands.{into}
-use Rattle.world_model.proofs.Lists.{chosen}
-use Rattle.world_model.proofs.Longer.{pieces-none, pieces-one}
+use Rattle.small_link.specs.declared.news.ControllerFault.{ControllerFault}
+use Rattle.small_link.specs.declared.returned.Returned.{Returned as Return}
+use Rattle.small_link.specs.declared.returned.Returned.TheVariants.{Refused, Unlisted, Status, Buffers}
+use Rattle.small_link.specs.declared.host_command.HostCommand.TheVariants.{AcceptConnection}
+use Rattle.small_link.specs.CommandFlows.{Flow, with_command, awaits, stated, answered}
+use Rattle.small_link.specs.Returning.{completes}
+use Rattle.small_link.specs.Hearing.{with_flow, learn, after_answer, after_other, after_complete, after_status, may_accept, after_request, unless_fault, piece_on, after_piece}
+use Rattle.small_link.specs.Lines.{Line, longest_pdu}
+use Rattle.small_link.specs.Stands.{into}
+use Rattle.small_model.proofs.Lists.{chosen}
+use Rattle.small_model.proofs.Longer.{pieces-none, pieces-one}
 use Rattle.host_wire.specs.Wiring.{pieces_on, IsSilent, Wired}
 
 -- a host that knows of the link that it says

@@ -1,21 +1,21 @@
 -- Which PDUs a host lets wait, whatever happens (this project's own).
 use Rattle.std.specs.Prelude.{ℕ, List, [], ◌∷◌, ◌++◌, Option, Some, None, option_to_list}
 use Rattle.h4_framing.specs.Packets.{Packet}
-use Rattle.push_script.specs.declared.word.Side.{Side}
-use Rattle.push_script.specs.declared.word.Side.TheVariants as sides
-use Rattle.host_link.specs.Lines.{Line}
-use Rattle.host_link.specs.Hearing.{PlainNews, LinkUp, LinkDown, heard, news_of}
-use Rattle.bt_host.specs.declared.steps.Step.{Step}
-use Rattle.bt_host.specs.declared.steps.Step.TheVariants.{Send}
-use Rattle.bt_host.specs.Courses.{Course}
-use Rattle.bt_host.specs.Steps.{next_step}
-use Rattle.bt_host.specs.Channels.{Channel, sent}
-use Rattle.bt_host.specs.Clients.{after_news}
-use Rattle.world_model.specs.Insides.{Inside, Pushing, Serving, Tells, StartsPush}
-use Rattle.world_model.specs.Faces.{Face}
-use Rattle.world_model.specs.Hearing.{put_out_again, HearsBehind}
-use Rattle.world_model.specs.Moments.{Moment}
-use Rattle.world_model.specs.Happenings.{Happening, Departure, Arrival, GivingBack, Opening, Closing, Deed, Miss, Does}
+use Rattle.push_terms.specs.declared.word.Side.{Side}
+use Rattle.push_terms.specs.declared.word.Side.TheVariants as sides
+use Rattle.small_link.specs.Lines.{Line}
+use Rattle.small_link.specs.Hearing.{PlainNews, LinkUp, LinkDown, heard, news_of}
+use Rattle.small_host.specs.declared.steps.Step.{Step}
+use Rattle.small_host.specs.declared.steps.Step.TheVariants.{Send}
+use Rattle.small_host.specs.Courses.{Course}
+use Rattle.small_host.specs.Steps.{next_step}
+use Rattle.small_host.specs.Channels.{Channel, sent}
+use Rattle.small_host.specs.Clients.{after_news}
+use Rattle.small_model.specs.Insides.{Inside, Pushing, Serving, Tells, StartsPush}
+use Rattle.small_model.specs.Faces.{Face}
+use Rattle.small_model.specs.Hearing.{put_out_again, HearsBehind}
+use Rattle.small_model.specs.Moments.{Moment}
+use Rattle.small_model.specs.Happenings.{Happening, Departure, Arrival, GivingBack, Opening, Closing, Deed, Miss, Does}
 
 -- ---- what is sent
 

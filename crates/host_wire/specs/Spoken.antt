@@ -4,8 +4,8 @@ use Rattle.acl_fragments.specs.Pieces.{channel_of}
 use Rattle.capture.specs.declared.flow.Flow.TheVariants.{Out}
 use Rattle.capture.specs.Links.{Link}
 use Rattle.capture.specs.Pdus.{Pdu, same_flow, pdus}
-use Rattle.host_link.specs.Hearing.{PlainNews, Nothing}
-use Rattle.host_link.specs.Hearing as host
+use Rattle.small_link.specs.Hearing.{PlainNews, Nothing}
+use Rattle.small_link.specs.Hearing as host
 
 -- the octets of the PDUs that went out of the host
 abbrev pub said_on : Link → List (List ℕ)

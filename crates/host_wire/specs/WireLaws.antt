@@ -3,22 +3,22 @@ use Rattle.std.specs.Prelude.{ℕ, ◌≡◌, ◌≤◌, ◌&&◌, true, false, 
 use Rattle.std.specs.List.{AllByRecursion}
 use Rattle.acl_fragments.specs.Laws.{IsPdu}
 use Rattle.h4_framing.specs.Packets.{Packet, Acl}
-use Rattle.push_script.specs.declared.word.Side.{Side}
+use Rattle.push_terms.specs.declared.word.Side.{Side}
 use Rattle.capture.specs.Entries.{Entry}
 use Rattle.capture.specs.Links.{Link, link_up}
 use Rattle.capture.specs.declared.flow.Flow.TheVariants.{Out}
 use Rattle.capture.specs.Pdus.{pdu_limit, completed}
-use Rattle.host_link.specs.Lines.{Line}
-use Rattle.host_link.specs.Hearing.{PlainNews, LinkUp, LinkDown, news_of}
-use Rattle.host_link.specs.PuttingOut.{has_room, has_buffer}
-use Rattle.host_link.specs.Stands.{into}
-use Rattle.bt_host.specs.Servers.{Kept}
-use Rattle.bt_host.specs.Settling.{has_piece}
-use Rattle.world_model.specs.Insides.{Shelved}
-use Rattle.world_model.specs.Hearing.{put_out_again}
-use Rattle.world_model.specs.Moments.{Moment, face_at, first_moment, IsAtRest}
-use Rattle.world_model.specs.Happenings.{Happening, Does, Arrives, Runs, entries_of, all_entries}
-use Rattle.world_model.specs.Holding.{Holds}
+use Rattle.small_link.specs.Lines.{Line}
+use Rattle.small_link.specs.Hearing.{PlainNews, LinkUp, LinkDown, news_of}
+use Rattle.small_link.specs.PuttingOut.{has_room, has_buffer}
+use Rattle.small_link.specs.Stands.{into}
+use Rattle.small_host.specs.Servers.{Kept}
+use Rattle.small_host.specs.Settling.{has_piece}
+use Rattle.small_model.specs.Insides.{Shelved}
+use Rattle.small_model.specs.Hearing.{put_out_again}
+use Rattle.small_model.specs.Moments.{Moment, face_at, first_moment, IsAtRest}
+use Rattle.small_model.specs.Happenings.{Happening, Does, Arrives, Runs, entries_of, all_entries}
+use Rattle.small_model.specs.Holding.{Holds}
 use Rattle.host_wire.specs.Wiring.{pieces_on, Wires}
 use Rattle.host_wire.specs.Sending.{line_hearing, put_on}
 use Rattle.host_wire.specs.Spoken.{said_on, IsFront, news_by}

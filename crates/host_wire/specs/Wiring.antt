@@ -7,13 +7,13 @@ use Rattle.hci_packets.specs.declared.acl.Boundary.TheVariants.{First}
 use Rattle.acl_fragments.specs.Pieces.{Piece}
 use Rattle.acl_fragments.specs.Answers.{open_after}
 use Rattle.acl_fragments.specs.Laws.{all_cut}
-use Rattle.push_script.specs.declared.word.Side.{Side}
+use Rattle.push_terms.specs.declared.word.Side.{Side}
 use Rattle.capture.specs.declared.flow.Flow.TheVariants.{Out, Into}
 use Rattle.capture.specs.Entries.{Entry}
 use Rattle.capture.specs.Links.{Link, link_up}
 use Rattle.capture.specs.Pdus.{piece_of, pieces}
-use Rattle.host_link.specs.Lines.{Line, longest_pdu}
-use Rattle.world_model.specs.Hearing.{acl_limit}
+use Rattle.small_link.specs.Lines.{Line, longest_pdu}
+use Rattle.small_model.specs.Hearing.{acl_limit}
 
 -- the pieces that packets carry on a handle
 abbrev pub pieces_on : ℕ → List Packet → List Piece

@@ -1,16 +1,16 @@
 -- At first there is no link, and so they are pipes, from then on.
 use Rattle.std.proofs.Common.{◌≡◌, ℕ, zero, suc, ◌≤◌, List, [], Some, true, refl, subst, true≢false}
 use Rattle.std.specs.Prelude.{slice_get}
-use Rattle.push_script.specs.declared.word.Side.TheVariants as sides
+use Rattle.push_terms.specs.declared.word.Side.TheVariants as sides
 use Rattle.capture.specs.Entries.{Entry}
 use Rattle.capture.specs.Links.{Link, links}
-use Rattle.host_link.specs.declared.role.Role.TheVariants as role
-use Rattle.bt_host.specs.Servers.{Kept}
-use Rattle.world_model.specs.Insides.{Shelved}
-use Rattle.world_model.specs.Moments.{Moment, first_moment}
-use Rattle.world_model.specs.Happenings.{all_entries}
-use Rattle.world_model.proofs.Beginning.{first_stands, shows_nothing, honest_at_first}
-use Rattle.world_model.proofs.Holding.{kept_along}
+use Rattle.small_link.specs.declared.role.Role.TheVariants as role
+use Rattle.small_host.specs.Servers.{Kept}
+use Rattle.small_model.specs.Insides.{Shelved}
+use Rattle.small_model.specs.Moments.{Moment, first_moment}
+use Rattle.small_model.specs.Happenings.{all_entries}
+use Rattle.small_model.proofs.Beginning.{first_stands, shows_nothing, honest_at_first}
+use Rattle.small_model.proofs.Holding.{kept_along}
 use Rattle.link_pipe.specs.Pipes.{said, IsPipe, HeardIsSaid}
 use Rattle.link_pipe.proofs.Piping.{IsPiped, Way}
 use Rattle.link_pipe.proofs.Completing.{came}

@@ -16,7 +16,7 @@ use Rattle.capture.specs.Histories.{each_after}
 use Rattle.capture.specs.Moves.{Move}
 use Rattle.capture.specs.Links.{Link}
 use Rattle.capture.specs.Pdus.{pdu_limit, piece_of, piece_in, pieces, whole_of, completed_by, completed}
-use Rattle.world_model.proofs.Lists.{all_both}
+use Rattle.small_model.proofs.Lists.{all_both}
 use Rattle.link_pipe.specs.Pipes.{octets_in, said, heard}
 use Rattle.link_pipe.proofs.Joining.{whole_in, completions, length_in-front}
 

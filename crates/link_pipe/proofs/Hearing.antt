@@ -6,9 +6,9 @@ use Rattle.hci_packets.specs.declared.acl.Boundary.TheVariants.{First, Continuin
 use Rattle.hci_packets.specs.AclWords.{flag_of}
 use Rattle.h4_framing.specs.Packets.{Packet, Command, Acl, Sync, Event}
 use Rattle.acl_fragments.specs.Pieces.{Piece}
-use Rattle.push_script.specs.declared.word.Side.{Side}
-use Rattle.push_script.specs.declared.word.Side.TheVariants as sides
-use Rattle.push_script.specs.declared.word.Word.{Word}
+use Rattle.push_terms.specs.declared.word.Side.{Side}
+use Rattle.push_terms.specs.declared.word.Side.TheVariants as sides
+use Rattle.push_terms.specs.declared.word.Word.{Word}
 use Rattle.capture.specs.declared.flow.Flow.TheVariants.{Into}
 use Rattle.capture.specs.Entries.{Entry, Moved}
 use Rattle.capture.specs.Moves.{moves}

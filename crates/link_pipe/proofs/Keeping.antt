@@ -3,31 +3,31 @@ use Rattle.std.proofs.Common.{◌≡◌, ℕ, ◌≤◌, max, List, [], ◌∷�
 use Rattle.std.proofs.lemmas.List.{append-nil}
 use Rattle.std.proofs.lemmas.Bool.{cases_Bool}
 use Rattle.h4_framing.specs.Packets.{Packet}
-use Rattle.push_script.specs.declared.word.Side.{Side}
-use Rattle.push_script.specs.declared.word.Side.TheVariants as sides
-use Rattle.push_script.specs.declared.word.Word.{Word}
+use Rattle.push_terms.specs.declared.word.Side.{Side}
+use Rattle.push_terms.specs.declared.word.Side.TheVariants as sides
+use Rattle.push_terms.specs.declared.word.Word.{Word}
 use Rattle.capture.specs.declared.flow.Flow.TheVariants.{Out, Into}
 use Rattle.capture.specs.Entries.{Entry, Moved, Begun, Ended, Acted}
 use Rattle.capture.specs.Moves.{moves}
 use Rattle.capture.specs.Links.{Link, linking}
 use Rattle.capture.specs.Air.{KeepsTo, air_after}
-use Rattle.radio_air.specs.Radio.{Radio, is_together}
-use Rattle.radio_air.specs.Controllers.{Controller}
-use Rattle.radio_air.specs.Showing.{IsOwed, ShowsUp, Shows, in_air}
-use Rattle.radio_air.proofs.Entering.{links-of}
-use Rattle.radio_air.proofs.Owing.{owed-told}
-use Rattle.radio_air.proofs.Coming.{shows-answer}
-use Rattle.radio_air.proofs.Sizing.{sizes-stay}
-use Rattle.world_model.specs.Acting.{Makes}
-use Rattle.world_model.specs.Faces.{Face}
-use Rattle.world_model.specs.Media.{Medium}
-use Rattle.world_model.specs.Moments.{Moment, with_face}
-use Rattle.world_model.specs.Happenings.{Happening, Departure, Arrival, GivingBack, Opening, Closing, Deed, Miss, Does, Departs, Arrives, Acts, entries_of}
-use Rattle.world_model.specs.Holding.{Holds}
-use Rattle.world_model.proofs.Settled.{quiet_of}
-use Rattle.world_model.proofs.Departing.{moved_sizes}
-use Rattle.world_model.proofs.Wording.{leads}
-use Rattle.world_model.proofs.Holding.{holds_on}
+use Rattle.small_air.specs.Radio.{Radio, is_together}
+use Rattle.small_air.specs.Controllers.{Controller}
+use Rattle.small_air.specs.Showing.{IsOwed, ShowsUp, Shows, in_air}
+use Rattle.small_air.proofs.Entering.{links-of}
+use Rattle.small_air.proofs.Owing.{owed-told}
+use Rattle.small_air.proofs.Coming.{shows-answer}
+use Rattle.small_air.proofs.Sizing.{sizes-stay}
+use Rattle.small_model.specs.Acting.{Makes}
+use Rattle.small_model.specs.Faces.{Face}
+use Rattle.small_model.specs.Media.{Medium}
+use Rattle.small_model.specs.Moments.{Moment, with_face}
+use Rattle.small_model.specs.Happenings.{Happening, Departure, Arrival, GivingBack, Opening, Closing, Deed, Miss, Does, Departs, Arrives, Acts, entries_of}
+use Rattle.small_model.specs.Holding.{Holds}
+use Rattle.small_model.proofs.Settled.{quiet_of}
+use Rattle.small_model.proofs.Departing.{moved_sizes}
+use Rattle.small_model.proofs.Wording.{leads}
+use Rattle.small_model.proofs.Holding.{holds_on}
 use Rattle.link_pipe.proofs.Ways.{all_links, Pipes, pipes_more}
 use Rattle.link_pipe.proofs.Saying.{pipes_saying}
 use Rattle.link_pipe.proofs.Hearing.{IsLow, AreKnown, pipes_hearing}

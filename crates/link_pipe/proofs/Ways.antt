@@ -7,8 +7,8 @@ use Rattle.std.proofs.lemmas.Bool.{and_from, and_left, ne_eqb, eq-eqb}
 use Rattle.acl_fragments.specs.Pieces.{Piece, starts}
 use Rattle.acl_fragments.specs.Answers.{Answer, Pdu, More, Dropped, open_after, answer}
 use Rattle.h4_framing.specs.Packets.{Packet, Command, Acl, Sync, Event}
-use Rattle.push_script.specs.declared.word.Side.{Side}
-use Rattle.push_script.specs.declared.word.Side.TheVariants as sides
+use Rattle.push_terms.specs.declared.word.Side.{Side}
+use Rattle.push_terms.specs.declared.word.Side.TheVariants as sides
 use Rattle.capture.specs.declared.flow.Flow.TheVariants.{Out, Into}
 use Rattle.capture.specs.Entries.{Entry}
 use Rattle.capture.specs.Moves.{Move, move_of, moves}
@@ -19,7 +19,7 @@ use Rattle.capture.specs.Air.{Air, due, frames_of, after_entry, air_after}
 use Rattle.capture.specs.Laws.{led_on}
 use Rattle.capture.proofs.MoreLaws.{pdus-more, air-more}
 use Rattle.capture.proofs.FurtherLaws.{entry_links-more}
-use Rattle.radio_air.specs.Controllers.{other_side}
+use Rattle.small_air.specs.Controllers.{other_side}
 use Rattle.link_pipe.specs.Pipes.{octets_in, said}
 use Rattle.link_pipe.proofs.Piping.{Way, way_same, way_says, way_broken}
 use Rattle.link_pipe.proofs.Completing.{came, pieces-more}

@@ -2,10 +2,10 @@
 use Rattle.std.proofs.Common.{◌≡◌, ℕ, List, [], ◌∷◌, ◌++◌, length, drop, Bool, true, false, cond, Option, Some, None, option_map, refl, sym, ap, subst, ◌∙◌, inl, inr}
 use Rattle.std.proofs.lemmas.Bool.{cases_Bool}
 use Rattle.std.proofs.lemmas.List.{drop-drop}
-use Rattle.push_script.specs.declared.word.Side.TheVariants as sides
-use Rattle.push_script.specs.declared.word.Way.{Way as Course}
-use Rattle.push_script.specs.declared.word.Way.TheVariants.{Ab, Ba}
-use Rattle.push_script.specs.declared.word.Word.TheVariants.{Pass, Drop}
+use Rattle.push_terms.specs.declared.word.Side.TheVariants as sides
+use Rattle.push_terms.specs.declared.word.Way.{Way as Course}
+use Rattle.push_terms.specs.declared.word.Way.TheVariants.{Ab, Ba}
+use Rattle.push_terms.specs.declared.word.Word.TheVariants.{Pass, Drop}
 use Rattle.capture.specs.Entries.{Entry, Acted}
 use Rattle.capture.specs.Moves.{moves}
 use Rattle.capture.specs.Links.{Linking, linking}

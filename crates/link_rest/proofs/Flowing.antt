@@ -5,12 +5,12 @@ use Rattle.std.specs.Prelude.{option_to_list}
 use Rattle.std.specs.List.{AllByRecursion}
 use Rattle.h4_framing.specs.Packets.{Packet, Command, Acl, Sync, Event, spelling, spellings, IsPacket}
 use Rattle.capture.specs.Links.{Linking}
-use Rattle.host_link.specs.Lines.{Line}
-use Rattle.host_link.specs.PuttingOut.{has_room}
-use Rattle.bt_host.proofs.Settling.{settles}
-use Rattle.radio_air.specs.Controllers.{Controller}
-use Rattle.world_model.specs.Hearing.{after_want, PutsOut}
-use Rattle.world_model.proofs.Departing.{short_spelling}
+use Rattle.small_link.specs.Lines.{Line}
+use Rattle.small_link.specs.PuttingOut.{has_room}
+use Rattle.small_host.proofs.Settling.{settles}
+use Rattle.small_air.specs.Controllers.{Controller}
+use Rattle.small_model.specs.Hearing.{after_want, PutsOut}
+use Rattle.small_model.proofs.Departing.{short_spelling}
 use Rattle.world_links.proofs.Ways.{number_of}
 use Rattle.world_links.proofs.Tidying.{one_if, is_acl, Ours, codes_said, codes_owed}
 use Rattle.world_links.proofs.Owning.{backs, more_or}

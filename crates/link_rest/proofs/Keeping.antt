@@ -2,29 +2,29 @@
 use Rattle.std.proofs.Common.{◌≡◌, ℕ, List, [], ◌∷◌, ◌++◌, fold, refl, sym, ap, subst, ◌∙◌, inl, inr}
 use Rattle.std.specs.List.{AllByRecursion}
 use Rattle.h4_framing.specs.Packets.{Packet, spelling, IsPacket}
-use Rattle.push_script.specs.declared.word.Side.{Side}
-use Rattle.push_script.specs.declared.word.Side.TheVariants as sides
+use Rattle.push_terms.specs.declared.word.Side.{Side}
+use Rattle.push_terms.specs.declared.word.Side.TheVariants as sides
 use Rattle.capture.specs.declared.flow.Flow.TheVariants.{Into}
 use Rattle.capture.specs.Entries.{Entry, Moved, Begun}
 use Rattle.capture.specs.Moves.{moves}
 use Rattle.capture.specs.Links.{Linking, linking}
-use Rattle.host_link.specs.declared.role.Role.{Role}
-use Rattle.host_link.specs.declared.role.Role.TheVariants.{Client, Server}
-use Rattle.host_link.specs.Hearing.{heard}
-use Rattle.host_link.specs.Lines.{Line, fresh}
-use Rattle.host_link.specs.PuttingOut.{put_out}
-use Rattle.bt_host.specs.Servers.{Kept}
-use Rattle.radio_air.specs.Controllers.{Answer, Controller, packet_of, new_controller, after_giving_back}
-use Rattle.radio_air.specs.Radio.{Radio, is_together, after_packet, after_answer, after_offer, controller}
-use Rattle.radio_air.specs.Showing.{Shows}
-use Rattle.world_model.specs.Hearing.{after_want, put_out_again, PutsOut}
-use Rattle.world_model.specs.Hosts.{links_told, IsHonest, OwesHonestly}
-use Rattle.world_model.specs.Insides.{Shelved}
-use Rattle.world_model.specs.Media.{Medium, in_radio}
-use Rattle.world_model.specs.Ordering.{one_begun}
-use Rattle.world_model.specs.Moments.{Moment, with_face, with_medium, with_pushes, first_moment}
-use Rattle.world_model.specs.Happenings.{Happening, Departure, Arrival, GivingBack, Opening, Closing, Deed, Miss, Does, Departs, Arrives, Opens, entries_of}
-use Rattle.world_model.specs.Holding.{Holds}
+use Rattle.small_link.specs.declared.role.Role.{Role}
+use Rattle.small_link.specs.declared.role.Role.TheVariants.{Client, Server}
+use Rattle.small_link.specs.Hearing.{heard}
+use Rattle.small_link.specs.Lines.{Line, fresh}
+use Rattle.small_link.specs.PuttingOut.{put_out}
+use Rattle.small_host.specs.Servers.{Kept}
+use Rattle.small_air.specs.Controllers.{Answer, Controller, packet_of, new_controller, after_giving_back}
+use Rattle.small_air.specs.Radio.{Radio, is_together, after_packet, after_answer, after_offer, controller}
+use Rattle.small_air.specs.Showing.{Shows}
+use Rattle.small_model.specs.Hearing.{after_want, put_out_again, PutsOut}
+use Rattle.small_model.specs.Hosts.{links_told, IsHonest, OwesHonestly}
+use Rattle.small_model.specs.Insides.{Shelved}
+use Rattle.small_model.specs.Media.{Medium, in_radio}
+use Rattle.small_model.specs.Ordering.{one_begun}
+use Rattle.small_model.specs.Moments.{Moment, with_face, with_medium, with_pushes, first_moment}
+use Rattle.small_model.specs.Happenings.{Happening, Departure, Arrival, GivingBack, Opening, Closing, Deed, Miss, Does, Departs, Arrives, Opens, entries_of}
+use Rattle.small_model.specs.Holding.{Holds}
 use Rattle.world_links.proofs.Tidying.{IsOn, Ours, codes_owed}
 use Rattle.world_links.proofs.Owning.{grown_giving, packet_beside}
 use Rattle.world_links.proofs.Departing.{moves_first}

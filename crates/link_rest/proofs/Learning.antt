@@ -2,16 +2,16 @@
 use Rattle.std.proofs.Common.{◌≡◌, ℕ, zero, suc, ◌≤◌, List, [], ◌∷◌, ◌++◌, length, fold, Bool, false, Option, Some, None, refl, ap, ◌∙◌, arith, inl, inr, ◌⊎◌}
 use Rattle.std.specs.Prelude.{◌&&◌, ◌||◌, nat_lt}
 use Rattle.acl_fragments.specs.Pieces.{Piece}
-use Rattle.host_link.specs.declared.host_command.HostCommand.{HostCommand}
-use Rattle.host_link.specs.declared.host_command.HostCommand.TheVariants.{ReadBufferSize, CreateConnection, Disconnect}
-use Rattle.host_link.specs.HostCommands.{opcode, asks}
-use Rattle.host_link.specs.CommandFlows.{Flow, with_command, next_command, first_of}
-use Rattle.host_link.specs.Hearing.{with_flow}
-use Rattle.host_link.specs.Lines.{Line}
-use Rattle.host_link.specs.PuttingOut.{has_room, has_buffer, with_piece, with_pieces, put_pieces_on, put_pieces, with_next, put_command, put_out, ending, with_pdu}
-use Rattle.world_model.specs.Hearing.{Want, Connect, End, Send, after_want, put_out_again}
-use Rattle.world_model.proofs.Lists.{chosen}
-use Rattle.world_model.proofs.Commanding.{next_waits}
+use Rattle.small_link.specs.declared.host_command.HostCommand.{HostCommand}
+use Rattle.small_link.specs.declared.host_command.HostCommand.TheVariants.{ReadBufferSize, CreateConnection, Disconnect}
+use Rattle.small_link.specs.HostCommands.{opcode, asks}
+use Rattle.small_link.specs.CommandFlows.{Flow, with_command, next_command, first_of}
+use Rattle.small_link.specs.Hearing.{with_flow}
+use Rattle.small_link.specs.Lines.{Line}
+use Rattle.small_link.specs.PuttingOut.{has_room, has_buffer, with_piece, with_pieces, put_pieces_on, put_pieces, with_next, put_command, put_out, ending, with_pdu}
+use Rattle.small_model.specs.Hearing.{Want, Connect, End, Send, after_want, put_out_again}
+use Rattle.small_model.proofs.Lists.{chosen}
+use Rattle.small_model.proofs.Commanding.{next_waits}
 use Rattle.world_links.proofs.Tidying.{next_free}
 
 -- the answer to Read Buffer Size is awaited, or that command goes out next

@@ -1,12 +1,12 @@
 -- What a word of a script makes of the radio: what is to be given back stays so.
 use Rattle.std.proofs.Common.{◌≡◌, ℕ, ◌≤◌, List, [], ◌∷◌, map, Bool, true, false, cond, Option, Some, None, subst, arith, inl, inr}
-use Rattle.push_script.specs.declared.word.Way.{Way}
-use Rattle.push_script.specs.declared.word.Way.TheVariants.{Ab, Ba}
-use Rattle.push_script.specs.declared.word.Word.{Word}
+use Rattle.push_terms.specs.declared.word.Way.{Way}
+use Rattle.push_terms.specs.declared.word.Way.TheVariants.{Ab, Ba}
+use Rattle.push_terms.specs.declared.word.Word.{Word}
 use Rattle.capture.specs.Frames.{frame_pieces, way_served}
-use Rattle.radio_air.specs.Controllers.{Answer, Carried, Controller, owing}
-use Rattle.radio_air.specs.Radio.{Radio, parted, is_together, delivered, delivered_first, frames, served_next}
-use Rattle.world_model.specs.Acting.{Makes}
+use Rattle.small_air.specs.Controllers.{Answer, Carried, Controller, owing}
+use Rattle.small_air.specs.Radio.{Radio, parted, is_together, delivered, delivered_first, frames, served_next}
+use Rattle.small_model.specs.Acting.{Makes}
 use Rattle.world_links.proofs.Ways.{number_of-append}
 use Rattle.world_links.proofs.Owning.{is_back, backs, gone_grown}
 

@@ -1,15 +1,15 @@
 -- Where all is at rest, no piece waits in a host, and all that it let wait on its link has gone out.
 use Rattle.std.proofs.Common.{◌≡◌, ℕ, ◌+◌, ◌≤◌, List, [], ◌++◌, ap, arith, inl, inr}
-use Rattle.push_script.specs.declared.word.Side.{Side}
-use Rattle.push_script.specs.declared.word.Side.TheVariants as sides
+use Rattle.push_terms.specs.declared.word.Side.{Side}
+use Rattle.push_terms.specs.declared.word.Side.TheVariants as sides
 use Rattle.capture.specs.Entries.{Entry}
-use Rattle.host_link.specs.Lines.{Line}
-use Rattle.bt_host.specs.Servers.{Kept}
-use Rattle.radio_air.specs.Controllers.{Controller}
-use Rattle.world_model.specs.Insides.{Shelved}
-use Rattle.world_model.specs.Moments.{Moment, face_at, first_moment, IsAtRest}
-use Rattle.world_model.specs.Happenings.{Happening, Does, Runs, entries_of, all_entries}
-use Rattle.world_model.proofs.Holding.{kept_along}
+use Rattle.small_link.specs.Lines.{Line}
+use Rattle.small_host.specs.Servers.{Kept}
+use Rattle.small_air.specs.Controllers.{Controller}
+use Rattle.small_model.specs.Insides.{Shelved}
+use Rattle.small_model.specs.Moments.{Moment, face_at, first_moment, IsAtRest}
+use Rattle.small_model.specs.Happenings.{Happening, Does, Runs, entries_of, all_entries}
+use Rattle.small_model.proofs.Holding.{kept_along}
 use Rattle.world_links.specs.LinkFacts.{IsBeginning, IsDone}
 use Rattle.world_links.proofs.Ways.{number_of}
 use Rattle.world_links.proofs.Owning.{is_back, backs}

@@ -1,12 +1,12 @@
 -- What is left in a host where nothing is left to be moved (this project's own).
 use Rattle.std.specs.Prelude.{ℕ, ◌≡◌, List, [], Some}
 use Rattle.std.specs.List.{AllByRecursion}
-use Rattle.push_script.specs.declared.word.Side.{Side}
+use Rattle.push_terms.specs.declared.word.Side.{Side}
 use Rattle.capture.specs.Links.{Link, link_up}
-use Rattle.bt_host.specs.Servers.{Kept}
-use Rattle.world_model.specs.Insides.{Shelved}
-use Rattle.world_model.specs.Moments.{Moment, face_at, first_moment, IsAtRest}
-use Rattle.world_model.specs.Happenings.{Happening, Runs, all_entries}
+use Rattle.small_host.specs.Servers.{Kept}
+use Rattle.small_model.specs.Insides.{Shelved}
+use Rattle.small_model.specs.Moments.{Moment, face_at, first_moment, IsAtRest}
+use Rattle.small_model.specs.Happenings.{Happening, Runs, all_entries}
 use Rattle.world_links.specs.LinkFacts.{IsBeginning}
 use Rattle.host_wire.specs.Wiring.{Wires}
 use Rattle.host_wire.specs.Spoken.{said_on}

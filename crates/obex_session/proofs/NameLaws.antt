@@ -21,7 +21,7 @@ units_within cs n =
     let all = ap length (ap (flat_map encode_utf16) (sym (take-append-drop n cs)) ∙ flat_map-append encode_utf16 (take n cs) (drop n cs)) ∙ length-append (flat_map encode_utf16 (take n cs)) (flat_map encode_utf16 (drop n cs)) in
     omega (arith, all)
 
-length-octets : (us : List ℕ) → length (flat_map be16 us) ≡ 2 * length us
+pub length-octets : (us : List ℕ) → length (flat_map be16 us) ≡ 2 * length us
 length-octets [] = refl
 length-octets (u ∷ us) = let e = length-octets us in omega arith
 

@@ -1,5 +1,5 @@
 -- The packets of an object spell it.
-use Rattle.std.proofs.Common.{true, false, ◌≡◌, ℕ, ◌<◌, ◌≤◌, List, [], ◌∷◌, ◌++◌, length, map, Option, Some, Ok, refl, sym, ap, subst, ◌∙◌, arith, append_assoc}
+use Rattle.std.proofs.Common.{Bool, true, false, cond, ◌≡◌, ℕ, ◌<◌, ◌≤◌, ◌^◌, List, [], ◌∷◌, ◌++◌, length, map, Option, Some, Ok, refl, sym, ap, subst, ◌∙◌, arith, append_assoc}
 use Rattle.std.specs.Prelude.{is_none}
 use Rattle.std.specs.List.{filter_map, AllByRecursion}
 use Rattle.std.proofs.lemmas.List.{append-nil}
@@ -13,14 +13,16 @@ use Rattle.obex_headers.specs.Runs.{put_of, heard, is_final, name_text, names, b
 use Rattle.obex_headers.proofs.PacketLaws.{packet_again, length-packet}
 use Rattle.obex_headers.proofs.RunLaws.{stretches_spell}
 use Rattle.obex_headers.proofs.Texts.{units_again}
+use Rattle.obex_session.specs.Responses.{single_header}
+use Rattle.obex_session.specs.ObjectPuts.{front_packets}
 use Rattle.obex_session.specs.PutPackets.{head_of, body_header, put_packet, packets_from, object_packets, SpellsWhatIsPut}
 
 -- ---- each packet is heard as it was written
 
-heard_again : (packet : PlainPacket) → IsPacket Request packet → packet_in Request 65535 (packet_octets packet) ≡ Ok packet
+pub heard_again : (packet : PlainPacket) → IsPacket Request packet → packet_in Request 65535 (packet_octets packet) ≡ Ok packet
 heard_again packet is = packet_again Request 65535 (packet_octets packet) packet (record { sound = is; within = let fits = is.len in let len = length-packet packet in omega (arith, fits, len); spelling = refl })
 
-all_heard : (ahead : List PlainHeader) (parts : List (List ℕ)) (last : List ℕ) → AllByRecursion (IsPacket Request) (packets_from ahead parts last)
+pub all_heard : (ahead : List PlainHeader) (parts : List (List ℕ)) (last : List ℕ) → AllByRecursion (IsPacket Request) (packets_from ahead parts last)
     → heard (map packet_octets (packets_from ahead parts last)) ≡ puts (packets_from ahead parts last)
 all_heard ahead [] last is = ap (λ (p : Option PlainPacket). p ∷ []) (ap put_of (heard_again (put_packet true ahead last) is.0))
 all_heard ahead (part ∷ parts) last is =
@@ -29,21 +31,17 @@ all_heard ahead (part ∷ parts) last is =
 
 -- ---- what a run of them says
 
--- the packets ahead of the last one
-abbrev front_of : List PlainHeader → List (List ℕ) → List PlainPacket
-front_of ahead [] = []
-front_of ahead (part ∷ parts) = put_packet false ahead part ∷ front_of [] parts
-
-abbrev head_at : List PlainHeader → List (List ℕ) → List PlainHeader
+-- the headers ahead of the body of the packet behind these parts
+abbrev pub head_at : List PlainHeader → List (List ℕ) → List PlainHeader
 head_at ahead [] = ahead
 head_at ahead (part ∷ parts) = []
 
-parts_are : (ahead : List PlainHeader) (parts : List (List ℕ)) (last : List ℕ) → packets_from ahead parts last ≡ front_of ahead parts ++ put_packet true (head_at ahead parts) last ∷ []
+pub parts_are : (ahead : List PlainHeader) (parts : List (List ℕ)) (last : List ℕ) → packets_from ahead parts last ≡ front_packets ahead parts ++ put_packet true (head_at ahead parts) last ∷ []
 parts_are ahead [] last = refl
 parts_are ahead (part ∷ []) last = refl
 parts_are ahead (part ∷ next ∷ parts) last = ap (λ (ps : List PlainPacket). put_packet false ahead part ∷ ps) (parts_are [] (next ∷ parts) last)
 
-none_final : (ahead : List PlainHeader) (parts : List (List ℕ)) → AllByRecursion (λ packet. is_final packet ≡ false) (front_of ahead parts)
+pub none_final : (ahead : List PlainHeader) (parts : List (List ℕ)) → AllByRecursion (λ packet. is_final packet ≡ false) (front_packets ahead parts)
 none_final ahead [] = tt
 none_final ahead (part ∷ parts) = (refl, none_final [] parts)
 
@@ -52,7 +50,7 @@ abbrev body_headers : List (List ℕ) → List ℕ → List PlainHeader
 body_headers [] last = body_header true last ∷ []
 body_headers (part ∷ parts) last = body_header false part ∷ body_headers parts last
 
-headers_are : (ahead : List PlainHeader) (parts : List (List ℕ)) (last : List ℕ) → run_headers (packets_from ahead parts last) ≡ ahead ++ body_headers parts last
+pub headers_are : (ahead : List PlainHeader) (parts : List (List ℕ)) (last : List ℕ) → run_headers (packets_from ahead parts last) ≡ ahead ++ body_headers parts last
 headers_are ahead [] last = append-nil (ahead ++ body_header true last ∷ [])
 headers_are ahead (part ∷ parts) last =
     ap (λ (hs : List PlainHeader). (ahead ++ body_header false part ∷ []) ++ hs) (headers_are [] parts last) ∙ append_assoc ahead (body_header false part ∷ []) (body_headers parts last)
@@ -65,41 +63,60 @@ bodies_are : (parts : List (List ℕ)) (last : List ℕ) → bodies (body_header
 bodies_are [] last = refl
 bodies_are (part ∷ parts) last = ap (λ (bs : List (List ℕ)). part ∷ bs) (bodies_are parts last)
 
-joined_last : (parts : List (List ℕ)) (last : List ℕ) → joined (parts ++ last ∷ []) ≡ joined parts ++ last
+pub joined_last : (parts : List (List ℕ)) (last : List ℕ) → joined (parts ++ last ∷ []) ≡ joined parts ++ last
 joined_last parts last = flat_map-append (λ part. part) parts (last ∷ []) ∙ ap (λ (xs : List ℕ). joined parts ++ xs) (append-nil last)
 
 some_parts : (parts : List (List ℕ)) (last : List ℕ) → 0 < length (parts ++ last ∷ [])
 some_parts [] last = omega arith
 some_parts (part ∷ parts) last = omega arith
 
-pub spells : SpellsWhatIsPut
-spells units size parts last fit short bound are =
-    let packets = object_packets units size parts last in
+-- the head has one Name, no body, and the Name first
+head_names : (wanted : Bool) (units : List ℕ) (size : ℕ) (rest : List PlainHeader) → names (head_of wanted units size ++ rest) ≡ units_of (text_octets units) ∷ names rest
+head_names true units size rest = refl
+head_names false units size rest = refl
+
+head_bodies : (wanted : Bool) (units : List ℕ) (size : ℕ) (rest : List PlainHeader) → bodies (head_of wanted units size ++ rest) ≡ bodies rest
+head_bodies true units size rest = refl
+head_bodies false units size rest = refl
+
+head_ahead : (wanted : Bool) (units : List ℕ) (size : ℕ) (rest : List PlainHeader) → ahead_of_name (head_of wanted units size ++ rest) ≡ []
+head_ahead wanted units size rest = take_while-cons (λ header. is_none (name_text header)) (record { id = 0x01; value = Text (text_octets units) }) (record { id = 0xC3; value = Four size } ∷ (cond wanted (single_header ∷ []) [] ++ rest))
+
+pub spelling_of : (wanted : Bool) (units : List ℕ) (size : ℕ) (parts : List (List ℕ)) (last : List ℕ) → AllByRecursion (λ unit. unit < 2 ^ 16) units → length units ≤ 255 → length (joined parts ++ last) ≤ 16777215
+    → SpellsObject (object_packets wanted units size parts last) (record { name = units; octets = joined parts ++ last })
+spelling_of wanted units size parts last fit short bound =
+    let packets = object_packets wanted units size parts last in
     let headers = run_headers packets in
-    let all : headers ≡ head_of units size ++ body_headers parts last = headers_are (head_of units size) parts last in
-    let name : names headers ≡ units ∷ [] = ap names all ∙ ap (λ (ts : List (List ℕ)). map units_of (text_octets units ∷ ts)) (no_names parts last) ∙ ap (λ (us : List ℕ). us ∷ []) (units_again units fit) in
-    let body : bodies headers ≡ parts ++ last ∷ [] = ap bodies all ∙ bodies_are parts last in
+    let all : headers ≡ head_of wanted units size ++ body_headers parts last = headers_are (head_of wanted units size) parts last in
+    let name : names headers ≡ units ∷ [] =
+    ap names all ∙ head_names wanted units size (body_headers parts last) ∙ ap (λ (us : List (List ℕ)). units_of (text_octets units) ∷ us) (ap (map units_of) (no_names parts last)) ∙ ap (λ (us : List ℕ). us ∷ []) (units_again units fit) in
+    let body : bodies headers ≡ parts ++ last ∷ [] = ap bodies all ∙ head_bodies wanted units size (body_headers parts last) ∙ bodies_are parts last in
     let octets : joined (bodies headers) ≡ joined parts ++ last = ap joined body ∙ joined_last parts last in
-    let ahead : ahead_of_name headers ≡ [] = ap ahead_of_name all ∙ take_while-cons (λ header. is_none (name_text header)) (record { id = 0x01; value = Text (text_octets units) }) (record { id = 0xC3; value = Four size } ∷ body_headers parts last) in
+    let ahead : ahead_of_name headers ≡ [] = ap ahead_of_name all ∙ head_ahead wanted units size (body_headers parts last) in
     let rules : KeepsRules headers = record {
       one_name = subst (λ (ns : List (List ℕ)). length ns ≤ 1) (sym name) (omega arith);
       short_name = subst (AllByRecursion (λ n. length n ≤ 255)) (sym name) (short, tt);
       name_first = ap bodies ahead;
       bounded = subst (λ (os : List ℕ). length os ≤ 16777215) (sym octets) bound;
     } in
-    let object : Object = record { name = units; octets = joined parts ++ last } in
-    let spelling : SpellsObject packets object = record {
-      front = front_of (head_of units size) parts;
-      last = put_packet true (head_at (head_of units size) parts) last;
-      parts = parts_are (head_of units size) parts last;
-      not_final = none_final (head_of units size) parts;
+    record {
+      front = front_packets (head_of wanted units size) parts;
+      last = put_packet true (head_at (head_of wanted units size) parts) last;
+      parts = parts_are (head_of wanted units size) parts last;
+      not_final = none_final (head_of wanted units size) parts;
       final = refl;
       rules = rules;
       name = name;
       has_body = subst (λ (bs : List (List ℕ)). 0 < length bs) (sym body) (some_parts parts last);
       octets = sym octets;
-    } in
-    ap (objects_from []) (all_heard (head_of units size) parts last are)
+    }
+
+pub spells : SpellsWhatIsPut
+spells wanted units size parts last fit short bound are =
+    let packets = object_packets wanted units size parts last in
+    let object : Object = record { name = units; octets = joined parts ++ last } in
+    let spelling = spelling_of wanted units size parts last fit short bound in
+    ap (objects_from []) (all_heard (head_of wanted units size) parts last are)
     ∙ sym (stretches_spell (puts packets) (object ∷ []) (record {
       stretches = Spelling packets object ∷ [];
       open_run = [];

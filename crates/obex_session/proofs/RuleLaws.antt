@@ -11,13 +11,15 @@ use Rattle.bt_base.specs.Objects.{Object, Contents}
 use Rattle.obex_headers.specs.Packets.{PlainValue, Text, Octets, One, Four, PlainHeader, units_of}
 use Rattle.obex_headers.specs.Runs.{text_in, octets_in, name_text, body_of, names, bodies, ahead_of_name, joined, KeepsRules}
 use Rattle.obex_headers.proofs.RunLaws.{rules_front}
-use Rattle.obex_session.specs.declared.responding.ResponseCode.TheVariants.{TooLarge, BadRequest}
-use Rattle.obex_session.specs.declared.ruling.Progress.{Progress}
-use Rattle.obex_session.specs.declared.ruling.Progress.TheVariants.{Unnamed, Named, Filled}
-use Rattle.obex_session.specs.declared.ruling.Verdict.{Verdict}
-use Rattle.obex_session.specs.declared.ruling.Verdict.TheVariants.{Open, Whole, Ended}
-use Rattle.obex_session.specs.Rules.{at_name, at_body, at_total, at_parts, at_header, after_headers, then_at, noted_parts, noted}
+use Rattle.obex_session.specs.declared.codes.Code.TheVariants.{TooLarge, BadRequest}
+use Rattle.obex_session.specs.declared.course.Progress.{Progress}
+use Rattle.obex_session.specs.declared.course.Progress.TheVariants.{Unnamed, Named, Filled}
+use Rattle.obex_session.specs.declared.course.Verdict.{Verdict}
+use Rattle.obex_session.specs.declared.course.Verdict.TheVariants.{Open, Whole, Ended, PassedOver}
+use Rattle.obex_session.specs.InboxCalls.{InboxCall, Begin, Append, Abort, all_done}
+use Rattle.obex_session.specs.Rules.{Ruling, opens, ends, at_name, at_body, at_parts, at_header, after_headers, then_on}
 use Rattle.obex_session.specs.Past.{progress_from, progress_of, pending_from, pending_of}
+use Rattle.obex_session.proofs.HeedingLaws.{all_done-append}
 
 -- ---- one header more
 
@@ -117,7 +119,12 @@ pub record Stands (headers : List PlainHeader) (progress : Progress) (stored : L
 abbrev pub Follows : List PlainHeader → Verdict → List Object → Contents → Type 0
 Follows headers (Open progress) stored contents = Stands headers progress stored contents
 Follows headers Whole stored contents = ⊥
-Follows headers (Ended code) stored contents = KeepsRules headers → ⊥
+Follows headers (Ended code) stored contents = (KeepsRules headers → ⊥) × (contents ≡ record { stored = stored; pending = None })
+Follows headers (PassedOver final) stored contents = ⊥
+
+-- the same of a ruling, over an inbox that held this before its calls
+abbrev pub FollowsBy : List PlainHeader → Ruling → List Object → Contents → Type 0
+FollowsBy headers ruling stored contents = Follows headers ruling.verdict stored (all_done ruling.calls contents)
 
 -- ---- a header that is no Name and no body
 
@@ -166,11 +173,14 @@ stands_by headers ns bs progress stored contents k p c = record {
 
 first_name_at : (long : Bool) (headers : List PlainHeader) (header : PlainHeader) (bs : List (List ℕ)) (text : List ℕ) (stored : List Object) → Kept headers [] bs → name_text header ≡ Some text → body_of header ≡ None
     → ltb 255 (length (units_of text)) ≡ long
-    → Follows (headers ++ header ∷ []) (cond long (Ended TooLarge) (Open Named)) stored (record { stored = stored; pending = Some (record { name = units_of text; octets = [] }) })
-first_name_at true headers header bs text stored k n b e = λ keeps.
-    let short = subst (AllByRecursion (λ name. length name ≤ 255)) (names-more headers header [] (Some text) k.names_are n) keeps.short_name in
-    let no : true ≡ false = sym e ∙ le-ltb 255 (length (units_of text)) short.0 in
-    absurd cc
+    → FollowsBy (headers ++ header ∷ []) (cond long (ends Unnamed TooLarge) (opens (Begin (units_of text) ∷ []) Named)) stored (record { stored = stored; pending = None })
+first_name_at true headers header bs text stored k n b e = (
+  λ keeps.
+      let short = subst (AllByRecursion (λ name. length name ≤ 255)) (names-more headers header [] (Some text) k.names_are n) keeps.short_name in
+      let no : true ≡ false = sym e ∙ le-ltb 255 (length (units_of text)) short.0 in
+      absurd cc,
+  refl,
+)
 first_name_at false headers header bs text stored k n b e =
     let none : bs ++ cons_option None [] ≡ [] = append-nil bs ∙ no_body headers bs k in
     let kept : Kept (headers ++ header ∷ []) (units_of text ∷ []) (bs ++ cons_option None []) = more_kept headers header [] bs (Some text) None k n b (ahead_more headers header [] bs (Some text) k n (λ z w. b)) (omega arith) (ltb-false 255 (length (units_of text)) e, tt)
@@ -186,7 +196,10 @@ second_name headers header first ns bs text k n keeps =
     let len = length-append ns (units_of text ∷ []) in
     omega (arith, one, len)
 
-at_second : (first : List ℕ) (ns bs : List (List ℕ)) (units : List ℕ) → at_name (progress_from (first ∷ ns) bs) units ≡ Ended BadRequest
+abbrev aborting : Ruling
+aborting = record { calls = Abort ∷ []; verdict = Ended BadRequest }
+
+at_second : (first : List ℕ) (ns bs : List (List ℕ)) (units : List ℕ) → at_name (progress_from (first ∷ ns) bs) units ≡ aborting
 at_second first ns [] units = refl
 at_second first ns (b ∷ bs) units = refl
 
@@ -206,9 +219,13 @@ joined-more bs octets = joined-append bs (octets ∷ []) ∙ ap (λ (xs : List �
 length-more : (bs : List (List ℕ)) (octets : List ℕ) → length (joined (bs ++ octets ∷ [])) ≡ length (joined bs) + length octets
 length-more bs octets = ap length (joined-more bs octets) ∙ length-append (joined bs) octets
 
-at_more : (first : List ℕ) (ns bs : List (List ℕ)) (octets : List ℕ) → at_body (progress_from (first ∷ ns) bs) octets ≡ at_total (length (joined (bs ++ octets ∷ [])))
-at_more first ns [] octets = ap at_total (sym (ap length (append-nil octets)))
-at_more first ns (b ∷ bs) octets = ap at_total (sym (length-more (b ∷ bs) octets))
+-- a piece more, or too many octets; what is under way is aborted either way
+abbrev in_all : ℕ → List ℕ → Ruling
+in_all total octets = cond (ltb 16777215 total) (record { calls = Abort ∷ []; verdict = Ended TooLarge }) (opens (Append octets ∷ []) (Filled total))
+
+at_more : (first : List ℕ) (ns bs : List (List ℕ)) (octets : List ℕ) → at_body (progress_from (first ∷ ns) bs) octets ≡ in_all (length (joined (bs ++ octets ∷ []))) octets
+at_more first ns [] octets = ap (λ (n : ℕ). in_all n octets) (sym (ap length (append-nil octets)))
+at_more first ns (b ∷ bs) octets = ap (λ (n : ℕ). in_all n octets) (sym (length-more (b ∷ bs) octets))
 
 filled_from : (first : List ℕ) (ns bs : List (List ℕ)) (octets : List ℕ) → Filled (length (joined (bs ++ octets ∷ []))) ≡ progress_from (first ∷ ns) (bs ++ octets ∷ [])
 filled_from first ns [] octets = refl
@@ -216,12 +233,15 @@ filled_from first ns (b ∷ bs) octets = refl
 
 body_at : (over : Bool) (headers : List PlainHeader) (header : PlainHeader) (first : List ℕ) (ns bs : List (List ℕ)) (octets : List ℕ) (stored : List Object) → Kept headers (first ∷ ns) bs → name_text header ≡ None → body_of header ≡ Some octets
     → ltb 16777215 (length (joined (bs ++ octets ∷ []))) ≡ over
-    → Follows (headers ++ header ∷ []) (cond over (Ended TooLarge) (Open (Filled (length (joined (bs ++ octets ∷ [])))))) stored
-    (record { stored = stored; pending = Some (record { name = joined (first ∷ ns); octets = joined bs ++ octets }) })
-body_at true headers header first ns bs octets stored k n b e = λ keeps.
-    let bound = subst (λ (xs : List (List ℕ)). length (joined xs) ≤ 16777215) (bodies-more headers header bs (Some octets) k.bodies_are b) keeps.bounded in
-    let no : true ≡ false = sym e ∙ le-ltb 16777215 _ bound in
-    absurd cc
+    → FollowsBy (headers ++ header ∷ []) (cond over (record { calls = Abort ∷ []; verdict = Ended TooLarge }) (opens (Append octets ∷ []) (Filled (length (joined (bs ++ octets ∷ [])))))) stored
+    (record { stored = stored; pending = Some (made_of (first ∷ ns) bs) })
+body_at true headers header first ns bs octets stored k n b e = (
+  λ keeps.
+      let bound = subst (λ (xs : List (List ℕ)). length (joined xs) ≤ 16777215) (bodies-more headers header bs (Some octets) k.bodies_are b) keeps.bounded in
+      let no : true ≡ false = sym e ∙ le-ltb 16777215 _ bound in
+      absurd cc,
+  refl,
+)
 body_at false headers header first ns bs octets stored k n b e =
     let same : (first ∷ ns) ++ map units_of (cons_option None []) ≡ first ∷ ns = append-nil (first ∷ ns) in
     let unnamed : names headers ≡ [] → body_of header ≡ None = λ z. let no : first ∷ ns ≡ [] = sym k.names_are ∙ z in absurd cc in
@@ -246,15 +266,15 @@ other_kept headers header ns bs k n b =
 
 step_at : (headers : List PlainHeader) (header : PlainHeader) (ns bs : List (List ℕ)) (name body : Option (List ℕ)) (stored : List Object) → Kept headers ns bs → name_text header ≡ name → body_of header ≡ body
     → (((text : List ℕ) → name ≡ Some text → body_of header ≡ None))
-    → Follows (headers ++ header ∷ []) (at_parts (progress_from ns bs) name body) stored (noted_parts name body (record { stored = stored; pending = pending_from ns (made_of ns bs) }))
+    → FollowsBy (headers ++ header ∷ []) (at_parts (progress_from ns bs) name body) stored (record { stored = stored; pending = pending_from ns (made_of ns bs) })
 step_at headers header [] bs (Some text) body stored k n b alone = first_name_at (ltb 255 (length (units_of text))) headers header bs text stored k n (alone text refl) refl
-step_at headers header [] bs None (Some octets) stored k n b alone = early_body headers header bs octets k n b
+step_at headers header [] bs None (Some octets) stored k n b alone = (early_body headers header bs octets k n b, refl)
 step_at headers header [] bs None None stored k n b alone = stands_by (headers ++ header ∷ []) [] bs Unnamed stored _ (other_kept headers header [] bs k n b) refl refl
 step_at headers header (first ∷ ns) bs (Some text) body stored k n b alone =
-    subst (λ (v : Verdict). Follows (headers ++ header ∷ []) v stored (noted_parts (Some text) body (record { stored = stored; pending = pending_from (first ∷ ns) (made_of (first ∷ ns) bs) }))) (sym (at_second first ns bs (units_of text)))
-    (second_name headers header first ns bs text k n)
+    subst (λ (r : Ruling). FollowsBy (headers ++ header ∷ []) r stored (record { stored = stored; pending = pending_from (first ∷ ns) (made_of (first ∷ ns) bs) })) (sym (at_second first ns bs (units_of text)))
+    (second_name headers header first ns bs text k n, refl)
 step_at headers header (first ∷ ns) bs None (Some octets) stored k n b alone =
-    subst (λ (v : Verdict). Follows (headers ++ header ∷ []) v stored (noted_parts None (Some octets) (record { stored = stored; pending = pending_from (first ∷ ns) (made_of (first ∷ ns) bs) }))) (sym (at_more first ns bs octets))
+    subst (λ (r : Ruling). FollowsBy (headers ++ header ∷ []) r stored (record { stored = stored; pending = pending_from (first ∷ ns) (made_of (first ∷ ns) bs) })) (sym (at_more first ns bs octets))
     (body_at (ltb 16777215 (length (joined (bs ++ octets ∷ [])))) headers header first ns bs octets stored k n b refl)
 step_at headers header (first ∷ ns) bs None None stored k n b alone = stands_by (headers ++ header ∷ []) (first ∷ ns) bs (progress_from (first ∷ ns) bs) stored _ (other_kept headers header (first ∷ ns) bs k n b) refl refl
 
@@ -262,24 +282,26 @@ step_at headers header (first ∷ ns) bs None None stored k n b alone = stands_b
 abbrev pub held : List Object → List PlainHeader → Contents
 held stored headers = record { stored = stored; pending = pending_of headers }
 
-step : (headers : List PlainHeader) (header : PlainHeader) (stored : List Object) → KeepsRules headers → Follows (headers ++ header ∷ []) (at_header (progress_of headers) header) stored (noted (header ∷ []) (held stored headers))
+step : (headers : List PlainHeader) (header : PlainHeader) (stored : List Object) → KeepsRules headers → FollowsBy (headers ++ header ∷ []) (at_header (progress_of headers) header) stored (held stored headers)
 step headers header stored keeps = step_at headers header (names headers) (bodies headers) (name_text header) (body_of header) stored (record { keeps = keeps; names_are = refl; bodies_are = refl }) refl refl
     (λ text e. name_is_no_body_at (eqb header.id 0x01) (eqb header.id 0x48 || eqb header.id 0x49) header.value text e)
 
 -- ---- all headers of a packet
 
-then_follows : (headers : List PlainHeader) (header : PlainHeader) (back : List PlainHeader) (stored : List Object) (verdict : Verdict) (contents : Contents)
-    → Follows (headers ++ header ∷ []) verdict stored contents
-    → (KeepsRules (headers ++ header ∷ []) → Follows ((headers ++ header ∷ []) ++ back) (after_headers (progress_of (headers ++ header ∷ [])) back) stored (noted back (held stored (headers ++ header ∷ []))))
-    → Follows (headers ++ header ∷ back) (then_at verdict (λ next. after_headers next back)) stored (noted back contents)
-then_follows headers header back stored (Open progress) contents f ih =
-    subst (λ (hs : List PlainHeader). Follows hs (after_headers progress back) stored (noted back contents)) (append_assoc headers (header ∷ []) back)
-    (subst (λ (p : Progress). Follows ((headers ++ header ∷ []) ++ back) (after_headers p back) stored (noted back contents)) (sym f.progress_is)
-    (subst (λ (c : Contents). Follows ((headers ++ header ∷ []) ++ back) (after_headers (progress_of (headers ++ header ∷ [])) back) stored (noted back c)) (sym f.contents_are) (ih f.keeps)))
-then_follows headers header back stored Whole contents f ih = absurd f
-then_follows headers header back stored (Ended code) contents f ih = λ keeps. f (rules_front (headers ++ header ∷ []) back (subst KeepsRules (sym (append_assoc headers (header ∷ []) back)) keeps))
+then_follows : (headers : List PlainHeader) (header : PlainHeader) (back : List PlainHeader) (stored : List Object) (calls : List InboxCall) (verdict : Verdict) (contents : Contents)
+    → Follows (headers ++ header ∷ []) verdict stored (all_done calls contents)
+    → (KeepsRules (headers ++ header ∷ []) → FollowsBy ((headers ++ header ∷ []) ++ back) (after_headers (progress_of (headers ++ header ∷ [])) back) stored (held stored (headers ++ header ∷ [])))
+    → FollowsBy (headers ++ header ∷ back) (then_on calls verdict (λ next. after_headers next back)) stored contents
+then_follows headers header back stored calls (Open progress) contents f ih =
+    subst (λ (hs : List PlainHeader). Follows hs (after_headers progress back).verdict stored (all_done (calls ++ (after_headers progress back).calls) contents)) (append_assoc headers (header ∷ []) back)
+    (subst (λ (c : Contents). Follows ((headers ++ header ∷ []) ++ back) (after_headers progress back).verdict stored c) (sym (all_done-append calls (after_headers progress back).calls contents))
+    (subst (λ (p : Progress). FollowsBy ((headers ++ header ∷ []) ++ back) (after_headers p back) stored (all_done calls contents)) (sym f.progress_is)
+    (subst (λ (c : Contents). FollowsBy ((headers ++ header ∷ []) ++ back) (after_headers (progress_of (headers ++ header ∷ [])) back) stored c) (sym f.contents_are) (ih f.keeps))))
+then_follows headers header back stored calls Whole contents f ih = absurd f
+then_follows headers header back stored calls (Ended code) contents f ih = (λ keeps. f.0 (rules_front (headers ++ header ∷ []) back (subst KeepsRules (sym (append_assoc headers (header ∷ []) back)) keeps)), f.1)
+then_follows headers header back stored calls (PassedOver final) contents f ih = absurd f
 
-pub follows : (headers more : List PlainHeader) (stored : List Object) → KeepsRules headers → Follows (headers ++ more) (after_headers (progress_of headers) more) stored (noted more (held stored headers))
+pub follows : (headers more : List PlainHeader) (stored : List Object) → KeepsRules headers → FollowsBy (headers ++ more) (after_headers (progress_of headers) more) stored (held stored headers)
 follows headers [] stored keeps = subst (λ (hs : List PlainHeader). Follows hs (Open (progress_of headers)) stored (held stored headers)) (sym (append-nil headers)) (record { keeps = keeps; progress_is = refl; contents_are = refl })
 follows headers (header ∷ back) stored keeps =
-    then_follows headers header back stored (at_header (progress_of headers) header) (noted (header ∷ []) (held stored headers)) (step headers header stored keeps) (λ kept. follows (headers ++ header ∷ []) back stored kept)
+    then_follows headers header back stored (at_header (progress_of headers) header).calls (at_header (progress_of headers) header).verdict (held stored headers) (step headers header stored keeps) (λ kept. follows (headers ++ header ∷ []) back stored kept)

@@ -1,5 +1,5 @@
 -- The octets of a PUT, while it is written.
-use Rattle.std.proofs.Common.{Bool, cond, ◌≡◌, ℕ, ◌+◌, ◌<◌, ◌≤◌, List, [], ◌∷◌, ◌++◌, length, take, drop, Option, sym, ap, subst, ◌∙◌, arith}
+use Rattle.std.proofs.Common.{Bool, true, false, cond, ◌≡◌, ℕ, ◌+◌, ◌<◌, ◌≤◌, List, [], ◌++◌, length, take, drop, Option, sym, ap, subst, ◌∙◌, arith}
 use Rattle.std.specs.Prelude.{IfSome}
 use Rattle.std.proofs.lemmas.List.{length-take-le, length-drop, take_at, drop-drop, take-append-drop, take-append-le}
 use Rattle.std.proofs.Math.Seq.{drop-append-add}
@@ -7,7 +7,8 @@ use Rattle.bt_base.specs.Objects.{Object, octets_of, HasAt}
 use Rattle.obex_headers.specs.Packets.{Text, Four, Octets, PlainHeader, PlainPacket, packet_octets, header_octets, headers_octets, with_header, grown}
 use Rattle.obex_headers.proofs.PacketLaws.{length-packet}
 use Rattle.obex_headers.proofs.WritingLaws.{grown_packet, length-grown}
-use Rattle.obex_session.specs.PutPackets.{put_packet, WritesPut}
+use Rattle.obex_session.specs.Responses.{single_header}
+use Rattle.obex_session.specs.PutPackets.{head_with, put_packet, WritesPut}
 
 -- ---- one header more
 
@@ -82,17 +83,32 @@ put_written final ahead n name place at end id content room old mid new stood at
 
 -- ---- the front of the first PUT of an object
 
-pub object_started : (code size bare named end : ℕ) (text room now now' now'' : List ℕ)
+object_sized : (code size bare named end : ℕ) (text room now now' now'' : List ℕ)
     → bare ≡ 3 → now ≡ packet_octets (record { code = code; extra = []; headers = [] }) ++ drop bare room
     → named ≡ bare + (3 + length text) → now' ≡ grown (take bare now) (header_octets (record { id = 0x01; value = Text text })) ++ drop named now
     → end ≡ named + 5 → now'' ≡ grown (take named now') (header_octets (record { id = 0xC3; value = Four size })) ++ drop end now'
-    → now'' ≡ packet_octets (record { code = code; extra = []; headers = record { id = 0x01; value = Text text } ∷ record { id = 0xC3; value = Four size } ∷ [] }) ++ drop end room
-object_started code size bare named end text room now now' now'' b w n w' e w'' =
+    → Stood (record { code = code; extra = []; headers = head_with false text size }) end room now''
+object_sized code size bare named end text room now now' now'' b w n w' e w'' =
     let start : PlainPacket = record { code = code; extra = []; headers = [] } in
     let name : PlainHeader = record { id = 0x01; value = Text text } in
     let length_header : PlainHeader = record { id = 0xC3; value = Four size } in
     let len = length-packet start in
     let first : Stood start bare room now = record { at_is = omega (arith, b, len); now_is = w } in
     let second : Stood (with_header start name) named room now' = one_header_more start name bare named room now now' first (omega (arith, b)) (omega (arith, n)) w' in
-    let third : Stood (with_header (with_header start name) length_header) end room now'' = one_header_more (with_header start name) length_header named end room now' now'' second (omega (arith, b, n)) e w'' in
-    third.now_is
+    one_header_more (with_header start name) length_header named end room now' now'' second (omega (arith, b, n)) e w''
+
+pub object_started : (wanted : Bool) (code size bare named sized end : ℕ) (text room now now' now'' last : List ℕ)
+    → bare ≡ 3 → now ≡ packet_octets (record { code = code; extra = []; headers = [] }) ++ drop bare room
+    → named ≡ bare + (3 + length text) → now' ≡ grown (take bare now) (header_octets (record { id = 0x01; value = Text text })) ++ drop named now
+    → sized ≡ named + 5 → now'' ≡ grown (take named now') (header_octets (record { id = 0xC3; value = Four size })) ++ drop sized now'
+    → end ≡ sized + cond wanted 2 0 → last ≡ cond wanted (grown (take sized now'') (header_octets single_header) ++ drop end now'') now''
+    → last ≡ packet_octets (record { code = code; extra = []; headers = head_with wanted text size }) ++ drop end room
+object_started true code size bare named sized end text room now now' now'' last b w n w' e w'' f z =
+    let before = object_sized code size bare named sized text room now now' now'' b w n w' e w'' in
+    let after : Stood (record { code = code; extra = []; headers = head_with true text size }) end room last =
+    one_header_more (record { code = code; extra = []; headers = head_with false text size }) single_header sized end room now'' last before (omega (arith, b, n, e)) f z in
+    after.now_is
+object_started false code size bare named sized end text room now now' now'' last b w n w' e w'' f z =
+    let before = object_sized code size bare named sized text room now now' now'' b w n w' e w'' in
+    let same : sized ≡ end = omega (arith, f) in
+    z ∙ before.now_is ∙ ap (λ (k : ℕ). packet_octets (record { code = code; extra = []; headers = head_with false text size }) ++ drop k room) same

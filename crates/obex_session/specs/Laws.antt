@@ -1,15 +1,11 @@
 -- Laws of what packets store, for every list of them.
-use Rattle.std.specs.Prelude.{◌≡◌, ℕ, ◌≤◌, ◌==◌, ◌&&◌, ◌++◌, false, List, length, map, take, is_some, slice_index, Some, if◌then◌else◌}
+use Rattle.std.specs.Prelude.{◌≡◌, ℕ, ◌≤◌, false, List, length, map}
 use Rattle.std.specs.List.{AllByRecursion}
-use Rattle.bt_base.specs.Objects.{Object, Contents}
 use Rattle.obex_headers.specs.Runs.{spelled}
-use Rattle.obex_session.specs.declared.responding.ResponseCode.TheVariants.{InternalError}
-use Rattle.obex_session.specs.declared.ruling.Progress.{Progress}
-use Rattle.obex_session.specs.declared.ruling.Verdict.TheVariants.{Ended}
-use Rattle.obex_session.specs.declared.server.Reply.TheVariants.{Respond}
-use Rattle.obex_session.specs.Rules.{verdict_on, is_under_way}
+use Rattle.obex_session.specs.declared.codes.Code.TheVariants.{InternalError}
+use Rattle.obex_session.specs.declared.course.Verdict.TheVariants.{Ended}
 use Rattle.obex_session.specs.Past.{Heard, Serving, stored_by}
-use Rattle.obex_session.specs.Serving.{Hears}
+use Rattle.obex_session.specs.Serving.{ruling_on}
 
 -- packets that were heard while no call of the inbox failed
 abbrev pub without_fault : List (List ℕ) → List Heard
@@ -21,18 +17,4 @@ StoresWhatIsSpelled = (maximum : ℕ) (packets : List (List ℕ)) → maximum �
 
 -- no rule answers D0: it is left for an inbox that failed
 abbrev pub NoRuleFails : Type 0
-NoRuleFails = (maximum : ℕ) (progress : Progress) (packet : List ℕ) → verdict_on maximum progress packet ≡ Ended InternalError → ⊥
-
--- One object is stored behind those that were, where success (A0) answers a final PUT (82), and none otherwise. What is
--- pending is what is under way.
-pub record Stores (request response : List ℕ) (before after : Contents) (progress : Progress) : Type 0 where
-  pub gained : List Object
-  pub stored : after.stored ≡ before.stored ++ gained
-  pub counted : length gained ≡ (if (slice_index request 0 == 0x82) && (slice_index response 0 == 0xA0) then 1 else 0)
-  pub pending : is_some after.pending ≡ is_under_way progress
-
--- a session that answers a packet over an inbox that tells what it holds
-abbrev pub StoresAsAnswered : Type 0
-StoresAsAnswered = (session session' : Serving) (packet : List ℕ) (before after : Contents) (faults faults' shortages shortages' : ℕ) (room written : List ℕ) (count : ℕ)
-    → Hears session session' packet (Some before) (Some after) faults faults' shortages shortages' room written (Respond count) → is_some before.pending ≡ is_under_way session.progress
-    → Stores packet (take count written) before after session'.progress
+NoRuleFails = (session : Serving) (packet : List ℕ) → (ruling_on session packet).verdict ≡ Ended InternalError → ⊥

@@ -7,8 +7,10 @@ use Rattle.obex_headers.specs.declared.packet.Phase.TheVariants.{Request}
 use Rattle.obex_headers.specs.Packets.{PlainHeader, PlainPacket}
 use Rattle.obex_headers.specs.Reading.{packet_in}
 use Rattle.obex_headers.specs.Runs.{put_of, names, bodies, joined, run_headers, breaks, is_final, object_of, objects_from}
-use Rattle.obex_session.specs.declared.ruling.Progress.{Progress}
-use Rattle.obex_session.specs.declared.ruling.Progress.TheVariants.{Unnamed, Named, Filled}
+use Rattle.obex_session.specs.declared.course.Progress.{Progress}
+use Rattle.obex_session.specs.declared.course.Progress.TheVariants.{Unnamed, Named, Filled}
+use Rattle.obex_session.specs.declared.course.Course.{Course}
+use Rattle.obex_session.specs.Rules.{progress_in}
 
 -- a packet that was heard: its octets, and whether a call of the inbox failed at it
 abbrev pub Heard : Type 0
@@ -56,12 +58,13 @@ pending_of headers = pending_from (names headers) (object_of headers)
 
 -- ---- a session, after these packets
 
--- what clauses see of a session: the greatest length of a packet, and what stands of the object under way
+-- what clauses see of a session: the greatest length of a packet, whether it offers single response mode, and its course
 pub record Serving : Type 0 where
   pub maximum : ℕ
-  pub progress : Progress
+  pub offered : Bool
+  pub course : Course
 
--- a session that heard these packets, over an inbox that held `before` when it began
+-- a session that heard these packets, over an inbox of its own that held `before` when it began
 pub record StandsFor (before : List Object) (past : List Heard) (session : Serving) (content : Option Contents) : Type 0 where
-  pub progress : session.progress ≡ progress_of (open_headers session.maximum past)
+  pub progress : progress_in session.course ≡ progress_of (open_headers session.maximum past)
   pub holds : IfSome content (λ contents. contents ≡ record { stored = before ++ stored_by session.maximum past; pending = pending_of (open_headers session.maximum past) })

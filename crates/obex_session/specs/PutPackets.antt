@@ -9,13 +9,14 @@ use Rattle.bt_base.specs.Memory.{reaches}
 use Rattle.obex_headers.specs.declared.packet.Phase.TheVariants.{Request}
 use Rattle.obex_headers.specs.Packets.{Text, Octets, Four, PlainHeader, PlainPacket, IsPacket, text_octets, headers_octets, packet_octets}
 use Rattle.obex_headers.specs.Runs.{joined, spelled}
+use Rattle.obex_session.specs.Responses.{single_header}
 
--- Name (01), and Length (C3) with the octets of the whole object
-abbrev pub head_with : List ℕ → ℕ → List PlainHeader
-head_with text size = record { id = 0x01; value = Text text } ∷ record { id = 0xC3; value = Four size } ∷ []
+-- Name (01), Length (C3) with the octets of the whole object, and where it is wanted, single response mode
+abbrev pub head_with : Bool → List ℕ → ℕ → List PlainHeader
+head_with wanted text size = record { id = 0x01; value = Text text } ∷ record { id = 0xC3; value = Four size } ∷ (if wanted then single_header ∷ [] else [])
 
-abbrev pub head_of : List ℕ → ℕ → List PlainHeader
-head_of units size = head_with (text_octets units) size
+abbrev pub head_of : Bool → List ℕ → ℕ → List PlainHeader
+head_of wanted units size = head_with wanted (text_octets units) size
 
 -- Body (48), or End of Body (49) in the final packet
 abbrev pub body_header : Bool → List ℕ → PlainHeader
@@ -30,14 +31,14 @@ abbrev pub packets_from : List PlainHeader → List (List ℕ) → List ℕ → 
 packets_from ahead [] last = put_packet true ahead last ∷ []
 packets_from ahead (part ∷ parts) last = put_packet false ahead part ∷ packets_from [] parts last
 
-abbrev pub object_packets : List ℕ → ℕ → List (List ℕ) → List ℕ → List PlainPacket
-object_packets units size parts last = packets_from (head_of units size) parts last
+abbrev pub object_packets : Bool → List ℕ → ℕ → List (List ℕ) → List ℕ → List PlainPacket
+object_packets wanted units size parts last = packets_from (head_of wanted units size) parts last
 
 -- however the body of an object of at most 16,777,215 octets is cut, its packets spell it
 abbrev pub SpellsWhatIsPut : Type 0
-SpellsWhatIsPut = (units : List ℕ) (size : ℕ) (parts : List (List ℕ)) (last : List ℕ) → AllByRecursion (λ unit. unit < 2 ^ 16) units → length units ≤ 255 → length (joined parts ++ last) ≤ 16777215
-    → AllByRecursion (IsPacket Request) (object_packets units size parts last)
-    → spelled (map packet_octets (object_packets units size parts last)) ≡ record { name = units; octets = joined parts ++ last } ∷ []
+SpellsWhatIsPut = (wanted : Bool) (units : List ℕ) (size : ℕ) (parts : List (List ℕ)) (last : List ℕ) → AllByRecursion (λ unit. unit < 2 ^ 16) units → length units ≤ 255 → length (joined parts ++ last) ≤ 16777215
+    → AllByRecursion (IsPacket Request) (object_packets wanted units size parts last)
+    → spelled (map packet_octets (object_packets wanted units size parts last)) ≡ record { name = units; octets = joined parts ++ last } ∷ []
 
 -- the UTF-16 units of a name in UTF-8 (The Unicode Standard, 3.9)
 abbrev pub units_in : List ℕ → List ℕ
@@ -45,13 +46,13 @@ units_in name = flat_map encode_utf16 (chars name)
 
 -- ---- how a packet is cut
 
--- the headers ahead of the body: Name and Length in the first packet of an object, and none in the others
-abbrev pub ahead_with : Option ℕ → List ℕ → ℕ → List PlainHeader
-ahead_with None text size = head_with text size
-ahead_with (Some place) text size = []
+-- the headers ahead of the body: those of the head in the first packet of an object, and none in the others
+abbrev pub ahead_with : Bool → Option ℕ → List ℕ → ℕ → List PlainHeader
+ahead_with wanted None text size = head_with wanted text size
+ahead_with wanted (Some place) text size = []
 
-abbrev pub ahead_of : Option ℕ → List ℕ → ℕ → List PlainHeader
-ahead_of put name size = ahead_with put (text_octets (units_in name)) size
+abbrev pub ahead_of : Bool → Option ℕ → List ℕ → ℕ → List PlainHeader
+ahead_of wanted put name size = ahead_with wanted put (text_octets (units_in name)) size
 
 -- how many octets of the object were put before
 abbrev pub place_of : Option ℕ → ℕ

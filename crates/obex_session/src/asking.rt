@@ -1,11 +1,13 @@
-//! Requests that wait for their responses.
+//! Requests that have no response yet.
 
-ghost use Rattle.std.specs.Prelude.{◌≡◌, if◌then◌else◌};
+ghost use Rattle.std.specs.Prelude.{◌≡◌};
 ghost use Rattle.obex_headers.specs.Packets.{HasFields};
-ghost use Rattle.obex_session.specs.Asking.{phase_of, awaited_code, success_of, limit_by};
-ghost use Rattle.obex_session.specs.declared.asking.Request.TheVariants.{Put, FinalPut};
+ghost use Rattle.obex_session.specs.Asking.{phase_of, awaited_code, success_of, limit_by, single_by};
+ghost use Rattle.obex_session.specs.NextPut.{is_waiting, put_request};
 
 use crate::client::Answered;
+use crate::codes::Code;
+use crate::marks::Marks;
 use byteorder::{BigEndian, ByteOrder};
 use obex_headers::{Packet, Phase};
 
@@ -14,9 +16,14 @@ use obex_headers::{Packet, Phase};
 pub(crate) enum Request {
     /// CONNECT.
     Connect,
-    /// A PUT that is not final.
+    /// The first PUT of an object, which is not final.
+    FirstPut,
+    /// A further PUT that is not final.
     Put,
-    /// A final PUT.
+    /// PUTs behind the first in single response mode, and none of them final: more follow before the
+    /// response.
+    Stream,
+    /// A final PUT; in single response mode those behind the first, with the final one.
     FinalPut,
     /// ABORT.
     Abort,
@@ -25,12 +32,16 @@ pub(crate) enum Request {
 }
 
 impl Request {
-    /// A PUT, final or not.
-    pub(crate) fn of_put(is_final: bool) -> Request
-        ensures { result ≡ (if is_final then FinalPut else Put) }
+    /// A PUT: the final one, the first, or one between.
+    pub(crate) fn of_put(is_first: bool, is_final: bool, single: bool) -> Request
+        ensures { result ≡ put_request is_first is_final single }
     {
         if is_final {
             Request::FinalPut
+        } else if is_first {
+            Request::FirstPut
+        } else if single {
+            Request::Stream
         } else {
             Request::Put
         }
@@ -51,8 +62,8 @@ impl Request {
         ensures { result ≡ awaited_code self }
     {
         match self {
-            Request::Put => 0x90,
-            _ => 0xA0,
+            Request::FirstPut | Request::Put => Code::Continue.octet(),
+            _ => Code::Success.octet(),
         }
     }
 
@@ -64,6 +75,26 @@ impl Request {
             Request::FinalPut => Answered::Done,
             _ => Answered::Go,
         }
+    }
+
+    /// Whether the object is in single response mode after a response with these marks.
+    pub(crate) fn single_by(self, wanted: bool, single: bool, marks: Marks) -> bool
+        ensures { result ≡ single_by self wanted single marks }
+    {
+        match self {
+            Request::FirstPut => wanted && marks.single,
+            _ => single,
+        }
+    }
+}
+
+/// Whether nothing may be put before a response comes.
+pub(crate) fn is_waiting(awaited: Option<Request>) -> bool
+    ensures { result ≡ is_waiting awaited }
+{
+    match awaited {
+        None | Some(Request::Stream) => false,
+        Some(_) => true,
     }
 }
 

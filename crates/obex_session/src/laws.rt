@@ -1,8 +1,11 @@
-//! Laws of what packets store, for every list of them. They speak of no call: the contracts of the
-//! calls tie these to the same definitions.
+//! Laws of sessions and of what packets store, for every list of them. They speak of no call: the
+//! contracts of the calls tie these to the same definitions.
 
-ghost use Rattle.obex_session.specs.Laws.{NoRuleFails, StoresAsAnswered, StoresWhatIsSpelled};
-ghost use Rattle.obex_session.specs.PushReplies.{AnswersPush};
+ghost use Rattle.obex_session.specs.Exchanges.{ResponsesAreRead, SuccessIsStored};
+ghost use Rattle.obex_session.specs.Laws.{NoRuleFails, StoresWhatIsSpelled};
+ghost use Rattle.obex_session.specs.ObjectPuts.{PutsInOrder, SpellsTheObject};
+ghost use Rattle.obex_session.specs.Pairs.{PairsMeanWell};
+ghost use Rattle.obex_session.specs.Pushes.{FrontsArePushed};
 ghost use Rattle.obex_session.specs.PutPackets.{SpellsWhatIsPut};
 
 /// Where the inbox never failed, the objects that the packets spell were stored.
@@ -20,13 +23,34 @@ pub fn put_is_spelled()
     ensures { SpellsWhatIsPut }
 {}
 
-/// An object is stored exactly where success answers a final PUT.
-pub fn success_says_what_is_stored()
-    ensures { StoresAsAnswered }
+/// Packet for packet, what a client's session puts of an object are that object's packets, with the
+/// octets of the shelf.
+pub fn puts_are_in_order()
+    ensures { PutsInOrder }
 {}
 
-/// A session that rests answers the packets of a push with success and stores its object. Only the
-/// PUT asks the inbox for something, and is answered otherwise where a call of it failed.
-pub fn push_is_answered()
-    ensures { AnswersPush }
+/// All packets that a client's session puts of an object spell it.
+pub fn whole_put_is_the_object()
+    ensures { SpellsTheObject }
+{}
+
+/// A client's session takes a response of a server by its code, and never as none.
+pub fn responses_are_read()
+    ensures { ResponsesAreRead }
+{}
+
+/// An object more is stored exactly where success is said to a PUT, and that one is final.
+pub fn success_is_stored()
+    ensures { SuccessIsStored }
+{}
+
+/// Whatever front of a push a server heard, it spells the pushed object once or nothing.
+pub fn fronts_are_pushed()
+    ensures { FrontsArePushed }
+{}
+
+/// Two sessions over a pipe: the client is never answered badly, and where it takes the success of
+/// its final PUT, the server has stored its object.
+pub fn pairs_mean_well()
+    ensures { PairsMeanWell }
 {}

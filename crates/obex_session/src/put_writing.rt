@@ -4,10 +4,12 @@ ghost use Rattle.std.specs.Prelude.{◌≡◌, ◌+◌, ◌<◌, ◌≤◌, ◌+
 ghost use Rattle.bt_base.specs.Counts.{HasCause};
 ghost use Rattle.bt_base.specs.Objects.{HasAt, octets_of};
 ghost use Rattle.obex_headers.specs.Packets.{Text, Four, IsText, PlainHeader, packet_octets, header_octets, headers_octets, grown};
-ghost use Rattle.obex_session.specs.PutPackets.{Reaches, WritesPut, ahead_of, ahead_with, place_of, room_in, units_in};
+ghost use Rattle.obex_session.specs.Responses.{single_header};
+ghost use Rattle.obex_session.specs.PutPackets.{Reaches, WritesPut, ahead_of, ahead_with, head_with, place_of, room_in, units_in};
 
-use crate::codes::{BODY, END_OF_BODY, FINAL_PUT, LENGTH, NAME, PUT};
+use crate::codes::{BODY, Code, END_OF_BODY, LENGTH, NAME};
 use crate::naming::name_text;
+use crate::responding::add_single;
 use bt_base::{PortFault, Shelf};
 use obex_headers::{Header, HeaderValue, add_header, add_placed, start_packet};
 
@@ -17,8 +19,8 @@ pub(crate) fn start_put(is_final: bool, into: &mut [u8]) -> usize
     ensures len { result ≡ 3 }
     ensures written { into.new ≡ packet_octets (record { code = if is_final then 0x82 else 0x02; extra = []; headers = [] }) ++ drop result into.old }
 {
-    let code = if is_final { FINAL_PUT } else { PUT };
-    start_packet(code, &[], into)
+    let code = if is_final { Code::FinalPut } else { Code::Put };
+    start_packet(code.octet(), &[], into)
 }
 
 fn add_name(text: &[u8], at: usize, into: &mut [u8]) -> usize
@@ -51,17 +53,35 @@ fn add_length(size: u32, at: usize, into: &mut [u8]) -> usize
     add_header(&length, at, into)
 }
 
-/// Starts the first PUT of an object: Name and Length.
-pub(crate) fn start_object(is_final: bool, text: &[u8], size: u32, into: &mut [u8]) -> usize
+/// Adds the header that enables single response mode, where it is wanted.
+fn add_wish(wanted: bool, at: usize, into: &mut [u8]) -> usize
+    requires started { 3 ≤ at }
+    requires room { at + 2 ≤ length into.old }
+    requires fits { at < 32768 }
+    ensures len { result ≡ at + (if wanted then 2 else 0) }
+    ensures written { into.new ≡ (if wanted then grown (take at into.old) (header_octets single_header) ++ drop result into.old else into.old) }
+{
+    if wanted { add_single(at, into) } else { at }
+}
+
+/// Starts the first PUT of an object: Name, Length, and single response mode where it is wanted.
+pub(crate) fn start_object(
+    is_final: bool,
+    wanted: bool,
+    text: &[u8],
+    size: u32,
+    into: &mut [u8],
+) -> usize
     requires sound { IsText text.now }
     requires short { length text.now ≤ 202 }
-    requires room { 11 + length text.now ≤ length into.old }
-    ensures len { result ≡ 11 + length text.now }
-    ensures written { into.new ≡ packet_octets (record { code = if is_final then 0x82 else 0x02; extra = []; headers = record { id = 0x01; value = Text text.now } ∷ record { id = 0xC3; value = Four size } ∷ [] }) ++ drop result into.old }
+    requires room { 13 + length text.now ≤ length into.old }
+    ensures len { result ≡ 11 + length text.now + (if wanted then 2 else 0) }
+    ensures written { into.new ≡ packet_octets (record { code = if is_final then 0x82 else 0x02; extra = []; headers = head_with wanted text.now size }) ++ drop result into.old }
 {
     let bare = start_put(is_final, into);
     let named = add_name(text, bare, into);
-    add_length(size, named, into)
+    let sized = add_length(size, named, into);
+    add_wish(wanted, sized, into)
 }
 
 /// Reads a part of an object to where a body's octets stand. Nothing is asked for no octets.
@@ -79,7 +99,7 @@ pub(crate) fn read_part<F: Shelf>(
     ensures told { OnOk result (0 < n → IfSome (F.content shelf.old) (λ objects. HasAt place (take n (drop at into.new)) (octets_of name.now objects))) }
     ensures content { F.content shelf.new ≡ F.content shelf.old }
     ensures cause { HasCause (F.faults shelf.old) (F.faults shelf.new) (F.shortages shelf.old) (F.shortages shelf.new) result }
-    ensures absence { Reaches (place + n) name.now (F.content shelf.old) → F.absences shelf.new ≡ F.absences shelf.old }
+    ensures absence { (0 < n → Reaches (place + n) name.now (F.content shelf.old)) → F.absences shelf.new ≡ F.absences shelf.old }
 {
     if n == 0 {
         return Ok(());
@@ -111,7 +131,7 @@ pub(crate) fn write_body<F: Shelf>(
         WritesPut is_final ahead n name.now place (F.content shelf.old) room into.new count) }
     ensures content { F.content shelf.new ≡ F.content shelf.old }
     ensures cause { HasCause (F.faults shelf.old) (F.faults shelf.new) (F.shortages shelf.old) (F.shortages shelf.new) result }
-    ensures absence { Reaches (place + n) name.now (F.content shelf.old) → F.absences shelf.new ≡ F.absences shelf.old }
+    ensures absence { (0 < n → Reaches (place + n) name.now (F.content shelf.old)) → F.absences shelf.new ≡ F.absences shelf.old }
 {
     read_part(name, place, n, at + 3, shelf, into)?;
     Ok(add_placed(body_id(is_final), n, at, into))
@@ -144,11 +164,10 @@ impl Part {
 
 /// The next part of an object of `size` octets, in a packet that has room for so many.
 fn next_part(put: Option<u32>, size: u32, room: usize) -> Part
-    requires { place_of put ≤ size }
     ensures { result ≡ record { place = place_of put; len = min (size - place_of put) room; is_final = nat_le (size - place_of put) room } }
 {
     let place = put.unwrap_or(0);
-    let left = (size - place) as usize;
+    let left = size.saturating_sub(place) as usize;
     Part {
         place,
         len: left.min(room),
@@ -157,26 +176,35 @@ fn next_part(put: Option<u32>, size: u32, room: usize) -> Part
 }
 
 /// How many octets stand ahead of the body's header.
-fn front_len(put: Option<u32>, text: &[u8], size: u32) -> usize
-    ensures { result ≡ 3 + length (headers_octets (ahead_with put text.now size)) }
+fn front_len(wanted: bool, put: Option<u32>, text: &[u8], size: u32) -> usize
+    requires { length text.now ≤ 202 }
+    ensures { result ≡ 3 + length (headers_octets (ahead_with wanted put text.now size)) }
 {
     let _size = size;
-    match put {
-        None => 11 + text.len(),
-        Some(_) => 3,
+    match (put, wanted) {
+        (None, true) => 13 + text.len(),
+        (None, false) => 11 + text.len(),
+        (Some(_), _) => 3,
     }
 }
 
 /// Writes what stands ahead of the body's header.
-fn start(put: Option<u32>, is_final: bool, text: &[u8], size: u32, into: &mut [u8]) -> usize
+fn start(
+    wanted: bool,
+    put: Option<u32>,
+    is_final: bool,
+    text: &[u8],
+    size: u32,
+    into: &mut [u8],
+) -> usize
     requires sound { IsText text.now }
     requires short { length text.now ≤ 202 }
-    requires room { 11 + length text.now ≤ length into.old }
-    ensures len { result ≡ 3 + length (headers_octets (ahead_with put text.now size)) }
-    ensures written { into.new ≡ packet_octets (record { code = if is_final then 0x82 else 0x02; extra = []; headers = ahead_with put text.now size }) ++ drop result into.old }
+    requires room { 13 + length text.now ≤ length into.old }
+    ensures len { result ≡ 3 + length (headers_octets (ahead_with wanted put text.now size)) }
+    ensures written { into.new ≡ packet_octets (record { code = if is_final then 0x82 else 0x02; extra = []; headers = ahead_with wanted put text.now size }) ++ drop result into.old }
 {
     match put {
-        None => start_object(is_final, text, size, into),
+        None => start_object(is_final, wanted, text, size, into),
         Some(_) => start_put(is_final, into),
     }
 }
@@ -184,6 +212,7 @@ fn start(put: Option<u32>, is_final: bool, text: &[u8], size: u32, into: &mut [u
 /// Writes the next PUT of an object, in at most `limit` octets, and answers how many octets it has
 /// and what part of the object.
 pub(crate) fn write_put<F: Shelf>(
+    wanted: bool,
     put: Option<u32>,
     name: &str,
     size: u32,
@@ -192,19 +221,18 @@ pub(crate) fn write_put<F: Shelf>(
     into: &mut [u8],
 ) -> Result<(usize, Part), PortFault>
     requires few { length (units_in name.now) ≤ 100 }
-    requires place { place_of put ≤ size }
     requires least { 255 ≤ limit }
     requires room { limit ≤ length into.old }
-    ensures part { IfOk result (λ done. done.1 ≡ record { place = place_of put; len = min (size - place_of put) (room_in limit (ahead_of put name.now size)); is_final = nat_le (size - place_of put) (room_in limit (ahead_of put name.now size)) }) }
-    ensures written { IfOk result (λ done. WritesPut done.1.is_final (ahead_of put name.now size) done.1.len name.now done.1.place (F.content shelf.old) into.old into.new done.0) }
+    ensures part { IfOk result (λ done. done.1 ≡ record { place = place_of put; len = min (size - place_of put) (room_in limit (ahead_of wanted put name.now size)); is_final = nat_le (size - place_of put) (room_in limit (ahead_of wanted put name.now size)) }) }
+    ensures written { IfOk result (λ done. WritesPut done.1.is_final (ahead_of wanted put name.now size) done.1.len name.now done.1.place (F.content shelf.old) into.old into.new done.0) }
     ensures content { F.content shelf.new ≡ F.content shelf.old }
     ensures cause { HasCause (F.faults shelf.old) (F.faults shelf.new) (F.shortages shelf.old) (F.shortages shelf.new) result }
     ensures absence { Reaches size name.now (F.content shelf.old) → F.absences shelf.new ≡ F.absences shelf.old }
 {
     let text = name_text(name);
-    let front = front_len(put, &text, size);
+    let front = front_len(wanted, put, &text, size);
     let part = next_part(put, size, limit as usize - (3 + front));
-    let at = start(put, part.is_final, &text, size, into);
+    let at = start(wanted, put, part.is_final, &text, size, into);
     let count = write_body(part.is_final, name, part.place, part.len, at, shelf, into)?;
     Ok((count, part))
 }

@@ -1,16 +1,17 @@
 //! The session of a server.
 
-ghost use Rattle.std.specs.Prelude.{false, ◌≡◌, ◌≤◌, [], List, Option, None, length, IfSome};
+ghost use Rattle.std.specs.Prelude.{true, false, ◌≡◌, ◌≤◌, [], List, Option, None, length, IfSome};
 ghost use Rattle.bt_base.specs.Objects.{Object, Contents};
-ghost use Rattle.obex_session.specs.declared.ruling.Progress.TheVariants.{Unnamed};
-ghost use Rattle.obex_session.specs.Asks.{IsUnasked};
+ghost use Rattle.obex_session.specs.declared.course.Course.TheVariants.{Rests};
 ghost use Rattle.obex_session.specs.Past.{StandsFor};
-ghost use Rattle.obex_session.specs.Rules.{is_under_way};
-ghost use Rattle.obex_session.specs.Serving.{Hears, LetsGo, CountsShortages};
+ghost use Rattle.obex_session.specs.Rules.{is_under_way, progress_in};
+ghost use Rattle.obex_session.specs.Serving.{Hears, LetsGo, CountsShortages, IsUnasked, minds_inbox};
 
-use crate::hearing::{end, hear};
-use crate::responding::{ResponseCode, respond};
-use crate::ruling::{Progress, progress_after, response_to};
+use crate::codes::Code;
+use crate::course::Course;
+use crate::hearing::hear;
+use crate::putting::end;
+use crate::responding::{said_after, say};
 use bt_base::{Inbox, NoMemory, PortFault};
 use std::marker::Model;
 
@@ -19,6 +20,8 @@ use std::marker::Model;
 pub enum Reply {
     /// A response, with how many octets it has.
     Respond(usize),
+    /// None, as single response mode has it.
+    Silent,
     /// The inbox found no memory: there is no response.
     NoMemory,
 }
@@ -26,12 +29,13 @@ pub enum Reply {
 /// The server's side of an OBEX connection: it stores the objects that PUT packets spell, and
 /// answers each packet (IrOBEX 1.5, 3.4; Object Push Profile 1.2, 4.3).
 ///
-/// A clause sees a session by the greatest length of a packet that it takes, and by what stands of
-/// the object under way.
+/// A clause sees a session by the greatest length of a packet that it takes, by whether it offers
+/// single response mode, and by where it is in its packets.
 #[derive(Debug, Drop)]
 pub struct ServerSession {
     maximum: u16,
-    progress: Progress,
+    offered: bool,
+    course: Course,
 }
 
 impl Model for ServerSession {
@@ -40,24 +44,32 @@ impl Model for ServerSession {
 
     ghost Value = { Serving };
 
-    ghost view = { λ session. record { maximum = session.maximum; progress = session.progress } };
+    ghost view = { λ session. record { maximum = session.maximum; offered = session.offered; course = session.course } };
 
     ghost invariant = { λ session. (255 ≤ session.maximum) × (session.maximum ≤ 32767) };
 }
 
 impl ServerSession {
-    /// A session that takes packets of at most `maximum` octets, from 255 to 32,767, and has no
-    /// object under way.
-    pub fn new(maximum: u16) -> ServerSession
+    /// A session that takes packets of at most `maximum` octets, from 255 to 32,767, has heard none,
+    /// and offers single response mode or does not.
+    pub fn new(maximum: u16, offered: bool) -> ServerSession
         requires least { 255 ≤ maximum }
         requires most { maximum ≤ 32767 }
-        ensures session { result ≡ record { maximum = maximum; progress = Unnamed } }
+        ensures session { result ≡ record { maximum = maximum; offered = offered; course = Rests } }
         ensures history { (before : List Object) (content : Option Contents) → IfSome content (λ contents. contents ≡ record { stored = before; pending = None }) → StandsFor before [] result content }
     {
         ServerSession {
             maximum,
-            progress: Progress::Unnamed,
+            offered,
+            course: Course::Rests,
         }
+    }
+
+    /// Whether an object is under way: it was begun in the inbox, and neither stored nor aborted.
+    pub fn is_under_way(&self) -> bool
+        ensures { result ≡ is_under_way (progress_in self.now.course) }
+    {
+        self.course.progress().is_under_way()
     }
 
     /// Does what a packet asks for, and writes the response to the front of `into`.
@@ -72,39 +84,44 @@ impl ServerSession {
     /// memory. The response to what begins with 80 has version 1.0, no flags and the session's
     /// maximum.
     ///
+    /// Where the session offers single response mode and the first PUT of an object enables it (97
+    /// 01), the answer to that PUT confirms it (97 01), and of the others only the final one and a
+    /// refusal are answered: the rest is `Silent`. After such a refusal, unless that of a final PUT,
+    /// PUTs without a Name are passed over in silence, up to and with a final one.
+    ///
     /// The inbox is asked only to note a Name and a body that break no rule, to store an object that
     /// is whole, and to drop one that is under way. A packet that asks none of this leaves it as it
     /// was, and is answered neither D0 nor `NoMemory`.
     ///
-    /// It needs at least 7 octets of room, and an inbox whose pending object is the session's own.
+    /// It needs at least 7 octets of room, and an inbox whose pending object is the session's own,
+    /// where one is under way; with a PUT with a Name and none under way, none may be pending.
     pub fn on_packet<B: Inbox>(&mut self, packet: &[u8], inbox: &mut B, into: &mut [u8]) -> Reply
         requires room { 7 ≤ length into.old }
-        requires pending { B.is_pending inbox.old ≡ is_under_way self.old.progress }
+        requires pending { minds_inbox self.old packet.now ≡ true → B.is_pending inbox.old ≡ is_under_way (progress_in self.old.course) }
         ensures hears { Hears self.old self.new packet.now (B.content inbox.old) (B.content inbox.new) (B.faults inbox.old) (B.faults inbox.new) (B.shortages inbox.old) (B.shortages inbox.new) into.old into.new result }
-        ensures pending { B.is_pending inbox.new ≡ is_under_way self.new.progress }
+        ensures pending { minds_inbox self.old packet.now ≡ true → B.is_pending inbox.new ≡ is_under_way (progress_in self.new.course) }
+        ensures unasked { minds_inbox self.old packet.now ≡ false → B.is_pending inbox.new ≡ B.is_pending inbox.old }
+        ensures none { minds_inbox self.old packet.now ≡ false → is_under_way (progress_in self.new.course) ≡ false }
     {
-        let outcome = hear(self.maximum, self.progress, packet, inbox);
-        self.progress = progress_after(outcome);
-        let Some(code) = response_to(outcome) else {
-            return Reply::NoMemory;
-        };
-        Reply::Respond(respond(packet, self.maximum, code, into))
+        let heard = hear(self.maximum, self.course, packet, inbox);
+        let saying = said_after(self.offered, self.course, heard.kind, heard.outcome);
+        self.course = self.course.after(self.offered, heard.kind, heard.outcome);
+        say(saying, packet, self.maximum, into)
     }
 
     /// Notes that the link went down: an object under way is dropped; where there is none, the inbox
-    /// is not called. `NoMemory` is answered where the inbox found no memory; where it failed
-    /// otherwise, that is passed over.
+    /// is not called. The session is as a new one then. `NoMemory` is answered where the inbox found
+    /// no memory; where it failed otherwise, that is passed over.
     ///
-    /// It needs an inbox whose pending object is the session's own.
+    /// It needs an inbox whose pending object is the session's own, where one is under way.
     pub fn link_down<B: Inbox>(&mut self, inbox: &mut B) -> Result<(), NoMemory>
-        requires pending { B.is_pending inbox.old ≡ is_under_way self.old.progress }
         ensures lets_go { LetsGo self.old self.new (B.content inbox.old) (B.content inbox.new) }
-        ensures pending { B.is_pending inbox.new ≡ is_under_way self.new.progress }
-        ensures unasked { is_under_way self.old.progress ≡ false → IsUnasked (B.content inbox.old) (B.content inbox.new) (B.faults inbox.old) (B.faults inbox.new) (B.shortages inbox.old) (B.shortages inbox.new) result }
+        ensures pending { is_under_way (progress_in self.old.course) ≡ true → B.is_pending inbox.new ≡ false }
+        ensures unasked { is_under_way (progress_in self.old.course) ≡ false → IsUnasked (B.is_pending inbox.old) (B.is_pending inbox.new) (B.faults inbox.old) (B.faults inbox.new) (B.shortages inbox.old) (B.shortages inbox.new) result }
         ensures counts { CountsShortages (B.faults inbox.old) (B.faults inbox.new) (B.shortages inbox.old) (B.shortages inbox.new) result }
     {
-        let ended = end(self.progress, ResponseCode::Success, inbox);
-        self.progress = Progress::Unnamed;
+        let ended = end(self.course.progress(), Code::Success, inbox);
+        self.course = Course::Rests;
         match ended {
             Err(PortFault::NoMemory) => Err(NoMemory),
             _ => Ok(()),

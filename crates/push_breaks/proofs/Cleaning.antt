@@ -3,22 +3,22 @@ use Rattle.std.proofs.Common.{◌≡◌, ℕ, List, [], ◌∷◌, drop, Bool, t
 use Rattle.std.specs.Prelude.{◌==◌}
 use Rattle.bt_base.specs.Objects.{Object, Contents, aborted}
 use Rattle.h4_framing.specs.Packets.{Packet}
-use Rattle.push_script.specs.declared.word.Side.TheVariants as sides
-use Rattle.obex_session.specs.declared.server.Reply.TheVariants.{Respond}
-use Rattle.obex_session.specs.declared.ruling.Progress.{Progress}
-use Rattle.obex_session.specs.Past.{Serving as Session}
-use Rattle.obex_session.specs.Rules.{is_under_way}
-use Rattle.obex_session.proofs.CleaningLaws.{clean, clean_hears, clean_goes}
-use Rattle.host_link.specs.Lines.{Line}
-use Rattle.host_link.specs.Hearing.{PlainNews, Nothing, LinkUp, LinkFailed, LinkDown, Pdu, news_of}
-use Rattle.host_link.specs.PuttingOut.{is_waiting}
-use Rattle.bt_host.specs.Channels.{Channel, fresh, hears, is_accepted}
-use Rattle.bt_host.specs.Clients.{commands_in}
-use Rattle.bt_host.specs.Servers.{Served, Server, Kept, kept, stored_in, after_commands, LeavesSession, LetsGo, HearsPacket, WhereTrue, NotesCommands, NotesPayload, Notes}
-use Rattle.world_model.specs.Insides.{Inside, Pushing, Serving, Tells}
-use Rattle.world_model.specs.Faces.{Face}
-use Rattle.world_model.specs.Moments.{Moment, IsAtRest}
-use Rattle.world_model.specs.Happenings.{Happening, Departure, Arrival, GivingBack, Opening, Closing, Deed, Miss, Does, Runs}
+use Rattle.push_terms.specs.declared.word.Side.TheVariants as sides
+use Rattle.small_session.specs.declared.server.Reply.TheVariants.{Respond}
+use Rattle.small_session.specs.declared.ruling.Progress.{Progress}
+use Rattle.small_session.specs.Past.{Serving as Session}
+use Rattle.small_session.specs.Rules.{is_under_way}
+use Rattle.small_session.proofs.CleaningLaws.{clean, clean_hears, clean_goes}
+use Rattle.small_link.specs.Lines.{Line}
+use Rattle.small_link.specs.Hearing.{PlainNews, Nothing, LinkUp, LinkFailed, LinkDown, Pdu, news_of}
+use Rattle.small_link.specs.PuttingOut.{is_waiting}
+use Rattle.small_host.specs.Channels.{Channel, fresh, hears, is_accepted}
+use Rattle.small_host.specs.Clients.{commands_in}
+use Rattle.small_host.specs.Servers.{Served, Server, Kept, kept, stored_in, after_commands, LeavesSession, LetsGo, HearsPacket, WhereTrue, NotesCommands, NotesPayload, Notes}
+use Rattle.small_model.specs.Insides.{Inside, Pushing, Serving, Tells}
+use Rattle.small_model.specs.Faces.{Face}
+use Rattle.small_model.specs.Moments.{Moment, IsAtRest}
+use Rattle.small_model.specs.Happenings.{Happening, Departure, Arrival, GivingBack, Opening, Closing, Deed, Miss, Does, Runs}
 
 -- ---- an inbox
 

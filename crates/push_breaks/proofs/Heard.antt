@@ -1,26 +1,26 @@
 -- Each packet that host b is owed can be heard.
 use Rattle.std.proofs.Common.{◌≡◌, ℕ, List, [], ◌∷◌, ◌++◌, Option, Some, None, refl, sym, subst, ◌∙◌, inl, inr}
 use Rattle.h4_framing.specs.Packets.{Packet}
-use Rattle.push_script.specs.declared.word.Side.TheVariants as sides
+use Rattle.push_terms.specs.declared.word.Side.TheVariants as sides
 use Rattle.capture.specs.declared.flow.Flow.TheVariants.{Into}
 use Rattle.capture.specs.Entries.{Entry, Moved}
-use Rattle.host_link.specs.Lines.{Line}
-use Rattle.host_link.specs.Hearing.{heard, news_of, fault_of}
-use Rattle.host_link.specs.PuttingOut.{is_waiting}
-use Rattle.host_link.proofs.HeardPackets.{heard_stands}
-use Rattle.bt_host.specs.Servers.{Served, Server, Kept, stored_in, Notes, Hears, GoesOn}
-use Rattle.bt_host.specs.ServerHosts.{NotesInPart}
-use Rattle.radio_air.specs.Radio.{Radio, after_answer}
-use Rattle.world_model.specs.Hosts.{HostStands}
-use Rattle.world_model.specs.Insides.{Inside, Shelved, Serving, Tells, server}
-use Rattle.world_model.specs.Faces.{Face}
-use Rattle.world_model.specs.Hearing.{acl_limit, put_out_again}
-use Rattle.world_model.specs.Media.{in_radio}
-use Rattle.world_model.specs.Moments.{Moment, with_face, with_medium, first_moment}
-use Rattle.world_model.specs.Happenings.{Happening, Runs, all_entries}
-use Rattle.world_model.specs.Holding.{Holds}
-use Rattle.world_model.proofs.HostSteps.{stands_hearing}
-use Rattle.world_model.proofs.Arriving.{again, never_at_fault}
+use Rattle.small_link.specs.Lines.{Line}
+use Rattle.small_link.specs.Hearing.{heard, news_of, fault_of}
+use Rattle.small_link.specs.PuttingOut.{is_waiting}
+use Rattle.small_link.proofs.HeardPackets.{heard_stands}
+use Rattle.small_host.specs.Servers.{Served, Server, Kept, stored_in, Notes, Hears, GoesOn}
+use Rattle.small_host.specs.ServerHosts.{NotesInPart}
+use Rattle.small_air.specs.Radio.{Radio, after_answer}
+use Rattle.small_model.specs.Hosts.{HostStands}
+use Rattle.small_model.specs.Insides.{Inside, Shelved, Serving, Tells, server}
+use Rattle.small_model.specs.Faces.{Face}
+use Rattle.small_model.specs.Hearing.{acl_limit, put_out_again}
+use Rattle.small_model.specs.Media.{in_radio}
+use Rattle.small_model.specs.Moments.{Moment, with_face, with_medium, first_moment}
+use Rattle.small_model.specs.Happenings.{Happening, Runs, all_entries}
+use Rattle.small_model.specs.Holding.{Holds}
+use Rattle.small_model.proofs.HostSteps.{stands_hearing}
+use Rattle.small_model.proofs.Arriving.{again, never_at_fault}
 use Rattle.push_course.specs.Conversations.{IsSetting}
 use Rattle.push_course.proofs.Running.{stood}
 use Rattle.push_breaks.specs.Breaks.{IsOwed, CanBeHeard, PacketsCanBeHeard}

@@ -11,18 +11,18 @@ use Rattle.acl_fragments.specs.Pieces.{Piece, starts, pdu_length, channel_of}
 use Rattle.acl_fragments.specs.declared.joined.DropReason.TheVariants.{StrayContinuation, Overrun, AboveLimit, ShortStart}
 use Rattle.acl_fragments.specs.Answers as joined
 use Rattle.acl_fragments.specs.Answers.{Answer, answer, start_answer, next_answer, kept}
-use Rattle.host_link.specs.declared.news.ControllerFault.{ControllerFault}
-use Rattle.host_link.specs.declared.returned.Returned.{Returned}
-use Rattle.host_link.specs.declared.returned.Returned.TheVariants.{Refused, Unlisted, Status, Buffers}
-use Rattle.host_link.specs.declared.host_command.HostCommand.{HostCommand}
-use Rattle.host_link.specs.declared.host_command.HostCommand.TheVariants.{AcceptConnection, Disconnect}
-use Rattle.host_link.specs.CommandFlows.{Flow, with_command, awaits, answered, stated}
-use Rattle.host_link.specs.EventReading.{event_in}
-use Rattle.host_link.specs.Returning.{returned_by, completes}
-use Rattle.host_link.specs.Lines.{Line, longest_pdu}
-use Rattle.host_link.specs.Hearing as hearing
-use Rattle.host_link.specs.Hearing.{PlainNews, Nothing, LinkUp, LinkFailed, LinkDown, Pdu}
-use Rattle.world_model.proofs.Lists.{all_both, chosen}
+use Rattle.small_link.specs.declared.news.ControllerFault.{ControllerFault}
+use Rattle.small_link.specs.declared.returned.Returned.{Returned}
+use Rattle.small_link.specs.declared.returned.Returned.TheVariants.{Refused, Unlisted, Status, Buffers}
+use Rattle.small_link.specs.declared.host_command.HostCommand.{HostCommand}
+use Rattle.small_link.specs.declared.host_command.HostCommand.TheVariants.{AcceptConnection, Disconnect}
+use Rattle.small_link.specs.CommandFlows.{Flow, with_command, awaits, answered, stated}
+use Rattle.small_link.specs.EventReading.{event_in}
+use Rattle.small_link.specs.Returning.{returned_by, completes}
+use Rattle.small_link.specs.Lines.{Line, longest_pdu}
+use Rattle.small_link.specs.Hearing as hearing
+use Rattle.small_link.specs.Hearing.{PlainNews, Nothing, LinkUp, LinkFailed, LinkDown, Pdu}
+use Rattle.small_model.proofs.Lists.{all_both, chosen}
 use Rattle.capture.specs.PieceHeads.{piece_head}
 use Rattle.capture.specs.Pdus.{piece_with}
 

@@ -5,22 +5,22 @@ use Rattle.std.specs.Prelude.{min, IfSome, ◌==◌, is_err, drop}
 use Rattle.bt_base.specs.Objects.{Object, Contents}
 use Rattle.h4_framing.specs.Packets.{Packet, IsPacket}
 use Rattle.h4_framing.proofs.OctetLists.{IsOctets-nil}
-use Rattle.push_script.specs.declared.word.Side.TheVariants as sides
-use Rattle.obex_session.specs.declared.ruling.Progress.TheVariants.{Unnamed}
-use Rattle.obex_session.specs.Past.{Heard, StandsFor, stored_by}
-use Rattle.host_link.specs.declared.role.Role.TheVariants as role
-use Rattle.host_link.specs.Lines.{Line, fresh as fresh_line}
-use Rattle.host_link.specs.Hearing.{PlainNews, Nothing, LinkUp, LinkFailed, LinkDown, Pdu, heard, news_of}
-use Rattle.host_link.specs.PuttingOut.{is_waiting}
-use Rattle.bt_host.specs.Channels.{Channel, fresh, hears, is_accepted}
-use Rattle.bt_host.specs.Clients.{commands_in}
-use Rattle.bt_host.specs.Servers.{Served, Server, Kept, after_commands, LeavesSession, LetsGo, HearsPacket, WhereTrue, NotesCommands, NotesPayload, Notes}
-use Rattle.world_model.specs.Insides.{Inside, Shelved, Pushing, Serving as Serves, Tells}
-use Rattle.world_model.specs.Faces.{Face, with_out}
-use Rattle.world_model.specs.Hearing.{acl_limit, put_out_again, HearsBehind}
-use Rattle.world_model.specs.Moments.{Moment, first_moment}
-use Rattle.world_model.specs.Happenings.{Happening, Departure, Arrival, GivingBack, Opening, Closing, Deed, Miss, Does, Runs}
-use Rattle.world_model.proofs.Holding.{kept_along}
+use Rattle.push_terms.specs.declared.word.Side.TheVariants as sides
+use Rattle.small_session.specs.declared.ruling.Progress.TheVariants.{Unnamed}
+use Rattle.small_session.specs.Past.{Heard, StandsFor, stored_by}
+use Rattle.small_link.specs.declared.role.Role.TheVariants as role
+use Rattle.small_link.specs.Lines.{Line, fresh as fresh_line}
+use Rattle.small_link.specs.Hearing.{PlainNews, Nothing, LinkUp, LinkFailed, LinkDown, Pdu, heard, news_of}
+use Rattle.small_link.specs.PuttingOut.{is_waiting}
+use Rattle.small_host.specs.Channels.{Channel, fresh, hears, is_accepted}
+use Rattle.small_host.specs.Clients.{commands_in}
+use Rattle.small_host.specs.Servers.{Served, Server, Kept, after_commands, LeavesSession, LetsGo, HearsPacket, WhereTrue, NotesCommands, NotesPayload, Notes}
+use Rattle.small_model.specs.Insides.{Inside, Shelved, Pushing, Serving as Serves, Tells}
+use Rattle.small_model.specs.Faces.{Face, with_out}
+use Rattle.small_model.specs.Hearing.{acl_limit, put_out_again, HearsBehind}
+use Rattle.small_model.specs.Moments.{Moment, first_moment}
+use Rattle.small_model.specs.Happenings.{Happening, Departure, Arrival, GivingBack, Opening, Closing, Deed, Miss, Does, Runs}
+use Rattle.small_model.proofs.Holding.{kept_along}
 use Rattle.push_breaks.proofs.Sendable.{HasOctet}
 use Rattle.push_breaks.proofs.Hearing.{IsCalm, heard_keeps, news_tells}
 use Rattle.push_breaks.proofs.PuttingOut.{out_calm, again_calm, gone_calm, gone_octet}

@@ -3,14 +3,14 @@ use Rattle.std.proofs.Common.{◌≡◌, ℕ, List, [], drop, take, Bool, true, 
 use Rattle.std.specs.Prelude.{◌==◌}
 use Rattle.bt_base.specs.Objects.{Object, Contents, aborted}
 use Rattle.h4_framing.proofs.OctetLists.{IsOctets-drop}
-use Rattle.obex_session.specs.declared.ruling.Progress.TheVariants.{Unnamed}
-use Rattle.obex_session.specs.Past.{Heard, StandsFor}
-use Rattle.obex_session.proofs.UnstoredLaws.{response_fits, HearsUnstored, hears_unstored, none_pending, let_gone, stored_same, lets_go}
-use Rattle.host_link.specs.Hearing.{PlainNews, Nothing, LinkUp, LinkFailed, LinkDown, Pdu}
-use Rattle.bt_host.specs.Pdus.{pdu}
-use Rattle.bt_host.specs.Channels.{Channel, fresh, hears, is_accepted}
-use Rattle.bt_host.specs.Clients.{commands_in}
-use Rattle.bt_host.specs.Servers.{Served, Kept, kept, stored_in, after_commands, LeavesSession, LetsGo, stores, one_stored, HearsPacket, WhereTrue, NotesCommands, NotesPayload, Notes, IsSendable}
+use Rattle.small_session.specs.declared.ruling.Progress.TheVariants.{Unnamed}
+use Rattle.small_session.specs.Past.{Heard, StandsFor}
+use Rattle.small_session.proofs.UnstoredLaws.{response_fits, HearsUnstored, hears_unstored, none_pending, let_gone, stored_same, lets_go}
+use Rattle.small_link.specs.Hearing.{PlainNews, Nothing, LinkUp, LinkFailed, LinkDown, Pdu}
+use Rattle.small_host.specs.Pdus.{pdu}
+use Rattle.small_host.specs.Channels.{Channel, fresh, hears, is_accepted}
+use Rattle.small_host.specs.Clients.{commands_in}
+use Rattle.small_host.specs.Servers.{Served, Kept, kept, stored_in, after_commands, LeavesSession, LetsGo, stores, one_stored, HearsPacket, WhereTrue, NotesCommands, NotesPayload, Notes, IsSendable}
 use Rattle.push_breaks.proofs.Sendable.{pdu_sendable, HasOctet, commands_numbered, commands_octet}
 use Rattle.push_breaks.proofs.Hearing.{TellsOctets}
 

@@ -6,26 +6,26 @@ use Rattle.std.proofs.lemmas.Grind.{fold-append}
 use Rattle.bt_base.specs.Octets.{IsOctets}
 use Rattle.bt_base.specs.Numbers.{IsHandle}
 use Rattle.acl_fragments.specs.Pieces.{Piece}
-use Rattle.push_script.specs.declared.word.Side.{Side}
+use Rattle.push_terms.specs.declared.word.Side.{Side}
 use Rattle.capture.specs.Entries.{Entry}
 use Rattle.capture.specs.Moves.{moves}
 use Rattle.capture.specs.Links.{linking}
-use Rattle.host_link.specs.declared.host_command.HostCommand.{HostCommand}
-use Rattle.host_link.specs.declared.host_command.HostCommand.TheVariants.{Reset, ReadBufferSize, ReadBdAddr, WriteScanEnable, CreateConnection, AcceptConnection, Disconnect}
-use Rattle.host_link.specs.HostCommands.{IsWhole}
-use Rattle.host_link.specs.CommandFlows.{Flow, next_command, first_of}
-use Rattle.host_link.specs.Lines.{Line}
-use Rattle.host_link.specs.PuttingOut.{has_room, has_buffer, with_piece, with_pieces, put_pieces_on, put_pieces, with_next, put_out, with_pdu}
-use Rattle.host_link.specs.Stands.{Says, StandsStill}
-use Rattle.host_link.proofs.Saying.{says_nothing, says_then, piece_says, command_says}
-use Rattle.bt_host.specs.Channels.{Channel, sent}
-use Rattle.bt_host.specs.Servers.{Server, with_response, IsSendable, answering, stepped, putting_out, GoesOn}
-use Rattle.world_model.specs.Hosts.{IsShort, IsAddressed, links_told, HostStands}
-use Rattle.world_model.specs.Hearing.{Want, Send, after_want, IsWant, PutsOut, put_out_again}
-use Rattle.world_model.proofs.Lists.{all_both, all_behind, chosen}
-use Rattle.world_model.proofs.Saying.{piece_is_packet}
-use Rattle.world_model.proofs.Commanding.{command_is_packet, first_addressed, next_waits}
-use Rattle.world_model.proofs.Putting.{is_last}
+use Rattle.small_link.specs.declared.host_command.HostCommand.{HostCommand}
+use Rattle.small_link.specs.declared.host_command.HostCommand.TheVariants.{Reset, ReadBufferSize, ReadBdAddr, WriteScanEnable, CreateConnection, AcceptConnection, Disconnect}
+use Rattle.small_link.specs.HostCommands.{IsWhole}
+use Rattle.small_link.specs.CommandFlows.{Flow, next_command, first_of}
+use Rattle.small_link.specs.Lines.{Line}
+use Rattle.small_link.specs.PuttingOut.{has_room, has_buffer, with_piece, with_pieces, put_pieces_on, put_pieces, with_next, put_out, with_pdu}
+use Rattle.small_link.specs.Stands.{Says, StandsStill}
+use Rattle.small_link.proofs.Saying.{says_nothing, says_then, piece_says, command_says}
+use Rattle.small_host.specs.Channels.{Channel, sent}
+use Rattle.small_host.specs.Servers.{Server, with_response, IsSendable, answering, stepped, putting_out, GoesOn}
+use Rattle.small_model.specs.Hosts.{IsShort, IsAddressed, links_told, HostStands}
+use Rattle.small_model.specs.Hearing.{Want, Send, after_want, IsWant, PutsOut, put_out_again}
+use Rattle.small_model.proofs.Lists.{all_both, all_behind, chosen}
+use Rattle.small_model.proofs.Saying.{piece_is_packet}
+use Rattle.small_model.proofs.Commanding.{command_is_packet, first_addressed, next_waits}
+use Rattle.small_model.proofs.Putting.{is_last}
 use Rattle.host_wire.proofs.Going.{response_stands}
 use Rattle.push_breaks.proofs.Sendable.{HasOctet, sent_sendable, sent_octet}
 use Rattle.push_breaks.proofs.Hearing.{IsForLinks, IsCalm}

@@ -4,16 +4,16 @@ use Rattle.std.specs.Prelude.{IfSome}
 use Rattle.std.proofs.lemmas.Grind.{flat_map-append}
 use Rattle.bt_base.specs.Objects.{Object, Contents, aborted}
 use Rattle.h4_framing.specs.Packets.{Packet}
-use Rattle.push_script.specs.declared.word.Side.TheVariants as sides
+use Rattle.push_terms.specs.declared.word.Side.TheVariants as sides
 use Rattle.capture.specs.declared.flow.Flow.TheVariants.{Into}
 use Rattle.capture.specs.Entries.{Entry, Moved}
-use Rattle.obex_session.specs.declared.ruling.Progress.TheVariants.{Unnamed}
-use Rattle.obex_session.proofs.CleaningLaws.{clean}
-use Rattle.bt_host.specs.Servers.{Kept, kept}
-use Rattle.world_model.specs.Insides.{Shelved}
-use Rattle.world_model.specs.Moments.{Moment, first_moment}
-use Rattle.world_model.specs.Happenings.{Happening, Arrival, Runs, entries_of, all_entries}
-use Rattle.world_model.proofs.Runs.{runs_then}
+use Rattle.small_session.specs.declared.ruling.Progress.TheVariants.{Unnamed}
+use Rattle.small_session.proofs.CleaningLaws.{clean}
+use Rattle.small_host.specs.Servers.{Kept, kept}
+use Rattle.small_model.specs.Insides.{Shelved}
+use Rattle.small_model.specs.Moments.{Moment, first_moment}
+use Rattle.small_model.specs.Happenings.{Happening, Arrival, Runs, entries_of, all_entries}
+use Rattle.small_model.proofs.Runs.{runs_then}
 use Rattle.push_course.specs.Conversations.{IsSetting}
 use Rattle.push_results.specs.AllResults.{ResultsSoFar, ResultsSoFarIn, ResultsOfRuns}
 use Rattle.push_breaks.specs.Breaks.{IsOwed, CanBeHeard, BrokenRunsHaveResults}

@@ -11,13 +11,13 @@ use Rattle.l2cap_signal.proofs.Payloads.{answers_right}
 use Rattle.l2cap_config.specs.Agreement.{only_mtu}
 use Rattle.l2cap_config.specs.Writing.{written}
 use Rattle.capture.specs.Talk.{accepted}
-use Rattle.bt_host.specs.declared.channel_stages.ChannelStage.{ChannelStage}
-use Rattle.bt_host.specs.declared.channel_stages.ChannelStage.TheVariants.{Free, Asked, Taken, Heard, ToConfigure, Configuring, Open, Parting, Closed}
-use Rattle.bt_host.specs.Pdus.{pdu, command_pdu, grants_connection, asks_configuration, grants_configuration, grants_disconnection}
-use Rattle.bt_host.specs.Clients.{commands_in}
-use Rattle.bt_host.specs.Events.{is_request, agreement}
-use Rattle.bt_host.specs.Channels.{Channel, at, asks, after_connection, after_request, configures, after_configured, parts, is_given, after_disconnection, after_content, after_signal, sent_at}
-use Rattle.bt_host.specs.Servers.{after_commands, IsSendable}
+use Rattle.small_host.specs.declared.channel_stages.ChannelStage.{ChannelStage}
+use Rattle.small_host.specs.declared.channel_stages.ChannelStage.TheVariants.{Free, Asked, Taken, Heard, ToConfigure, Configuring, Open, Parting, Closed}
+use Rattle.small_host.specs.Pdus.{pdu, command_pdu, grants_connection, asks_configuration, grants_configuration, grants_disconnection}
+use Rattle.small_host.specs.Clients.{commands_in}
+use Rattle.small_host.specs.Events.{is_request, agreement}
+use Rattle.small_host.specs.Channels.{Channel, at, asks, after_connection, after_request, configures, after_configured, parts, is_given, after_disconnection, after_content, after_signal, sent_at}
+use Rattle.small_host.specs.Servers.{after_commands, IsSendable}
 
 -- ---- octets
 

@@ -1,19 +1,19 @@
 -- A packet that came to host b, which did not hear it, or not to its end (this project's own).
 use Rattle.std.specs.Prelude.{ℕ, ◌≡◌, ◌⊎◌, List, [], ◌∷◌, ◌++◌, IfSome, None}
 use Rattle.h4_framing.specs.Packets.{Packet, IsPacket}
-use Rattle.push_script.specs.declared.word.Side.{Side}
-use Rattle.push_script.specs.declared.word.Side.TheVariants as sides
+use Rattle.push_terms.specs.declared.word.Side.{Side}
+use Rattle.push_terms.specs.declared.word.Side.TheVariants as sides
 use Rattle.capture.specs.declared.flow.Flow.TheVariants.{Into}
 use Rattle.capture.specs.Entries.{Moved}
-use Rattle.bt_host.specs.Servers.{Served, Kept, stored_in}
-use Rattle.bt_host.specs.ServerHosts.{NotesInPart}
-use Rattle.radio_air.specs.Controllers.{Answer, packet_of}
-use Rattle.radio_air.specs.Radio.{controller}
-use Rattle.world_model.specs.Insides.{Shelved, Serving, server}
-use Rattle.world_model.specs.Faces.{Face}
-use Rattle.world_model.specs.Hearing.{acl_limit, put_out_again}
-use Rattle.world_model.specs.Moments.{Moment, first_moment}
-use Rattle.world_model.specs.Happenings.{Happening, Arrives, Runs, all_entries}
+use Rattle.small_host.specs.Servers.{Served, Kept, stored_in}
+use Rattle.small_host.specs.ServerHosts.{NotesInPart}
+use Rattle.small_air.specs.Controllers.{Answer, packet_of}
+use Rattle.small_air.specs.Radio.{controller}
+use Rattle.small_model.specs.Insides.{Shelved, Serving, server}
+use Rattle.small_model.specs.Faces.{Face}
+use Rattle.small_model.specs.Hearing.{acl_limit, put_out_again}
+use Rattle.small_model.specs.Moments.{Moment, first_moment}
+use Rattle.small_model.specs.Happenings.{Happening, Arrives, Runs, all_entries}
 use Rattle.push_course.specs.Conversations.{IsSetting}
 use Rattle.push_results.specs.AllResults.{ResultsSoFar}
 

@@ -11,15 +11,15 @@ use Rattle.acl_fragments.specs.Pieces.{Piece, starts, pdu_length, channel_of}
 use Rattle.acl_fragments.specs.Cuts.{first_pieces, cut}
 use Rattle.acl_fragments.specs.Answers.{Answer, Pdu, More, open_after, answer}
 use Rattle.acl_fragments.specs.Laws.{all_cut}
-use Rattle.push_script.specs.declared.word.Side.{Side}
+use Rattle.push_terms.specs.declared.word.Side.{Side}
 use Rattle.capture.specs.Entries.{Entry}
 use Rattle.capture.specs.declared.flow.Flow.TheVariants.{Out}
 use Rattle.capture.specs.Histories.{each_after}
 use Rattle.capture.specs.Links.{Link, link_up}
 use Rattle.capture.specs.Pdus.{pdu_limit, pieces}
 use Rattle.capture.proofs.HistoryLaws.{each_after-append}
-use Rattle.host_link.specs.Lines.{Line}
-use Rattle.host_link.specs.PuttingOut.{is_waiting}
+use Rattle.small_link.specs.Lines.{Line}
+use Rattle.small_link.specs.PuttingOut.{is_waiting}
 use Rattle.host_wire.specs.Wiring.{pieces_on, Wired, Wires}
 use Rattle.host_wire.specs.Spoken.{said_on}
 use Rattle.host_wire.specs.WireLaws.{IsFrame}

@@ -2,23 +2,23 @@
 use Rattle.std.proofs.Common.{◌≡◌, ℕ, ◌<◌, ◌≤◌, List, [], ◌∷◌, ◌++◌, true, false, Option, Some, None, refl, sym, ap, subst, ◌∙◌, inl, inr, ◌⊎◌, arith}
 use Rattle.std.specs.Prelude.{is_some}
 use Rattle.h4_framing.specs.Packets.{Packet}
-use Rattle.push_script.specs.declared.word.Side.TheVariants as sides
+use Rattle.push_terms.specs.declared.word.Side.TheVariants as sides
 use Rattle.capture.specs.declared.flow.Flow.TheVariants.{Out, Into}
 use Rattle.capture.specs.Entries.{Entry, Moved}
 use Rattle.capture.specs.Links.{Linking, after_move}
-use Rattle.host_link.specs.Hearing.{PlainNews, heard, news_of}
-use Rattle.host_link.specs.Lines.{Line}
-use Rattle.host_link.specs.PuttingOut.{is_waiting}
-use Rattle.host_link.specs.Stands.{into}
+use Rattle.small_link.specs.Hearing.{PlainNews, heard, news_of}
+use Rattle.small_link.specs.Lines.{Line}
+use Rattle.small_link.specs.PuttingOut.{is_waiting}
+use Rattle.small_link.specs.Stands.{into}
 use Rattle.capture.specs.Pdus.{pdus}
 use Rattle.link_pipe.specs.Pipes.{octets_in}
 use Rattle.host_wire.specs.WireLaws.{IsFrame}
 use Rattle.host_wire.proofs.News.{link_is_known}
 use Rattle.std.specs.List.{filter_map, AllByRecursion}
-use Rattle.world_model.specs.Faces.{Face}
-use Rattle.world_model.specs.Moments.{Moment}
-use Rattle.world_model.specs.Happenings.{Arrival, Arrives}
-use Rattle.world_model.specs.Holding.{Holds}
+use Rattle.small_model.specs.Faces.{Face}
+use Rattle.small_model.specs.Moments.{Moment}
+use Rattle.small_model.specs.Happenings.{Arrival, Arrives}
+use Rattle.small_model.specs.Holding.{Holds}
 use Rattle.world_links.proofs.Listening.{Turns, listens}
 use Rattle.host_wire.specs.Wiring.{Wires}
 use Rattle.host_wire.specs.Sending.{on_link, put_heard, put_on, sent_told, line_hearing}

@@ -2,21 +2,21 @@
 use Rattle.std.proofs.Common.{◌≡◌, ℕ, ◌≤◌, List, [], ◌∷◌, ◌++◌, length, true, false, Option, Some, None, refl, sym, ap, ap₂, subst, ◌∙◌, inl, inr, arith, true≢false}
 use Rattle.std.specs.Prelude.{is_some}
 use Rattle.h4_framing.specs.Packets.{Packet}
-use Rattle.push_script.specs.declared.word.Side.TheVariants as sides
+use Rattle.push_terms.specs.declared.word.Side.TheVariants as sides
 use Rattle.capture.specs.declared.flow.Flow.TheVariants.{Into}
 use Rattle.capture.specs.Entries.{Entry}
 use Rattle.capture.specs.Links.{Link, Linking}
 use Rattle.capture.specs.Pdus.{Pdu}
-use Rattle.host_link.specs.Hearing.{PlainNews, Nothing, news_of}
-use Rattle.host_link.specs.Lines.{Line}
-use Rattle.host_link.specs.Stands.{into}
-use Rattle.bt_host.specs.Courses.{Course}
-use Rattle.bt_host.specs.Clients.{after_news}
-use Rattle.bt_host.specs.Events.{is_idle}
-use Rattle.bt_host.specs.declared.stages.Stage.TheVariants as stages
-use Rattle.bt_host.specs.Servers.{Served}
-use Rattle.world_model.specs.Insides.{Inside, Shelved, Pushing, Serving, Tells}
-use Rattle.world_model.specs.Moments.{Moment}
+use Rattle.small_link.specs.Hearing.{PlainNews, Nothing, news_of}
+use Rattle.small_link.specs.Lines.{Line}
+use Rattle.small_link.specs.Stands.{into}
+use Rattle.small_host.specs.Courses.{Course}
+use Rattle.small_host.specs.Clients.{after_news}
+use Rattle.small_host.specs.Events.{is_idle}
+use Rattle.small_host.specs.declared.stages.Stage.TheVariants as stages
+use Rattle.small_host.specs.Servers.{Served}
+use Rattle.small_model.specs.Insides.{Inside, Shelved, Pushing, Serving, Tells}
+use Rattle.small_model.specs.Moments.{Moment}
 use Rattle.world_links.proofs.Reaching.{reach}
 use Rattle.world_links.proofs.Upholding.{is_onward, Upholds}
 use Rattle.link_pipe.proofs.Keeping.{IsPiping}

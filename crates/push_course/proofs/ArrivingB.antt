@@ -4,19 +4,19 @@ use Rattle.std.specs.Prelude.{is_some}
 use Rattle.std.specs.List.{filter_map}
 use Rattle.std.proofs.lemmas.List.{append-nil}
 use Rattle.h4_framing.specs.Packets.{Packet}
-use Rattle.push_script.specs.declared.word.Side.TheVariants as sides
+use Rattle.push_terms.specs.declared.word.Side.TheVariants as sides
 use Rattle.capture.specs.declared.flow.Flow.TheVariants.{Out, Into}
 use Rattle.capture.specs.Entries.{Entry}
 use Rattle.capture.specs.Links.{Linking}
-use Rattle.host_link.specs.Hearing.{PlainNews, Nothing, news_of}
-use Rattle.host_link.specs.Lines.{Line}
-use Rattle.host_link.specs.PuttingOut.{is_waiting}
-use Rattle.host_link.specs.Stands.{into}
-use Rattle.bt_host.specs.Channels.{Channel}
-use Rattle.bt_host.specs.Courses.{Course}
-use Rattle.bt_host.specs.Servers.{Served, Kept, Notes}
-use Rattle.world_model.specs.Insides.{Inside, Pushing, Serving, Tells}
-use Rattle.world_model.specs.Moments.{Moment}
+use Rattle.small_link.specs.Hearing.{PlainNews, Nothing, news_of}
+use Rattle.small_link.specs.Lines.{Line}
+use Rattle.small_link.specs.PuttingOut.{is_waiting}
+use Rattle.small_link.specs.Stands.{into}
+use Rattle.small_host.specs.Channels.{Channel}
+use Rattle.small_host.specs.Courses.{Course}
+use Rattle.small_host.specs.Servers.{Served, Kept, Notes}
+use Rattle.small_model.specs.Insides.{Inside, Pushing, Serving, Tells}
+use Rattle.small_model.specs.Moments.{Moment}
 use Rattle.link_pipe.specs.Pipes.{octets_in}
 use Rattle.link_pipe.proofs.Keeping.{IsPiping}
 use Rattle.link_pipe.proofs.Numbers.{given_last}

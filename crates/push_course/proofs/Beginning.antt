@@ -5,24 +5,24 @@ use Rattle.std.specs.List.{AllByRecursion}
 use Rattle.std.specs.Str.{IsUtf8}
 use Rattle.std.proofs.lemmas.Str.{IsUtf8-from_is_utf8}
 use Rattle.push_script.specs.Names.{IsName}
-use Rattle.push_script.specs.declared.word.Side.TheVariants as sides
-use Rattle.push_script.specs.declared.outcome.Outcome.TheVariants.{ShelfFault}
+use Rattle.push_terms.specs.declared.word.Side.TheVariants as sides
+use Rattle.push_terms.specs.declared.outcome.Outcome.TheVariants.{ShelfFault}
 use Rattle.capture.specs.Entries.{Entry, Begun}
 use Rattle.capture.specs.Links.{Linking, link_up}
-use Rattle.host_link.specs.Lines.{Line}
-use Rattle.bt_host.specs.declared.stages.Stage.{Stage}
-use Rattle.bt_host.specs.declared.stages.Stage.TheVariants as stages
-use Rattle.bt_host.specs.Courses.{Course, begun}
-use Rattle.bt_host.specs.Events.{is_idle}
-use Rattle.bt_host.specs.Laws.{awaits}
-use Rattle.bt_host.specs.Steps.{next_step}
-use Rattle.bt_host.specs.Servers.{Served}
-use Rattle.bt_host.proofs.Counting.{units_are_counted}
-use Rattle.bt_host.proofs.CourseLaws.{waits_where_awaited}
-use Rattle.world_model.specs.Insides.{Inside, Shelved, Pushing, Serving, StartsPush, idles}
-use Rattle.world_model.specs.Moments.{Moment}
-use Rattle.world_model.specs.Happenings.{Opening, Opens}
-use Rattle.world_model.specs.Holding.{Holds}
+use Rattle.small_link.specs.Lines.{Line}
+use Rattle.small_host.specs.declared.stages.Stage.{Stage}
+use Rattle.small_host.specs.declared.stages.Stage.TheVariants as stages
+use Rattle.small_host.specs.Courses.{Course, begun}
+use Rattle.small_host.specs.Events.{is_idle}
+use Rattle.small_host.specs.Laws.{awaits}
+use Rattle.small_host.specs.Steps.{next_step}
+use Rattle.small_host.specs.Servers.{Served}
+use Rattle.small_host.proofs.Counting.{units_are_counted}
+use Rattle.small_host.proofs.CourseLaws.{waits_where_awaited}
+use Rattle.small_model.specs.Insides.{Inside, Shelved, Pushing, Serving, StartsPush, idles}
+use Rattle.small_model.specs.Moments.{Moment}
+use Rattle.small_model.specs.Happenings.{Opening, Opens}
+use Rattle.small_model.specs.Holding.{Holds}
 use Rattle.world_links.proofs.Upholding.{facts_of}
 use Rattle.host_wire.specs.Wiring.{Wires}
 use Rattle.host_wire.specs.Sending.{put_on}

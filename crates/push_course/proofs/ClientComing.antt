@@ -3,16 +3,16 @@ use Rattle.std.proofs.Common.{Some, ◌≡◌, ℕ, ◌<◌, List, [], ◌∷◌
 use Rattle.std.specs.Prelude.{is_some}
 use Rattle.std.proofs.lemmas.List.{append-nil}
 use Rattle.h4_framing.specs.Packets.{Packet}
-use Rattle.push_script.specs.declared.word.Side.TheVariants as sides
+use Rattle.push_terms.specs.declared.word.Side.TheVariants as sides
 use Rattle.capture.specs.declared.flow.Flow.TheVariants.{Into}
 use Rattle.capture.specs.Links.{Linking}
 use Rattle.capture.specs.Pdus.{Pdu}
-use Rattle.host_link.specs.Stands.{into}
-use Rattle.bt_host.specs.declared.stages.Stage.TheVariants as stages
-use Rattle.bt_host.specs.Channels.{Channel}
-use Rattle.bt_host.specs.Pdus.{asks_connection}
-use Rattle.bt_host.specs.Courses.{Course}
-use Rattle.bt_host.specs.Servers.{Served}
+use Rattle.small_link.specs.Stands.{into}
+use Rattle.small_host.specs.declared.stages.Stage.TheVariants as stages
+use Rattle.small_host.specs.Channels.{Channel}
+use Rattle.small_host.specs.Pdus.{asks_connection}
+use Rattle.small_host.specs.Courses.{Course}
+use Rattle.small_host.specs.Servers.{Served}
 use Rattle.link_pipe.proofs.Numbers.{given_last}
 use Rattle.host_wire.specs.Sending.{sent_by}
 use Rattle.push_talk.specs.Conversing.{Saying, Says}

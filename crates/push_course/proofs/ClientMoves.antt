@@ -3,18 +3,18 @@ use Rattle.std.proofs.Common.{◌≡◌, ℕ, ◌≤◌, ◌<◌, Bool, true, fa
 use Rattle.std.specs.Prelude.{◌==◌, slice_index}
 use Rattle.std.specs.List.{AllByRecursion}
 use Rattle.std.specs.Option.{option_or}
-use Rattle.push_script.specs.declared.outcome.Outcome.{Outcome}
-use Rattle.bt_host.specs.Events.{answered_outcome}
+use Rattle.push_terms.specs.declared.outcome.Outcome.{Outcome}
+use Rattle.small_host.specs.Events.{answered_outcome}
 use Rattle.std.specs.Str.{IsUtf8}
-use Rattle.push_script.specs.declared.word.Side.TheVariants as sides
-use Rattle.bt_host.specs.declared.stages.Stage.TheVariants as stages
+use Rattle.push_terms.specs.declared.word.Side.TheVariants as sides
+use Rattle.small_host.specs.declared.stages.Stage.TheVariants as stages
 use Rattle.bt_base.specs.Objects.{Object}
-use Rattle.bt_host.specs.Pdus.{own_endpoint, grants_connection, asks_configuration, grants_configuration, asks_disconnection, grants_disconnection}
-use Rattle.bt_host.specs.Pushing.{utf16, connect_packet, disconnect_packet, put_packet}
-use Rattle.bt_host.specs.Courses.{Course}
-use Rattle.bt_host.specs.Clients.{after_news}
+use Rattle.small_host.specs.Pdus.{own_endpoint, grants_connection, asks_configuration, grants_configuration, asks_disconnection, grants_disconnection}
+use Rattle.small_host.specs.Pushing.{utf16, connect_packet, disconnect_packet, put_packet}
+use Rattle.small_host.specs.Courses.{Course}
+use Rattle.small_host.specs.Clients.{after_news}
 use Rattle.acl_fragments.specs.Pieces.{channel_of}
-use Rattle.host_link.specs.Hearing.{PlainNews, Pdu}
+use Rattle.small_link.specs.Hearing.{PlainNews, Pdu}
 use Rattle.host_wire.specs.Sending.{sent_by}
 use Rattle.push_talk.specs.Conversing.{Saying, Says}
 use Rattle.push_talk.specs.Speaking.{pdu_of, told}

@@ -1,14 +1,14 @@
 -- Where a client stands in the conversation of its push, and where a move leads it.
 use Rattle.std.proofs.Common.{◌≡◌, ℕ, ◌≤◌, ◌^◌, ◌<◌, true, false, List, [], ◌∷◌, ◌++◌, length, None, Some, Option, ◌⊎◌}
 use Rattle.std.specs.Str.{IsUtf8}
-use Rattle.bt_host.specs.declared.stages.Stage.TheVariants.{Connecting, Configuring, Greeting, Putting, Parting, Closing, Leaving}
-use Rattle.bt_host.specs.declared.stages.PeerRequest.TheVariants.{Awaited}
+use Rattle.small_host.specs.declared.stages.Stage.TheVariants.{Connecting, Configuring, Greeting, Putting, Parting, Closing, Leaving}
+use Rattle.small_host.specs.declared.stages.PeerRequest.TheVariants.{Awaited}
 use Rattle.bt_base.specs.Objects.{Object}
-use Rattle.bt_host.specs.Pdus.{own_endpoint}
-use Rattle.bt_host.specs.Pushing.{utf16}
-use Rattle.bt_host.specs.Courses.{Course}
+use Rattle.small_host.specs.Pdus.{own_endpoint}
+use Rattle.small_host.specs.Pushing.{utf16}
+use Rattle.small_host.specs.Courses.{Course}
 use Rattle.std.specs.List.{AllByRecursion}
-use Rattle.push_script.specs.declared.word.Side.TheVariants as sides
+use Rattle.push_terms.specs.declared.word.Side.TheVariants as sides
 use Rattle.host_wire.specs.Sending.{sent_by}
 use Rattle.push_talk.specs.Conversing.{Saying}
 use Rattle.push_talk.specs.Speaking.{pdu_of}

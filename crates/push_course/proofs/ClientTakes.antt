@@ -1,20 +1,20 @@
 -- What a client makes of news, in the terms of its course.
 use Rattle.std.proofs.Common.{◌≡◌, ℕ, ◌≤◌, List, [], ◌∷◌, ◌++◌, length, Bool, true, false, Option, Some, None, refl, sym, ap, subst, ◌∙◌, inl, inr, ◌⊎◌, arith, true≢false}
 use Rattle.std.proofs.lemmas.List.{append-nil}
-use Rattle.push_script.specs.declared.word.Side.TheVariants as sides
-use Rattle.host_link.specs.Hearing.{PlainNews, LinkUp, LinkDown}
-use Rattle.bt_host.specs.declared.steps.Step.{Step}
-use Rattle.bt_host.specs.declared.steps.Step.TheVariants.{Wait}
-use Rattle.bt_host.specs.declared.stages.Stage.{Stage}
-use Rattle.bt_host.specs.declared.stages.Stage.TheVariants as stages
-use Rattle.bt_host.specs.Courses.{Course, at}
-use Rattle.bt_host.specs.Events.{is_idle, after_link_up}
-use Rattle.bt_host.specs.Laws.{awaits}
-use Rattle.bt_host.specs.Steps.{next_step}
-use Rattle.bt_host.specs.Clients.{after_news}
-use Rattle.bt_host.proofs.CourseLaws.{waits_where_awaited}
-use Rattle.bt_host.proofs.Settling.{two_steps_suffice}
-use Rattle.bt_host.specs.Pdus.{asks_connection}
+use Rattle.push_terms.specs.declared.word.Side.TheVariants as sides
+use Rattle.small_link.specs.Hearing.{PlainNews, LinkUp, LinkDown}
+use Rattle.small_host.specs.declared.steps.Step.{Step}
+use Rattle.small_host.specs.declared.steps.Step.TheVariants.{Wait}
+use Rattle.small_host.specs.declared.stages.Stage.{Stage}
+use Rattle.small_host.specs.declared.stages.Stage.TheVariants as stages
+use Rattle.small_host.specs.Courses.{Course, at}
+use Rattle.small_host.specs.Events.{is_idle, after_link_up}
+use Rattle.small_host.specs.Laws.{awaits}
+use Rattle.small_host.specs.Steps.{next_step}
+use Rattle.small_host.specs.Clients.{after_news}
+use Rattle.small_host.proofs.CourseLaws.{waits_where_awaited}
+use Rattle.small_host.proofs.Settling.{two_steps_suffice}
+use Rattle.small_host.specs.Pdus.{asks_connection}
 use Rattle.host_wire.specs.Sending.{sent_by, on_link}
 use Rattle.world_links.proofs.Reaching.{reach}
 use Rattle.world_links.proofs.Upholding.{is_onward}

@@ -5,21 +5,21 @@ use Rattle.std.specs.List.{filter_map, cons_option, AllByRecursion}
 use Rattle.std.proofs.lemmas.Bool.{cases_Bool, eqb-true, eqb-false}
 use Rattle.bt_base.specs.Objects.{Object}
 use Rattle.h4_framing.specs.Packets.{Packet}
-use Rattle.push_script.specs.declared.word.Side.{Side}
-use Rattle.push_script.specs.declared.word.Side.TheVariants as sides
+use Rattle.push_terms.specs.declared.word.Side.{Side}
+use Rattle.push_terms.specs.declared.word.Side.TheVariants as sides
 use Rattle.capture.specs.declared.flow.Flow.TheVariants.{Out}
 use Rattle.capture.specs.Entries.{Entry}
 use Rattle.capture.specs.Links.{Link, Linking, link_up}
 use Rattle.capture.specs.Pdus.{Pdu, same_flow, pdus}
-use Rattle.host_link.specs.Lines.{Line}
-use Rattle.bt_host.specs.Courses.{Course}
-use Rattle.bt_host.specs.declared.stages.Stage.TheVariants as stages
-use Rattle.bt_host.specs.Events.{is_idle}
-use Rattle.bt_host.specs.Laws.{awaits}
-use Rattle.bt_host.specs.Servers.{Served, Kept}
-use Rattle.world_model.specs.Insides.{Shelved, Pushing, Serving}
-use Rattle.world_model.specs.Moments.{Moment, face_at}
-use Rattle.world_model.specs.Holding.{Holds}
+use Rattle.small_link.specs.Lines.{Line}
+use Rattle.small_host.specs.Courses.{Course}
+use Rattle.small_host.specs.declared.stages.Stage.TheVariants as stages
+use Rattle.small_host.specs.Events.{is_idle}
+use Rattle.small_host.specs.Laws.{awaits}
+use Rattle.small_host.specs.Servers.{Served, Kept}
+use Rattle.small_model.specs.Insides.{Shelved, Pushing, Serving}
+use Rattle.small_model.specs.Moments.{Moment, face_at}
+use Rattle.small_model.specs.Holding.{Holds}
 use Rattle.host_wire.specs.Sending.{on_link}
 use Rattle.world_links.proofs.Upholding.{Upholds}
 use Rattle.link_pipe.specs.Pipes.{octets_in, IsFront}

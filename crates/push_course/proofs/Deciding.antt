@@ -3,7 +3,7 @@ use Rattle.std.proofs.Common.{◌≡◌, ℕ, ◌≤◌, Bool, false, List, [], 
 use Rattle.std.specs.Prelude.{unwrap_or, IfSome}
 use Rattle.std.specs.Str.{IsUtf8}
 use Rattle.bt_base.specs.Objects.{Object, octets_of}
-use Rattle.bt_host.specs.Pushing.{utf16}
+use Rattle.small_host.specs.Pushing.{utf16}
 use Rattle.push_course.specs.Conversations.{Conversation}
 
 -- the name of the object, and what the shelf gave

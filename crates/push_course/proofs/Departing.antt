@@ -4,17 +4,17 @@ use Rattle.std.specs.Prelude.{is_some}
 use Rattle.std.specs.List.{filter_map}
 use Rattle.bt_base.specs.Objects.{Object}
 use Rattle.h4_framing.specs.Packets.{Packet}
-use Rattle.push_script.specs.declared.word.Side.TheVariants as sides
+use Rattle.push_terms.specs.declared.word.Side.TheVariants as sides
 use Rattle.capture.specs.declared.flow.Flow.TheVariants.{Out}
 use Rattle.capture.specs.Entries.{Entry, Moved}
 use Rattle.capture.specs.Moves.{Move}
 use Rattle.capture.specs.Links.{Link, Linking, longer, after_move}
-use Rattle.bt_host.specs.Courses.{Course}
-use Rattle.bt_host.specs.Servers.{Served}
-use Rattle.world_model.specs.Faces.{Face}
-use Rattle.world_model.specs.Moments.{Moment}
-use Rattle.world_model.specs.Happenings.{Departure, Departs}
-use Rattle.world_model.specs.Holding.{Holds}
+use Rattle.small_host.specs.Courses.{Course}
+use Rattle.small_host.specs.Servers.{Served}
+use Rattle.small_model.specs.Faces.{Face}
+use Rattle.small_model.specs.Moments.{Moment}
+use Rattle.small_model.specs.Happenings.{Departure, Departs}
+use Rattle.small_model.specs.Holding.{Holds}
 use Rattle.link_pipe.specs.Pipes.{octets_in, IsFront}
 use Rattle.host_wire.specs.Wiring.{Wires}
 use Rattle.host_wire.proofs.Stepping.{wires_step}

@@ -6,15 +6,15 @@ use Rattle.std.proofs.lemmas.List.{append-nil}
 use Rattle.std.proofs.lemmas.List.Elements.{filter_map-append}
 use Rattle.acl_fragments.specs.Pieces.{Piece, starts}
 use Rattle.acl_fragments.specs.Answers.{Answer, Pdu as Whole, More, Dropped, answer, open_after}
-use Rattle.push_script.specs.declared.word.Side.{Side}
-use Rattle.push_script.specs.declared.word.Side.TheVariants as sides
+use Rattle.push_terms.specs.declared.word.Side.{Side}
+use Rattle.push_terms.specs.declared.word.Side.TheVariants as sides
 use Rattle.capture.specs.declared.flow.Flow.{Flow}
 use Rattle.capture.specs.declared.flow.Flow.TheVariants.{Out, Into}
 use Rattle.capture.specs.Moves.{Move}
 use Rattle.capture.specs.Links.{Link, Linking, longer}
 use Rattle.capture.specs.Pdus.{Pdu, pdu_limit, piece_of, pieces, whole_of, completed_by}
-use Rattle.radio_air.specs.Controllers.{other_side}
-use Rattle.bt_host.specs.Pdus.{own_endpoint, asks_connection, grants_connection}
+use Rattle.small_air.specs.Controllers.{other_side}
+use Rattle.small_host.specs.Pdus.{own_endpoint, asks_connection, grants_connection}
 use Rattle.link_pipe.specs.Pipes.{octets_in, IsFront}
 use Rattle.link_pipe.proofs.Numbers.{given_last}
 use Rattle.push_talk.specs.Conversing.{Saying, Says}

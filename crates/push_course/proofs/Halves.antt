@@ -4,13 +4,13 @@ use Rattle.std.specs.Prelude.{is_some}
 use Rattle.std.specs.List.{filter_map, AllByRecursion}
 use Rattle.std.proofs.lemmas.List.{append-nil}
 use Rattle.std.proofs.lemmas.List.Elements.{filter_map-append}
-use Rattle.push_script.specs.declared.word.Side.{Side}
-use Rattle.push_script.specs.declared.word.Side.TheVariants as sides
+use Rattle.push_terms.specs.declared.word.Side.{Side}
+use Rattle.push_terms.specs.declared.word.Side.TheVariants as sides
 use Rattle.capture.specs.declared.flow.Flow.TheVariants.{Out, Into}
 use Rattle.capture.specs.Links.{Linking}
 use Rattle.capture.specs.Pdus.{Pdu}
-use Rattle.radio_air.specs.Controllers.{other_side}
-use Rattle.bt_host.specs.Pdus.{asks_connection}
+use Rattle.small_air.specs.Controllers.{other_side}
+use Rattle.small_host.specs.Pdus.{asks_connection}
 use Rattle.link_pipe.specs.Pipes.{octets_in, IsFront}
 use Rattle.push_talk.specs.Conversing.{Saying, Says, flow_at}
 use Rattle.push_talk.specs.Speaking.{pdu_of, speaker}

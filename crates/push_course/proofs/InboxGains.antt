@@ -2,12 +2,12 @@
 use Rattle.std.proofs.Common.{true, ◌≡◌, ℕ, ◌+◌, suc, min, Bool, false, List, [], ◌∷◌, ◌++◌, length, Option, Some, None, refl, sym, ap, subst, ◌∙◌, arith}
 use Rattle.std.specs.Prelude.{unwrap_or}
 use Rattle.std.proofs.lemmas.List.{length-map}
-use Rattle.world_model.specs.Insides.{Shelved}
+use Rattle.small_model.specs.Insides.{Shelved}
 use Rattle.bt_base.specs.Objects.{Object}
-use Rattle.push_script.specs.declared.word.Side.TheVariants as sides
+use Rattle.push_terms.specs.declared.word.Side.TheVariants as sides
 use Rattle.capture.specs.Entries.{Entry}
-use Rattle.world_model.specs.Moments.{Moment}
-use Rattle.world_model.specs.Happenings.{all_entries}
+use Rattle.small_model.specs.Moments.{Moment}
+use Rattle.small_model.specs.Happenings.{all_entries}
 use Rattle.push_course.specs.Conversations.{Conversation, sayings}
 use Rattle.push_course.specs.Gains.{object_of, object_where, GainOn, GainsSo, GainIsSaid}
 use Rattle.push_course.proofs.Owning.{pdu_at}

@@ -5,17 +5,17 @@ use Rattle.std.specs.Str.{IsUtf8}
 use Rattle.bt_base.proofs.OctetLemmas.{le16-number}
 use Rattle.bt_base.specs.Octets.{le16}
 use Rattle.acl_fragments.specs.Laws.{IsPdu}
-use Rattle.push_script.specs.declared.word.Side.{Side}
-use Rattle.push_script.specs.declared.word.Side.TheVariants as sides
+use Rattle.push_terms.specs.declared.word.Side.{Side}
+use Rattle.push_terms.specs.declared.word.Side.TheVariants as sides
 use Rattle.l2cap_signal.specs.Commands.{spelling}
 use Rattle.capture.specs.declared.flow.Flow.TheVariants.{Into}
 use Rattle.capture.specs.Pdus.{pdu_limit}
-use Rattle.bt_host.specs.Pdus.{pdu}
-use Rattle.bt_host.specs.Pushing.{utf16}
-use Rattle.bt_host.proofs.SpelledLaws.{put_has_size}
-use Rattle.bt_host.proofs.Counting.{units_are_counted}
+use Rattle.small_host.specs.Pdus.{pdu}
+use Rattle.small_host.specs.Pushing.{utf16}
+use Rattle.small_host.proofs.SpelledLaws.{put_has_size}
+use Rattle.small_host.proofs.Counting.{units_are_counted}
 use Rattle.std.proofs.lemmas.Str.{IsUtf8-nil}
-use Rattle.world_model.proofs.Lists.{all_both}
+use Rattle.small_model.proofs.Lists.{all_both}
 use Rattle.link_pipe.specs.Pipes.{AreTaken}
 use Rattle.host_wire.specs.WireLaws.{IsFrame}
 use Rattle.push_talk.specs.Conversing.{Saying, Says, Sends, opening}

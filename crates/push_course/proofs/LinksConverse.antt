@@ -4,13 +4,13 @@ use Rattle.std.specs.Prelude.{slice_get, ◌≤◌, Option, None, IfSome, is_som
 use Rattle.std.proofs.lemmas.List.{length-map}
 use Rattle.std.specs.List.{flat_map, AllByRecursion}
 use Rattle.std.proofs.Math.Seq.{take-append_seam}
-use Rattle.push_script.specs.declared.word.Side.{Side}
-use Rattle.push_script.specs.declared.word.Side.TheVariants as sides
+use Rattle.push_terms.specs.declared.word.Side.{Side}
+use Rattle.push_terms.specs.declared.word.Side.TheVariants as sides
 use Rattle.capture.specs.Entries.{Entry}
 use Rattle.capture.specs.Links.{Link, links}
 use Rattle.capture.specs.Pdus.{pdus}
 use Rattle.capture.specs.Talk.{said_by}
-use Rattle.world_model.specs.Happenings.{all_entries}
+use Rattle.small_model.specs.Happenings.{all_entries}
 use Rattle.link_pipe.proofs.Numbers.{at-get, with_last}
 use Rattle.push_talk.specs.Conversing.{Saying, seen_all}
 use Rattle.push_talk.specs.Speaking.{CanBeSaid}
@@ -21,9 +21,9 @@ use Rattle.push_course.proofs.Deciding.{Delivery, no_delivery, Decisions, Agrees
 use Rattle.push_course.proofs.Tails.{whole_is}
 use Rattle.push_course.proofs.Lengths.{some_fair, some_can, front_can}
 use Rattle.push_course.proofs.ClientPlaces.{ClientPlace, Asking, Agreeing, BeingAsked, BeingGreeted, Delivering, TakingLeave, BeingClosed, Done, IsCapable, ClientStands}
-use Rattle.bt_host.specs.Courses.{Course}
-use Rattle.world_model.specs.Insides.{came_of}
-use Rattle.world_model.specs.Moments.{Moment}
+use Rattle.small_host.specs.Courses.{Course}
+use Rattle.small_model.specs.Insides.{came_of}
+use Rattle.small_model.specs.Moments.{Moment}
 use Rattle.host_wire.proofs.News.{link_is_known}
 use Rattle.push_course.proofs.Moving.{moved, known_of}
 use Rattle.push_course.proofs.Courses.{all, Outset, outset_of, Stands}

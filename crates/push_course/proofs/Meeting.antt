@@ -2,19 +2,19 @@
 -- answer that a controller owes.
 use Rattle.std.proofs.Common.{◌≡◌, ℕ, zero, suc, ◌≤◌, List, [], ◌∷◌, Bool, true, refl, sym, subst, arith}
 use Rattle.std.specs.List.{filter_map}
-use Rattle.push_script.specs.declared.word.Side.{Side}
-use Rattle.push_script.specs.declared.word.Side.TheVariants as sides
+use Rattle.push_terms.specs.declared.word.Side.{Side}
+use Rattle.push_terms.specs.declared.word.Side.TheVariants as sides
 use Rattle.capture.specs.declared.flow.Flow.TheVariants.{Out, Into}
 use Rattle.capture.specs.Entries.{Entry}
 use Rattle.capture.specs.Links.{Link, Linking}
 use Rattle.capture.specs.Pdus.{pdus}
-use Rattle.radio_air.specs.Controllers.{Answer, Returned, Stated, Called, LinkMade, LinkGone, GivenBack, Carried, Controller, other_side}
-use Rattle.radio_air.specs.Radio.{Radio, controller, is_together}
-use Rattle.radio_air.specs.Showing.{Shows, IsOwed}
-use Rattle.world_model.specs.Moments.{Moment}
-use Rattle.world_model.proofs.Hearing.{Tells, tells_of, none_up, one_up}
-use Rattle.world_model.proofs.Hearing as hearing
-use Rattle.world_model.proofs.Telling.{IsUp}
+use Rattle.small_air.specs.Controllers.{Answer, Returned, Stated, Called, LinkMade, LinkGone, GivenBack, Carried, Controller, other_side}
+use Rattle.small_air.specs.Radio.{Radio, controller, is_together}
+use Rattle.small_air.specs.Showing.{Shows, IsOwed}
+use Rattle.small_model.specs.Moments.{Moment}
+use Rattle.small_model.proofs.Hearing.{Tells, tells_of, none_up, one_up}
+use Rattle.small_model.proofs.Hearing as hearing
+use Rattle.small_model.proofs.Telling.{IsUp}
 use Rattle.world_links.proofs.Arriving.{owed_first, low_of}
 use Rattle.link_pipe.specs.Pipes.{octets_in, said, heard, IsFront, AreTaken}
 use Rattle.link_pipe.proofs.Piping.{IsPiped}

@@ -3,13 +3,13 @@ use Rattle.std.proofs.Common.{◌≡◌, ℕ, List, [], ◌∷◌, ◌++◌, map
 use Rattle.std.specs.List.{filter_map, AllByRecursion}
 use Rattle.std.proofs.lemmas.List.{append-nil}
 use Rattle.std.proofs.lemmas.List.Elements.{filter_map-append}
-use Rattle.push_script.specs.declared.word.Side.{Side}
-use Rattle.push_script.specs.declared.word.Side.TheVariants as sides
+use Rattle.push_terms.specs.declared.word.Side.{Side}
+use Rattle.push_terms.specs.declared.word.Side.TheVariants as sides
 use Rattle.capture.specs.declared.flow.Flow.TheVariants.{Out, Into}
 use Rattle.capture.specs.Entries.{Entry}
 use Rattle.capture.specs.Pdus.{Pdu}
-use Rattle.radio_air.specs.Controllers.{other_side}
-use Rattle.world_model.specs.Moments.{Moment}
+use Rattle.small_air.specs.Controllers.{other_side}
+use Rattle.small_model.specs.Moments.{Moment}
 use Rattle.link_pipe.specs.Pipes.{octets_in, IsFront, AreTaken}
 use Rattle.link_pipe.proofs.Keeping.{IsPiping}
 use Rattle.push_talk.specs.Conversing.{Saying}

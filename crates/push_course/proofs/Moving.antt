@@ -4,7 +4,7 @@ use Rattle.std.specs.Prelude.{is_some}
 use Rattle.std.proofs.lemmas.List.{append-nil}
 use Rattle.std.proofs.lemmas.Bool.{eq-eqb, cases_Bool, eqb-true, eqb-false}
 use Rattle.h4_framing.specs.Packets.{Packet, Command, Acl, Sync, Event}
-use Rattle.push_script.specs.declared.word.Side.{Side}
+use Rattle.push_terms.specs.declared.word.Side.{Side}
 use Rattle.capture.specs.declared.flow.Flow.TheVariants.{Out}
 use Rattle.capture.specs.Entries.{Entry}
 use Rattle.capture.specs.Moves.{Move, move_of, moves}
@@ -13,10 +13,10 @@ use Rattle.capture.specs.Pdus.{Pdu, pdus, completed}
 use Rattle.capture.specs.Laws.{led_on}
 use Rattle.capture.proofs.MoreLaws.{pdus-more}
 use Rattle.capture.proofs.FurtherLaws.{entry_links-more}
-use Rattle.host_link.specs.Stands.{into}
-use Rattle.radio_air.specs.Controllers.{Answer, Returned, Stated, Called, LinkMade, LinkGone, GivenBack, Carried, packet_of}
-use Rattle.world_model.proofs.Reading.{returned_news, stated_news, called_news, given_back_news, link_made_news, link_gone_news}
-use Rattle.world_model.proofs.Telling.{IsUp}
+use Rattle.small_link.specs.Stands.{into}
+use Rattle.small_air.specs.Controllers.{Answer, Returned, Stated, Called, LinkMade, LinkGone, GivenBack, Carried, packet_of}
+use Rattle.small_model.proofs.Reading.{returned_news, stated_news, called_news, given_back_news, link_made_news, link_gone_news}
+use Rattle.small_model.proofs.Telling.{IsUp}
 use Rattle.world_links.proofs.Asking.{IsLow}
 use Rattle.world_links.proofs.Listening.{is_made, is_gone}
 use Rattle.link_pipe.proofs.Numbers.{numbered, numbered-new, numbered-beyond, with_last, given_last, changed-other, changed-last, changed-count}

@@ -1,12 +1,12 @@
 -- What is true of the next moment, by what it is made of.
 use Rattle.std.proofs.Common.{◌≡◌, ℕ, ◌≤◌, List, Option, sym, ap, subst, ◌∙◌}
-use Rattle.push_script.specs.declared.word.Side.TheVariants as sides
+use Rattle.push_terms.specs.declared.word.Side.TheVariants as sides
 use Rattle.capture.specs.Entries.{Entry}
 use Rattle.capture.specs.Links.{Linking}
-use Rattle.bt_host.specs.Courses.{Course}
-use Rattle.bt_host.specs.Servers.{Served, Kept}
-use Rattle.world_model.specs.Insides.{Shelved, Pushing, Serving}
-use Rattle.world_model.specs.Moments.{Moment}
+use Rattle.small_host.specs.Courses.{Course}
+use Rattle.small_host.specs.Servers.{Served, Kept}
+use Rattle.small_model.specs.Insides.{Shelved, Pushing, Serving}
+use Rattle.small_model.specs.Moments.{Moment}
 use Rattle.host_wire.specs.Wiring.{Wires}
 use Rattle.push_course.proofs.Moving.{known_of}
 use Rattle.push_course.proofs.Parts.{Part, HasGainedAll}

@@ -2,8 +2,8 @@
 use Rattle.std.proofs.Common.{◌≡◌, ℕ, Bool, true, false, List, [], ◌∷◌, Option, Some, None, sym, ap, subst, ◌∙◌, true≢false}
 use Rattle.std.specs.Prelude.{◌==◌, slice_index}
 use Rattle.bt_base.specs.Objects.{Object}
-use Rattle.push_script.specs.declared.word.Side.TheVariants as sides
-use Rattle.bt_host.specs.Pushing.{utf16, disconnect_packet, put_packet}
+use Rattle.push_terms.specs.declared.word.Side.TheVariants as sides
+use Rattle.small_host.specs.Pushing.{utf16, disconnect_packet, put_packet}
 use Rattle.push_talk.specs.Speaking.{pdu_of}
 use Rattle.push_talk.specs.ClientTurns.{says_packet}
 use Rattle.push_course.specs.Conversations.{Conversation}

@@ -1,12 +1,12 @@
 -- What each side says among sayings, and which of them stands next where a side says or hears a PDU more.
 use Rattle.std.proofs.Common.{◌≡◌, ℕ, List, [], ◌∷◌, ◌++◌, map, refl, sym, ap, ap₂, subst, ◌∙◌, append_assoc}
 use Rattle.std.specs.List.{filter_map, flat_map, AllByRecursion}
-use Rattle.push_script.specs.declared.word.Side.{Side}
-use Rattle.push_script.specs.declared.word.Side.TheVariants as sides
+use Rattle.push_terms.specs.declared.word.Side.{Side}
+use Rattle.push_terms.specs.declared.word.Side.TheVariants as sides
 use Rattle.capture.specs.declared.flow.Flow.TheVariants.{Out, Into}
 use Rattle.capture.specs.Pdus.{Pdu}
 use Rattle.capture.specs.Talk.{said_by}
-use Rattle.radio_air.specs.Controllers.{other_side}
+use Rattle.small_air.specs.Controllers.{other_side}
 use Rattle.link_pipe.specs.Pipes.{octets_in, IsFront}
 use Rattle.push_talk.specs.Conversing.{Saying, flow_at, seen_all}
 use Rattle.push_talk.specs.Speaking.{pdu_of, speaker, CanBeSaid, SayingsAreRead}

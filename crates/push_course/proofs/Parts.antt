@@ -5,8 +5,8 @@ use Rattle.std.proofs.lemmas.Bool.{cases_Bool, cases_lt, eqb-true, eqb-false, eq
 use Rattle.bt_base.specs.Counts.{HasRisen}
 use Rattle.bt_base.specs.Objects.{Object, Contents, aborted}
 use Rattle.std.specs.Option.{option_map}
-use Rattle.obex_session.specs.PushReplies.{storing}
-use Rattle.bt_host.specs.Servers.{Kept}
+use Rattle.small_session.specs.PushReplies.{storing}
+use Rattle.small_host.specs.Servers.{Kept}
 use Rattle.push_course.specs.Conversations.{Conversation}
 use Rattle.push_course.specs.Gains.{gained_on}
 use Rattle.push_course.specs.PushParts.{stored_where}

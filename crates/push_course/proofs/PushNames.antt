@@ -7,20 +7,20 @@ use Rattle.std.proofs.lemmas.List.{length-replicate}
 use Rattle.std.proofs.lemmas.Slice.Eq.{bytes_eq-Decides}
 use Rattle.bt_base.specs.Objects.{Object, octets_of}
 use Rattle.h4_framing.specs.Packets.{Packet}
-use Rattle.push_script.specs.declared.word.Side.TheVariants as sides
+use Rattle.push_terms.specs.declared.word.Side.TheVariants as sides
 use Rattle.capture.specs.Entries.{Entry}
-use Rattle.host_link.specs.Lines.{Line}
-use Rattle.host_link.specs.Hearing.{news_of}
-use Rattle.bt_host.specs.Courses.{Course, begun}
-use Rattle.bt_host.specs.Events.{is_idle}
-use Rattle.bt_host.specs.Steps.{next_step}
-use Rattle.bt_host.specs.Clients.{IsShelved, after_news}
-use Rattle.bt_host.proofs.ObjectLaws.{news_shelved, step_shelved}
-use Rattle.bt_host.specs.Servers.{Kept}
-use Rattle.world_model.specs.Insides.{Inside, Shelved, Pushing, Serving, Tells, StartsPush, idles}
-use Rattle.world_model.specs.Moments.{Moment, first_moment}
-use Rattle.world_model.specs.Happenings.{Happening, Departure, Arrival, GivingBack, Opening, Closing, Deed, Miss, Does, entries_of}
-use Rattle.world_model.proofs.Holding.{kept_along}
+use Rattle.small_link.specs.Lines.{Line}
+use Rattle.small_link.specs.Hearing.{news_of}
+use Rattle.small_host.specs.Courses.{Course, begun}
+use Rattle.small_host.specs.Events.{is_idle}
+use Rattle.small_host.specs.Steps.{next_step}
+use Rattle.small_host.specs.Clients.{IsShelved, after_news}
+use Rattle.small_host.proofs.ObjectLaws.{news_shelved, step_shelved}
+use Rattle.small_host.specs.Servers.{Kept}
+use Rattle.small_model.specs.Insides.{Inside, Shelved, Pushing, Serving, Tells, StartsPush, idles}
+use Rattle.small_model.specs.Moments.{Moment, first_moment}
+use Rattle.small_model.specs.Happenings.{Happening, Departure, Arrival, GivingBack, Opening, Closing, Deed, Miss, Does, entries_of}
+use Rattle.small_model.proofs.Holding.{kept_along}
 use Rattle.host_wire.specs.Sending.{line_hearing}
 use Rattle.push_course.specs.PushNames.{IsLastName, PushIsNamed}
 use Rattle.push_course.proofs.Turning.{course_of}

@@ -3,16 +3,16 @@ use Rattle.std.proofs.Common.{◌≡◌, ℕ, suc, ◌+◌, ◌-◌, ◌<◌, �
 use Rattle.std.specs.Prelude.{slice_get, is_some, unwrap_or, IfSome}
 use Rattle.std.specs.List.{filter_map}
 use Rattle.bt_base.specs.Objects.{Object, Contents}
-use Rattle.push_script.specs.declared.word.Side.{Side}
-use Rattle.push_script.specs.declared.word.Side.TheVariants as sides
+use Rattle.push_terms.specs.declared.word.Side.{Side}
+use Rattle.push_terms.specs.declared.word.Side.TheVariants as sides
 use Rattle.capture.specs.Entries.{Entry, Begun}
 use Rattle.capture.specs.Links.{Link, Linking, links, link_up}
 use Rattle.capture.specs.Pdus.{pdus}
 use Rattle.capture.specs.Pushes.{mark_of}
-use Rattle.bt_host.specs.Servers.{Served, Kept}
-use Rattle.world_model.specs.Insides.{Shelved, Serving}
-use Rattle.world_model.specs.Moments.{Moment, first_moment}
-use Rattle.world_model.specs.Happenings.{Happening, Opening, Opens, Runs, all_entries}
+use Rattle.small_host.specs.Servers.{Served, Kept}
+use Rattle.small_model.specs.Insides.{Shelved, Serving}
+use Rattle.small_model.specs.Moments.{Moment, first_moment}
+use Rattle.small_model.specs.Happenings.{Happening, Opening, Opens, Runs, all_entries}
 use Rattle.world_links.specs.LinkFacts.{LinkFacts, since_begin}
 use Rattle.world_links.proofs.Upholding.{facts_of}
 use Rattle.world_links.proofs.Splitting.{IsSplit, split_many}

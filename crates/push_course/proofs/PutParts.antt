@@ -1,8 +1,8 @@
 -- What a PUT that is answered makes of the part that is stored.
 use Rattle.std.proofs.Common.{◌≡◌, ℕ, Bool, true, false, List, [], ◌∷◌, Some, None, refl, sym, ap, ◌∙◌, inr}
 use Rattle.bt_base.specs.Objects.{Object}
-use Rattle.bt_host.specs.Pushing.{utf16}
-use Rattle.bt_host.specs.Servers.{Kept}
+use Rattle.small_host.specs.Pushing.{utf16}
+use Rattle.small_host.specs.Servers.{Kept}
 use Rattle.push_course.specs.Conversations.{Conversation}
 use Rattle.push_course.specs.Gains.{object_put, object_where}
 use Rattle.push_course.proofs.Deciding.{Delivery, Decisions, Agrees, told_is}

@@ -3,16 +3,16 @@ use Rattle.std.proofs.Common.{◌≡◌, ℕ, zero, suc, min, List, [], ◌∷�
 use Rattle.std.specs.List.{AllByRecursion}
 use Rattle.std.proofs.lemmas.List.{append-nil}
 use Rattle.push_script.specs.Names.{IsName}
-use Rattle.push_script.specs.declared.word.Side.{Side}
-use Rattle.push_script.specs.declared.word.Side.TheVariants as sides
+use Rattle.push_terms.specs.declared.word.Side.{Side}
+use Rattle.push_terms.specs.declared.word.Side.TheVariants as sides
 use Rattle.capture.specs.Entries.{Entry, Ended, Acted}
 use Rattle.capture.specs.Links.{no_links}
-use Rattle.bt_host.specs.Courses.{resting}
-use Rattle.bt_host.specs.Servers.{Kept}
-use Rattle.world_model.specs.Insides.{Shelved}
-use Rattle.world_model.specs.Moments.{Moment, first_moment}
-use Rattle.world_model.specs.Happenings.{Happening, Departure, Arrival, GivingBack, Opening, Closing, Deed, Miss, Does, Runs, entries_of, all_entries}
-use Rattle.world_model.proofs.Holding.{kept_along}
+use Rattle.small_host.specs.Courses.{resting}
+use Rattle.small_host.specs.Servers.{Kept}
+use Rattle.small_model.specs.Insides.{Shelved}
+use Rattle.small_model.specs.Moments.{Moment, first_moment}
+use Rattle.small_model.specs.Happenings.{Happening, Departure, Arrival, GivingBack, Opening, Closing, Deed, Miss, Does, Runs, entries_of, all_entries}
+use Rattle.small_model.proofs.Holding.{kept_along}
 use Rattle.world_links.proofs.Running.{upholds_on, first_upholds}
 use Rattle.link_pipe.proofs.Keeping.{piping_on}
 use Rattle.link_pipe.proofs.Beginning.{first_piping}

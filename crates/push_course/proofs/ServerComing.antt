@@ -3,12 +3,12 @@ use Rattle.std.proofs.Common.{◌≡◌, ℕ, ◌+◌, ◌<◌, ◌≤◌, lengt
 use Rattle.std.specs.Prelude.{is_some}
 use Rattle.std.proofs.lemmas.List.{append-nil, length-map}
 use Rattle.h4_framing.specs.Packets.{Packet}
-use Rattle.push_script.specs.declared.word.Side.TheVariants as sides
+use Rattle.push_terms.specs.declared.word.Side.TheVariants as sides
 use Rattle.capture.specs.Links.{Linking}
-use Rattle.host_link.specs.Stands.{into}
-use Rattle.bt_host.specs.declared.channel_stages.ChannelStage.TheVariants as stages
-use Rattle.bt_host.specs.Courses.{Course}
-use Rattle.bt_host.specs.Servers.{Served, Kept}
+use Rattle.small_link.specs.Stands.{into}
+use Rattle.small_host.specs.declared.channel_stages.ChannelStage.TheVariants as stages
+use Rattle.small_host.specs.Courses.{Course}
+use Rattle.small_host.specs.Servers.{Served, Kept}
 use Rattle.link_pipe.proofs.Numbers.{given_last}
 use Rattle.push_talk.specs.Conversing.{Saying}
 use Rattle.push_talk.specs.Speaking.{pdu_of, speaker}

@@ -2,15 +2,15 @@
 use Rattle.std.proofs.Common.{◌≡◌, ℕ, ◌≤◌, Bool, true, false, List, [], ◌∷◌, ◌++◌, Option, Some, None, option_to_list, refl, sym, ap, subst, ◌∙◌, inl, inr, arith}
 use Rattle.std.specs.List.{AllByRecursion}
 use Rattle.bt_base.specs.Objects.{Contents}
-use Rattle.push_script.specs.declared.word.Side.TheVariants as sides
+use Rattle.push_terms.specs.declared.word.Side.TheVariants as sides
 use Rattle.obex_headers.specs.Packets.{PlainPacket, packet_octets}
-use Rattle.obex_session.specs.Past.{Serving}
-use Rattle.obex_session.specs.Rules.{is_under_way}
-use Rattle.bt_host.specs.declared.channel_stages.ChannelStage.TheVariants as stages
-use Rattle.bt_host.specs.Pdus.{own_endpoint, asks_connection, grants_connection, asks_configuration, grants_configuration, asks_disconnection, grants_disconnection}
-use Rattle.bt_host.specs.Pushing.{utf16, connect_packet, disconnect_packet, put_packet}
-use Rattle.bt_host.specs.Channels.{Channel}
-use Rattle.bt_host.specs.Servers.{Served, Kept, LeavesSession, LetsGo, HearsPacket, Notes}
+use Rattle.small_session.specs.Past.{Serving}
+use Rattle.small_session.specs.Rules.{is_under_way}
+use Rattle.small_host.specs.declared.channel_stages.ChannelStage.TheVariants as stages
+use Rattle.small_host.specs.Pdus.{own_endpoint, asks_connection, grants_connection, asks_configuration, grants_configuration, asks_disconnection, grants_disconnection}
+use Rattle.small_host.specs.Pushing.{utf16, connect_packet, disconnect_packet, put_packet}
+use Rattle.small_host.specs.Channels.{Channel}
+use Rattle.small_host.specs.Servers.{Served, Kept, LeavesSession, LetsGo, HearsPacket, Notes}
 use Rattle.host_wire.specs.Sending.{sent_in_answer}
 use Rattle.push_talk.specs.Conversing.{Saying, Says}
 use Rattle.push_talk.specs.Speaking.{pdu_of, told}

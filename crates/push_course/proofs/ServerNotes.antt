@@ -1,8 +1,8 @@
 -- What a server noted of one saying, and what it sends then.
 use Rattle.std.proofs.Common.{◌≡◌, ℕ, List, ◌++◌, Option, option_to_list, ap, ap₂, ◌∙◌}
-use Rattle.obex_session.specs.declared.ruling.Progress.TheVariants.{Unnamed}
-use Rattle.bt_host.specs.Channels.{Channel}
-use Rattle.bt_host.specs.Servers.{Served}
+use Rattle.small_session.specs.declared.ruling.Progress.TheVariants.{Unnamed}
+use Rattle.small_host.specs.Channels.{Channel}
+use Rattle.small_host.specs.Servers.{Served}
 use Rattle.host_wire.specs.Sending.{sent_in_answer}
 use Rattle.push_talk.specs.Conversing.{Saying}
 use Rattle.push_talk.specs.ServerTurns.{Turn, steps}

@@ -1,13 +1,13 @@
 -- Where a server stands in the conversation of a push, and where a move leads it.
 use Rattle.std.proofs.Common.{◌≡◌, ℕ, Bool, List, [], ◌∷◌, ◌++◌, Some, None, true, false, ◌⊎◌, inl}
 use Rattle.bt_base.specs.Objects.{Object}
-use Rattle.obex_session.specs.declared.ruling.Progress.TheVariants.{Unnamed}
-use Rattle.bt_host.specs.declared.channel_stages.ChannelStage.TheVariants as stages
-use Rattle.bt_host.specs.Pdus.{own_endpoint}
-use Rattle.bt_host.specs.Channels.{Channel}
-use Rattle.bt_host.specs.Servers.{Served, Kept}
+use Rattle.small_session.specs.declared.ruling.Progress.TheVariants.{Unnamed}
+use Rattle.small_host.specs.declared.channel_stages.ChannelStage.TheVariants as stages
+use Rattle.small_host.specs.Pdus.{own_endpoint}
+use Rattle.small_host.specs.Channels.{Channel}
+use Rattle.small_host.specs.Servers.{Served, Kept}
 use Rattle.std.specs.List.{AllByRecursion}
-use Rattle.push_script.specs.declared.word.Side.TheVariants as sides
+use Rattle.push_terms.specs.declared.word.Side.TheVariants as sides
 use Rattle.push_talk.specs.Conversing.{Saying}
 use Rattle.push_talk.specs.Speaking.{pdu_of}
 use Rattle.push_course.proofs.Owning.{own, IsBy}

@@ -1,14 +1,14 @@
 -- What a server makes of news, in the terms of its channel and its session.
 use Rattle.std.proofs.Common.{◌≡◌, ℕ, List, [], ◌++◌, Bool, Option, None, option_to_list, refl, sym, ap, ap₂, subst, ◌∙◌}
-use Rattle.host_link.specs.Hearing.{PlainNews, Nothing, LinkUp, LinkDown}
-use Rattle.bt_host.specs.declared.channel_stages.ChannelStage.{ChannelStage}
-use Rattle.bt_host.specs.declared.channel_stages.ChannelStage.TheVariants as stages
-use Rattle.bt_host.specs.Channels.{Channel, fresh, sent, sent_at}
-use Rattle.bt_host.specs.Servers.{Served, Kept, LeavesSession, LetsGo, Notes}
-use Rattle.bt_host.proofs.Settling.{two_steps_suffice}
-use Rattle.obex_session.specs.Past.{Serving}
-use Rattle.obex_session.specs.Rules.{is_under_way}
-use Rattle.obex_session.specs.declared.ruling.Progress.TheVariants.{Unnamed}
+use Rattle.small_link.specs.Hearing.{PlainNews, Nothing, LinkUp, LinkDown}
+use Rattle.small_host.specs.declared.channel_stages.ChannelStage.{ChannelStage}
+use Rattle.small_host.specs.declared.channel_stages.ChannelStage.TheVariants as stages
+use Rattle.small_host.specs.Channels.{Channel, fresh, sent, sent_at}
+use Rattle.small_host.specs.Servers.{Served, Kept, LeavesSession, LetsGo, Notes}
+use Rattle.small_host.proofs.Settling.{two_steps_suffice}
+use Rattle.small_session.specs.Past.{Serving}
+use Rattle.small_session.specs.Rules.{is_under_way}
+use Rattle.small_session.specs.declared.ruling.Progress.TheVariants.{Unnamed}
 use Rattle.host_wire.specs.Sending.{sent_in_answer}
 use Rattle.push_talk.specs.ServerTurns.{Turn, steps}
 use Rattle.push_course.proofs.ServerNotes.{served_behind}

@@ -1,12 +1,12 @@
 -- The shelf is asked where CONNECT succeeded, and there alone.
 use Rattle.std.proofs.Common.{◌≡◌, ℕ, Bool, true, false, List, [], Option, Some, None, refl, sym, ap, ◌∙◌, inl, inr, ◌⊎◌, true≢false}
-use Rattle.bt_host.specs.declared.stages.Stage.{Stage}
-use Rattle.bt_host.specs.declared.stages.Stage.TheVariants as stages
-use Rattle.bt_host.specs.declared.stages.PeerRequest.TheVariants as request
-use Rattle.bt_host.specs.Courses.{Course}
-use Rattle.bt_host.specs.Clients.{after_news}
-use Rattle.bt_host.specs.Steps.{step_at}
-use Rattle.host_link.specs.Hearing.{PlainNews}
+use Rattle.small_host.specs.declared.stages.Stage.{Stage}
+use Rattle.small_host.specs.declared.stages.Stage.TheVariants as stages
+use Rattle.small_host.specs.declared.stages.PeerRequest.TheVariants as request
+use Rattle.small_host.specs.Courses.{Course}
+use Rattle.small_host.specs.Clients.{after_news}
+use Rattle.small_host.specs.Steps.{step_at}
+use Rattle.small_link.specs.Hearing.{PlainNews}
 use Rattle.push_talk.specs.ClientTurns.{Turn, turned, turn, puts}
 
 -- what the shelf gives counts at one stage alone

@@ -1,8 +1,8 @@
 -- What is true of a push since a moment at which no link is up.
 use Rattle.std.proofs.Common.{◌≡◌, ℕ, ◌<◌, List, None, sym, subst, ◌∙◌, arith}
-use Rattle.push_script.specs.declared.word.Side.TheVariants as sides
+use Rattle.push_terms.specs.declared.word.Side.TheVariants as sides
 use Rattle.capture.specs.Entries.{Entry}
-use Rattle.world_model.specs.Moments.{Moment}
+use Rattle.small_model.specs.Moments.{Moment}
 use Rattle.push_course.proofs.Deciding.{filled, filled_agrees}
 use Rattle.push_course.proofs.Parts.{none_stored, gained_first}
 use Rattle.push_course.proofs.HalfSteps.{none_some}

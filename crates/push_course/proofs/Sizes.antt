@@ -1,12 +1,12 @@
 -- A step of a push keeps the size and the name of its object.
 use Rattle.std.proofs.Common.{◌≡◌, ℕ, List, true, false, Option, Some, None, refl, ◌∙◌}
-use Rattle.host_link.specs.Hearing.{PlainNews}
-use Rattle.bt_host.specs.declared.stages.Stage.{Stage}
-use Rattle.bt_host.specs.declared.stages.Stage.TheVariants as stages
-use Rattle.bt_host.specs.declared.stages.PeerRequest.TheVariants as request
-use Rattle.bt_host.specs.Courses.{Course}
-use Rattle.bt_host.specs.Steps.{step_at, next_step}
-use Rattle.bt_host.specs.Clients.{after_news}
+use Rattle.small_link.specs.Hearing.{PlainNews}
+use Rattle.small_host.specs.declared.stages.Stage.{Stage}
+use Rattle.small_host.specs.declared.stages.Stage.TheVariants as stages
+use Rattle.small_host.specs.declared.stages.PeerRequest.TheVariants as request
+use Rattle.small_host.specs.Courses.{Course}
+use Rattle.small_host.specs.Steps.{step_at, next_step}
+use Rattle.small_host.specs.Clients.{after_news}
 use Rattle.push_talk.specs.ClientTurns.{turn}
 
 step_same : (stage : Stage) (given : Option (List ℕ)) (course : Course) → ((step_at stage given course).1.size ≡ course.size) × ((step_at stage given course).1.name ≡ course.name)

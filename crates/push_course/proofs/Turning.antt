@@ -2,17 +2,17 @@
 use Rattle.std.proofs.Common.{◌≡◌, ℕ, List, ◌++◌, length, Option, Some, None, refl, ap, subst, ◌∙◌}
 use Rattle.bt_base.specs.Objects.{Object}
 use Rattle.h4_framing.specs.Packets.{Packet}
-use Rattle.host_link.specs.Lines.{Line}
-use Rattle.host_link.specs.Hearing.{news_of}
-use Rattle.host_link.specs.PuttingOut.{is_waiting}
-use Rattle.bt_host.specs.declared.stages.Stage.TheVariants as stages
-use Rattle.bt_host.specs.Courses.{Course}
-use Rattle.bt_host.specs.Shelves.{GivesOctets}
-use Rattle.bt_host.specs.Steps.{next_step}
-use Rattle.bt_host.specs.Clients.{Client, after_news, after_step, told}
-use Rattle.bt_host.specs.Clients as client
-use Rattle.bt_host.specs.Servers.{Served, Server, Kept, Notes}
-use Rattle.world_model.specs.Insides.{Inside, Shelved, Pushing, Serving, Tells}
+use Rattle.small_link.specs.Lines.{Line}
+use Rattle.small_link.specs.Hearing.{news_of}
+use Rattle.small_link.specs.PuttingOut.{is_waiting}
+use Rattle.small_host.specs.declared.stages.Stage.TheVariants as stages
+use Rattle.small_host.specs.Courses.{Course}
+use Rattle.small_host.specs.Shelves.{GivesOctets}
+use Rattle.small_host.specs.Steps.{next_step}
+use Rattle.small_host.specs.Clients.{Client, after_news, after_step, told}
+use Rattle.small_host.specs.Clients as client
+use Rattle.small_host.specs.Servers.{Served, Server, Kept, Notes}
+use Rattle.small_model.specs.Insides.{Inside, Shelved, Pushing, Serving, Tells}
 use Rattle.host_wire.specs.Sending.{sent_by, sent_in_answer, sent_told}
 use Rattle.push_talk.specs.ClientTurns.{turn}
 use Rattle.push_course.proofs.Deciding.{IsGivenFrom}

@@ -4,11 +4,11 @@ use Rattle.std.proofs.lemmas.List.{length-map, get_or-map, get_or_append_left}
 use Rattle.std.proofs.lemmas.Bool.{cases_lt}
 use Rattle.std.proofs.Math.Seq.{get_or-append_seam}
 use Rattle.bt_base.specs.Objects.{Object}
-use Rattle.push_script.specs.declared.word.Side.TheVariants as sides
+use Rattle.push_terms.specs.declared.word.Side.TheVariants as sides
 use Rattle.capture.specs.declared.flow.Flow.TheVariants.{Out, Into}
 use Rattle.capture.specs.Pdus.{Pdu}
-use Rattle.bt_host.specs.Pushing.{utf16, put_packet}
-use Rattle.bt_host.specs.Channels.{Channel}
+use Rattle.small_host.specs.Pushing.{utf16, put_packet}
+use Rattle.small_host.specs.Channels.{Channel}
 use Rattle.push_talk.specs.Conversing.{Saying}
 use Rattle.push_talk.specs.ClientTurns.{says_packet}
 use Rattle.push_course.specs.Conversations.{Conversation}

@@ -2,14 +2,14 @@
 use Rattle.std.specs.Prelude.{ℕ, zero, suc, ◌≡◌, ◌≤◌, Bool, true, false, min, List, [], ◌∷◌, ◌++◌, length, Option, Some, None, slice_get, IfSome}
 use Rattle.bt_base.specs.Counts.{HasRisen}
 use Rattle.bt_base.specs.Objects.{octets_of, Object, Contents}
-use Rattle.push_script.specs.declared.word.Side.TheVariants as sides
+use Rattle.push_terms.specs.declared.word.Side.TheVariants as sides
 use Rattle.capture.specs.Entries.{Entry}
 use Rattle.capture.specs.Links.{Link, links}
-use Rattle.bt_host.specs.Pushing.{utf16}
-use Rattle.bt_host.specs.Servers.{Served, Kept}
-use Rattle.world_model.specs.Insides.{Shelved, Serving}
-use Rattle.world_model.specs.Moments.{Moment, first_moment}
-use Rattle.world_model.specs.Happenings.{Happening, Runs, all_entries}
+use Rattle.small_host.specs.Pushing.{utf16}
+use Rattle.small_host.specs.Servers.{Served, Kept}
+use Rattle.small_model.specs.Insides.{Shelved, Serving}
+use Rattle.small_model.specs.Moments.{Moment, first_moment}
+use Rattle.small_model.specs.Happenings.{Happening, Runs, all_entries}
 use Rattle.push_talk.specs.Conversing.{Saying}
 use Rattle.push_course.specs.Conversations.{Conversation, sayings, IsSetting, Converse}
 

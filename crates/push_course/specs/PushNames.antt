@@ -1,11 +1,11 @@
 -- The object that is pushed is the one of the push under way (this project's own).
 use Rattle.std.specs.Prelude.{ℕ, ◌+◌, ◌≡◌, false, List, Some, slice_get}
-use Rattle.bt_host.specs.Courses.{Course}
-use Rattle.bt_host.specs.Events.{is_idle}
-use Rattle.bt_host.specs.Servers.{Kept}
-use Rattle.world_model.specs.Insides.{Shelved, Pushing}
-use Rattle.world_model.specs.Moments.{Moment, first_moment}
-use Rattle.world_model.specs.Happenings.{Happening, Runs}
+use Rattle.small_host.specs.Courses.{Course}
+use Rattle.small_host.specs.Events.{is_idle}
+use Rattle.small_host.specs.Servers.{Kept}
+use Rattle.small_model.specs.Insides.{Shelved, Pushing}
+use Rattle.small_model.specs.Moments.{Moment, first_moment}
+use Rattle.small_model.specs.Happenings.{Happening, Runs}
 
 -- the push that began last is of the object of that name
 pub record IsLastName (names : List (List ℕ)) (begun : ℕ) (name : List ℕ) : Type 0 where

@@ -1,20 +1,20 @@
 -- Where the end of a link comes from: while nothing broke it, host a ends it itself, and is leaving then.
 use Rattle.std.proofs.Common.{◌≡◌, ℕ, ◌+◌, ◌≤◌, List, [], ◌∷◌, ◌++◌, Bool, true, false, refl, sym, ap, subst, arith}
 use Rattle.h4_framing.specs.Packets.{Packet}
-use Rattle.push_script.specs.declared.word.Side.TheVariants as sides
+use Rattle.push_terms.specs.declared.word.Side.TheVariants as sides
 use Rattle.capture.specs.declared.flow.Flow.TheVariants.{Out, Into}
 use Rattle.capture.specs.Entries.{Entry, Moved}
 use Rattle.capture.specs.Moves.{moves}
 use Rattle.capture.specs.Links.{linking}
-use Rattle.bt_host.specs.Courses.{Course}
-use Rattle.radio_air.specs.Controllers.{Answer, packet_of}
-use Rattle.radio_air.specs.Radio.{Radio}
-use Rattle.radio_air.proofs.Sizing.{sizes-stay}
-use Rattle.world_model.specs.Hearing.{HearsBehind}
-use Rattle.world_model.specs.Insides.{Shelved, Pushing}
-use Rattle.world_model.specs.Moments.{Moment}
-use Rattle.world_model.specs.Happenings.{Departs, Arrives}
-use Rattle.world_model.proofs.Departing.{moved_sizes}
+use Rattle.small_host.specs.Courses.{Course}
+use Rattle.small_air.specs.Controllers.{Answer, packet_of}
+use Rattle.small_air.specs.Radio.{Radio}
+use Rattle.small_air.proofs.Sizing.{sizes-stay}
+use Rattle.small_model.specs.Hearing.{HearsBehind}
+use Rattle.small_model.specs.Insides.{Shelved, Pushing}
+use Rattle.small_model.specs.Moments.{Moment}
+use Rattle.small_model.specs.Happenings.{Departs, Arrives}
+use Rattle.small_model.proofs.Departing.{moved_sizes}
 use Rattle.world_links.proofs.Reaching.{is_leaving}
 use Rattle.world_links.proofs.Ways.{number_of, has_opcode}
 use Rattle.world_links.proofs.Listening.{is_gone}

@@ -3,11 +3,11 @@ use Rattle.std.proofs.Common.{◌≡◌, ℕ, List, [], ◌∷◌, ◌++◌, len
 use Rattle.std.specs.List.{flat_map, list_any}
 use Rattle.std.proofs.lemmas.List.{append-nil}
 use Rattle.std.proofs.lemmas.List.Elements.{filter-append}
-use Rattle.push_script.specs.declared.outcome.Outcome.{Outcome}
-use Rattle.push_script.specs.declared.outcome.Outcome.TheVariants.{Done, LinkLost, ShelfFault}
-use Rattle.push_script.specs.declared.word.Word.{Word}
-use Rattle.push_script.specs.declared.word.Word.TheVariants.{Pass, Lose, Repeat, Damage, Cut, Timer, Drop, Cancel}
-use Rattle.push_script.specs.declared.word.Side.TheVariants as sides
+use Rattle.push_terms.specs.declared.outcome.Outcome.{Outcome}
+use Rattle.push_terms.specs.declared.outcome.Outcome.TheVariants.{Done, LinkLost, ShelfFault}
+use Rattle.push_terms.specs.declared.word.Word.{Word}
+use Rattle.push_terms.specs.declared.word.Word.TheVariants.{Pass, Lose, Repeat, Damage, Cut, Timer, Drop, Cancel}
+use Rattle.push_terms.specs.declared.word.Side.TheVariants as sides
 use Rattle.capture.specs.Entries.{Entry, Moved, Begun, Ended, Acted}
 use Rattle.capture.specs.Moves.{Move}
 use Rattle.capture.specs.Links.{Link, links}
@@ -17,7 +17,7 @@ use Rattle.capture.specs.Pdus.{pdus}
 use Rattle.capture.specs.Results.{causes, cause_of, awaited, gives_up, first_of, first_cause}
 use Rattle.capture.proofs.HistoryLaws.{given_by-more}
 use Rattle.std.specs.Prelude.{◌==◌}
-use Rattle.world_model.proofs.Lists.{chosen}
+use Rattle.small_model.proofs.Lists.{chosen}
 use Rattle.link_pipe.proofs.Ways.{all_links}
 use Rattle.push_course.specs.Conversations.{Conversation, outcome_of}
 use Rattle.push_course.proofs.Deciding.{Decisions, IsFair, filled}

@@ -4,16 +4,16 @@ use Rattle.std.specs.Prelude.{nat_lt}
 use Rattle.bt_base.specs.Objects.{Object}
 use Rattle.h4_framing.specs.Packets.{Packet}
 use Rattle.capture.specs.Links.{Linking}
-use Rattle.host_link.specs.declared.host_command.HostCommand.{HostCommand}
-use Rattle.host_link.specs.declared.host_command.HostCommand.TheVariants.{CreateConnection, Disconnect}
-use Rattle.host_link.specs.CommandFlows.{Flow, with_command}
-use Rattle.host_link.specs.Lines.{Line}
-use Rattle.host_link.specs.PuttingOut.{put_out, ending, with_pdu}
-use Rattle.bt_host.specs.declared.steps.Step.{Step}
-use Rattle.bt_host.specs.declared.steps.Step.TheVariants.{Wait, Page, Send, BreakLink}
-use Rattle.bt_host.specs.Steps.{next_step}
-use Rattle.bt_host.specs.Clients.{Client, peer_address, after_step, IsSendable, StepsOn, GoesOn}
-use Rattle.world_model.specs.Hosts.{IsAddress}
+use Rattle.small_link.specs.declared.host_command.HostCommand.{HostCommand}
+use Rattle.small_link.specs.declared.host_command.HostCommand.TheVariants.{CreateConnection, Disconnect}
+use Rattle.small_link.specs.CommandFlows.{Flow, with_command}
+use Rattle.small_link.specs.Lines.{Line}
+use Rattle.small_link.specs.PuttingOut.{put_out, ending, with_pdu}
+use Rattle.small_host.specs.declared.steps.Step.{Step}
+use Rattle.small_host.specs.declared.steps.Step.TheVariants.{Wait, Page, Send, BreakLink}
+use Rattle.small_host.specs.Steps.{next_step}
+use Rattle.small_host.specs.Clients.{Client, peer_address, after_step, IsSendable, StepsOn, GoesOn}
+use Rattle.small_model.specs.Hosts.{IsAddress}
 use Rattle.world_links.proofs.Reaching.{is_leaving, LeaveStep, step_leaves}
 use Rattle.world_links.proofs.Ways.{HostAt}
 use Rattle.world_links.proofs.Tidying.{one_if}

@@ -3,16 +3,16 @@ use Rattle.std.proofs.Common.{◌≡◌, ℕ, ◌-◌, min, List, [], ◌∷◌,
 use Rattle.std.specs.Prelude.{slice_get}
 use Rattle.std.specs.List.{filter_map}
 use Rattle.bt_base.specs.Objects.{Object}
-use Rattle.push_script.specs.declared.word.Side.TheVariants as sides
+use Rattle.push_terms.specs.declared.word.Side.TheVariants as sides
 use Rattle.capture.specs.Entries.{Entry}
 use Rattle.capture.specs.Pushes.{mark_of}
 use Rattle.capture.specs.Results.{first_cause}
 use Rattle.capture.specs.Spelled.{objects_heard}
-use Rattle.bt_host.specs.Servers.{Served, Kept}
-use Rattle.world_model.specs.Insides.{Inside, Serving, Shelved, came_of}
-use Rattle.world_model.specs.Moments.{Moment, first_moment}
-use Rattle.world_model.specs.Happenings.{Happening, Opening, Runs, all_entries}
-use Rattle.world_model.proofs.Runs.{runs_then}
+use Rattle.small_host.specs.Servers.{Served, Kept}
+use Rattle.small_model.specs.Insides.{Inside, Serving, Shelved, came_of}
+use Rattle.small_model.specs.Moments.{Moment, first_moment}
+use Rattle.small_model.specs.Happenings.{Happening, Opening, Runs, all_entries}
+use Rattle.small_model.proofs.Runs.{runs_then}
 use Rattle.push_course.specs.Conversations.{IsSetting}
 use Rattle.push_course.proofs.PushParts.{stands_in_parts}
 use Rattle.push_course.proofs.Running.{stood, capable_in}

@@ -2,34 +2,34 @@
 use Rattle.std.proofs.Common.{◌≡◌, ℕ, ◌+◌, ◌<◌, ◌≤◌, List, [], ◌∷◌, ◌++◌, length, Bool, true, false, cond, Some, refl, sym, ap, subst, ◌∙◌, arith, inl, inr}
 use Rattle.std.specs.Prelude.{◌&&◌}
 use Rattle.h4_framing.specs.Packets.{Packet, spelling, IsPacket}
-use Rattle.push_script.specs.declared.word.Side.{Side}
-use Rattle.push_script.specs.declared.word.Side.TheVariants as sides
+use Rattle.push_terms.specs.declared.word.Side.{Side}
+use Rattle.push_terms.specs.declared.word.Side.TheVariants as sides
 use Rattle.capture.specs.declared.flow.Flow.TheVariants.{Into}
 use Rattle.capture.specs.Entries.{Entry, Moved}
 use Rattle.capture.specs.Moves.{move_of, moves}
 use Rattle.capture.specs.Links.{Linking, after_move, linking}
 use Rattle.capture.specs.Laws.{led_on}
-use Rattle.host_link.specs.declared.role.Role.{Role}
-use Rattle.host_link.specs.declared.role.Role.TheVariants.{Client}
-use Rattle.host_link.specs.declared.host_command.HostCommand.{HostCommand}
-use Rattle.host_link.specs.declared.host_command.HostCommand.TheVariants.{CreateConnection, AcceptConnection, Disconnect}
-use Rattle.host_link.specs.Lines.{Line}
-use Rattle.host_link.specs.Hearing.{PlainNews, Nothing, LinkUp, LinkFailed, LinkDown, Pdu, is_server, heard, news_of}
-use Rattle.host_link.specs.Stands.{into, out_of}
-use Rattle.bt_host.specs.declared.stages.Stage.{Stage}
-use Rattle.bt_host.specs.declared.stages.Stage.TheVariants.{Paging, Leaving}
-use Rattle.bt_host.specs.Courses.{Course, ended}
-use Rattle.bt_host.specs.Events as events
-use Rattle.bt_host.specs.Clients.{peer_address, after_news, told}
-use Rattle.bt_host.specs.Servers.{Served, Kept}
-use Rattle.radio_air.specs.Controllers.{Answer, packet_of}
-use Rattle.radio_air.specs.Radio.{Radio}
-use Rattle.radio_air.specs.Showing.{Shows}
-use Rattle.world_model.specs.Faces.{Face}
-use Rattle.world_model.specs.Hearing.{put_out_again, HearsBehind}
-use Rattle.world_model.specs.Hosts.{OwesHonestly}
-use Rattle.world_model.specs.Insides.{Inside, Shelved, Pushing, Serving, Tells, client}
-use Rattle.world_model.specs.Moving.{HasNoPacket}
+use Rattle.small_link.specs.declared.role.Role.{Role}
+use Rattle.small_link.specs.declared.role.Role.TheVariants.{Client}
+use Rattle.small_link.specs.declared.host_command.HostCommand.{HostCommand}
+use Rattle.small_link.specs.declared.host_command.HostCommand.TheVariants.{CreateConnection, AcceptConnection, Disconnect}
+use Rattle.small_link.specs.Lines.{Line}
+use Rattle.small_link.specs.Hearing.{PlainNews, Nothing, LinkUp, LinkFailed, LinkDown, Pdu, is_server, heard, news_of}
+use Rattle.small_link.specs.Stands.{into, out_of}
+use Rattle.small_host.specs.declared.stages.Stage.{Stage}
+use Rattle.small_host.specs.declared.stages.Stage.TheVariants.{Paging, Leaving}
+use Rattle.small_host.specs.Courses.{Course, ended}
+use Rattle.small_host.specs.Events as events
+use Rattle.small_host.specs.Clients.{peer_address, after_news, told}
+use Rattle.small_host.specs.Servers.{Served, Kept}
+use Rattle.small_air.specs.Controllers.{Answer, packet_of}
+use Rattle.small_air.specs.Radio.{Radio}
+use Rattle.small_air.specs.Showing.{Shows}
+use Rattle.small_model.specs.Faces.{Face}
+use Rattle.small_model.specs.Hearing.{put_out_again, HearsBehind}
+use Rattle.small_model.specs.Hosts.{OwesHonestly}
+use Rattle.small_model.specs.Insides.{Inside, Shelved, Pushing, Serving, Tells, client}
+use Rattle.small_model.specs.Moving.{HasNoPacket}
 use Rattle.world_links.specs.LinkFacts.{IsDone}
 use Rattle.world_links.proofs.Reaching.{is_leaving, pdu_stays}
 use Rattle.world_links.proofs.Ways.{number_of, HostAt, puts_again}

@@ -9,14 +9,14 @@ use Rattle.hci_packets.specs.declared.refusal.HciRefusal.{HciRefusal}
 use Rattle.hci_packets.specs.Commands as table
 use Rattle.hci_packets.specs.Commands.{command_refusal}
 use Rattle.hci_packets.proofs.CommandLaws.{command_accepted}
-use Rattle.push_script.specs.declared.word.Side.TheVariants as sides
+use Rattle.push_terms.specs.declared.word.Side.TheVariants as sides
 use Rattle.capture.specs.Links.{Link}
-use Rattle.host_link.specs.declared.host_command.HostCommand.TheVariants.{Disconnect}
-use Rattle.radio_air.specs.Controllers.{Answer, Returned, Stated, Called, LinkMade, LinkGone, GivenBack, Carried, Controller}
-use Rattle.radio_air.specs.Radio.{Radio, is_together, owes, parted_by, after_row, after_packet}
-use Rattle.radio_air.specs.Showing.{ShowsUp, IsOwed}
-use Rattle.world_model.specs.Hosts.{RunsAhead}
-use Rattle.world_model.proofs.Putting.{both_right}
+use Rattle.small_link.specs.declared.host_command.HostCommand.TheVariants.{Disconnect}
+use Rattle.small_air.specs.Controllers.{Answer, Returned, Stated, Called, LinkMade, LinkGone, GivenBack, Carried, Controller}
+use Rattle.small_air.specs.Radio.{Radio, is_together, owes, parted_by, after_row, after_packet}
+use Rattle.small_air.specs.Showing.{ShowsUp, IsOwed}
+use Rattle.small_model.specs.Hosts.{RunsAhead}
+use Rattle.small_model.proofs.Putting.{both_right}
 use Rattle.world_links.proofs.Ways.{number_of, number_of-append}
 use Rattle.world_links.proofs.Pacing.{both_left}
 use Rattle.world_links.proofs.Listening.{is_gone}

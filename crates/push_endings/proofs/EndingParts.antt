@@ -7,23 +7,23 @@ use Rattle.std.proofs.lemmas.List.{append-nil}
 use Rattle.std.proofs.lemmas.List.Elements.{filter_map-append}
 use Rattle.std.proofs.lemmas.Grind.{flat_map-append}
 use Rattle.h4_framing.specs.Packets.{Packet}
-use Rattle.push_script.specs.declared.outcome.Outcome.{Outcome}
-use Rattle.push_script.specs.declared.outcome.Outcome.TheVariants.{ShelfFault}
-use Rattle.push_script.specs.declared.word.Word.{Word}
-use Rattle.push_script.specs.declared.word.Word.TheVariants.{Drop}
-use Rattle.push_script.specs.declared.word.Side.TheVariants as sides
+use Rattle.push_terms.specs.declared.outcome.Outcome.{Outcome}
+use Rattle.push_terms.specs.declared.outcome.Outcome.TheVariants.{ShelfFault}
+use Rattle.push_terms.specs.declared.word.Word.{Word}
+use Rattle.push_terms.specs.declared.word.Word.TheVariants.{Drop}
+use Rattle.push_terms.specs.declared.word.Side.TheVariants as sides
 use Rattle.capture.specs.Entries.{Entry, Acted}
 use Rattle.capture.specs.Moves.{moves}
 use Rattle.capture.specs.Links.{linking, links}
 use Rattle.capture.specs.Pushes.{mark_of}
 use Rattle.capture.specs.Results.{first_cause, asks_nothing}
-use Rattle.bt_host.specs.Servers.{Kept}
-use Rattle.radio_air.specs.Controllers.{LinkGone}
-use Rattle.world_model.specs.Insides.{Shelved, idles, came_of}
-use Rattle.world_model.specs.Moments.{Moment, IsAtRest, first_moment}
-use Rattle.world_model.specs.Happenings.{Happening, Departure, Arrival, GivingBack, Opening, Closing, Deed, Miss, Does, Runs, entries_of, all_entries}
-use Rattle.world_model.proofs.Lists.{all_both}
-use Rattle.world_model.proofs.Runs.{runs_then}
+use Rattle.small_host.specs.Servers.{Kept}
+use Rattle.small_air.specs.Controllers.{LinkGone}
+use Rattle.small_model.specs.Insides.{Shelved, idles, came_of}
+use Rattle.small_model.specs.Moments.{Moment, IsAtRest, first_moment}
+use Rattle.small_model.specs.Happenings.{Happening, Departure, Arrival, GivingBack, Opening, Closing, Deed, Miss, Does, Runs, entries_of, all_entries}
+use Rattle.small_model.proofs.Lists.{all_both}
+use Rattle.small_model.proofs.Runs.{runs_then}
 use Rattle.world_links.specs.LinkFacts.{LinkFacts}
 use Rattle.world_links.proofs.Running as links_at
 use Rattle.world_links.proofs.Running.{links_of_runs}

@@ -5,16 +5,16 @@ use Rattle.std.specs.List.{AllByRecursion}
 use Rattle.std.proofs.lemmas.List.{length-map}
 use Rattle.std.proofs.Math.Seq.{take-append_seam}
 use Rattle.std.proofs.lemmas.Bool.{cases_lt}
-use Rattle.push_script.specs.declared.word.Side.TheVariants as sides
+use Rattle.push_terms.specs.declared.word.Side.TheVariants as sides
 use Rattle.capture.specs.Entries.{Entry}
 use Rattle.capture.specs.Moves.{moves}
 use Rattle.capture.specs.Links.{Link, Linking, linking, links}
 use Rattle.capture.specs.Pdus.{pdus}
 use Rattle.capture.specs.Results.{first_cause, first_of}
-use Rattle.bt_host.specs.declared.stages.Stage.TheVariants.{Leaving}
-use Rattle.bt_host.specs.Courses.{Course}
-use Rattle.world_model.specs.Insides.{came_of}
-use Rattle.world_model.specs.Moments.{Moment}
+use Rattle.small_host.specs.declared.stages.Stage.TheVariants.{Leaving}
+use Rattle.small_host.specs.Courses.{Course}
+use Rattle.small_model.specs.Insides.{came_of}
+use Rattle.small_model.specs.Moments.{Moment}
 use Rattle.world_links.proofs.Splitting.{shifted}
 use Rattle.host_wire.proofs.News.{link_is_known}
 use Rattle.push_talk.specs.Conversing.{Saying}

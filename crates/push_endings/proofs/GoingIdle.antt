@@ -2,18 +2,18 @@
 use Rattle.std.proofs.Common.{◌≡◌, ℕ, List, [], true, false, Option, refl, sym, ap, subst, ◌∙◌, inl, inr, true≢false}
 use Rattle.std.specs.Prelude.{is_some}
 use Rattle.h4_framing.specs.Packets.{Packet}
-use Rattle.push_script.specs.declared.word.Side.TheVariants as sides
-use Rattle.host_link.specs.Lines.{Line}
-use Rattle.host_link.specs.Hearing.{PlainNews, LinkDown, heard, news_of}
-use Rattle.bt_host.specs.declared.steps.Step.{Step}
-use Rattle.bt_host.specs.Courses.{Course}
-use Rattle.bt_host.specs.Steps.{next_step}
-use Rattle.bt_host.specs.Clients.{after_news}
+use Rattle.push_terms.specs.declared.word.Side.TheVariants as sides
+use Rattle.small_link.specs.Lines.{Line}
+use Rattle.small_link.specs.Hearing.{PlainNews, LinkDown, heard, news_of}
+use Rattle.small_host.specs.declared.steps.Step.{Step}
+use Rattle.small_host.specs.Courses.{Course}
+use Rattle.small_host.specs.Steps.{next_step}
+use Rattle.small_host.specs.Clients.{after_news}
 use Rattle.host_wire.specs.Sending.{line_hearing}
 use Rattle.host_wire.proofs.LinkTold.{again_link}
-use Rattle.world_model.specs.Insides.{Inside, Shelved, Pushing, Tells, idles}
-use Rattle.world_model.specs.Moments.{Moment}
-use Rattle.world_model.specs.Happenings.{Arrives}
+use Rattle.small_model.specs.Insides.{Inside, Shelved, Pushing, Tells, idles}
+use Rattle.small_model.specs.Moments.{Moment}
+use Rattle.small_model.specs.Happenings.{Arrives}
 use Rattle.world_links.proofs.Reaching.{Reach, AtRest, Due, Calling, Onward, reach, reach_up, reach_after, idle_rests, news_goes, StepReach, step_goes}
 use Rattle.world_links.proofs.Upholding.{rests_idle}
 use Rattle.world_links.proofs.Listening.{Turns, listens}

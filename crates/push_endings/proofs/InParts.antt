@@ -5,13 +5,13 @@ use Rattle.std.proofs.lemmas.List.{length-map}
 use Rattle.std.proofs.Math.Seq.{take-append_seam}
 use Rattle.bt_base.specs.Counts.{HasRisen}
 use Rattle.bt_base.specs.Objects.{Object}
-use Rattle.push_script.specs.declared.word.Side.{Side}
-use Rattle.push_script.specs.declared.word.Side.TheVariants as sides
+use Rattle.push_terms.specs.declared.word.Side.{Side}
+use Rattle.push_terms.specs.declared.word.Side.TheVariants as sides
 use Rattle.capture.specs.Entries.{Entry}
 use Rattle.capture.specs.Links.{Link, links}
 use Rattle.capture.specs.Pdus.{pdus}
-use Rattle.bt_host.specs.Servers.{Kept}
-use Rattle.world_model.specs.Moments.{Moment}
+use Rattle.small_host.specs.Servers.{Kept}
+use Rattle.small_model.specs.Moments.{Moment}
 use Rattle.link_pipe.proofs.Numbers.{at-get}
 use Rattle.push_talk.specs.Conversing.{Saying}
 use Rattle.push_course.specs.Conversations.{Conversation, sayings}

@@ -2,17 +2,17 @@
 use Rattle.std.proofs.Common.{◌≡◌, ℕ, ◌+◌, ◌≤◌, List, [], ◌∷◌, ◌++◌, length, drop, Bool, true, false, Some, sym, ap, subst, ◌∙◌, arith, inl, inr, ◌⊎◌}
 use Rattle.std.proofs.lemmas.Bool.{cases_Bool, cases_lt}
 use Rattle.h4_framing.specs.Packets.{Packet}
-use Rattle.push_script.specs.declared.word.Side.TheVariants as sides
+use Rattle.push_terms.specs.declared.word.Side.TheVariants as sides
 use Rattle.capture.specs.declared.flow.Flow.TheVariants.{Out}
 use Rattle.capture.specs.Entries.{Entry, Moved}
 use Rattle.capture.specs.Moves.{moves}
 use Rattle.capture.specs.Links.{linking}
-use Rattle.host_link.specs.declared.host_command.HostCommand.{HostCommand}
-use Rattle.radio_air.specs.Radio.{Radio, is_together, after_packet}
-use Rattle.radio_air.specs.Showing.{IsOwed}
-use Rattle.world_model.specs.Insides.{Inside, Pushing, Serving}
-use Rattle.world_model.specs.Moments.{Moment, IsAtRest}
-use Rattle.world_model.specs.Happenings.{Departure, Does}
+use Rattle.small_link.specs.declared.host_command.HostCommand.{HostCommand}
+use Rattle.small_air.specs.Radio.{Radio, is_together, after_packet}
+use Rattle.small_air.specs.Showing.{IsOwed}
+use Rattle.small_model.specs.Insides.{Inside, Pushing, Serving}
+use Rattle.small_model.specs.Moments.{Moment, IsAtRest}
+use Rattle.small_model.specs.Happenings.{Departure, Does}
 use Rattle.world_links.proofs.Reaching.{Reach, AtRest, Due, Calling, Onward, reach, is_leaving}
 use Rattle.world_links.proofs.Ways.{number_of}
 use Rattle.world_links.proofs.Pacing.{View, view}

@@ -3,24 +3,24 @@ use Rattle.std.proofs.Common.{◌≡◌, ℕ, ◌+◌, ◌<◌, ◌≤◌, List,
 use Rattle.std.specs.Prelude.{is_some}
 use Rattle.std.proofs.lemmas.Bool.{cases_Bool}
 use Rattle.h4_framing.specs.Packets.{Packet}
-use Rattle.push_script.specs.declared.word.Side.TheVariants as sides
+use Rattle.push_terms.specs.declared.word.Side.TheVariants as sides
 use Rattle.capture.specs.declared.flow.Flow.TheVariants.{Into}
 use Rattle.capture.specs.Entries.{Entry, Moved}
-use Rattle.host_link.specs.declared.host_command.HostCommand.{HostCommand}
-use Rattle.host_link.specs.Lines.{Line}
-use Rattle.host_link.specs.Hearing.{PlainNews, heard, news_of}
-use Rattle.bt_host.specs.declared.stages.Stage.{Stage}
-use Rattle.bt_host.specs.declared.stages.Stage.TheVariants.{Leaving}
-use Rattle.bt_host.specs.Courses.{Course}
-use Rattle.bt_host.specs.Clients.{told, after_news}
-use Rattle.radio_air.specs.Controllers.{Answer, Returned, Stated, Called, LinkMade, LinkGone, GivenBack, Carried, packet_of}
-use Rattle.radio_air.specs.Radio.{Radio, is_together}
-use Rattle.radio_air.specs.Showing.{IsOwed}
+use Rattle.small_link.specs.declared.host_command.HostCommand.{HostCommand}
+use Rattle.small_link.specs.Lines.{Line}
+use Rattle.small_link.specs.Hearing.{PlainNews, heard, news_of}
+use Rattle.small_host.specs.declared.stages.Stage.{Stage}
+use Rattle.small_host.specs.declared.stages.Stage.TheVariants.{Leaving}
+use Rattle.small_host.specs.Courses.{Course}
+use Rattle.small_host.specs.Clients.{told, after_news}
+use Rattle.small_air.specs.Controllers.{Answer, Returned, Stated, Called, LinkMade, LinkGone, GivenBack, Carried, packet_of}
+use Rattle.small_air.specs.Radio.{Radio, is_together}
+use Rattle.small_air.specs.Showing.{IsOwed}
 use Rattle.host_wire.proofs.LinkTold.{again_link}
-use Rattle.world_model.specs.Hearing.{put_out_again}
-use Rattle.world_model.specs.Insides.{Inside, Tells, client}
-use Rattle.world_model.specs.Moments.{Moment}
-use Rattle.world_model.specs.Happenings.{Arrival, Does}
+use Rattle.small_model.specs.Hearing.{put_out_again}
+use Rattle.small_model.specs.Insides.{Inside, Tells, client}
+use Rattle.small_model.specs.Moments.{Moment}
+use Rattle.small_model.specs.Happenings.{Arrival, Does}
 use Rattle.world_links.proofs.Reaching.{reach, is_leaving}
 use Rattle.world_links.proofs.Ways.{number_of}
 use Rattle.world_links.proofs.Listening.{IsQuiet, is_gone}

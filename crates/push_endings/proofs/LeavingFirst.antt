@@ -3,18 +3,18 @@ use Rattle.std.proofs.Common.{◌≡◌, ℕ, ◌+◌, ◌≤◌, List, [], ◌�
 use Rattle.std.specs.List.{AllByRecursion}
 use Rattle.std.proofs.lemmas.List.{append-nil}
 use Rattle.h4_framing.specs.Packets.{Packet}
-use Rattle.push_script.specs.declared.word.Side.TheVariants as sides
+use Rattle.push_terms.specs.declared.word.Side.TheVariants as sides
 use Rattle.capture.specs.Entries.{Entry, Begun}
-use Rattle.host_link.specs.Lines.{Line}
-use Rattle.host_link.specs.Hearing.{PlainNews, LinkUp, LinkDown, heard, news_of}
-use Rattle.bt_host.specs.declared.stages.Stage.{Stage}
-use Rattle.bt_host.specs.declared.stages.Stage.TheVariants.{Leaving}
-use Rattle.bt_host.specs.Courses.{Course}
-use Rattle.radio_air.specs.Controllers.{Answer, packet_of}
+use Rattle.small_link.specs.Lines.{Line}
+use Rattle.small_link.specs.Hearing.{PlainNews, LinkUp, LinkDown, heard, news_of}
+use Rattle.small_host.specs.declared.stages.Stage.{Stage}
+use Rattle.small_host.specs.declared.stages.Stage.TheVariants.{Leaving}
+use Rattle.small_host.specs.Courses.{Course}
+use Rattle.small_air.specs.Controllers.{Answer, packet_of}
 use Rattle.host_wire.specs.Sending.{line_hearing}
-use Rattle.world_model.specs.Moments.{Moment, first_moment}
-use Rattle.world_model.specs.Happenings.{Happening, Opening, Runs, Arrives, entries_of, all_entries}
-use Rattle.world_model.proofs.Holding.{kept_along}
+use Rattle.small_model.specs.Moments.{Moment, first_moment}
+use Rattle.small_model.specs.Happenings.{Happening, Opening, Runs, Arrives, entries_of, all_entries}
+use Rattle.small_model.proofs.Holding.{kept_along}
 use Rattle.world_links.proofs.Reaching.{is_leaving}
 use Rattle.world_links.proofs.Ways.{number_of}
 use Rattle.world_links.proofs.Listening.{IsQuiet, is_gone, Turns, listens}

@@ -2,17 +2,17 @@
 use Rattle.std.proofs.Common.{◌≡◌, ℕ, ◌+◌, ◌≤◌, List, [], ◌∷◌, ◌++◌, length, drop, Bool, true, false, cond, Option, Some, None, refl, sym, subst, arith, length-append}
 use Rattle.std.specs.Prelude.{◌==◌, nat_lt}
 use Rattle.bt_base.specs.Objects.{Object}
-use Rattle.host_link.specs.declared.host_command.HostCommand.{HostCommand}
-use Rattle.host_link.specs.declared.host_command.HostCommand.TheVariants.{Reset, ReadBufferSize, ReadBdAddr, WriteScanEnable, CreateConnection, AcceptConnection, Disconnect}
-use Rattle.host_link.specs.HostCommands.{opcode}
-use Rattle.host_link.specs.CommandFlows.{Flow, with_command}
-use Rattle.host_link.specs.Lines.{Line}
-use Rattle.host_link.specs.PuttingOut.{put_out, ending, with_pdu}
-use Rattle.bt_host.specs.declared.steps.Step.{Step}
-use Rattle.bt_host.specs.declared.steps.Step.TheVariants.{Wait, Page, Send, BreakLink}
-use Rattle.bt_host.specs.Steps.{next_step}
-use Rattle.bt_host.specs.Clients.{Client, peer_address, after_step, StepsOn, GoesOn}
-use Rattle.world_model.specs.Hearing.{put_out_again}
+use Rattle.small_link.specs.declared.host_command.HostCommand.{HostCommand}
+use Rattle.small_link.specs.declared.host_command.HostCommand.TheVariants.{Reset, ReadBufferSize, ReadBdAddr, WriteScanEnable, CreateConnection, AcceptConnection, Disconnect}
+use Rattle.small_link.specs.HostCommands.{opcode}
+use Rattle.small_link.specs.CommandFlows.{Flow, with_command}
+use Rattle.small_link.specs.Lines.{Line}
+use Rattle.small_link.specs.PuttingOut.{put_out, ending, with_pdu}
+use Rattle.small_host.specs.declared.steps.Step.{Step}
+use Rattle.small_host.specs.declared.steps.Step.TheVariants.{Wait, Page, Send, BreakLink}
+use Rattle.small_host.specs.Steps.{next_step}
+use Rattle.small_host.specs.Clients.{Client, peer_address, after_step, StepsOn, GoesOn}
+use Rattle.small_model.specs.Hearing.{put_out_again}
 use Rattle.world_links.proofs.Ways.{number_of, number_of-append}
 use Rattle.world_links.proofs.Queueing.{puts_keeps, again_keeps}
 use Rattle.world_links.proofs.Tidying.{one_if}

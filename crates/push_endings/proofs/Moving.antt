@@ -1,24 +1,24 @@
 -- How many packets of a kind are on their way from host a when a packet moves out of it, and when one comes into it.
 use Rattle.std.proofs.Common.{◌≡◌, ℕ, ◌+◌, List, [], ◌∷◌, ◌++◌, false, refl, sym, ap, subst, ◌∙◌}
 use Rattle.h4_framing.specs.Packets.{Packet}
-use Rattle.push_script.specs.declared.word.Side.{Side}
-use Rattle.push_script.specs.declared.word.Side.TheVariants as sides
+use Rattle.push_terms.specs.declared.word.Side.{Side}
+use Rattle.push_terms.specs.declared.word.Side.TheVariants as sides
 use Rattle.capture.specs.declared.flow.Flow.TheVariants.{Out, Into}
 use Rattle.capture.specs.Entries.{Entry, Moved}
 use Rattle.capture.specs.Moves.{moves}
 use Rattle.capture.specs.Links.{linking}
-use Rattle.host_link.specs.declared.host_command.HostCommand.TheVariants.{CreateConnection}
-use Rattle.bt_host.specs.Courses.{Course}
-use Rattle.bt_host.specs.Clients.{peer_address}
-use Rattle.radio_air.specs.Controllers.{packet_of}
-use Rattle.radio_air.specs.Radio.{Radio}
-use Rattle.radio_air.proofs.Sizing.{sizes-stay}
-use Rattle.world_model.specs.Faces.{Face}
-use Rattle.world_model.specs.Hearing.{HearsBehind, put_out_again}
-use Rattle.world_model.specs.Insides.{Shelved, Pushing}
-use Rattle.world_model.specs.Moments.{Moment, face_at}
-use Rattle.world_model.specs.Happenings.{Departs, Arrives}
-use Rattle.world_model.proofs.Departing.{moved_sizes}
+use Rattle.small_link.specs.declared.host_command.HostCommand.TheVariants.{CreateConnection}
+use Rattle.small_host.specs.Courses.{Course}
+use Rattle.small_host.specs.Clients.{peer_address}
+use Rattle.small_air.specs.Controllers.{packet_of}
+use Rattle.small_air.specs.Radio.{Radio}
+use Rattle.small_air.proofs.Sizing.{sizes-stay}
+use Rattle.small_model.specs.Faces.{Face}
+use Rattle.small_model.specs.Hearing.{HearsBehind, put_out_again}
+use Rattle.small_model.specs.Insides.{Shelved, Pushing}
+use Rattle.small_model.specs.Moments.{Moment, face_at}
+use Rattle.small_model.specs.Happenings.{Departs, Arrives}
+use Rattle.small_model.proofs.Departing.{moved_sizes}
 use Rattle.world_links.proofs.Attending.{handed_owed}
 use Rattle.world_links.proofs.Running.{Stood}
 use Rattle.world_links.proofs.Tidying.{one_if}

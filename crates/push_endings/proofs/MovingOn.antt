@@ -2,21 +2,21 @@
 use Rattle.std.proofs.Common.{◌≡◌, ℕ, List, [], ◌∷◌, ◌++◌, true, false, Option, Some, None, refl, sym, ap, subst, ◌∙◌, arith, true≢false}
 use Rattle.std.specs.Prelude.{is_some}
 use Rattle.std.proofs.lemmas.List.{append-nil}
-use Rattle.push_script.specs.declared.word.Side.TheVariants as sides
+use Rattle.push_terms.specs.declared.word.Side.TheVariants as sides
 use Rattle.capture.specs.declared.flow.Flow.TheVariants.{Out, Into}
 use Rattle.capture.specs.Entries.{Entry, Moved, Begun, Ended}
 use Rattle.capture.proofs.FurtherLaws.{entry_links-more}
-use Rattle.host_link.specs.declared.role.Role.TheVariants.{Client}
-use Rattle.host_link.specs.Lines.{fresh}
-use Rattle.bt_host.specs.declared.stages.Stage.TheVariants.{Leaving}
-use Rattle.bt_host.specs.Courses.{Course}
-use Rattle.bt_host.specs.Laws.{awaits}
-use Rattle.radio_air.proofs.Sizing.{sizes-stay}
+use Rattle.small_link.specs.declared.role.Role.TheVariants.{Client}
+use Rattle.small_link.specs.Lines.{fresh}
+use Rattle.small_host.specs.declared.stages.Stage.TheVariants.{Leaving}
+use Rattle.small_host.specs.Courses.{Course}
+use Rattle.small_host.specs.Laws.{awaits}
+use Rattle.small_air.proofs.Sizing.{sizes-stay}
 use Rattle.host_wire.proofs.LinkTold.{puts_link}
-use Rattle.world_model.specs.Insides.{Inside, Shelved, Pushing, StartsPush, client, idles}
-use Rattle.world_model.specs.Moments.{Moment, IsAtRest, first_moment}
-use Rattle.world_model.specs.Happenings.{Happening, Departure, Arrival, GivingBack, Opening, Closing, Deed, Miss, Does, entries_of, all_entries}
-use Rattle.world_model.proofs.Holding.{kept_along}
+use Rattle.small_model.specs.Insides.{Inside, Shelved, Pushing, StartsPush, client, idles}
+use Rattle.small_model.specs.Moments.{Moment, IsAtRest, first_moment}
+use Rattle.small_model.specs.Happenings.{Happening, Departure, Arrival, GivingBack, Opening, Closing, Deed, Miss, Does, entries_of, all_entries}
+use Rattle.small_model.proofs.Holding.{kept_along}
 use Rattle.world_links.proofs.Reaching.{reach, is_leaving, idle_rests}
 use Rattle.world_links.proofs.Ways.{has_opcode}
 use Rattle.world_links.proofs.Tidying.{one_if}

@@ -9,14 +9,14 @@ use Rattle.std.proofs.lemmas.List.{append-nil}
 use Rattle.std.proofs.lemmas.Bool.{le-leb, leb-true}
 use Rattle.bt_base.specs.Counts.{HasRisen}
 use Rattle.bt_base.specs.Objects.{Object, octets_of}
-use Rattle.push_script.specs.declared.word.Side.TheVariants as sides
+use Rattle.push_terms.specs.declared.word.Side.TheVariants as sides
 use Rattle.capture.specs.Entries.{Entry}
 use Rattle.capture.specs.Links.{Link, links}
 use Rattle.capture.specs.Pdus.{pdus}
 use Rattle.capture.specs.Spelled.{link_objects, objects_heard}
 use Rattle.capture.specs.Results.{IsSameName, IsPushed}
-use Rattle.bt_host.specs.Pushing.{utf16}
-use Rattle.bt_host.specs.Servers.{Kept}
+use Rattle.small_host.specs.Pushing.{utf16}
+use Rattle.small_host.specs.Servers.{Kept}
 use Rattle.push_course.specs.Conversations.{Conversation}
 use Rattle.push_course.specs.Gains as gains
 use Rattle.push_course.proofs.Deciding.{Delivery, no_delivery, IsGivenFrom, Decisions, IsFairDelivery, filled}

@@ -4,13 +4,13 @@ use Rattle.std.specs.Prelude.{take, drop}
 use Rattle.std.specs.List.{flat_map, AllByRecursion}
 use Rattle.bt_base.specs.Counts.{HasRisen}
 use Rattle.bt_base.specs.Objects.{Object}
-use Rattle.push_script.specs.declared.word.Side.{Side}
-use Rattle.push_script.specs.declared.word.Side.TheVariants as sides
+use Rattle.push_terms.specs.declared.word.Side.{Side}
+use Rattle.push_terms.specs.declared.word.Side.TheVariants as sides
 use Rattle.capture.specs.Entries.{Entry}
 use Rattle.capture.specs.Links.{Link, links}
 use Rattle.capture.specs.Pdus.{pdus}
 use Rattle.capture.specs.Talk.{said_by}
-use Rattle.bt_host.specs.Servers.{Kept}
+use Rattle.small_host.specs.Servers.{Kept}
 use Rattle.push_talk.specs.Conversing.{Saying}
 use Rattle.push_talk.specs.Speaking.{CanBeSaid}
 use Rattle.push_talk.proofs.Speaking.{sayings_are_read}

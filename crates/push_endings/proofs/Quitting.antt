@@ -2,23 +2,23 @@
 use Rattle.std.proofs.Common.{◌≡◌, ℕ, ◌+◌, ◌≤◌, List, [], ◌∷◌, ◌++◌, Bool, true, refl, sym, ap, subst, ◌∙◌, arith, inl, inr, ◌⊎◌}
 use Rattle.std.proofs.lemmas.List.{append-nil}
 use Rattle.h4_framing.specs.Packets.{Packet}
-use Rattle.push_script.specs.declared.word.Word.{Word}
-use Rattle.push_script.specs.declared.word.Side.TheVariants as sides
+use Rattle.push_terms.specs.declared.word.Word.{Word}
+use Rattle.push_terms.specs.declared.word.Side.TheVariants as sides
 use Rattle.capture.specs.declared.flow.Flow.TheVariants.{Out, Into}
 use Rattle.capture.specs.Entries.{Entry, Moved, Begun, Ended, Acted}
 use Rattle.capture.specs.Moves.{moves}
 use Rattle.capture.specs.Links.{linking, no_links}
-use Rattle.host_link.specs.declared.role.Role.TheVariants.{Client, Server}
-use Rattle.host_link.specs.Lines.{fresh}
-use Rattle.bt_host.specs.Courses.{resting}
-use Rattle.bt_host.specs.Servers.{Kept}
-use Rattle.radio_air.specs.Controllers.{Answer, Returned, Stated, Called, LinkMade, LinkGone, GivenBack, Carried}
-use Rattle.radio_air.specs.Radio.{Radio, is_together}
-use Rattle.radio_air.specs.Showing.{IsOwed}
-use Rattle.radio_air.proofs.Sizing.{sizes-stay}
-use Rattle.world_model.specs.Insides.{Inside, Shelved, StartsPush, client, idles}
-use Rattle.world_model.specs.Moments.{Moment, first_moment}
-use Rattle.world_model.specs.Happenings.{Happening, Departure, Arrival, GivingBack, Opening, Closing, Deed, Miss, Does, Opens, entries_of}
+use Rattle.small_link.specs.declared.role.Role.TheVariants.{Client, Server}
+use Rattle.small_link.specs.Lines.{fresh}
+use Rattle.small_host.specs.Courses.{resting}
+use Rattle.small_host.specs.Servers.{Kept}
+use Rattle.small_air.specs.Controllers.{Answer, Returned, Stated, Called, LinkMade, LinkGone, GivenBack, Carried}
+use Rattle.small_air.specs.Radio.{Radio, is_together}
+use Rattle.small_air.specs.Showing.{IsOwed}
+use Rattle.small_air.proofs.Sizing.{sizes-stay}
+use Rattle.small_model.specs.Insides.{Inside, Shelved, StartsPush, client, idles}
+use Rattle.small_model.specs.Moments.{Moment, first_moment}
+use Rattle.small_model.specs.Happenings.{Happening, Departure, Arrival, GivingBack, Opening, Closing, Deed, Miss, Does, Opens, entries_of}
 use Rattle.world_links.specs.LinkFacts.{IsBeginning}
 use Rattle.world_links.proofs.Reaching.{Reach, is_leaving, idle_rests}
 use Rattle.world_links.proofs.Ways.{number_of, has_opcode}

@@ -4,15 +4,15 @@ use Rattle.std.specs.Prelude.{unwrap_or, IfSome, is_some}
 use Rattle.std.specs.List.{flat_map, list_any}
 use Rattle.std.proofs.lemmas.List.{append-nil}
 use Rattle.bt_base.specs.Objects.{Object}
-use Rattle.push_script.specs.declared.outcome.Outcome.{Outcome}
-use Rattle.push_script.specs.declared.outcome.Outcome.TheVariants.{Done, LinkLost, RetryLimit, Refused, NoService, ShelfFault, Cancelled, PeerClosed, PeerFault, ScriptEnded}
-use Rattle.push_script.specs.declared.word.Side.TheVariants as sides
+use Rattle.push_terms.specs.declared.outcome.Outcome.{Outcome}
+use Rattle.push_terms.specs.declared.outcome.Outcome.TheVariants.{Done, LinkLost, RetryLimit, Refused, NoService, ShelfFault, Cancelled, PeerClosed, PeerFault, ScriptEnded}
+use Rattle.push_terms.specs.declared.word.Side.TheVariants as sides
 use Rattle.capture.specs.Entries.{Entry}
 use Rattle.capture.specs.Links.{Link, links}
 use Rattle.capture.specs.Pdus.{pdus}
 use Rattle.capture.specs.Exchanges.{link_exchanges, exchanges, ends_object_with, has_success, has_fault}
 use Rattle.capture.specs.Results.{MayStand, first_cause, asks_nothing}
-use Rattle.bt_host.specs.Servers.{Kept}
+use Rattle.small_host.specs.Servers.{Kept}
 use Rattle.push_course.specs.Conversations.{Conversation, outcome_by}
 use Rattle.push_course.proofs.Deciding.{Delivery, no_delivery, Decisions, filled}
 use Rattle.push_course.proofs.ClientPlaces.{IsCapable}

@@ -2,14 +2,14 @@
 use Rattle.std.proofs.Common.{◌≡◌, ℕ, ◌+◌, List, [], ◌∷◌, ◌++◌, length, Bool, true, false, cond, Option, Some, None, refl, sym, ap, subst, arith}
 use Rattle.std.specs.Prelude.{◌&&◌, nat_lt}
 use Rattle.h4_framing.specs.Packets.{Packet}
-use Rattle.push_script.specs.declared.word.Side.TheVariants as sides
+use Rattle.push_terms.specs.declared.word.Side.TheVariants as sides
 use Rattle.capture.specs.Links.{Linking}
-use Rattle.host_link.specs.declared.host_command.HostCommand.TheVariants.{AcceptConnection}
-use Rattle.host_link.specs.Lines.{Line}
-use Rattle.host_link.specs.Hearing.{is_server, may_accept, after_request, with_flow, heard}
-use Rattle.bt_host.specs.Channels.{sent}
-use Rattle.bt_host.specs.Servers.{Server, with_response, IsSendable, answering, stepped, putting_out, GoesOn}
-use Rattle.radio_air.specs.Controllers.{Answer, Returned, Stated, Called, LinkMade, LinkGone, GivenBack, Carried, address, packet_of}
+use Rattle.small_link.specs.declared.host_command.HostCommand.TheVariants.{AcceptConnection}
+use Rattle.small_link.specs.Lines.{Line}
+use Rattle.small_link.specs.Hearing.{is_server, may_accept, after_request, with_flow, heard}
+use Rattle.small_host.specs.Channels.{sent}
+use Rattle.small_host.specs.Servers.{Server, with_response, IsSendable, answering, stepped, putting_out, GoesOn}
+use Rattle.small_air.specs.Controllers.{Answer, Returned, Stated, Called, LinkMade, LinkGone, GivenBack, Carried, address, packet_of}
 use Rattle.world_links.proofs.Ways.{number_of, number_of-append, HostAt}
 use Rattle.world_links.proofs.Pacing.{is_called}
 use Rattle.push_endings.proofs.Walking.{Kind, is_of, way, Walk, walk_same, walk_then, puts_walk, sends_walk}

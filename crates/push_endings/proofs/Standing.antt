@@ -1,17 +1,17 @@
 -- What stays of host a and its link where neither host changes.
 use Rattle.std.proofs.Common.{◌≡◌, ℕ, ◌+◌, List, [], ◌∷◌, ◌++◌, ap, ◌∙◌, arith}
 use Rattle.std.proofs.lemmas.List.{append-nil}
-use Rattle.push_script.specs.declared.word.Word.{Word}
-use Rattle.push_script.specs.declared.word.Word.TheVariants.{Drop}
-use Rattle.push_script.specs.declared.word.Side.{Side}
-use Rattle.push_script.specs.declared.word.Side.TheVariants as sides
-use Rattle.push_script.specs.declared.outcome.Outcome.{Outcome}
+use Rattle.push_terms.specs.declared.word.Word.{Word}
+use Rattle.push_terms.specs.declared.word.Word.TheVariants.{Drop}
+use Rattle.push_terms.specs.declared.word.Side.{Side}
+use Rattle.push_terms.specs.declared.word.Side.TheVariants as sides
+use Rattle.push_terms.specs.declared.outcome.Outcome.{Outcome}
 use Rattle.capture.specs.Entries.{Entry, Ended, Acted}
 use Rattle.capture.specs.Moves.{moves}
 use Rattle.capture.specs.Links.{linking}
 use Rattle.capture.proofs.FurtherLaws.{entry_links-more}
-use Rattle.world_model.specs.Moments.{Moment, IsAtRest}
-use Rattle.world_model.specs.Happenings.{Happening, Deed, Does, entries_of}
+use Rattle.small_model.specs.Moments.{Moment, IsAtRest}
+use Rattle.small_model.specs.Happenings.{Happening, Deed, Does, entries_of}
 use Rattle.world_links.proofs.Ways.{number_of-append}
 use Rattle.world_links.proofs.Listening.{is_gone}
 use Rattle.world_links.proofs.Running.{Stood, stood_on}

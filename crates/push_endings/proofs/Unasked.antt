@@ -2,7 +2,7 @@
 use Rattle.std.proofs.Common.{◌≡◌, List, [], ◌∷◌, ◌++◌, Bool, true, false, refl, ap, ◌∙◌}
 use Rattle.std.specs.Prelude.{not, ◌&&◌, fold, option_to_list}
 use Rattle.std.specs.List.{list_all}
-use Rattle.push_script.specs.declared.word.Side.TheVariants as sides
+use Rattle.push_terms.specs.declared.word.Side.TheVariants as sides
 use Rattle.capture.specs.Entries.{Entry}
 use Rattle.capture.specs.Moves.{Move, moves}
 use Rattle.capture.specs.Links.{Linking, LinkNews, Asked, Answered, LinkEnded, NoNews, is_asked, link_news, after_news, after_move, no_links, links}

@@ -7,17 +7,17 @@ use Rattle.h4_framing.specs.Packets.{Packet, Acl}
 use Rattle.acl_fragments.specs.Pieces.{Piece}
 use Rattle.acl_credits.specs.Ledgers.{packets_of}
 use Rattle.capture.specs.Links.{Linking}
-use Rattle.host_link.specs.declared.host_command.HostCommand.{HostCommand}
-use Rattle.host_link.specs.HostCommands.{command_packet}
-use Rattle.host_link.specs.CommandFlows.{Flow, with_command, next_command, first_of}
-use Rattle.host_link.specs.Hearing.{with_flow}
-use Rattle.host_link.specs.Lines.{Line}
-use Rattle.host_link.specs.PuttingOut.{has_room, has_buffer, piece_packet, with_piece, with_pieces, put_pieces_on, put_pieces, with_next, put_command, put_out, with_pdu}
-use Rattle.world_model.specs.Hosts.{IsAddressed}
-use Rattle.world_model.specs.Hearing.{put_out_again}
-use Rattle.world_model.proofs.Lists.{chosen}
-use Rattle.world_model.proofs.Putting.{both_right}
-use Rattle.world_model.proofs.Commanding.{next_waits}
+use Rattle.small_link.specs.declared.host_command.HostCommand.{HostCommand}
+use Rattle.small_link.specs.HostCommands.{command_packet}
+use Rattle.small_link.specs.CommandFlows.{Flow, with_command, next_command, first_of}
+use Rattle.small_link.specs.Hearing.{with_flow}
+use Rattle.small_link.specs.Lines.{Line}
+use Rattle.small_link.specs.PuttingOut.{has_room, has_buffer, piece_packet, with_piece, with_pieces, put_pieces_on, put_pieces, with_next, put_command, put_out, with_pdu}
+use Rattle.small_model.specs.Hosts.{IsAddressed}
+use Rattle.small_model.specs.Hearing.{put_out_again}
+use Rattle.small_model.proofs.Lists.{chosen}
+use Rattle.small_model.proofs.Putting.{both_right}
+use Rattle.small_model.proofs.Commanding.{next_waits}
 use Rattle.world_links.proofs.Tidying.{one_if}
 use Rattle.world_links.proofs.Ways.{number_of, number_of-append, with_more, HostAt, piece_host, command_host, flow_host, send_host}
 

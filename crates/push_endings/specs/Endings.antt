@@ -1,13 +1,13 @@
 -- What came of a push wherever it may end, by its part of the capture (this project's own).
 use Rattle.std.specs.Prelude.{ℕ, ◌≡◌, ◌⊎◌, true, List, [], ◌∷◌, ◌++◌, Some}
 use Rattle.std.specs.List.{filter_map}
-use Rattle.push_script.specs.declared.outcome.Outcome.TheVariants.{ShelfFault}
+use Rattle.push_terms.specs.declared.outcome.Outcome.TheVariants.{ShelfFault}
 use Rattle.capture.specs.Pushes.{mark_of}
 use Rattle.capture.specs.Results.{first_cause, asks_nothing}
-use Rattle.bt_host.specs.Servers.{Kept}
-use Rattle.world_model.specs.Insides.{Shelved, came_of}
-use Rattle.world_model.specs.Moments.{Moment, first_moment}
-use Rattle.world_model.specs.Happenings.{Happening, Opening, Runs, all_entries}
+use Rattle.small_host.specs.Servers.{Kept}
+use Rattle.small_model.specs.Insides.{Shelved, came_of}
+use Rattle.small_model.specs.Moments.{Moment, first_moment}
+use Rattle.small_model.specs.Happenings.{Happening, Opening, Runs, all_entries}
 use Rattle.push_course.specs.Conversations.{IsSetting}
 use Rattle.push_results.specs.Parting.{MayEnd}
 

@@ -2,16 +2,16 @@
 use Rattle.std.specs.Prelude.{ℕ, ◌≡◌, true, false, List, [], ◌∷◌, ◌++◌, is_some}
 use Rattle.std.specs.List.{AllByRecursion, filter_map}
 use Rattle.h4_framing.specs.Packets.{Packet}
-use Rattle.push_script.specs.declared.word.Side.TheVariants as sides
+use Rattle.push_terms.specs.declared.word.Side.TheVariants as sides
 use Rattle.capture.specs.Links.{link_up}
 use Rattle.capture.specs.Pushes.{mark_of}
-use Rattle.host_link.specs.Hearing.{LinkDown, news_of}
-use Rattle.bt_host.specs.declared.stages.Stage.TheVariants.{ToLeave, Leaving}
-use Rattle.bt_host.specs.Courses.{Course}
-use Rattle.bt_host.specs.Servers.{Kept}
-use Rattle.world_model.specs.Insides.{Shelved, Pushing}
-use Rattle.world_model.specs.Moments.{Moment, IsAtRest, first_moment}
-use Rattle.world_model.specs.Happenings.{Happening, Opening, Runs, Arrives, all_entries}
+use Rattle.small_link.specs.Hearing.{LinkDown, news_of}
+use Rattle.small_host.specs.declared.stages.Stage.TheVariants.{ToLeave, Leaving}
+use Rattle.small_host.specs.Courses.{Course}
+use Rattle.small_host.specs.Servers.{Kept}
+use Rattle.small_model.specs.Insides.{Shelved, Pushing}
+use Rattle.small_model.specs.Moments.{Moment, IsAtRest, first_moment}
+use Rattle.small_model.specs.Happenings.{Happening, Opening, Runs, Arrives, all_entries}
 use Rattle.host_wire.specs.Sending.{line_hearing}
 use Rattle.push_course.specs.Conversations.{IsSetting}
 use Rattle.push_outcomes.specs.Causes.{is_drop}

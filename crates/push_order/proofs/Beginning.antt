@@ -2,8 +2,8 @@
 use Rattle.std.proofs.Common.{◌≡◌, ℕ, zero, suc, ◌+◌, ◌-◌, ◌<◌, ◌≤◌, List, [], ◌∷◌, ◌++◌, length, length-append, replicate, true, Some, option_map, refl, ap, ◌∙◌, arith}
 use Rattle.std.specs.List.{filter_map}
 use Rattle.std.proofs.lemmas.List.{length-replicate}
-use Rattle.push_script.specs.declared.outcome.Outcome.{Outcome}
-use Rattle.push_script.specs.declared.outcome.Outcome.TheVariants.{ScriptEnded}
+use Rattle.push_terms.specs.declared.outcome.Outcome.{Outcome}
+use Rattle.push_terms.specs.declared.outcome.Outcome.TheVariants.{ScriptEnded}
 use Rattle.capture.specs.Entries.{Entry, Moved, Acted, Begun, Ended}
 use Rattle.capture.specs.Channels.{last_of}
 use Rattle.capture.specs.Pushes.{Mark, Begins, Ends, mark_of, marks_from, outcome_of, is_any_end, EndsWithin}

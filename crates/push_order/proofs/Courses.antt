@@ -1,13 +1,13 @@
 -- Where the pushes stand after a capture of all that happened: between two of them, or during one.
 use Rattle.std.proofs.Common.{◌≡◌, ℕ, ◌+◌, ◌<◌, List, [], ◌∷◌, ◌++◌, length, true, false, Some, None}
 use Rattle.std.specs.List.{filter_map, flat_map, list_any, AllByRecursion}
-use Rattle.push_script.specs.declared.word.Side.TheVariants as sides
+use Rattle.push_terms.specs.declared.word.Side.TheVariants as sides
 use Rattle.capture.specs.Histories.{EachAfter}
 use Rattle.capture.specs.Entries.{Entry}
 use Rattle.capture.specs.Moves.{moves}
 use Rattle.capture.specs.Links.{linking, links}
 use Rattle.capture.specs.Pushes.{Begins, mark_of, marks_from, under_way, LinksWithin, outcome_of, is_begin, ends_with_script}
-use Rattle.world_model.specs.Ordering.{Pushes}
+use Rattle.small_model.specs.Ordering.{Pushes}
 use Rattle.world_links.specs.LinkFacts.{since_begin}
 use Rattle.push_order.proofs.Joining.{joined}
 use Rattle.push_order.proofs.Parts.{IsOpen}

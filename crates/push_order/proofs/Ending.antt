@@ -2,16 +2,16 @@
 use Rattle.std.proofs.Common.{◌≡◌, ℕ, ◌+◌, List, [], ◌∷◌, ◌++◌, length, length-append, false, refl, sym, ap, ◌∙◌, arith}
 use Rattle.std.specs.List.{flat_map, AllByRecursion}
 use Rattle.std.proofs.lemmas.List.{flat_map_more}
-use Rattle.push_script.specs.declared.word.Side.{Side}
-use Rattle.push_script.specs.declared.word.Side.TheVariants as sides
-use Rattle.push_script.specs.declared.outcome.Outcome.{Outcome}
+use Rattle.push_terms.specs.declared.word.Side.{Side}
+use Rattle.push_terms.specs.declared.word.Side.TheVariants as sides
+use Rattle.push_terms.specs.declared.outcome.Outcome.{Outcome}
 use Rattle.capture.specs.Entries.{Entry, Ended}
 use Rattle.capture.specs.Links.{links}
 use Rattle.capture.specs.Pushes.{marks_from, is_begin, LinksWithin, ends_with_script}
 use Rattle.capture.proofs.HistoryLaws.{each_after-more}
 use Rattle.capture.proofs.FurtherLaws.{under_way-more}
-use Rattle.world_model.specs.Ordering.{Pushes, one_ended}
-use Rattle.world_model.proofs.Lists.{all_both}
+use Rattle.small_model.specs.Ordering.{Pushes, one_ended}
+use Rattle.small_model.proofs.Lists.{all_both}
 use Rattle.push_order.proofs.Lists.{none_more}
 use Rattle.push_order.proofs.Parts.{IsPart, closes_part}
 use Rattle.push_order.proofs.Marks.{outcomes-ended, marks_from-closed}

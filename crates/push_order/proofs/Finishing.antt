@@ -4,16 +4,16 @@ use Rattle.std.specs.Prelude.{is_some, slice_get}
 use Rattle.std.specs.List.{list_any}
 use Rattle.std.proofs.lemmas.List.{append-nil}
 use Rattle.std.proofs.lemmas.Option.{slice_get_cases}
-use Rattle.push_script.specs.declared.word.Side.TheVariants as sides
-use Rattle.push_script.specs.declared.outcome.Outcome.{Outcome}
-use Rattle.push_script.specs.declared.outcome.Outcome.TheVariants.{ScriptEnded}
+use Rattle.push_terms.specs.declared.word.Side.TheVariants as sides
+use Rattle.push_terms.specs.declared.outcome.Outcome.{Outcome}
+use Rattle.push_terms.specs.declared.outcome.Outcome.TheVariants.{ScriptEnded}
 use Rattle.capture.specs.Entries.{Entry, Moved, Acted, Begun, Ended}
 use Rattle.capture.specs.Channels.{last_of}
 use Rattle.capture.specs.Links.{Linking, link_up}
 use Rattle.capture.specs.Pushes.{NoLinkOutside, NoLinkAtEnd, is_any_end, ends_with_script, EndsWithin, InTurn}
-use Rattle.world_model.specs.Ordering.{Pushes, next_name}
-use Rattle.world_model.specs.Moments.{Moment, first_moment}
-use Rattle.world_model.specs.Happenings.{EndsScript, last_outcome, all_entries}
+use Rattle.small_model.specs.Ordering.{Pushes, next_name}
+use Rattle.small_model.specs.Moments.{Moment, first_moment}
+use Rattle.small_model.specs.Happenings.{EndsScript, last_outcome, all_entries}
 use Rattle.world_links.specs.LinkFacts.{LinkFacts, RestsOfRuns}
 use Rattle.push_order.specs.InOrder.{all_outcomes, UpAtRest, OrderFromLinks}
 use Rattle.push_order.proofs.Lists.{without_last-more, none_without_last, last_of-more, none_last}

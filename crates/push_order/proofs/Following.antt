@@ -2,19 +2,19 @@
 use Rattle.std.proofs.Common.{◌≡◌, ◌⊎◌, inl, inr, ℕ, ◌≤◌, List, [], ◌∷◌, ◌++◌, length, Bool, true, false, cond, Option, Some, None, refl, sym, ap, subst, ◌∙◌}
 use Rattle.std.specs.Prelude.{◌≢◌, slice_get}
 use Rattle.std.proofs.lemmas.List.{append-nil, flat_map_more}
-use Rattle.push_script.specs.declared.word.Side.{Side}
-use Rattle.push_script.specs.declared.word.Side.TheVariants as sides
-use Rattle.push_script.specs.declared.outcome.Outcome.{Outcome}
-use Rattle.push_script.specs.declared.outcome.Outcome.TheVariants.{Done, LinkLost, RetryLimit, Refused, NoService, ShelfFault, Cancelled, PeerClosed, PeerFault, ScriptEnded}
+use Rattle.push_terms.specs.declared.word.Side.{Side}
+use Rattle.push_terms.specs.declared.word.Side.TheVariants as sides
+use Rattle.push_terms.specs.declared.outcome.Outcome.{Outcome}
+use Rattle.push_terms.specs.declared.outcome.Outcome.TheVariants.{Done, LinkLost, RetryLimit, Refused, NoService, ShelfFault, Cancelled, PeerClosed, PeerFault, ScriptEnded}
 use Rattle.capture.specs.declared.flow.Flow.TheVariants.{Out, Into}
 use Rattle.capture.specs.Entries.{Entry, Moved, Acted, Begun, Ended}
 use Rattle.capture.specs.Links.{links}
 use Rattle.capture.specs.Pushes.{mark_of, ends_with_script}
-use Rattle.world_model.specs.Faces.{Face}
-use Rattle.world_model.specs.Ordering.{Pushes, no_pushes, one_ended}
-use Rattle.world_model.specs.Moments.{Moment, with_face}
-use Rattle.world_model.specs.Happenings.{Happening, Departure, Arrival, GivingBack, Opening, Closing, Deed, Miss, Does, Runs, Opens, Closes, entries_of, all_entries}
-use Rattle.world_model.proofs.Holding.{kept_along}
+use Rattle.small_model.specs.Faces.{Face}
+use Rattle.small_model.specs.Ordering.{Pushes, no_pushes, one_ended}
+use Rattle.small_model.specs.Moments.{Moment, with_face}
+use Rattle.small_model.specs.Happenings.{Happening, Departure, Arrival, GivingBack, Opening, Closing, Deed, Miss, Does, Runs, Opens, Closes, entries_of, all_entries}
+use Rattle.small_model.proofs.Holding.{kept_along}
 use Rattle.world_links.specs.LinkFacts.{LinkFacts, since_begin}
 use Rattle.push_order.proofs.Courses.{Between, During}
 use Rattle.push_order.proofs.Turning.{AreUnlinked, between_still, during_still, begins}

@@ -3,7 +3,7 @@ use Rattle.std.proofs.Common.{◌≡◌, ℕ, List, [], ◌∷◌, ◌++◌, fal
 use Rattle.std.specs.Prelude.{not}
 use Rattle.std.specs.List.{list_any, take_while}
 use Rattle.std.proofs.lemmas.Bool.{eq-eqb}
-use Rattle.push_script.specs.declared.outcome.Outcome.{Outcome}
+use Rattle.push_terms.specs.declared.outcome.Outcome.{Outcome}
 use Rattle.capture.specs.Entries.{Entry, Moved, Acted, Begun, Ended}
 use Rattle.capture.specs.Pushes.{mark_of, is_begin, is_end, part_of}
 use Rattle.push_order.proofs.Lists.{none_more, behind_at, take_up_to}

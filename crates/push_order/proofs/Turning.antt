@@ -3,13 +3,13 @@ use Rattle.std.proofs.Common.{◌≡◌, ℕ, ◌+◌, ◌<◌, List, [], ◌∷
 use Rattle.std.specs.List.{flat_map}
 use Rattle.std.proofs.lemmas.Bool.{ne_eqb}
 use Rattle.std.proofs.lemmas.List.Sums.{fold-append}
-use Rattle.push_script.specs.declared.word.Side.TheVariants as sides
+use Rattle.push_terms.specs.declared.word.Side.TheVariants as sides
 use Rattle.capture.specs.Entries.{Entry, Moved, Acted, Begun, Ended}
 use Rattle.capture.specs.Links.{links}
 use Rattle.capture.specs.Pushes.{Mark, Begins, marks_from, mark_of, NoLinkOutside, LinksWithin, is_begin, ends_with_script}
 use Rattle.capture.proofs.HistoryLaws.{each_after-more}
 use Rattle.capture.proofs.FurtherLaws.{under_way-more}
-use Rattle.world_model.specs.Ordering.{Pushes, one_begun}
+use Rattle.small_model.specs.Ordering.{Pushes, one_begun}
 use Rattle.world_links.specs.LinkFacts.{IsUnlinked, with_entry, since_begin}
 use Rattle.push_order.proofs.Lists.{none_more}
 use Rattle.push_order.proofs.Parts.{IsOpen, opens_part, goes_part}

@@ -1,17 +1,17 @@
 -- Pushes follow one another in every capture of the pure world (this project's own).
 use Rattle.std.specs.Prelude.{ℕ, ◌-◌, ◌≡◌, ◌≢◌, ◌<◌, List, [], ◌∷◌, ◌++◌, length, replicate, true, is_some}
 use Rattle.std.specs.List.{filter_map}
-use Rattle.push_script.specs.declared.word.Side.TheVariants as sides
-use Rattle.push_script.specs.declared.word.Word.{Word}
-use Rattle.push_script.specs.declared.outcome.Outcome.{Outcome}
-use Rattle.push_script.specs.declared.outcome.Outcome.TheVariants.{ScriptEnded}
+use Rattle.push_terms.specs.declared.word.Side.TheVariants as sides
+use Rattle.push_terms.specs.declared.word.Word.{Word}
+use Rattle.push_terms.specs.declared.outcome.Outcome.{Outcome}
+use Rattle.push_terms.specs.declared.outcome.Outcome.TheVariants.{ScriptEnded}
 use Rattle.capture.specs.Entries.{Entry}
 use Rattle.capture.specs.Links.{link_up}
 use Rattle.capture.specs.Pushes.{Mark, Begins, mark_of, InTurn}
-use Rattle.bt_host.specs.Servers.{Kept}
-use Rattle.world_model.specs.Insides.{Shelved}
-use Rattle.world_model.specs.Moments.{Moment, IsAtRest, first_moment}
-use Rattle.world_model.specs.Happenings.{Happening, Runs, Plays, all_entries}
+use Rattle.small_host.specs.Servers.{Kept}
+use Rattle.small_model.specs.Insides.{Shelved}
+use Rattle.small_model.specs.Moments.{Moment, IsAtRest, first_moment}
+use Rattle.small_model.specs.Happenings.{Happening, Runs, Plays, all_entries}
 use Rattle.world_links.specs.LinkFacts.{IsBeginning, LinksOfRuns}
 
 -- what came of the objects of those names: of those that were not pushed, that the script ended

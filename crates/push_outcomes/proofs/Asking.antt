@@ -8,17 +8,17 @@ use Rattle.std.proofs.lemmas.Bool.{cases_Bool}
 use Rattle.h4_framing.specs.Packets.{Packet, Command, Acl, Sync, Event}
 use Rattle.hci_packets.specs.Commands.{command_refusal}
 use Rattle.hci_packets.specs.Events.{event_refusal}
-use Rattle.push_script.specs.declared.word.Side.TheVariants as sides
+use Rattle.push_terms.specs.declared.word.Side.TheVariants as sides
 use Rattle.capture.specs.Entries.{Entry}
 use Rattle.capture.specs.Moves.{Move, move_of, moves}
 use Rattle.capture.specs.Links.{LinkNews, Asked, Answered, LinkEnded, NoNews, is_asked, link_news, ended_by}
 use Rattle.capture.specs.Results.{asks_nothing}
 use Rattle.capture.proofs.MoreLaws.{moves-more}
-use Rattle.host_link.specs.Stands.{into, out_of}
-use Rattle.world_model.specs.Insides.{idles}
-use Rattle.world_model.specs.Moments.{Moment}
-use Rattle.world_model.specs.Happenings.{Departs}
-use Rattle.world_model.proofs.Lists.{chosen}
+use Rattle.small_link.specs.Stands.{into, out_of}
+use Rattle.small_model.specs.Insides.{idles}
+use Rattle.small_model.specs.Moments.{Moment}
+use Rattle.small_model.specs.Happenings.{Departs}
+use Rattle.small_model.proofs.Lists.{chosen}
 use Rattle.world_links.proofs.Reaching.{Reach, AtRest, reach}
 use Rattle.world_links.proofs.Ways.{number_of, has_opcode}
 use Rattle.world_links.proofs.Keeping.{FarStands}

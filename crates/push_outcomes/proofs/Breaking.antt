@@ -9,27 +9,27 @@ use Rattle.h4_framing.specs.Packets.{Packet}
 use Rattle.hci_packets.specs.declared.refusal.HciRefusal.{HciRefusal}
 use Rattle.hci_packets.specs.Events.{PlainEvent, DisconnectionComplete, code_of, event_params}
 use Rattle.hci_packets.proofs.EventLaws.{event_accepted}
-use Rattle.push_script.specs.declared.outcome.Outcome.{Outcome}
-use Rattle.push_script.specs.declared.outcome.Outcome.TheVariants.{LinkLost}
-use Rattle.push_script.specs.declared.word.Side.TheVariants as sides
+use Rattle.push_terms.specs.declared.outcome.Outcome.{Outcome}
+use Rattle.push_terms.specs.declared.outcome.Outcome.TheVariants.{LinkLost}
+use Rattle.push_terms.specs.declared.word.Side.TheVariants as sides
 use Rattle.capture.specs.Entries.{Entry}
 use Rattle.capture.specs.Pushes.{mark_of}
 use Rattle.capture.specs.Results.{first_cause}
-use Rattle.host_link.specs.EventReading.{event_at, event_in}
-use Rattle.host_link.specs.Hearing.{Nothing, LinkDown, event_news, news_of}
-use Rattle.host_link.specs.CommandFlows.{is_number}
-use Rattle.host_link.specs.Lines.{Line}
-use Rattle.bt_host.specs.Courses.{Course, ended}
-use Rattle.bt_host.specs.Clients.{after_news}
-use Rattle.bt_host.specs.Events.{is_idle}
-use Rattle.bt_host.specs.Steps.{next_step}
-use Rattle.bt_host.specs.declared.stages.Stage.TheVariants.{Idle}
+use Rattle.small_link.specs.EventReading.{event_at, event_in}
+use Rattle.small_link.specs.Hearing.{Nothing, LinkDown, event_news, news_of}
+use Rattle.small_link.specs.CommandFlows.{is_number}
+use Rattle.small_link.specs.Lines.{Line}
+use Rattle.small_host.specs.Courses.{Course, ended}
+use Rattle.small_host.specs.Clients.{after_news}
+use Rattle.small_host.specs.Events.{is_idle}
+use Rattle.small_host.specs.Steps.{next_step}
+use Rattle.small_host.specs.declared.stages.Stage.TheVariants.{Idle}
 use Rattle.host_wire.proofs.LinkTold.{again_link}
-use Rattle.radio_air.specs.Controllers.{Answer, LinkGone, event_of, packet_of}
-use Rattle.world_model.specs.Hearing.{put_out_again}
-use Rattle.world_model.specs.Insides.{Inside, Shelved, Pushing, Tells, came_of}
-use Rattle.world_model.specs.Moments.{Moment}
-use Rattle.world_model.specs.Happenings.{Happening, Departure, Arrival, GivingBack, Opening, Closing, Deed, Miss, Does, Arrives, entries_of}
+use Rattle.small_air.specs.Controllers.{Answer, LinkGone, event_of, packet_of}
+use Rattle.small_model.specs.Hearing.{put_out_again}
+use Rattle.small_model.specs.Insides.{Inside, Shelved, Pushing, Tells, came_of}
+use Rattle.small_model.specs.Moments.{Moment}
+use Rattle.small_model.specs.Happenings.{Happening, Departure, Arrival, GivingBack, Opening, Closing, Deed, Miss, Does, Arrives, entries_of}
 use Rattle.push_course.proofs.Turning.{client_told}
 use Rattle.push_outcomes.specs.Settled.{IsFixed}
 use Rattle.push_outcomes.proofs.Fixed.{first_stays, steps_idle}

@@ -4,10 +4,10 @@ use Rattle.std.specs.Prelude.{is_some, option_to_list}
 use Rattle.std.specs.List.{filter_map}
 use Rattle.std.proofs.lemmas.List.{append-nil}
 use Rattle.std.proofs.lemmas.List.Elements.{filter_map-append}
-use Rattle.push_script.specs.declared.outcome.Outcome.{Outcome}
-use Rattle.push_script.specs.declared.outcome.Outcome.TheVariants.{LinkLost}
-use Rattle.push_script.specs.declared.word.Word.TheVariants.{Drop}
-use Rattle.push_script.specs.declared.word.Side.TheVariants as sides
+use Rattle.push_terms.specs.declared.outcome.Outcome.{Outcome}
+use Rattle.push_terms.specs.declared.outcome.Outcome.TheVariants.{LinkLost}
+use Rattle.push_terms.specs.declared.word.Word.TheVariants.{Drop}
+use Rattle.push_terms.specs.declared.word.Side.TheVariants as sides
 use Rattle.capture.specs.Entries.{Entry, Acted}
 use Rattle.capture.specs.Histories.{given_by}
 use Rattle.capture.specs.Links.{Link, link_up}
@@ -16,20 +16,20 @@ use Rattle.capture.specs.Links.{linking}
 use Rattle.capture.specs.Pushes.{mark_of}
 use Rattle.capture.specs.Results.{causes, first_cause, first_of}
 use Rattle.capture.proofs.HistoryLaws.{given_by-more}
-use Rattle.bt_host.specs.Events.{is_idle}
-use Rattle.bt_host.specs.declared.stages.Stage.{Stage}
-use Rattle.bt_host.specs.declared.stages.Stage.TheVariants.{Idle}
+use Rattle.small_host.specs.Events.{is_idle}
+use Rattle.small_host.specs.declared.stages.Stage.{Stage}
+use Rattle.small_host.specs.declared.stages.Stage.TheVariants.{Idle}
 use Rattle.host_wire.proofs.News.{link_is_known}
-use Rattle.radio_air.specs.Controllers.{LinkGone}
-use Rattle.radio_air.specs.Radio.{Radio, is_together, parted}
-use Rattle.radio_air.specs.Showing.{IsOwed}
-use Rattle.radio_air.proofs.Entering.{links-of}
-use Rattle.world_model.specs.Hosts.{IsNumbered, links_told}
-use Rattle.world_model.specs.Holding.{Holds}
-use Rattle.world_model.specs.Insides.{idles, came_of}
-use Rattle.world_model.specs.Moments.{Moment}
-use Rattle.world_model.specs.Acting.{Makes}
-use Rattle.world_model.specs.Happenings.{Happening, Deed, Does, Runs, entries_of, all_entries}
+use Rattle.small_air.specs.Controllers.{LinkGone}
+use Rattle.small_air.specs.Radio.{Radio, is_together, parted}
+use Rattle.small_air.specs.Showing.{IsOwed}
+use Rattle.small_air.proofs.Entering.{links-of}
+use Rattle.small_model.specs.Hosts.{IsNumbered, links_told}
+use Rattle.small_model.specs.Holding.{Holds}
+use Rattle.small_model.specs.Insides.{idles, came_of}
+use Rattle.small_model.specs.Moments.{Moment}
+use Rattle.small_model.specs.Acting.{Makes}
+use Rattle.small_model.specs.Happenings.{Happening, Deed, Does, Runs, entries_of, all_entries}
 use Rattle.world_links.proofs.Reaching.{reach}
 use Rattle.world_links.proofs.Upholding.{is_onward}
 use Rattle.world_links.proofs.Running.{stood_on}

@@ -3,29 +3,29 @@ use Rattle.std.proofs.Common.{◌≡◌, ℕ, List, [], ◌∷◌, ◌++◌, tru
 use Rattle.std.specs.Prelude.{drop}
 use Rattle.std.proofs.lemmas.List.{append-nil}
 use Rattle.h4_framing.specs.Packets.{Packet}
-use Rattle.push_script.specs.declared.outcome.Outcome.{Outcome}
-use Rattle.push_script.specs.declared.word.Side.TheVariants as sides
+use Rattle.push_terms.specs.declared.outcome.Outcome.{Outcome}
+use Rattle.push_terms.specs.declared.word.Side.TheVariants as sides
 use Rattle.l2cap_signal.specs.Commands.{Command}
 use Rattle.capture.specs.Entries.{Entry}
 use Rattle.capture.specs.Histories.{given_by}
 use Rattle.capture.specs.Results.{causes, first_of, first_cause}
 use Rattle.capture.proofs.HistoryLaws.{given_by-more}
-use Rattle.host_link.specs.Hearing.{PlainNews, Nothing, LinkUp, LinkFailed, LinkDown, Pdu, news_of}
-use Rattle.host_link.specs.Lines.{Line}
-use Rattle.bt_host.specs.Courses.{Course}
-use Rattle.bt_host.specs.Events.{is_idle}
-use Rattle.bt_host.specs.Events as events
-use Rattle.bt_host.specs.Steps.{next_step}
-use Rattle.bt_host.specs.Clients.{commands_in, after_commands, after_news}
-use Rattle.bt_host.specs.Laws as laws
-use Rattle.bt_host.specs.declared.stages.Stage.{Stage}
-use Rattle.bt_host.specs.declared.stages.Stage.TheVariants.{Idle}
-use Rattle.bt_host.proofs.CourseLaws.{outcome_stays, idle_stays}
-use Rattle.world_model.specs.Insides.{Inside, Pushing, Serving, Tells, idles, came_of}
-use Rattle.world_model.specs.Moments.{Moment}
-use Rattle.world_model.specs.Happenings.{Arrives}
-use Rattle.world_model.specs.Hearing.{put_out_again}
-use Rattle.world_model.proofs.Lists.{chosen}
+use Rattle.small_link.specs.Hearing.{PlainNews, Nothing, LinkUp, LinkFailed, LinkDown, Pdu, news_of}
+use Rattle.small_link.specs.Lines.{Line}
+use Rattle.small_host.specs.Courses.{Course}
+use Rattle.small_host.specs.Events.{is_idle}
+use Rattle.small_host.specs.Events as events
+use Rattle.small_host.specs.Steps.{next_step}
+use Rattle.small_host.specs.Clients.{commands_in, after_commands, after_news}
+use Rattle.small_host.specs.Laws as laws
+use Rattle.small_host.specs.declared.stages.Stage.{Stage}
+use Rattle.small_host.specs.declared.stages.Stage.TheVariants.{Idle}
+use Rattle.small_host.proofs.CourseLaws.{outcome_stays, idle_stays}
+use Rattle.small_model.specs.Insides.{Inside, Pushing, Serving, Tells, idles, came_of}
+use Rattle.small_model.specs.Moments.{Moment}
+use Rattle.small_model.specs.Happenings.{Arrives}
+use Rattle.small_model.specs.Hearing.{put_out_again}
+use Rattle.small_model.proofs.Lists.{chosen}
 use Rattle.push_course.proofs.Turning.{client_told}
 
 -- ---- the outcome

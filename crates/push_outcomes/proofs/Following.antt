@@ -4,16 +4,16 @@ use Rattle.std.specs.Prelude.{false, true, is_some}
 use Rattle.std.specs.List.{filter_map, AllByRecursion}
 use Rattle.std.proofs.lemmas.List.{append-nil}
 use Rattle.std.proofs.lemmas.Grind.{flat_map-append}
-use Rattle.push_script.specs.declared.word.Side.TheVariants as sides
+use Rattle.push_terms.specs.declared.word.Side.TheVariants as sides
 use Rattle.capture.specs.Entries.{Entry, Moved, Begun, Ended, Acted}
 use Rattle.capture.specs.Moves.{moves}
 use Rattle.capture.specs.Links.{Linking, linking, links}
 use Rattle.capture.specs.Pushes.{mark_of}
-use Rattle.bt_host.specs.Servers.{Kept}
-use Rattle.world_model.specs.Insides.{Shelved}
-use Rattle.world_model.specs.Moments.{Moment, first_moment}
-use Rattle.world_model.specs.Happenings.{Happening, Opening, Runs, entries_of, all_entries}
-use Rattle.world_model.proofs.Runs.{runs_then}
+use Rattle.small_host.specs.Servers.{Kept}
+use Rattle.small_model.specs.Insides.{Shelved}
+use Rattle.small_model.specs.Moments.{Moment, first_moment}
+use Rattle.small_model.specs.Happenings.{Happening, Opening, Runs, entries_of, all_entries}
+use Rattle.small_model.proofs.Runs.{runs_then}
 use Rattle.world_links.specs.LinkFacts.{LinkFacts, with_entry, since_begin}
 use Rattle.world_links.proofs.Running.{links_of_runs}
 use Rattle.world_links.proofs.Splitting.{shifted}

@@ -6,10 +6,10 @@ use Rattle.byteorder.specs.Endian.{little_number}
 use Rattle.h4_framing.specs.Packets.{Packet, Command, Acl, Sync, Event}
 use Rattle.hci_packets.specs.Commands.{command_refusal}
 use Rattle.acl_fragments.specs.Pieces.{Piece}
-use Rattle.push_script.specs.declared.word.Side.{Side}
-use Rattle.push_script.specs.declared.word.Side.TheVariants as sides
-use Rattle.radio_air.specs.Controllers.{Answer, Returned, Stated, LinkMade, LinkGone, Controller, gives_back}
-use Rattle.radio_air.specs.Radio.{Radio, Paging, is_requested, is_reached, may_page, controller, with_controller, owes, after_reaching, after_paging, joined, after_accepting, parted_by, knows_link, after_disconnecting, scanning, returned, after_row, piece_from, after_piece, frames_by, after_taking, with_frames, putting, after_acl, after_packet, after_offer}
+use Rattle.push_terms.specs.declared.word.Side.{Side}
+use Rattle.push_terms.specs.declared.word.Side.TheVariants as sides
+use Rattle.small_air.specs.Controllers.{Answer, Returned, Stated, LinkMade, LinkGone, Controller, gives_back}
+use Rattle.small_air.specs.Radio.{Radio, Paging, is_requested, is_reached, may_page, controller, with_controller, owes, after_reaching, after_paging, joined, after_accepting, parted_by, knows_link, after_disconnecting, scanning, returned, after_row, piece_from, after_piece, frames_by, after_taking, with_frames, putting, after_acl, after_packet, after_offer}
 
 -- something more may be owed behind it
 abbrev pub Grows : Radio → Radio → Type 0

@@ -5,15 +5,15 @@ use Rattle.std.specs.List.{AllByRecursion}
 use Rattle.std.proofs.lemmas.List.{length-map}
 use Rattle.std.proofs.Math.Seq.{take-append_seam}
 use Rattle.std.proofs.lemmas.Bool.{cases_lt, le-ltb}
-use Rattle.push_script.specs.declared.outcome.Outcome.{Outcome}
-use Rattle.push_script.specs.declared.word.Side.TheVariants as sides
+use Rattle.push_terms.specs.declared.outcome.Outcome.{Outcome}
+use Rattle.push_terms.specs.declared.word.Side.TheVariants as sides
 use Rattle.capture.specs.Entries.{Entry}
 use Rattle.capture.specs.Moves.{moves}
 use Rattle.capture.specs.Links.{Link, Linking, linking, links, link_up}
 use Rattle.capture.specs.Pdus.{pdus}
 use Rattle.capture.specs.Results.{first_cause, first_of}
-use Rattle.world_model.specs.Insides.{came_of}
-use Rattle.world_model.specs.Moments.{Moment}
+use Rattle.small_model.specs.Insides.{came_of}
+use Rattle.small_model.specs.Moments.{Moment}
 use Rattle.world_links.proofs.Splitting.{shifted}
 use Rattle.host_wire.specs.Spoken.{said_on}
 use Rattle.host_wire.proofs.News.{link_is_known}

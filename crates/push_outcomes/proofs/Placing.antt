@@ -3,9 +3,9 @@ use Rattle.std.proofs.Common.{◌≡◌, ℕ, suc, ◌+◌, ◌<◌, ◌≤◌, 
 use Rattle.std.specs.Prelude.{take}
 use Rattle.std.specs.List.{AllByRecursion}
 use Rattle.std.proofs.lemmas.Bool.{cases_lt}
-use Rattle.push_script.specs.declared.outcome.Outcome.TheVariants.{ShelfFault}
-use Rattle.push_script.specs.declared.word.Side.TheVariants as sides
-use Rattle.bt_host.specs.Courses.{Course}
+use Rattle.push_terms.specs.declared.outcome.Outcome.TheVariants.{ShelfFault}
+use Rattle.push_terms.specs.declared.word.Side.TheVariants as sides
+use Rattle.small_host.specs.Courses.{Course}
 use Rattle.push_talk.specs.Conversing.{Saying}
 use Rattle.push_talk.specs.Speaking.{speaker}
 use Rattle.push_talk.specs.ClientTurns.{answers_packet, unwelcome, response}

@@ -3,25 +3,25 @@ use Rattle.std.proofs.Common.{◌≡◌, ℕ, List, [], ◌∷◌, ◌++◌, tru
 use Rattle.std.specs.List.{filter_map}
 use Rattle.std.proofs.lemmas.List.{append-nil}
 use Rattle.std.proofs.lemmas.List.Elements.{filter_map-append}
-use Rattle.push_script.specs.declared.outcome.Outcome.TheVariants.{ShelfFault}
-use Rattle.push_script.specs.declared.word.Side.TheVariants as sides
+use Rattle.push_terms.specs.declared.outcome.Outcome.TheVariants.{ShelfFault}
+use Rattle.push_terms.specs.declared.word.Side.TheVariants as sides
 use Rattle.capture.specs.declared.flow.Flow.TheVariants.{Out, Into}
 use Rattle.capture.specs.Entries.{Entry, Moved, Acted}
 use Rattle.capture.specs.Pushes.{Mark, mark_of}
 use Rattle.capture.specs.Results.{asks_nothing}
-use Rattle.host_link.specs.Stands.{into, out_of}
-use Rattle.bt_host.specs.Courses.{Course, begun}
-use Rattle.bt_host.specs.Events.{is_idle}
-use Rattle.bt_host.specs.Clients.{Client}
-use Rattle.bt_host.specs.Steps.{next_step}
-use Rattle.bt_host.specs.declared.stages.Stage.TheVariants.{Idle}
-use Rattle.world_model.specs.Insides.{Inside, Shelved, Pushing, StartsPush, idles, came_of}
-use Rattle.world_model.specs.Moments.{Moment, first_moment}
-use Rattle.world_model.specs.Happenings.{Happening, Departure, Arrival, GivingBack, Opening, Closing, Deed, Miss, Does, Runs, Opens, entries_of, all_entries}
+use Rattle.small_link.specs.Stands.{into, out_of}
+use Rattle.small_host.specs.Courses.{Course, begun}
+use Rattle.small_host.specs.Events.{is_idle}
+use Rattle.small_host.specs.Clients.{Client}
+use Rattle.small_host.specs.Steps.{next_step}
+use Rattle.small_host.specs.declared.stages.Stage.TheVariants.{Idle}
+use Rattle.small_model.specs.Insides.{Inside, Shelved, Pushing, StartsPush, idles, came_of}
+use Rattle.small_model.specs.Moments.{Moment, first_moment}
+use Rattle.small_model.specs.Happenings.{Happening, Departure, Arrival, GivingBack, Opening, Closing, Deed, Miss, Does, Runs, Opens, entries_of, all_entries}
 use Rattle.world_links.proofs.Running.{Stood, stood_on, first_stood}
 use Rattle.world_links.proofs.Opening.{begins_client}
 use Rattle.world_links.proofs.Upholding.{Upholds}
-use Rattle.world_model.proofs.Holding.{kept_along}
+use Rattle.small_model.proofs.Holding.{kept_along}
 use Rattle.push_outcomes.specs.Settled.{IsFixed, IsUnasked, IsSettledBy, SettledAtBegin, SettledStays}
 use Rattle.push_outcomes.proofs.Fixed.{arrives_keeps, arrives_idle, first_stays, idle_is, steps_idle}
 use Rattle.push_outcomes.proofs.Asking.{into_asks, departs_asks, asks_beside, asks_more}

@@ -1,15 +1,15 @@
 -- What came of a push, beside the first cause that its part of the capture shows (this project's own).
 use Rattle.std.specs.Prelude.{ℕ, ◌≡◌, ◌⊎◌, false, true, List, [], ◌∷◌, ◌++◌, Option, Some, None, is_some}
 use Rattle.std.specs.List.{AllByRecursion, filter_map}
-use Rattle.push_script.specs.declared.outcome.Outcome.{Outcome}
-use Rattle.push_script.specs.declared.outcome.Outcome.TheVariants.{ShelfFault}
+use Rattle.push_terms.specs.declared.outcome.Outcome.{Outcome}
+use Rattle.push_terms.specs.declared.outcome.Outcome.TheVariants.{ShelfFault}
 use Rattle.capture.specs.Entries.{Entry}
 use Rattle.capture.specs.Pushes.{mark_of}
 use Rattle.capture.specs.Results.{first_cause}
-use Rattle.bt_host.specs.Servers.{Kept}
-use Rattle.world_model.specs.Insides.{Shelved, came_of}
-use Rattle.world_model.specs.Moments.{Moment, first_moment, IsAtRest}
-use Rattle.world_model.specs.Happenings.{Happening, Opening, Runs, all_entries}
+use Rattle.small_host.specs.Servers.{Kept}
+use Rattle.small_model.specs.Insides.{Shelved, came_of}
+use Rattle.small_model.specs.Moments.{Moment, first_moment, IsAtRest}
+use Rattle.small_model.specs.Happenings.{Happening, Opening, Runs, all_entries}
 use Rattle.push_course.specs.Conversations.{IsSetting}
 use Rattle.push_outcomes.specs.Causes.{is_drop}
 

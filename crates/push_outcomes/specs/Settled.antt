@@ -1,16 +1,16 @@
 -- When it is settled what came of a push, by its part of the capture (this project's own).
 use Rattle.std.specs.Prelude.{ℕ, ◌≡◌, ◌⊎◌, true, List, [], ◌∷◌, ◌++◌, Some, None, is_some}
 use Rattle.std.specs.List.{filter_map}
-use Rattle.push_script.specs.declared.outcome.Outcome.{Outcome}
-use Rattle.push_script.specs.declared.outcome.Outcome.TheVariants.{ShelfFault}
-use Rattle.push_script.specs.declared.word.Word.TheVariants.{Drop}
+use Rattle.push_terms.specs.declared.outcome.Outcome.{Outcome}
+use Rattle.push_terms.specs.declared.outcome.Outcome.TheVariants.{ShelfFault}
+use Rattle.push_terms.specs.declared.word.Word.TheVariants.{Drop}
 use Rattle.capture.specs.Entries.{Entry, Acted}
 use Rattle.capture.specs.Pushes.{mark_of}
 use Rattle.capture.specs.Results.{first_cause, asks_nothing}
-use Rattle.bt_host.specs.Servers.{Kept}
-use Rattle.world_model.specs.Insides.{Shelved, idles, came_of}
-use Rattle.world_model.specs.Moments.{Moment, first_moment}
-use Rattle.world_model.specs.Happenings.{Happening, Opening, Deed, Does, Runs, all_entries}
+use Rattle.small_host.specs.Servers.{Kept}
+use Rattle.small_model.specs.Insides.{Shelved, idles, came_of}
+use Rattle.small_model.specs.Moments.{Moment, first_moment}
+use Rattle.small_model.specs.Happenings.{Happening, Opening, Deed, Does, Runs, all_entries}
 use Rattle.push_course.specs.Conversations.{IsSetting}
 
 -- something came of it, and that is its first cause

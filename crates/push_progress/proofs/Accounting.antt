@@ -6,17 +6,17 @@ use Rattle.std.proofs.lemmas.Bool.{cases_Bool}
 use Rattle.std.proofs.lemmas.List.Folds.{list_any-append}
 use Rattle.bt_base.specs.Counts.{HasRisen}
 use Rattle.bt_base.proofs.PortLaws.{risen_then, then_risen}
-use Rattle.push_script.specs.declared.outcome.Outcome.{Outcome}
-use Rattle.push_script.specs.declared.outcome.Outcome.TheVariants.{Done, LinkLost, RetryLimit, Refused, NoService, ShelfFault, Cancelled, PeerClosed, PeerFault, ScriptEnded}
+use Rattle.push_terms.specs.declared.outcome.Outcome.{Outcome}
+use Rattle.push_terms.specs.declared.outcome.Outcome.TheVariants.{Done, LinkLost, RetryLimit, Refused, NoService, ShelfFault, Cancelled, PeerClosed, PeerFault, ScriptEnded}
 use Rattle.capture.specs.Entries.{Entry, Begun}
 use Rattle.capture.specs.Results.{first_cause}
-use Rattle.bt_host.specs.Servers.{Kept}
-use Rattle.world_model.specs.Insides.{Shelved, came_of}
-use Rattle.world_model.specs.Ordering.{Pushes}
-use Rattle.world_model.specs.Moments.{Moment, first_moment}
-use Rattle.world_model.specs.Happenings.{Happening, Departure, Arrival, GivingBack, Opening, Closing, Deed, Miss, Does, Closes, Runs, entries_of, all_entries}
-use Rattle.world_model.proofs.Holding.{kept_along}
-use Rattle.world_model.proofs.Lists.{all_both, all_same}
+use Rattle.small_host.specs.Servers.{Kept}
+use Rattle.small_model.specs.Insides.{Shelved, came_of}
+use Rattle.small_model.specs.Ordering.{Pushes}
+use Rattle.small_model.specs.Moments.{Moment, first_moment}
+use Rattle.small_model.specs.Happenings.{Happening, Departure, Arrival, GivingBack, Opening, Closing, Deed, Miss, Does, Closes, Runs, entries_of, all_entries}
+use Rattle.small_model.proofs.Holding.{kept_along}
+use Rattle.small_model.proofs.Lists.{all_both, all_same}
 use Rattle.push_order.proofs.Lists.{first_false, second_false}
 use Rattle.push_order.proofs.Parts.{IsOpen}
 use Rattle.push_order.proofs.Following.{Reached, reached_more, pushes_of_face}

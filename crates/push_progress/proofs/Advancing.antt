@@ -3,18 +3,18 @@ use Rattle.std.proofs.Common.{◌≡◌, ◌⊎◌, inl, inr, ℕ, ◌≤◌, Bo
 use Rattle.bt_base.specs.Counts.{HasRisen}
 use Rattle.bt_base.proofs.PortLaws.{risen_then, then_risen}
 use Rattle.h4_framing.specs.Packets.{Packet}
-use Rattle.push_script.specs.declared.outcome.Outcome.TheVariants.{ShelfFault}
-use Rattle.push_script.specs.declared.word.Side.TheVariants as sides
-use Rattle.host_link.specs.Lines.{Line}
-use Rattle.host_link.specs.Hearing.{PlainNews, Nothing, LinkUp, LinkFailed, LinkDown, Pdu, news_of}
-use Rattle.host_link.specs.PuttingOut.{is_waiting}
-use Rattle.bt_host.specs.Channels.{Channel}
-use Rattle.bt_host.specs.Clients.{told}
-use Rattle.bt_host.specs.Servers.{Served, Kept, LeavesSession, LetsGo, HearsPacket, NotesPdu, Notes}
-use Rattle.world_model.specs.Insides.{Inside, Pushing, Serving, Tells, StartsPush, client, came_of}
-use Rattle.world_model.specs.Moments.{Moment}
-use Rattle.world_model.specs.Happenings.{Happening, Departure, Arrival, GivingBack, Opening, Closing, Deed, Miss, Does, Runs}
-use Rattle.world_model.specs.Hearing.{put_out_again}
+use Rattle.push_terms.specs.declared.outcome.Outcome.TheVariants.{ShelfFault}
+use Rattle.push_terms.specs.declared.word.Side.TheVariants as sides
+use Rattle.small_link.specs.Lines.{Line}
+use Rattle.small_link.specs.Hearing.{PlainNews, Nothing, LinkUp, LinkFailed, LinkDown, Pdu, news_of}
+use Rattle.small_link.specs.PuttingOut.{is_waiting}
+use Rattle.small_host.specs.Channels.{Channel}
+use Rattle.small_host.specs.Clients.{told}
+use Rattle.small_host.specs.Servers.{Served, Kept, LeavesSession, LetsGo, HearsPacket, NotesPdu, Notes}
+use Rattle.small_model.specs.Insides.{Inside, Pushing, Serving, Tells, StartsPush, client, came_of}
+use Rattle.small_model.specs.Moments.{Moment}
+use Rattle.small_model.specs.Happenings.{Happening, Departure, Arrival, GivingBack, Opening, Closing, Deed, Miss, Does, Runs}
+use Rattle.small_model.specs.Hearing.{put_out_again}
 use Rattle.push_store.proofs.Gaining.{either}
 use Rattle.push_progress.proofs.Blaming.{news_old, goes_blames, pushes_blame}
 

@@ -4,24 +4,24 @@ use Rattle.std.specs.Prelude.{if◌then◌else◌, ◌==◌, drop}
 use Rattle.std.specs.Option.{option_or}
 use Rattle.bt_base.specs.Counts.{HasRisen}
 use Rattle.bt_base.specs.Objects.{Object}
-use Rattle.push_script.specs.declared.outcome.Outcome.{Outcome}
-use Rattle.push_script.specs.declared.outcome.Outcome.TheVariants.{Done, LinkLost, Refused, ShelfFault, PeerClosed, PeerFault}
+use Rattle.push_terms.specs.declared.outcome.Outcome.{Outcome}
+use Rattle.push_terms.specs.declared.outcome.Outcome.TheVariants.{Done, LinkLost, Refused, ShelfFault, PeerClosed, PeerFault}
 use Rattle.l2cap_signal.specs.Commands.{Command, Content, reject, connection_request, connection_response, configuration_request, configuration_response, disconnection_request, disconnection_response, echo_request, echo_response, information_request, information_response}
 use Rattle.l2cap_config.specs.declared.wish.Agreed.{Agreed}
 use Rattle.obex_headers.specs.declared.fault.ObexRefusal.{ObexRefusal}
 use Rattle.obex_headers.specs.declared.packet.Phase.TheVariants.{Response, ConnectResponse}
 use Rattle.obex_headers.specs.Packets.{PlainPacket, maximum_of}
 use Rattle.obex_headers.specs.Reading.{packet_in}
-use Rattle.host_link.specs.Hearing.{PlainNews, Nothing, LinkUp, LinkFailed, LinkDown, Pdu}
-use Rattle.bt_host.specs.declared.stages.Stage.{Stage}
-use Rattle.bt_host.specs.declared.stages.Stage.TheVariants.{Paging, Connecting, Configuring, Greeting, Greeted, Putting, Parting, ToClose, Closing, ToLeave}
-use Rattle.bt_host.specs.declared.stages.PeerRequest.TheVariants.{Awaited, Heard, Accepted}
-use Rattle.bt_host.specs.Courses.{Course, at, caused, ended, begun}
-use Rattle.bt_host.specs.Events as events
-use Rattle.bt_host.specs.Steps.{step_at}
-use Rattle.bt_host.specs.Shelves.{GivesOctets, SaysSize}
-use Rattle.bt_host.specs.Clients.{Client, commands_in, after_commands, after_news, StepsOn, GoesOn}
-use Rattle.bt_host.specs.ClientHosts.{PushesOn}
+use Rattle.small_link.specs.Hearing.{PlainNews, Nothing, LinkUp, LinkFailed, LinkDown, Pdu}
+use Rattle.small_host.specs.declared.stages.Stage.{Stage}
+use Rattle.small_host.specs.declared.stages.Stage.TheVariants.{Paging, Connecting, Configuring, Greeting, Greeted, Putting, Parting, ToClose, Closing, ToLeave}
+use Rattle.small_host.specs.declared.stages.PeerRequest.TheVariants.{Awaited, Heard, Accepted}
+use Rattle.small_host.specs.Courses.{Course, at, caused, ended, begun}
+use Rattle.small_host.specs.Events as events
+use Rattle.small_host.specs.Steps.{step_at}
+use Rattle.small_host.specs.Shelves.{GivesOctets, SaysSize}
+use Rattle.small_host.specs.Clients.{Client, commands_in, after_commands, after_news, StepsOn, GoesOn}
+use Rattle.small_host.specs.ClientHosts.{PushesOn}
 
 -- ---- what is heard brings none
 

@@ -2,15 +2,15 @@
 use Rattle.std.proofs.Common.{◌≡◌, ◌⊎◌, inl, inr, ℕ, List, [], ◌∷◌, ◌++◌, Bool, true, false, Option, Some, None, refl, sym, subst, arith}
 use Rattle.std.specs.Prelude.{unwrap_or}
 use Rattle.std.specs.List.{list_any, AllByRecursion}
-use Rattle.push_script.specs.declared.word.Word.{Word}
-use Rattle.push_script.specs.declared.outcome.Outcome.{Outcome}
-use Rattle.push_script.specs.declared.outcome.Outcome.TheVariants.{LinkLost, ScriptEnded}
+use Rattle.push_terms.specs.declared.word.Word.{Word}
+use Rattle.push_terms.specs.declared.outcome.Outcome.{Outcome}
+use Rattle.push_terms.specs.declared.outcome.Outcome.TheVariants.{LinkLost, ScriptEnded}
 use Rattle.capture.specs.Entries.{Entry}
-use Rattle.bt_host.specs.Servers.{Kept}
-use Rattle.world_model.specs.Insides.{Shelved, came_of}
-use Rattle.world_model.specs.Moments.{Moment, first_moment}
-use Rattle.world_model.specs.Happenings.{Plays, EndsScript, last_outcome, all_entries}
-use Rattle.world_model.proofs.Lists.{all_both, all_same}
+use Rattle.small_host.specs.Servers.{Kept}
+use Rattle.small_model.specs.Insides.{Shelved, came_of}
+use Rattle.small_model.specs.Moments.{Moment, first_moment}
+use Rattle.small_model.specs.Happenings.{Plays, EndsScript, last_outcome, all_entries}
+use Rattle.small_model.proofs.Lists.{all_both, all_same}
 use Rattle.push_course.specs.Conversations.{IsSetting}
 use Rattle.push_outcomes.specs.Causes.{is_drop}
 use Rattle.push_progress.specs.Success.{MayCome, IsCaused, OutcomesHaveCauses, LossesFollowDrops}

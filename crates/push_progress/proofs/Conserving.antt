@@ -7,8 +7,8 @@ use Rattle.h4_framing.specs.Packets.{Packet, Acl, Event}
 use Rattle.hci_packets.specs.AclWords.{flag_of}
 use Rattle.hci_packets.specs.Events.{PlainEvent, code_of, event_params}
 use Rattle.acl_fragments.specs.Pieces.{Piece}
-use Rattle.push_script.specs.declared.word.Side.{Side}
-use Rattle.push_script.specs.declared.word.Side.TheVariants as sides
+use Rattle.push_terms.specs.declared.word.Side.{Side}
+use Rattle.push_terms.specs.declared.word.Side.TheVariants as sides
 use Rattle.capture.specs.declared.flow.Flow.{Flow}
 use Rattle.capture.specs.declared.flow.Flow.TheVariants.{Out, Into}
 use Rattle.capture.specs.Entries.{Entry, Moved}
@@ -19,9 +19,9 @@ use Rattle.capture.specs.Pdus.{piece_of, piece_in, pdus, completed}
 use Rattle.capture.specs.Air.{Air, broken_off, renewed, put_from, frames_put, breaks_off, due, air_after}
 use Rattle.capture.proofs.MoreLaws.{air-more, pdus-more}
 use Rattle.capture.proofs.FurtherLaws.{entry_links-more}
-use Rattle.radio_air.specs.Controllers.{Answer, Returned, Stated, Called, LinkMade, LinkGone, GivenBack, Carried, event_of, event_packet, packet_of}
-use Rattle.radio_air.specs.Showing.{carried}
-use Rattle.world_model.proofs.Telling.{IsUp}
+use Rattle.small_air.specs.Controllers.{Answer, Returned, Stated, Called, LinkMade, LinkGone, GivenBack, Carried, event_of, event_packet, packet_of}
+use Rattle.small_air.specs.Showing.{carried}
+use Rattle.small_model.proofs.Telling.{IsUp}
 use Rattle.host_wire.proofs.Carried.{piece_carried}
 use Rattle.link_pipe.specs.Pipes.{octets_in, heard, IsFront}
 use Rattle.link_pipe.proofs.Completing.{came, pieces-more}

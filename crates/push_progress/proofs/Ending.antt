@@ -4,18 +4,18 @@ use Rattle.std.specs.Prelude.{◌≢◌}
 use Rattle.std.specs.List.{AllByRecursion}
 use Rattle.std.proofs.lemmas.Bool.{cases_Bool}
 use Rattle.std.proofs.lemmas.List.{append-nil}
-use Rattle.push_script.specs.declared.word.Word.{Word}
-use Rattle.push_script.specs.declared.word.Word.TheVariants.{Pass}
-use Rattle.push_script.specs.declared.outcome.Outcome.TheVariants.{ScriptEnded}
+use Rattle.push_terms.specs.declared.word.Word.{Word}
+use Rattle.push_terms.specs.declared.word.Word.TheVariants.{Pass}
+use Rattle.push_terms.specs.declared.outcome.Outcome.TheVariants.{ScriptEnded}
 use Rattle.capture.specs.Entries.{Entry}
-use Rattle.bt_host.specs.Servers.{Kept}
-use Rattle.radio_air.specs.Radio.{Radio, passed}
-use Rattle.world_model.specs.Acting.{MakesNothing}
-use Rattle.world_model.specs.Insides.{Shelved}
-use Rattle.world_model.specs.Ordering.{Pushes}
-use Rattle.world_model.specs.Moments.{Moment, first_moment, IsAtRest}
-use Rattle.world_model.specs.Happenings.{Happening, Departure, Arrival, GivingBack, Opening, Closing, Deed, Miss, Does, Runs, EndsScript, all_entries, words_in, all_words}
-use Rattle.world_model.proofs.Runs.{runs_then}
+use Rattle.small_host.specs.Servers.{Kept}
+use Rattle.small_air.specs.Radio.{Radio, passed}
+use Rattle.small_model.specs.Acting.{MakesNothing}
+use Rattle.small_model.specs.Insides.{Shelved}
+use Rattle.small_model.specs.Ordering.{Pushes}
+use Rattle.small_model.specs.Moments.{Moment, first_moment, IsAtRest}
+use Rattle.small_model.specs.Happenings.{Happening, Departure, Arrival, GivingBack, Opening, Closing, Deed, Miss, Does, Runs, EndsScript, all_entries, words_in, all_words}
+use Rattle.small_model.proofs.Runs.{runs_then}
 use Rattle.world_links.specs.LinkFacts.{since_begin}
 use Rattle.world_links.proofs.Settled.{rests_of_runs}
 use Rattle.push_course.specs.Conversations.{IsSetting}

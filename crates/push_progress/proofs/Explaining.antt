@@ -4,15 +4,15 @@ use Rattle.std.specs.Prelude.{unwrap_or}
 use Rattle.std.specs.Str.{IsUtf8}
 use Rattle.bt_base.specs.Counts.{HasRisen}
 use Rattle.bt_base.specs.Objects.{Object}
-use Rattle.push_script.specs.declared.outcome.Outcome.{Outcome}
-use Rattle.push_script.specs.declared.outcome.Outcome.TheVariants.{ShelfFault}
-use Rattle.push_script.specs.declared.word.Side.TheVariants as sides
+use Rattle.push_terms.specs.declared.outcome.Outcome.{Outcome}
+use Rattle.push_terms.specs.declared.outcome.Outcome.TheVariants.{ShelfFault}
+use Rattle.push_terms.specs.declared.word.Side.TheVariants as sides
 use Rattle.capture.specs.Entries.{Entry}
 use Rattle.capture.specs.Links.{links}
 use Rattle.capture.specs.Pdus.{pdus}
 use Rattle.capture.specs.Results.{first_cause}
-use Rattle.bt_host.specs.Servers.{Kept}
-use Rattle.bt_host.proofs.Counting.{units_are_counted}
+use Rattle.small_host.specs.Servers.{Kept}
+use Rattle.small_host.proofs.Counting.{units_are_counted}
 use Rattle.push_course.specs.Conversations.{Conversation, outcome_by}
 use Rattle.push_course.proofs.Deciding.{Delivery, Decisions, Told, Agrees, IsFair, IsFairDelivery, filled, filled_agrees}
 use Rattle.push_course.proofs.ClientPlaces.{IsCapable}

@@ -2,20 +2,20 @@
 use Rattle.std.proofs.Common.{◌≡◌, ℕ, ◌+◌, ◌≤◌, max, min, List, [], ◌++◌, length, true, false, not, ◌&&◌, Option, Some, None, refl, sym, ap, ap₂, subst, ◌∙◌, arith, eq-eqb}
 use Rattle.std.specs.Prelude.{is_some}
 use Rattle.std.proofs.lemmas.List.{append-nil}
-use Rattle.push_script.specs.declared.word.Side.TheVariants as sides
+use Rattle.push_terms.specs.declared.word.Side.TheVariants as sides
 use Rattle.capture.specs.Entries.{Entry}
 use Rattle.capture.specs.Moves.{moves}
 use Rattle.capture.specs.Links.{Link, linking, link_up}
 use Rattle.capture.specs.Air.{air_after}
-use Rattle.bt_host.specs.Courses.{Course}
-use Rattle.bt_host.specs.declared.stages.Stage.TheVariants as stages
-use Rattle.bt_host.specs.Servers.{Kept}
-use Rattle.radio_air.specs.Radio.{Radio, is_together}
-use Rattle.radio_air.specs.Showing.{carried, IsOwed, ShowsUp, Shows, in_air}
-use Rattle.radio_air.proofs.Entering.{links-of}
-use Rattle.world_model.specs.Insides.{Shelved}
-use Rattle.world_model.specs.Moments.{Moment, first_moment, IsAtRest}
-use Rattle.world_model.specs.Happenings.{Happening, Runs, all_entries}
+use Rattle.small_host.specs.Courses.{Course}
+use Rattle.small_host.specs.declared.stages.Stage.TheVariants as stages
+use Rattle.small_host.specs.Servers.{Kept}
+use Rattle.small_air.specs.Radio.{Radio, is_together}
+use Rattle.small_air.specs.Showing.{carried, IsOwed, ShowsUp, Shows, in_air}
+use Rattle.small_air.proofs.Entering.{links-of}
+use Rattle.small_model.specs.Insides.{Shelved}
+use Rattle.small_model.specs.Moments.{Moment, first_moment, IsAtRest}
+use Rattle.small_model.specs.Happenings.{Happening, Runs, all_entries}
 use Rattle.world_links.specs.LinkFacts.{IsLinked}
 use Rattle.world_links.proofs.Settled.{rests_of_runs}
 use Rattle.link_pipe.specs.Pipes.{said, heard}

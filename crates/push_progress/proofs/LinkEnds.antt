@@ -4,17 +4,17 @@ use Rattle.std.specs.Prelude.{is_some}
 use Rattle.std.specs.List.{filter_map, AllByRecursion}
 use Rattle.std.proofs.lemmas.List.{nil_from_length}
 use Rattle.h4_framing.specs.Packets.{Packet, spellings, IsPacket}
-use Rattle.push_script.specs.declared.word.Side.{Side}
-use Rattle.push_script.specs.declared.word.Side.TheVariants as sides
+use Rattle.push_terms.specs.declared.word.Side.{Side}
+use Rattle.push_terms.specs.declared.word.Side.TheVariants as sides
 use Rattle.capture.specs.declared.flow.Flow.TheVariants.{Out, Into}
 use Rattle.capture.specs.Entries.{Entry}
 use Rattle.capture.specs.Links.{Link, link_up}
 use Rattle.capture.specs.Pdus.{pdus}
-use Rattle.radio_air.specs.Controllers.{other_side}
-use Rattle.world_model.specs.Hearing.{acl_limit}
-use Rattle.world_model.specs.Moving.{IsStillOut, HasNoPacket}
-use Rattle.world_model.specs.Moments.{Moment, face_at}
-use Rattle.world_model.specs.Holding.{Holds}
+use Rattle.small_air.specs.Controllers.{other_side}
+use Rattle.small_model.specs.Hearing.{acl_limit}
+use Rattle.small_model.specs.Moving.{IsStillOut, HasNoPacket}
+use Rattle.small_model.specs.Moments.{Moment, face_at}
+use Rattle.small_model.specs.Holding.{Holds}
 use Rattle.host_wire.specs.Wiring.{pieces_on, Wires}
 use Rattle.host_wire.specs.WireLaws.{IsFrame}
 use Rattle.host_wire.proofs.Stepping.{wires_say}

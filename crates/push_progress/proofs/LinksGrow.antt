@@ -4,7 +4,7 @@ use Rattle.std.specs.Option.{option_or}
 use Rattle.std.specs.List.{flat_map}
 use Rattle.std.proofs.lemmas.List.{append-nil}
 use Rattle.std.proofs.lemmas.Grind.{flat_map-append}
-use Rattle.push_script.specs.declared.word.Side.{Side}
+use Rattle.push_terms.specs.declared.word.Side.{Side}
 use Rattle.capture.specs.Entries.{Entry}
 use Rattle.capture.specs.Moves.{Move, move_of, moves}
 use Rattle.capture.specs.Links.{Link, LinkNews, Linking, Asked, Answered, LinkEnded, NoNews, link_news, longer, gone_on, ends_with, after_news, after_move, linking, links}

@@ -3,22 +3,22 @@ use Rattle.std.proofs.Common.{◌≡◌, ℕ, ◌+◌, ◌-◌, ◌*◌, ◌≤�
 use Rattle.std.proofs.lemmas.Bool.{cases_lt}
 use Rattle.std.proofs.lemmas.List.{append-nil, nil_from_length}
 use Rattle.std.proofs.lemmas.Grind.{flat_map-append}
-use Rattle.push_script.specs.declared.word.Side.{Side}
-use Rattle.push_script.specs.declared.word.Side.TheVariants as sides
-use Rattle.push_script.specs.declared.word.Word.TheVariants.{Pass}
+use Rattle.push_terms.specs.declared.word.Side.{Side}
+use Rattle.push_terms.specs.declared.word.Side.TheVariants as sides
+use Rattle.push_terms.specs.declared.word.Word.TheVariants.{Pass}
 use Rattle.capture.specs.Entries.{Entry, Acted}
 use Rattle.capture.specs.Air.{due, air_after}
-use Rattle.radio_air.specs.Radio.{Radio, controller, passed, delivered}
-use Rattle.radio_air.specs.Showing.{carried, Shows}
-use Rattle.radio_air.proofs.Entering.{due-of}
-use Rattle.world_model.specs.Acting.{Makes}
-use Rattle.world_model.specs.Media.{Medium}
-use Rattle.world_model.specs.Ordering.{Pushes}
-use Rattle.world_model.specs.Moments.{Moment, first_moment}
-use Rattle.world_model.specs.Happenings.{Happening, Deed, Runs, entries_of, all_entries}
-use Rattle.world_model.specs.Holding.{Holds}
-use Rattle.world_model.proofs.Holding.{holds_on}
-use Rattle.world_model.proofs.Runs.{runs_then}
+use Rattle.small_air.specs.Radio.{Radio, controller, passed, delivered}
+use Rattle.small_air.specs.Showing.{carried, Shows}
+use Rattle.small_air.proofs.Entering.{due-of}
+use Rattle.small_model.specs.Acting.{Makes}
+use Rattle.small_model.specs.Media.{Medium}
+use Rattle.small_model.specs.Ordering.{Pushes}
+use Rattle.small_model.specs.Moments.{Moment, first_moment}
+use Rattle.small_model.specs.Happenings.{Happening, Deed, Runs, entries_of, all_entries}
+use Rattle.small_model.specs.Holding.{Holds}
+use Rattle.small_model.proofs.Holding.{holds_on}
+use Rattle.small_model.proofs.Runs.{runs_then}
 use Rattle.world_links.specs.LinkFacts.{since_begin}
 use Rattle.world_links.proofs.Running.{upholds_on}
 use Rattle.link_pipe.specs.Pipes.{IsFront}

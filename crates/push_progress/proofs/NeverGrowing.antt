@@ -3,14 +3,14 @@ use Rattle.std.proofs.Common.{◌≡◌, ℕ, ◌+◌, ◌-◌, ◌*◌, ◌≤�
 use Rattle.std.specs.Prelude.{slice_get}
 use Rattle.std.proofs.lemmas.List.{append-nil}
 use Rattle.std.proofs.lemmas.Option.{slice_get_within}
-use Rattle.push_script.specs.declared.word.Side.{Side}
-use Rattle.push_script.specs.declared.word.Side.TheVariants as sides
+use Rattle.push_terms.specs.declared.word.Side.{Side}
+use Rattle.push_terms.specs.declared.word.Side.TheVariants as sides
 use Rattle.capture.specs.Entries.{Entry, Moved, Begun, Ended, Acted}
 use Rattle.capture.specs.declared.flow.Flow.TheVariants.{Out, Into}
-use Rattle.world_model.specs.Faces.{Face}
-use Rattle.world_model.specs.Ordering.{Pushes, one_begun}
-use Rattle.world_model.specs.Moments.{Moment, with_face}
-use Rattle.world_model.specs.Happenings.{Happening, Departure, Arrival, GivingBack, Opening, Closing, Deed, Miss, Does, Runs, entries_of, all_entries}
+use Rattle.small_model.specs.Faces.{Face}
+use Rattle.small_model.specs.Ordering.{Pushes, one_begun}
+use Rattle.small_model.specs.Moments.{Moment, with_face}
+use Rattle.small_model.specs.Happenings.{Happening, Departure, Arrival, GivingBack, Opening, Closing, Deed, Miss, Does, Runs, entries_of, all_entries}
 use Rattle.world_links.specs.LinkFacts.{with_entry, since_begin}
 use Rattle.link_pipe.specs.Pipes.{IsFront}
 use Rattle.push_progress.specs.Progress.{most_sayings, heard_on, sayings_heard, sayings_ahead, passes_ahead, NeverGrows, FewAtFirst}

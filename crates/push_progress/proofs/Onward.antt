@@ -4,22 +4,22 @@ use Rattle.std.proofs.Common.{◌≡◌, ℕ, ◌-◌, ◌*◌, ◌≤◌, List,
 use Rattle.std.specs.Prelude.{slice_get}
 use Rattle.std.proofs.lemmas.List.{append-nil}
 use Rattle.h4_framing.specs.Packets.{Packet}
-use Rattle.push_script.specs.declared.word.Side.{Side}
-use Rattle.push_script.specs.declared.word.Side.TheVariants as sides
+use Rattle.push_terms.specs.declared.word.Side.{Side}
+use Rattle.push_terms.specs.declared.word.Side.TheVariants as sides
 use Rattle.capture.specs.declared.flow.Flow.TheVariants.{Out, Into}
 use Rattle.capture.specs.Entries.{Entry, Moved}
 use Rattle.capture.specs.Links.{Link, link_up}
 use Rattle.capture.specs.Air.{due, air_after}
-use Rattle.radio_air.specs.Controllers.{Answer, Returned, Stated, Called, LinkMade, LinkGone, GivenBack, Carried, Controller}
-use Rattle.radio_air.specs.Radio.{Radio, controller, is_together}
-use Rattle.radio_air.specs.Showing.{carried, IsOwed, ShowsUp, Shows}
-use Rattle.radio_air.proofs.Entering.{due-of, host-of}
-use Rattle.world_model.specs.Moments.{Moment}
-use Rattle.world_model.specs.Ordering.{Pushes}
-use Rattle.world_model.specs.Happenings.{Happening, Departure, Arrival, GivingBack, Opening, Closing, Deed, Miss, Does, Arrives, Runs, entries_of, all_entries, words_in, all_words}
-use Rattle.world_model.specs.Holding.{Holds}
-use Rattle.world_model.proofs.Holding.{holds_on}
-use Rattle.world_model.proofs.Hearing.{owed_below, one_up}
+use Rattle.small_air.specs.Controllers.{Answer, Returned, Stated, Called, LinkMade, LinkGone, GivenBack, Carried, Controller}
+use Rattle.small_air.specs.Radio.{Radio, controller, is_together}
+use Rattle.small_air.specs.Showing.{carried, IsOwed, ShowsUp, Shows}
+use Rattle.small_air.proofs.Entering.{due-of, host-of}
+use Rattle.small_model.specs.Moments.{Moment}
+use Rattle.small_model.specs.Ordering.{Pushes}
+use Rattle.small_model.specs.Happenings.{Happening, Departure, Arrival, GivingBack, Opening, Closing, Deed, Miss, Does, Arrives, Runs, entries_of, all_entries, words_in, all_words}
+use Rattle.small_model.specs.Holding.{Holds}
+use Rattle.small_model.proofs.Holding.{holds_on}
+use Rattle.small_model.proofs.Hearing.{owed_below, one_up}
 use Rattle.world_links.specs.LinkFacts.{with_entry, since_begin}
 use Rattle.world_links.proofs.Arriving.{owed_first}
 use Rattle.world_links.proofs.Splitting.{IsSplit}

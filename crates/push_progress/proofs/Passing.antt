@@ -1,12 +1,12 @@
 -- The word pass on a radio: it finds nothing only where no frame waits, and the pieces of what it finds become due.
 use Rattle.std.proofs.Common.{◌≡◌, ℕ, ◌+◌, ◌≤◌, List, [], ◌∷◌, ◌++◌, length, map, Option, Some, None, refl, ap, ◌∙◌, inl, inr, ◌⊎◌, arith, length-append}
-use Rattle.push_script.specs.declared.word.Way.{Way}
-use Rattle.push_script.specs.declared.word.Way.TheVariants.{Ab, Ba}
+use Rattle.push_terms.specs.declared.word.Way.{Way}
+use Rattle.push_terms.specs.declared.word.Way.TheVariants.{Ab, Ba}
 use Rattle.capture.specs.Frames.{frame_pieces, other_way, way_served}
-use Rattle.radio_air.specs.Controllers.{Answer, Carried}
-use Rattle.radio_air.specs.Radio.{Radio, delivered, delivered_first, frames, served_next, passed}
-use Rattle.radio_air.specs.Showing.{carried}
-use Rattle.radio_air.proofs.Owing.{carried-append, carried-pieces}
+use Rattle.small_air.specs.Controllers.{Answer, Carried}
+use Rattle.small_air.specs.Radio.{Radio, delivered, delivered_first, frames, served_next, passed}
+use Rattle.small_air.specs.Showing.{carried}
+use Rattle.small_air.proofs.Owing.{carried-append, carried-pieces}
 
 -- the first frame that waits in a direction is handed over
 pub record HandsOver (radio : Radio) (found : Option Radio) : Type 0 where

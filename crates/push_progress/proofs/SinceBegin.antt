@@ -1,7 +1,7 @@
 -- What stands behind the last begin of a push: with an entry more, and its one link.
 use Rattle.std.proofs.Common.{◌≡◌, ℕ, ◌≤◌, List, [], ◌∷◌, ◌++◌, length, Option, Some, None, sym, ap, arith, length-append}
 use Rattle.std.proofs.lemmas.List.Sums.{fold-append}
-use Rattle.push_script.specs.declared.word.Side.{Side}
+use Rattle.push_terms.specs.declared.word.Side.{Side}
 use Rattle.capture.specs.Entries.{Entry}
 use Rattle.capture.specs.Links.{Link, Linking, link_up}
 use Rattle.world_links.specs.LinkFacts.{with_entry, since_begin}

@@ -1,19 +1,19 @@
 -- The length of the packets that controllers take stays as it was at first.
 use Rattle.std.proofs.Common.{◌≡◌, ℕ, List, [], refl, ap, ◌∙◌, inl, inr}
-use Rattle.push_script.specs.declared.word.Side.{Side}
-use Rattle.push_script.specs.declared.word.Side.TheVariants as sides
-use Rattle.push_script.specs.declared.word.Word.{Word}
-use Rattle.bt_host.specs.Servers.{Kept}
-use Rattle.radio_air.specs.Radio.{Radio}
-use Rattle.radio_air.proofs.Sizing.{sizes-stay}
-use Rattle.world_model.specs.Acting.{Makes}
-use Rattle.world_model.specs.Faces.{Face}
-use Rattle.world_model.specs.Insides.{Shelved}
-use Rattle.world_model.specs.Media.{Medium}
-use Rattle.world_model.specs.Moments.{Moment, with_face, first_moment}
-use Rattle.world_model.specs.Happenings.{Happening, Departure, Arrival, GivingBack, Opening, Closing, Deed, Miss, Does, Runs}
-use Rattle.world_model.proofs.Departing.{moved_sizes}
-use Rattle.world_model.proofs.Holding.{kept_along}
+use Rattle.push_terms.specs.declared.word.Side.{Side}
+use Rattle.push_terms.specs.declared.word.Side.TheVariants as sides
+use Rattle.push_terms.specs.declared.word.Word.{Word}
+use Rattle.small_host.specs.Servers.{Kept}
+use Rattle.small_air.specs.Radio.{Radio}
+use Rattle.small_air.proofs.Sizing.{sizes-stay}
+use Rattle.small_model.specs.Acting.{Makes}
+use Rattle.small_model.specs.Faces.{Face}
+use Rattle.small_model.specs.Insides.{Shelved}
+use Rattle.small_model.specs.Media.{Medium}
+use Rattle.small_model.specs.Moments.{Moment, with_face, first_moment}
+use Rattle.small_model.specs.Happenings.{Happening, Departure, Arrival, GivingBack, Opening, Closing, Deed, Miss, Does, Runs}
+use Rattle.small_model.proofs.Departing.{moved_sizes}
+use Rattle.small_model.proofs.Holding.{kept_along}
 
 abbrev pub size_of : Moment → ℕ
 size_of moment = moment.scene.medium.radio.size

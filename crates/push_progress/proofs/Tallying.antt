@@ -3,18 +3,18 @@ use Rattle.std.proofs.Common.{◌≡◌, ℕ, ◌+◌, ◌≤◌, List, [], ◌�
 use Rattle.std.specs.List.{flat_map, AllByRecursion}
 use Rattle.std.proofs.lemmas.List.{append-nil}
 use Rattle.acl_fragments.specs.Laws.{IsPdu}
-use Rattle.push_script.specs.declared.word.Side.{Side}
-use Rattle.push_script.specs.declared.word.Side.TheVariants as sides
-use Rattle.push_script.specs.declared.word.Way.{Way}
-use Rattle.push_script.specs.declared.word.Way.TheVariants.{Ab, Ba}
+use Rattle.push_terms.specs.declared.word.Side.{Side}
+use Rattle.push_terms.specs.declared.word.Side.TheVariants as sides
+use Rattle.push_terms.specs.declared.word.Way.{Way}
+use Rattle.push_terms.specs.declared.word.Way.TheVariants.{Ab, Ba}
 use Rattle.capture.specs.Entries.{Entry}
 use Rattle.capture.specs.Frames.{frame_pieces}
 use Rattle.capture.specs.Links.{Link, links, link_up}
-use Rattle.bt_host.specs.Servers.{Kept}
-use Rattle.radio_air.specs.Radio.{Radio, frames}
-use Rattle.world_model.specs.Insides.{Shelved}
-use Rattle.world_model.specs.Moments.{Moment, first_moment, IsAtRest}
-use Rattle.world_model.specs.Happenings.{Happening, Runs, all_entries}
+use Rattle.small_host.specs.Servers.{Kept}
+use Rattle.small_air.specs.Radio.{Radio, frames}
+use Rattle.small_model.specs.Insides.{Shelved}
+use Rattle.small_model.specs.Moments.{Moment, first_moment, IsAtRest}
+use Rattle.small_model.specs.Happenings.{Happening, Runs, all_entries}
 use Rattle.world_links.specs.LinkFacts.{LinkFacts, since_begin}
 use Rattle.world_links.proofs.Splitting.{IsSplit}
 use Rattle.world_links.proofs.Running.{links_of_runs}

@@ -2,18 +2,18 @@
 use Rattle.std.proofs.Common.{◌≡◌, ℕ, ◌+◌, ◌≤◌, List, [], ◌∷◌, ◌++◌, true, refl, sym, ap, subst, ◌∙◌, append_assoc, arith}
 use Rattle.std.proofs.lemmas.Grind.{flat_map-append}
 use Rattle.std.proofs.lemmas.List.{append-nil}
-use Rattle.push_script.specs.declared.word.Side.{Side}
-use Rattle.push_script.specs.declared.word.Side.TheVariants as sides
-use Rattle.push_script.specs.declared.word.Word.{Word}
-use Rattle.push_script.specs.declared.word.Word.TheVariants.{Pass}
+use Rattle.push_terms.specs.declared.word.Side.{Side}
+use Rattle.push_terms.specs.declared.word.Side.TheVariants as sides
+use Rattle.push_terms.specs.declared.word.Word.{Word}
+use Rattle.push_terms.specs.declared.word.Word.TheVariants.{Pass}
 use Rattle.h4_framing.specs.Packets.{Packet}
-use Rattle.bt_host.specs.Servers.{Kept}
-use Rattle.push_script.specs.declared.outcome.Outcome.{Outcome}
-use Rattle.radio_air.specs.Controllers.{Controller, after_giving_back}
-use Rattle.world_model.specs.Insides.{Shelved}
-use Rattle.world_model.specs.Moments.{Moment, first_moment, IsAtRest}
-use Rattle.world_model.specs.Happenings.{Happening, Departure, Arrival, GivingBack, Opening, Closing, Deed, Miss, Does, Departs, Arrives, GivesBack, Opens, Closes, Runs, entries_of, all_entries, all_words}
-use Rattle.world_model.proofs.Runs.{runs_then}
+use Rattle.small_host.specs.Servers.{Kept}
+use Rattle.push_terms.specs.declared.outcome.Outcome.{Outcome}
+use Rattle.small_air.specs.Controllers.{Controller, after_giving_back}
+use Rattle.small_model.specs.Insides.{Shelved}
+use Rattle.small_model.specs.Moments.{Moment, first_moment, IsAtRest}
+use Rattle.small_model.specs.Happenings.{Happening, Departure, Arrival, GivingBack, Opening, Closing, Deed, Miss, Does, Departs, Arrives, GivesBack, Opens, Closes, Runs, entries_of, all_entries, all_words}
+use Rattle.small_model.proofs.Runs.{runs_then}
 use Rattle.push_course.specs.Conversations.{IsSetting}
 use Rattle.push_progress.specs.Progress.{passes_ahead, EachTurnCounts}
 use Rattle.push_progress.proofs.NeverGrowing.{grows_not, grows_not_along}

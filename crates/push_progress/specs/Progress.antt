@@ -1,18 +1,18 @@
 -- How many passes a play may still need, and what each pass does to that (this project's own).
 use Rattle.std.specs.Prelude.{ℕ, ◌+◌, ◌-◌, ◌*◌, ◌≡◌, ◌≢◌, ◌≤◌, Bool, true, false, List, [], ◌∷◌, ◌++◌, length, None}
 use Rattle.std.specs.List.{flat_map, AllByRecursion}
-use Rattle.push_script.specs.declared.word.Side.{Side}
-use Rattle.push_script.specs.declared.word.Side.TheVariants as sides
-use Rattle.push_script.specs.declared.word.Word.{Word}
-use Rattle.push_script.specs.declared.word.Word.TheVariants.{Pass}
-use Rattle.push_script.specs.declared.outcome.Outcome.TheVariants.{ScriptEnded}
+use Rattle.push_terms.specs.declared.word.Side.{Side}
+use Rattle.push_terms.specs.declared.word.Side.TheVariants as sides
+use Rattle.push_terms.specs.declared.word.Word.{Word}
+use Rattle.push_terms.specs.declared.word.Word.TheVariants.{Pass}
+use Rattle.push_terms.specs.declared.outcome.Outcome.TheVariants.{ScriptEnded}
 use Rattle.capture.specs.Entries.{Entry}
 use Rattle.capture.specs.Links.{links}
-use Rattle.bt_host.specs.Servers.{Kept}
-use Rattle.radio_air.specs.Radio.{passed}
-use Rattle.world_model.specs.Insides.{Shelved}
-use Rattle.world_model.specs.Moments.{Moment, first_moment, IsAtRest}
-use Rattle.world_model.specs.Happenings.{Happening, Deed, Does, Runs, Plays, entries_of, all_entries, all_words}
+use Rattle.small_host.specs.Servers.{Kept}
+use Rattle.small_air.specs.Radio.{passed}
+use Rattle.small_model.specs.Insides.{Shelved}
+use Rattle.small_model.specs.Moments.{Moment, first_moment, IsAtRest}
+use Rattle.small_model.specs.Happenings.{Happening, Deed, Does, Runs, Plays, entries_of, all_entries, all_words}
 use Rattle.world_links.specs.LinkFacts.{since_begin}
 use Rattle.link_pipe.specs.Pipes.{heard}
 use Rattle.push_course.specs.Conversations.{IsSetting}

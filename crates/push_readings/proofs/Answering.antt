@@ -8,10 +8,10 @@ use Rattle.std.proofs.lemmas.List.{append-nil}
 use Rattle.std.proofs.lemmas.List.Folds.{list_any-append}
 use Rattle.bt_base.specs.Octets.{be16}
 use Rattle.obex_headers.specs.Packets.{bare, packet_octets}
-use Rattle.push_script.specs.declared.outcome.Outcome.{Outcome}
+use Rattle.push_terms.specs.declared.outcome.Outcome.{Outcome}
 use Rattle.capture.specs.Exchanges.{Exchange, ends_object_with}
 use Rattle.capture.specs.Results.{cause_of}
-use Rattle.bt_host.specs.Pushing.{utf16, connect_packet, disconnect_packet, put_packet}
+use Rattle.small_host.specs.Pushing.{utf16, connect_packet, disconnect_packet, put_packet}
 use Rattle.push_course.specs.Conversations.{Conversation, code_of}
 use Rattle.push_readings.specs.Fronts.{payloads_said, answered_pairs, greeting_exchange, put_exchange, farewell_exchange, exchanges_behind, exchanges_with, has_put, is_put_answered, refused_unless, done_or_refused, causes_behind, causes_with}
 use Rattle.push_readings.specs.Laws.{ExchangesAreCauses, PutIsAnswered}

@@ -6,7 +6,7 @@ use Rattle.bt_base.specs.Octets.{be16}
 use Rattle.obex_headers.specs.Packets.{bare, packet_octets}
 use Rattle.capture.specs.Histories.{given_by}
 use Rattle.capture.specs.Exchanges.{Exchange, request_flow, exchanged}
-use Rattle.bt_host.specs.Pushing.{utf16, connect_packet, disconnect_packet, put_packet}
+use Rattle.small_host.specs.Pushing.{utf16, connect_packet, disconnect_packet, put_packet}
 use Rattle.push_talk.specs.Conversing.{Sent}
 use Rattle.push_talk.specs.Laws.{spoken_at}
 use Rattle.push_course.specs.Conversations.{Conversation, code_of, delivery, payloads}

@@ -5,7 +5,7 @@ use Rattle.push_talk.specs.Conversing.{Saying, seen, seen_all}
 use Rattle.capture.specs.Talk.{Talk, talk}
 use Rattle.push_course.specs.Conversations.{sayings}
 use Rattle.push_readings.specs.Laws.{LinksComeFurther}
-use Rattle.push_script.specs.declared.word.Side.{Side}
+use Rattle.push_terms.specs.declared.word.Side.{Side}
 
 -- what was seen, and one thing more, is a front of what all is seen as
 record Further (side : Side) (all : List Saying) (seen_before : List Talk) (more : Talk) : Type 0 where

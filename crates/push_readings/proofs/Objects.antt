@@ -11,12 +11,12 @@ use Rattle.obex_headers.specs.declared.packet.Phase.TheVariants.{Request}
 use Rattle.obex_headers.specs.Packets.{PlainPacket, packet_octets, IsPacket, Spells}
 use Rattle.obex_headers.specs.Runs.{spelled, put_in, put_of, objects_from, heard}
 use Rattle.obex_headers.proofs.PacketLaws.{packet_again, length-packet}
-use Rattle.push_script.specs.declared.word.Side.TheVariants as sides
+use Rattle.push_terms.specs.declared.word.Side.TheVariants as sides
 use Rattle.capture.specs.Histories.{given_by}
 use Rattle.capture.specs.Hearing.{Heard}
 use Rattle.capture.specs.Spelled.{behind, spelled_with}
-use Rattle.bt_host.specs.Pushing.{utf16, connect_packet, disconnect_packet, put_packet}
-use Rattle.bt_host.proofs.SpelledLaws.{connect_is, put_spells_object}
+use Rattle.small_host.specs.Pushing.{utf16, connect_packet, disconnect_packet, put_packet}
+use Rattle.small_host.proofs.SpelledLaws.{connect_is, put_spells_object}
 use Rattle.push_talk.proofs.Serving.{disconnect_is}
 use Rattle.push_talk.specs.Conversing.{the_channel}
 use Rattle.push_talk.specs.Laws.{heard_by}

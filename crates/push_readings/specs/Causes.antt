@@ -1,7 +1,7 @@
 -- The first cause that a conversation shows for the outcome of its push (this project's own).
 use Rattle.std.specs.Prelude.{ℕ, ◌≡◌, zero, suc, nat_lt, Bool, true, false, List, [], ◌∷◌, ◌++◌, Option, Some, None, if◌then◌else◌}
-use Rattle.push_script.specs.declared.outcome.Outcome.{Outcome}
-use Rattle.push_script.specs.declared.outcome.Outcome.TheVariants.{ShelfFault}
+use Rattle.push_terms.specs.declared.outcome.Outcome.{Outcome}
+use Rattle.push_terms.specs.declared.outcome.Outcome.TheVariants.{ShelfFault}
 use Rattle.capture.specs.Results.{first_of}
 use Rattle.push_course.specs.Conversations.{Conversation, outcome_of}
 use Rattle.push_readings.specs.Fronts.{causes_with, is_farewell}

@@ -3,15 +3,15 @@ use Rattle.std.specs.Prelude.{ℕ, ◌≡◌, ◌-◌, ◌==◌, ◌&&◌, nat_l
 use Rattle.bt_base.specs.Octets.{be16}
 use Rattle.bt_base.specs.Objects.{Object}
 use Rattle.obex_headers.specs.Packets.{bare, packet_octets}
-use Rattle.push_script.specs.declared.word.Side.{Side}
-use Rattle.push_script.specs.declared.outcome.Outcome.{Outcome}
-use Rattle.push_script.specs.declared.outcome.Outcome.TheVariants.{Done, Refused}
+use Rattle.push_terms.specs.declared.word.Side.{Side}
+use Rattle.push_terms.specs.declared.outcome.Outcome.{Outcome}
+use Rattle.push_terms.specs.declared.outcome.Outcome.TheVariants.{Done, Refused}
 use Rattle.capture.specs.declared.flow.Flow.{Flow}
 use Rattle.capture.specs.declared.flow.Flow.TheVariants.{Out, Into}
 use Rattle.capture.specs.Links.{Link}
 use Rattle.capture.specs.Talk.{talk}
 use Rattle.capture.specs.Exchanges.{Exchange}
-use Rattle.bt_host.specs.Pushing.{utf16, connect_packet, disconnect_packet, put_packet}
+use Rattle.small_host.specs.Pushing.{utf16, connect_packet, disconnect_packet, put_packet}
 use Rattle.push_talk.specs.Conversing.{Sent, seen_all, flow_at}
 use Rattle.push_course.specs.Conversations.{Conversation, code_of, payloads, sayings}
 

@@ -2,15 +2,15 @@
 use Rattle.std.specs.Prelude.{ℕ, ◌+◌, ◌^◌, ◌≡◌, ◌<◌, ◌≤◌, ◌==◌, ◌&&◌, not, true, false, List, [], ◌∷◌, ◌++◌, map, Some, slice_get}
 use Rattle.std.specs.List.{filter_map, flat_map, list_any}
 use Rattle.obex_headers.specs.Packets.{packet_octets}
-use Rattle.push_script.specs.declared.word.Side.{Side}
-use Rattle.push_script.specs.declared.word.Side.TheVariants as sides
+use Rattle.push_terms.specs.declared.word.Side.{Side}
+use Rattle.push_terms.specs.declared.word.Side.TheVariants as sides
 use Rattle.capture.specs.Links.{Link}
 use Rattle.capture.specs.Talk.{Talk, talk}
 use Rattle.capture.specs.Packets.{heard_packets}
 use Rattle.capture.specs.Spelled.{link_objects}
 use Rattle.capture.specs.Exchanges.{spoken, sent_octets, link_exchanges, ends_object_with}
 use Rattle.capture.specs.Results.{cause_of, gives_up}
-use Rattle.bt_host.specs.Pushing.{utf16, connect_packet, disconnect_packet, put_packet}
+use Rattle.small_host.specs.Pushing.{utf16, connect_packet, disconnect_packet, put_packet}
 use Rattle.push_talk.specs.Conversing.{Saying, seen}
 use Rattle.push_talk.specs.Laws.{heard_by, spoken_at}
 use Rattle.push_course.specs.Conversations.{Conversation, IsSound, sayings}

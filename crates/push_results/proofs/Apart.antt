@@ -1,18 +1,18 @@
 -- While no push goes on, an inbox stays as it is.
 use Rattle.std.proofs.Common.{◌≡◌, ℕ, List, false, Option, Some, None, option_map, refl, sym, ap, subst, ◌∙◌}
 use Rattle.h4_framing.specs.Packets.{Packet}
-use Rattle.push_script.specs.declared.word.Side.TheVariants as sides
+use Rattle.push_terms.specs.declared.word.Side.TheVariants as sides
 use Rattle.capture.specs.Entries.{Entry}
 use Rattle.capture.specs.Links.{Link, linking, link_up}
-use Rattle.host_link.specs.Lines.{Line}
-use Rattle.bt_host.specs.Servers.{Kept}
-use Rattle.world_model.specs.Hosts.{HostStands, RunsAhead}
-use Rattle.world_model.specs.Hearing.{put_out_again}
-use Rattle.world_model.specs.Insides.{Inside}
-use Rattle.world_model.specs.Moments.{Moment}
-use Rattle.world_model.specs.Happenings.{Happening, Departure, Arrival, GivingBack, Opening, Closing, Deed, Miss, Does}
-use Rattle.world_model.specs.Holding.{Holds}
-use Rattle.world_model.proofs.Arriving.{again}
+use Rattle.small_link.specs.Lines.{Line}
+use Rattle.small_host.specs.Servers.{Kept}
+use Rattle.small_model.specs.Hosts.{HostStands, RunsAhead}
+use Rattle.small_model.specs.Hearing.{put_out_again}
+use Rattle.small_model.specs.Insides.{Inside}
+use Rattle.small_model.specs.Moments.{Moment}
+use Rattle.small_model.specs.Happenings.{Happening, Departure, Arrival, GivingBack, Opening, Closing, Deed, Miss, Does}
+use Rattle.small_model.specs.Holding.{Holds}
+use Rattle.small_model.proofs.Arriving.{again}
 use Rattle.world_links.specs.LinkFacts.{LinkFacts}
 use Rattle.push_results.proofs.Telling.{HasInbox, tells_apart}
 

@@ -5,7 +5,7 @@ use Rattle.std.specs.List.{flat_map, list_any, take_while, AllByRecursion}
 use Rattle.std.proofs.lemmas.List.Sums.{take_while-cons}
 use Rattle.std.proofs.lemmas.Bool.{cases_Bool}
 use Rattle.bt_base.specs.Objects.{Object}
-use Rattle.push_script.specs.declared.word.Side.TheVariants as sides
+use Rattle.push_terms.specs.declared.word.Side.TheVariants as sides
 use Rattle.capture.specs.Entries.{Entry}
 use Rattle.capture.specs.Moves.{move_of}
 use Rattle.capture.specs.Links.{Linking}
@@ -13,7 +13,7 @@ use Rattle.capture.specs.Exchanges.{link_exchanges, ends_object_with, has_succes
 use Rattle.capture.specs.Pushes.{numbers_from, is_begin, is_end, behind_first, part_of}
 use Rattle.capture.specs.Spelled.{link_objects, objects_heard}
 use Rattle.capture.specs.Results.{CameOfFront, EachKept, EachPushed, IsPushed, objects_of, objects_by_push, stored_of, marked}
-use Rattle.bt_host.specs.Servers.{Kept}
+use Rattle.small_host.specs.Servers.{Kept}
 use Rattle.link_pipe.proofs.Ways.{all_links}
 use Rattle.push_course.proofs.Moving.{known_same}
 use Rattle.push_results.specs.AllResults.{ResultsSoFar}

@@ -4,17 +4,17 @@ use Rattle.std.specs.Prelude.{slice_get, unwrap_or, IfSome}
 use Rattle.std.specs.List.{filter_map, AllByRecursion}
 use Rattle.std.proofs.lemmas.List.{map-append, length-map}
 use Rattle.bt_base.specs.Objects.{Object}
-use Rattle.push_script.specs.declared.word.Side.TheVariants as sides
-use Rattle.push_script.specs.declared.outcome.Outcome.{Outcome}
-use Rattle.push_script.specs.declared.outcome.Outcome.TheVariants.{ScriptEnded}
+use Rattle.push_terms.specs.declared.word.Side.TheVariants as sides
+use Rattle.push_terms.specs.declared.outcome.Outcome.{Outcome}
+use Rattle.push_terms.specs.declared.outcome.Outcome.TheVariants.{ScriptEnded}
 use Rattle.capture.specs.Entries.{Entry, Ended}
 use Rattle.capture.specs.Pushes.{mark_of}
 use Rattle.capture.specs.Spelled.{objects_heard}
 use Rattle.capture.specs.Results.{MayStand, IsReported, IsPushed}
-use Rattle.bt_host.specs.Servers.{Kept}
-use Rattle.world_model.specs.Insides.{Inside, Pushing, Serving, came_of}
-use Rattle.world_model.specs.Moments.{Moment}
-use Rattle.world_model.specs.Happenings.{Happening, Opening, Runs, last_outcome, all_entries}
+use Rattle.small_host.specs.Servers.{Kept}
+use Rattle.small_model.specs.Insides.{Inside, Pushing, Serving, came_of}
+use Rattle.small_model.specs.Moments.{Moment}
+use Rattle.small_model.specs.Happenings.{Happening, Opening, Runs, last_outcome, all_entries}
 use Rattle.push_order.proofs.Parts.{IsOpen, closes_part}
 use Rattle.push_order.proofs.Bodies.{AreParts, parts_more, parts_last}
 use Rattle.push_results.specs.Parting.{StoresIn, ComesOf, MayEnd}

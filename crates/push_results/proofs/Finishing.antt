@@ -4,11 +4,11 @@ use Rattle.std.specs.Prelude.{Option}
 use Rattle.std.proofs.lemmas.List.{append-nil}
 use Rattle.bt_base.specs.Objects.{Object}
 use Rattle.capture.specs.Entries.{Entry, Ended}
-use Rattle.bt_host.specs.Servers.{Kept}
-use Rattle.world_model.specs.Ordering.{one_ended}
-use Rattle.world_model.specs.Moments.{Moment, IsAtRest, first_moment}
-use Rattle.world_model.specs.Happenings.{Happening, Does, Runs, EndsScript, last_outcome, entries_of, all_entries}
-use Rattle.world_model.proofs.Holding.{kept_along}
+use Rattle.small_host.specs.Servers.{Kept}
+use Rattle.small_model.specs.Ordering.{one_ended}
+use Rattle.small_model.specs.Moments.{Moment, IsAtRest, first_moment}
+use Rattle.small_model.specs.Happenings.{Happening, Does, Runs, EndsScript, last_outcome, entries_of, all_entries}
+use Rattle.small_model.proofs.Holding.{kept_along}
 use Rattle.world_links.specs.LinkFacts.{LinkFacts}
 use Rattle.world_links.proofs.Upholding.{facts_of}
 use Rattle.world_links.proofs.Running.{Stood, stood_on, first_stood, links_of_runs}
@@ -17,7 +17,7 @@ use Rattle.push_order.proofs.Courses.{AllEnded}
 use Rattle.push_order.proofs.Ending.{ends, ended_between}
 use Rattle.push_order.proofs.Following.{Course, Reached, FactsFrom, reached_more, unlinked_at, few_at, follows}
 use Rattle.push_course.proofs.Running.{beginning_in}
-use Rattle.world_model.specs.Insides.{Shelved}
+use Rattle.small_model.specs.Insides.{Shelved}
 use Rattle.push_course.specs.Conversations.{IsSetting}
 use Rattle.push_results.specs.Parting.{PushesCome}
 use Rattle.push_results.specs.AllResults.{ResultsIn, ResultsFromPushes}

@@ -2,12 +2,12 @@
 use Rattle.std.proofs.Common.{◌≡◌, ℕ, ◌+◌, ◌≤◌, List, [], ◌++◌, length, map, replicate, Bool, false, Option, sym, ap, subst, ◌∙◌, arith}
 use Rattle.std.specs.List.{flat_map, AllByRecursion}
 use Rattle.bt_base.specs.Objects.{Object}
-use Rattle.push_script.specs.declared.word.Side.TheVariants as sides
+use Rattle.push_terms.specs.declared.word.Side.TheVariants as sides
 use Rattle.capture.specs.Entries.{Entry}
 use Rattle.capture.specs.Spelled.{objects_heard}
 use Rattle.capture.specs.Results.{CameOfFront, EachKept, objects_by_push, stored_of, marked}
-use Rattle.bt_host.specs.Servers.{Kept}
-use Rattle.world_model.specs.Insides.{Inside, Pushing, Serving}
+use Rattle.small_host.specs.Servers.{Kept}
+use Rattle.small_model.specs.Insides.{Inside, Pushing, Serving}
 use Rattle.push_results.specs.AllResults.{ResultsSoFarIn}
 use Rattle.push_results.proofs.Telling.{HasInbox}
 use Rattle.push_results.proofs.Tallying.{Came, stored_in, objects_in, gain_in, marks_in, EachComes, Tallies}

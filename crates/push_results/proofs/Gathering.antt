@@ -4,16 +4,16 @@ use Rattle.std.specs.Prelude.{Option}
 use Rattle.std.specs.List.{flat_map, AllByRecursion}
 use Rattle.std.proofs.lemmas.List.{length-map, length-replicate}
 use Rattle.bt_base.specs.Objects.{Object}
-use Rattle.push_script.specs.declared.word.Side.TheVariants as sides
-use Rattle.push_script.specs.declared.outcome.Outcome.{Outcome}
-use Rattle.push_script.specs.declared.outcome.Outcome.TheVariants.{ScriptEnded}
+use Rattle.push_terms.specs.declared.word.Side.TheVariants as sides
+use Rattle.push_terms.specs.declared.outcome.Outcome.{Outcome}
+use Rattle.push_terms.specs.declared.outcome.Outcome.TheVariants.{ScriptEnded}
 use Rattle.capture.specs.Entries.{Entry}
 use Rattle.capture.specs.Links.{links}
 use Rattle.capture.specs.Spelled.{link_objects, objects_heard}
 use Rattle.capture.specs.Results.{Gains, CameOf, EachEnds, objects_by_push, stored_of}
-use Rattle.bt_host.specs.Servers.{Kept}
-use Rattle.world_model.specs.Insides.{Inside, Pushing, Serving}
-use Rattle.world_model.specs.Ordering.{Pushes}
+use Rattle.small_host.specs.Servers.{Kept}
+use Rattle.small_model.specs.Insides.{Inside, Pushing, Serving}
+use Rattle.small_model.specs.Ordering.{Pushes}
 use Rattle.push_order.specs.InOrder.{all_outcomes}
 use Rattle.push_order.proofs.Parts.{part_is}
 use Rattle.push_order.proofs.Bodies.{AreParts}

@@ -5,16 +5,16 @@ use Rattle.std.specs.List.{filter_map, list_any}
 use Rattle.std.proofs.lemmas.List.{flat_map_more}
 use Rattle.std.proofs.lemmas.List.Elements.{filter_map-append}
 use Rattle.bt_base.specs.Objects.{Object}
-use Rattle.push_script.specs.declared.outcome.Outcome.{Outcome}
-use Rattle.push_script.specs.declared.outcome.Outcome.TheVariants.{ScriptEnded}
+use Rattle.push_terms.specs.declared.outcome.Outcome.{Outcome}
+use Rattle.push_terms.specs.declared.outcome.Outcome.TheVariants.{ScriptEnded}
 use Rattle.capture.specs.Entries.{Entry, Moved, Acted, Begun, Ended}
 use Rattle.capture.specs.Pushes.{Mark, mark_of, is_begin, is_end}
-use Rattle.bt_host.specs.Servers.{Kept}
-use Rattle.world_model.specs.Insides.{Inside}
-use Rattle.world_model.specs.Ordering.{Pushes, one_begun, one_ended}
-use Rattle.world_model.specs.Moments.{Moment}
-use Rattle.world_model.specs.Happenings.{Happening, Departure, Arrival, GivingBack, Opening, Closing, Deed, Miss, Does, Opens, Closes, entries_of, all_entries}
-use Rattle.world_model.specs.Holding.{Holds}
+use Rattle.small_host.specs.Servers.{Kept}
+use Rattle.small_model.specs.Insides.{Inside}
+use Rattle.small_model.specs.Ordering.{Pushes, one_begun, one_ended}
+use Rattle.small_model.specs.Moments.{Moment}
+use Rattle.small_model.specs.Happenings.{Happening, Departure, Arrival, GivingBack, Opening, Closing, Deed, Miss, Does, Opens, Closes, entries_of, all_entries}
+use Rattle.small_model.specs.Holding.{Holds}
 use Rattle.world_links.specs.LinkFacts.{LinkFacts}
 use Rattle.push_order.proofs.Lists.{none_both}
 use Rattle.push_order.proofs.Parts.{IsOpen, opens_part}

@@ -7,9 +7,9 @@ use Rattle.std.proofs.lemmas.List.Sums.{take_while-cons}
 use Rattle.std.proofs.lemmas.List.{append-nil, length-map}
 use Rattle.std.proofs.lemmas.Bool.{eq-eqb}
 use Rattle.bt_base.specs.Objects.{Object}
-use Rattle.push_script.specs.declared.outcome.Outcome.{Outcome}
-use Rattle.push_script.specs.declared.outcome.Outcome.TheVariants.{ScriptEnded}
-use Rattle.push_script.specs.declared.word.Side.TheVariants as sides
+use Rattle.push_terms.specs.declared.outcome.Outcome.{Outcome}
+use Rattle.push_terms.specs.declared.outcome.Outcome.TheVariants.{ScriptEnded}
+use Rattle.push_terms.specs.declared.word.Side.TheVariants as sides
 use Rattle.capture.specs.Entries.{Entry, Begun, Ended}
 use Rattle.capture.specs.Exchanges.{has_success, has_fault}
 use Rattle.capture.specs.Moves.{moves}
@@ -18,11 +18,11 @@ use Rattle.capture.specs.Pushes.{mark_of, is_begin, is_end, part_of}
 use Rattle.capture.specs.Spelled.{link_objects, objects_heard}
 use Rattle.capture.specs.Results.{MayStand, IsPushed, first_cause}
 use Rattle.capture.proofs.MoreLaws.{moves-in_parts}
-use Rattle.bt_host.specs.Servers.{Kept}
-use Rattle.world_model.specs.Insides.{Shelved}
-use Rattle.world_model.specs.Ordering.{Pushes, one_ended}
-use Rattle.world_model.specs.Moments.{Moment, first_moment}
-use Rattle.world_model.specs.Happenings.{Happening, Opening, Runs, all_entries}
+use Rattle.small_host.specs.Servers.{Kept}
+use Rattle.small_model.specs.Insides.{Shelved}
+use Rattle.small_model.specs.Ordering.{Pushes, one_ended}
+use Rattle.small_model.specs.Moments.{Moment, first_moment}
+use Rattle.small_model.specs.Happenings.{Happening, Opening, Runs, all_entries}
 use Rattle.world_links.specs.LinkFacts.{LinkFacts}
 use Rattle.push_order.proofs.Lists.{behind_at, first_false, second_false}
 use Rattle.push_order.proofs.Parts.{IsOpen}

@@ -5,12 +5,12 @@ use Rattle.std.specs.List.{flat_map, AllByRecursion}
 use Rattle.std.proofs.lemmas.List.{append-nil, flat_map_more}
 use Rattle.bt_base.specs.Counts.{last_count}
 use Rattle.bt_base.specs.Objects.{Object, Contents}
-use Rattle.push_script.specs.declared.word.Side.TheVariants as sides
-use Rattle.push_script.specs.declared.outcome.Outcome.{Outcome}
+use Rattle.push_terms.specs.declared.word.Side.TheVariants as sides
+use Rattle.push_terms.specs.declared.outcome.Outcome.{Outcome}
 use Rattle.capture.specs.Entries.{Entry}
 use Rattle.capture.specs.Spelled.{objects_heard}
 use Rattle.capture.specs.Results.{Ends, IsPushed, left_out}
-use Rattle.bt_host.specs.Servers.{Kept}
+use Rattle.small_host.specs.Servers.{Kept}
 use Rattle.push_results.specs.Parting.{Adds, HasFailed, Stores}
 use Rattle.push_results.proofs.Telling.{StillTells}
 

@@ -6,17 +6,17 @@ use Rattle.bt_base.specs.Objects as object_steps
 use Rattle.bt_base.specs.declared.ports.PortFault.{PortFault}
 use Rattle.h4_framing.specs.Packets.{Packet, Command, Acl, Sync, Event}
 use Rattle.hci_packets.specs.Events.{PlainEvent, ConnectionComplete, ConnectionRequest, DisconnectionComplete, CommandComplete, CommandStatus, CompletedPackets, Other}
-use Rattle.push_script.specs.declared.word.Side.TheVariants as sides
-use Rattle.host_link.specs.Lines.{Line}
-use Rattle.host_link.specs.EventReading.{event_in}
-use Rattle.host_link.specs.Hearing.{PlainNews, Nothing, LinkUp, LinkFailed, LinkDown, Pdu, event_news, piece_on, piece_news, news_of}
-use Rattle.host_link.specs.PuttingOut.{is_waiting}
-use Rattle.bt_host.specs.Channels.{Channel}
-use Rattle.bt_host.specs.Servers.{Served, Kept, LeavesSession, LetsGo, HearsPacket, NotesPdu, Notes}
-use Rattle.world_model.specs.Insides.{Inside, Pushing, Serving, Tells}
-use Rattle.world_model.specs.Moments.{Moment}
-use Rattle.world_model.specs.Happenings.{Happening, Departure, Arrival, GivingBack, Opening, Closing, Deed, Miss, Does, Runs}
-use Rattle.world_model.proofs.Lists.{chosen}
+use Rattle.push_terms.specs.declared.word.Side.TheVariants as sides
+use Rattle.small_link.specs.Lines.{Line}
+use Rattle.small_link.specs.EventReading.{event_in}
+use Rattle.small_link.specs.Hearing.{PlainNews, Nothing, LinkUp, LinkFailed, LinkDown, Pdu, event_news, piece_on, piece_news, news_of}
+use Rattle.small_link.specs.PuttingOut.{is_waiting}
+use Rattle.small_host.specs.Channels.{Channel}
+use Rattle.small_host.specs.Servers.{Served, Kept, LeavesSession, LetsGo, HearsPacket, NotesPdu, Notes}
+use Rattle.small_model.specs.Insides.{Inside, Pushing, Serving, Tells}
+use Rattle.small_model.specs.Moments.{Moment}
+use Rattle.small_model.specs.Happenings.{Happening, Departure, Arrival, GivingBack, Opening, Closing, Deed, Miss, Does, Runs}
+use Rattle.small_model.proofs.Lists.{chosen}
 use Rattle.push_store.proofs.Gaining.{either}
 
 -- ---- an inbox tells, or it does not

@@ -1,14 +1,14 @@
 -- What comes of all pushes of a play, by what comes of each (this project's own).
 use Rattle.std.specs.Prelude.{ℕ, List, Option, IfSome}
 use Rattle.bt_base.specs.Objects.{Object}
-use Rattle.push_script.specs.declared.word.Word.{Word}
-use Rattle.push_script.specs.declared.outcome.Outcome.{Outcome}
+use Rattle.push_terms.specs.declared.word.Word.{Word}
+use Rattle.push_terms.specs.declared.outcome.Outcome.{Outcome}
 use Rattle.capture.specs.Entries.{Entry}
 use Rattle.capture.specs.Results.{CameOf, CameOfFront, EachPushed}
-use Rattle.bt_host.specs.Servers.{Kept}
-use Rattle.world_model.specs.Insides.{Inside, Pushing, Serving, Shelved}
-use Rattle.world_model.specs.Moments.{Moment, first_moment}
-use Rattle.world_model.specs.Happenings.{Happening, Runs, Plays, all_entries}
+use Rattle.small_host.specs.Servers.{Kept}
+use Rattle.small_model.specs.Insides.{Inside, Pushing, Serving, Shelved}
+use Rattle.small_model.specs.Moments.{Moment, first_moment}
+use Rattle.small_model.specs.Happenings.{Happening, Runs, Plays, all_entries}
 use Rattle.push_order.specs.InOrder.{all_outcomes}
 use Rattle.push_course.specs.Conversations.{IsSetting}
 use Rattle.push_results.specs.Parting.{Adds, PushesCome}

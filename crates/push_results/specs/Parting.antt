@@ -3,18 +3,18 @@ use Rattle.std.specs.Prelude.{ℕ, ◌+◌, ◌≡◌, ◌≤◌, ◌⊎◌, ◌
 use Rattle.std.specs.List.{AllByRecursion, filter_map}
 use Rattle.bt_base.specs.Counts.{last_count}
 use Rattle.bt_base.specs.Objects.{Object, Contents}
-use Rattle.push_script.specs.declared.word.Side.TheVariants as sides
-use Rattle.push_script.specs.declared.outcome.Outcome.TheVariants.{ShelfFault}
+use Rattle.push_terms.specs.declared.word.Side.TheVariants as sides
+use Rattle.push_terms.specs.declared.outcome.Outcome.TheVariants.{ShelfFault}
 use Rattle.capture.specs.Entries.{Entry}
 use Rattle.capture.specs.Exchanges.{has_success, has_fault}
 use Rattle.capture.specs.Pushes.{mark_of}
 use Rattle.capture.specs.Spelled.{objects_heard}
 use Rattle.capture.specs.Results.{first_cause, asks_nothing, MayStand, IsPushed}
-use Rattle.bt_host.specs.Servers.{Kept}
-use Rattle.world_model.specs.Insides.{Inside, Serving, Shelved, came_of, idles}
-use Rattle.world_model.specs.Moments.{Moment, first_moment, IsAtRest}
-use Rattle.world_model.specs.Moving.{IsStillIn}
-use Rattle.world_model.specs.Happenings.{Happening, Opening, Runs, all_entries}
+use Rattle.small_host.specs.Servers.{Kept}
+use Rattle.small_model.specs.Insides.{Inside, Serving, Shelved, came_of, idles}
+use Rattle.small_model.specs.Moments.{Moment, first_moment, IsAtRest}
+use Rattle.small_model.specs.Moving.{IsStillIn}
+use Rattle.small_model.specs.Happenings.{Happening, Opening, Runs, all_entries}
 use Rattle.push_course.specs.Conversations.{IsSetting}
 
 -- behind what an inbox held stand these objects, where it tells what it holds

@@ -11,11 +11,11 @@ use Rattle.push_script.specs.declared.refusal.ScriptRefusal.{ScriptRefusal}
 use Rattle.push_script.specs.declared.scenario.Scenario.{Scenario}
 use Rattle.push_script.specs.declared.stated.Key.{Key}
 use Rattle.push_script.specs.declared.stated.Key.TheVariants as keyed
-use Rattle.push_script.specs.declared.word.Word.{Word}
+use Rattle.push_terms.specs.declared.word.Word.{Word}
 use Rattle.push_script.specs.Names.{IsName}
 use Rattle.push_script.specs.Runs.{IsRun, IsBorne}
 use Rattle.push_script.specs.Stated.{Stated, Known}
-use Rattle.push_script.specs.Words.{word_text}
+use Rattle.push_terms.specs.Words.{word_text}
 use Rattle.push_script.specs.Scenarios.{transport_text, serves_text, switch_text, scenario_text}
 use Rattle.push_script.specs.Parts.{is_digit}
 use Rattle.push_script.proofs.TextLines.{name_line, word_line, late_lines, all_lines, all_text, are_lines}

@@ -2,16 +2,16 @@
 use Rattle.std.proofs.Common.{◌≡◌, ℕ, ◌+◌, ◌≤◌, ◌<◌, List, ◌∷◌, ◌++◌, length, refl, ap, arith, length-append}
 use Rattle.std.specs.Prelude.{codes, decimal}
 use Rattle.std.proofs.lemmas.Fmt.{length-decimal-le}
-use Rattle.push_script.specs.declared.word.Way.{Way}
-use Rattle.push_script.specs.declared.word.Way.TheVariants.{Ab, Ba}
-use Rattle.push_script.specs.declared.word.Side.TheVariants as sides
-use Rattle.push_script.specs.declared.word.Word.{Word}
-use Rattle.push_script.specs.declared.word.Word.TheVariants.{Pass, Lose, Repeat, Damage, Cut, Timer, Drop, Cancel}
-use Rattle.push_script.specs.declared.outcome.Outcome.{Outcome}
-use Rattle.push_script.specs.declared.outcome.Outcome.TheVariants.{Done, LinkLost, RetryLimit, Refused, NoService, ShelfFault, Cancelled, PeerClosed, PeerFault, ScriptEnded}
-use Rattle.push_script.specs.Words.{hex_word, way_text, word_text}
+use Rattle.push_terms.specs.declared.word.Way.{Way}
+use Rattle.push_terms.specs.declared.word.Way.TheVariants.{Ab, Ba}
+use Rattle.push_terms.specs.declared.word.Side.TheVariants as sides
+use Rattle.push_terms.specs.declared.word.Word.{Word}
+use Rattle.push_terms.specs.declared.word.Word.TheVariants.{Pass, Lose, Repeat, Damage, Cut, Timer, Drop, Cancel}
+use Rattle.push_terms.specs.declared.outcome.Outcome.{Outcome}
+use Rattle.push_terms.specs.declared.outcome.Outcome.TheVariants.{Done, LinkLost, RetryLimit, Refused, NoService, ShelfFault, Cancelled, PeerClosed, PeerFault, ScriptEnded}
+use Rattle.push_terms.specs.Words.{hex_word, way_text, word_text}
 use Rattle.push_script.specs.Runs.{IsWord}
-use Rattle.push_script.specs.Outcomes.{outcome_text, IsOutcome}
+use Rattle.push_terms.specs.Outcomes.{outcome_text, IsOutcome}
 use Rattle.push_script.proofs.WordsAgain.{damage_text, cut_text}
 use Rattle.push_script.proofs.OutcomesWritten.{fault_text}
 

@@ -12,7 +12,7 @@ use Rattle.std.proofs.lemmas.Str.{is_utf8-from_IsUtf8}
 use Rattle.push_script.specs.Turns.{turns}
 use Rattle.push_script.specs.Made.{next_state, drawn, state_after, draws, octet_of_draw, made_octets, objects_from, made_names, made_objects, made_transport, made_runs, made_script, is_even, first_state, stated_only, lengths_from, object_need, put_first, shelved, IsPartlyShelved}
 use Rattle.push_script.specs.Reading.{Script, with_defaults}
-use Rattle.push_script.specs.declared.word.Word.{Word}
+use Rattle.push_terms.specs.declared.word.Word.{Word}
 use Rattle.bt_base.specs.declared.settings.Transport.{Transport}
 
 -- the octets of a name are printable, few enough and none of those that end it

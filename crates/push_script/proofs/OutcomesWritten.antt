@@ -3,10 +3,10 @@ use Rattle.std.proofs.Common.{◌≡◌, ℕ, ◌+◌, ◌*◌, ◌/◌, ◌%◌
 use Rattle.std.specs.Prelude.{codes, nat_lt, decimal}
 use Rattle.std.specs.List.{list_all}
 use Rattle.std.proofs.lemmas.Bool.{and_parts, ltb-true, lt-ltb}
-use Rattle.push_script.specs.declared.outcome.Outcome.{Outcome}
-use Rattle.push_script.specs.declared.outcome.Outcome.TheVariants.{Done, LinkLost, RetryLimit, Refused, NoService, ShelfFault, Cancelled, PeerClosed, PeerFault, ScriptEnded}
-use Rattle.push_script.specs.Words.{hex_digit, hex_octet}
-use Rattle.push_script.specs.Outcomes.{outcome_text, IsOutcome}
+use Rattle.push_terms.specs.declared.outcome.Outcome.{Outcome}
+use Rattle.push_terms.specs.declared.outcome.Outcome.TheVariants.{Done, LinkLost, RetryLimit, Refused, NoService, ShelfFault, Cancelled, PeerClosed, PeerFault, ScriptEnded}
+use Rattle.push_terms.specs.Words.{hex_digit, hex_octet}
+use Rattle.push_terms.specs.Outcomes.{outcome_text, IsOutcome}
 use Rattle.push_script.specs.Parts.{first_word, rest_of, number_of, hex_value, pair_of}
 use Rattle.push_script.specs.Said.{SaysOutcome, octet_of, short_outcome, fault_within, long_outcome, outcome_behind, outcome_read}
 use Rattle.push_script.specs.Laws.{OneOutcome}

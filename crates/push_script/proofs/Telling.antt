@@ -8,9 +8,9 @@ use Rattle.bt_base.specs.Streams.{gained}
 use Rattle.bt_base.specs.declared.ports.PortFault.{PortFault}
 use Rattle.bt_base.specs.declared.ports.PortFault.TheVariants.{Failed, NoMemory}
 use Rattle.bt_base.proofs.PortLaws.{gained-gained, front_then, front_longer, gained-nil, front_none}
-use Rattle.push_script.specs.declared.outcome.Outcome.{Outcome}
+use Rattle.push_terms.specs.declared.outcome.Outcome.{Outcome}
 use Rattle.push_script.specs.Reports.{Tells, push_head, push_line, push_lines, peaks_text, report_text}
-use Rattle.push_script.specs.declared.report.Peaks.{Peaks}
+use Rattle.push_terms.specs.declared.peaks.Peaks.{Peaks}
 
 abbrev mk_ok : Unit {0} → Result (Unit {0}) PortFault
 mk_ok u = Ok u

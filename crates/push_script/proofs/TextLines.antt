@@ -10,10 +10,10 @@ use Rattle.bt_base.specs.declared.settings.Transport.TheVariants as transports
 use Rattle.bt_base.specs.declared.settings.Serves.{Serves}
 use Rattle.bt_base.specs.declared.settings.Serves.TheVariants as services
 use Rattle.push_script.specs.declared.scenario.Scenario.{Scenario}
-use Rattle.push_script.specs.declared.word.Word.{Word}
+use Rattle.push_terms.specs.declared.word.Word.{Word}
 use Rattle.push_script.specs.Names.{IsName, ends_name}
 use Rattle.push_script.specs.Runs.{IsRun}
-use Rattle.push_script.specs.Words.{word_text}
+use Rattle.push_terms.specs.Words.{word_text}
 use Rattle.push_script.specs.Scenarios.{transport_text, serves_text, switch_text, key_line, object_line, run_line, scenario_text}
 use Rattle.push_script.proofs.Numbers.{graphic_number}
 use Rattle.push_script.proofs.Splitting.{differs, is_printable, all_append, seen, ended, IsLine, printable_line, value_line}

@@ -6,14 +6,14 @@ use Rattle.std.proofs.lemmas.Bool.{le-ltb, lt-ltb, le-leb, lt-leb, ne_eqb, cases
 use Rattle.bt_base.specs.declared.settings.Transport.{Transport}
 use Rattle.bt_base.specs.declared.settings.Transport.TheVariants as transports
 use Rattle.push_script.specs.declared.feature.Feature.{Feature}
-use Rattle.push_script.specs.declared.word.Way.{Way}
-use Rattle.push_script.specs.declared.word.Way.TheVariants.{Ab, Ba}
-use Rattle.push_script.specs.declared.word.Side.TheVariants as sides
-use Rattle.push_script.specs.declared.word.Word.{Word}
-use Rattle.push_script.specs.declared.word.Word.TheVariants.{Pass, Lose, Repeat, Damage, Cut, Timer, Drop, Cancel}
+use Rattle.push_terms.specs.declared.word.Way.{Way}
+use Rattle.push_terms.specs.declared.word.Way.TheVariants.{Ab, Ba}
+use Rattle.push_terms.specs.declared.word.Side.TheVariants as sides
+use Rattle.push_terms.specs.declared.word.Word.{Word}
+use Rattle.push_terms.specs.declared.word.Word.TheVariants.{Pass, Lose, Repeat, Damage, Cut, Timer, Drop, Cancel}
 use Rattle.push_script.specs.declared.radio.Said.{Said}
 use Rattle.push_script.specs.declared.radio.Said.TheVariants as said
-use Rattle.push_script.specs.Words.{hex_digit, hex_word, way_text, word_text}
+use Rattle.push_terms.specs.Words.{hex_digit, hex_word, way_text, word_text}
 use Rattle.push_script.specs.Runs.{IsWord, IsRun, IsBorne}
 use Rattle.push_script.specs.Parts.{first_word, rest_of, number_of, way_of, mask_of, hex_value}
 use Rattle.push_script.specs.Features.{built, word_feature}

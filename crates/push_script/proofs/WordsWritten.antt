@@ -5,11 +5,11 @@ use Rattle.std.specs.Result.{result_ok}
 use Rattle.std.proofs.lemmas.Bool.{ltb-false}
 use Rattle.push_script.specs.declared.refusal.ScriptRefusal.{ScriptRefusal}
 use Rattle.push_script.specs.declared.refusal.ScriptRefusal.TheVariants.{OutOfRange}
-use Rattle.push_script.specs.declared.word.Word.{Word}
-use Rattle.push_script.specs.declared.word.Word.TheVariants.{Pass, Lose, Repeat, Damage, Cut, Timer, Drop, Cancel}
+use Rattle.push_terms.specs.declared.word.Word.{Word}
+use Rattle.push_terms.specs.declared.word.Word.TheVariants.{Pass, Lose, Repeat, Damage, Cut, Timer, Drop, Cancel}
 use Rattle.push_script.specs.declared.radio.Said.{Said}
 use Rattle.push_script.specs.declared.radio.Said.TheVariants as said
-use Rattle.push_script.specs.Words.{hex_word, way_text, side_text, word_text}
+use Rattle.push_terms.specs.Words.{hex_word, way_text, side_text, word_text}
 use Rattle.push_script.specs.Runs.{IsWord}
 use Rattle.push_script.specs.Parts.{and_then, first_word, rest_of, number_of, way_of, side_of, mask_of}
 use Rattle.push_script.specs.Keys.{◌>>=◌, within}

@@ -8,11 +8,11 @@ use Rattle.std.proofs.lemmas.Fmt.{decimal-digits_value}
 use Rattle.std.proofs.lemmas.List.{take_all}
 use Rattle.std.proofs.lemmas.Slice.Eq.{bytes_eq-Decides}
 use Rattle.std.proofs.lemmas.Str.Parse.{digits_value_short}
-use Rattle.push_script.specs.declared.word.Way.{Way}
-use Rattle.push_script.specs.declared.word.Way.TheVariants.{Ab, Ba}
-use Rattle.push_script.specs.declared.word.Side.{Side}
-use Rattle.push_script.specs.declared.word.Side.TheVariants as sides
-use Rattle.push_script.specs.Words.{hex_digit, hex_octet, hex_word, way_text, side_text}
+use Rattle.push_terms.specs.declared.word.Way.{Way}
+use Rattle.push_terms.specs.declared.word.Way.TheVariants.{Ab, Ba}
+use Rattle.push_terms.specs.declared.word.Side.{Side}
+use Rattle.push_terms.specs.declared.word.Side.TheVariants as sides
+use Rattle.push_terms.specs.Words.{hex_digit, hex_octet, hex_word, way_text, side_text}
 use Rattle.push_script.specs.Parts.{and_then, first_word, rest_of, is_digit, is_number, has_leading_zero, value_behind, number_of, way_of, side_of, hex_value, mask_of}
 use Rattle.push_script.specs.Said.{octet_of}
 use Rattle.push_script.proofs.Numbers.{own, split_number}

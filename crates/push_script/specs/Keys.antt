@@ -56,7 +56,7 @@ abbrev pub highest : Key → ℕ
 highest keyed.Mtu = 32767
 highest keyed.Obex = 32767
 highest keyed.Mps = 1010
-highest keyed.Window = 32
+highest keyed.Window = 63
 highest keyed.Tries = 20
 highest keyed.Credits = 40
 highest _ = 4096

@@ -5,8 +5,8 @@ use Rattle.push_script.specs.declared.feature.Feature.{Feature}
 use Rattle.push_script.specs.declared.scenario.Scenario.{Scenario}
 use Rattle.push_script.specs.declared.stated.Key.{Key}
 use Rattle.push_script.specs.declared.stated.Key.TheVariants as keyed
-use Rattle.push_script.specs.declared.word.Word.{Word}
-use Rattle.push_script.specs.declared.outcome.Outcome.{Outcome}
+use Rattle.push_terms.specs.declared.word.Word.{Word}
+use Rattle.push_terms.specs.declared.outcome.Outcome.{Outcome}
 use Rattle.push_script.specs.Said.{SaysWord, SaysOutcome}
 use Rattle.push_script.specs.Parts.{number_of}
 use Rattle.push_script.specs.Features.{missing_features, built, asked, word_feature}

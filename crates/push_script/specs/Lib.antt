@@ -1,5 +1,3 @@
-pub mod Words
-pub mod Outcomes
 pub mod Names
 pub mod Runs
 pub mod Scenarios

@@ -4,9 +4,9 @@ use Rattle.bt_base.specs.Memory.{MemoryShelved}
 use Rattle.bt_base.specs.Objects.{Object}
 use Rattle.bt_base.specs.declared.settings.Transport.{Transport}
 use Rattle.bt_base.specs.declared.settings.Transport.TheVariants as transports
-use Rattle.push_script.specs.declared.word.Way.TheVariants.{Ab}
-use Rattle.push_script.specs.declared.word.Word.{Word}
-use Rattle.push_script.specs.declared.word.Word.TheVariants.{Pass, Lose, Repeat}
+use Rattle.push_terms.specs.declared.word.Way.TheVariants.{Ab}
+use Rattle.push_terms.specs.declared.word.Word.{Word}
+use Rattle.push_terms.specs.declared.word.Word.TheVariants.{Pass, Lose, Repeat}
 use Rattle.push_script.specs.Stated.{Known}
 use Rattle.push_script.specs.Turns.{turns}
 use Rattle.push_script.specs.Reading.{Script, no_draft, with_defaults}

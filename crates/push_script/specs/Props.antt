@@ -6,8 +6,8 @@ use mathlib.Core.HLevel.{×_prop, Unit-prop}
 use native.Mathlib.Bridge.{le_prop}
 use Rattle.bt_base.specs.declared.settings.Transport.{Transport}
 use Rattle.bt_base.specs.declared.settings.Transport.TheVariants as transports
-use Rattle.push_script.specs.declared.word.Word.{Word}
-use Rattle.push_script.specs.declared.word.Word.TheVariants.{Pass, Lose, Repeat, Damage, Cut, Timer, Drop, Cancel}
+use Rattle.push_terms.specs.declared.word.Word.{Word}
+use Rattle.push_terms.specs.declared.word.Word.TheVariants.{Pass, Lose, Repeat, Damage, Cut, Timer, Drop, Cancel}
 use Rattle.push_script.specs.Names.{IsName}
 use Rattle.push_script.specs.Runs.{IsWord, IsRun, IsBorne}
 

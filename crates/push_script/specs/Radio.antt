@@ -6,8 +6,8 @@ use Rattle.bt_base.specs.declared.settings.Transport.TheVariants as transports
 use Rattle.push_script.specs.declared.refusal.ScriptRefusal.{ScriptRefusal}
 use Rattle.push_script.specs.declared.refusal.ScriptRefusal.TheVariants.{BadLine, OutOfRange, LossyRfcomm}
 use Rattle.push_script.specs.declared.feature.Feature.{Feature}
-use Rattle.push_script.specs.declared.word.Word.{Word}
-use Rattle.push_script.specs.declared.word.Word.TheVariants as words
+use Rattle.push_terms.specs.declared.word.Word.{Word}
+use Rattle.push_terms.specs.declared.word.Word.TheVariants as words
 use Rattle.push_script.specs.declared.radio.Said.{Said}
 use Rattle.push_script.specs.declared.radio.Said.TheVariants.{Pass, Lose, Repeat, Damage, Cut, Timer, Drop, Cancel}
 use Rattle.push_script.specs.Parts.{and_then, first_word, rest_of, number_of, way_of, side_of, mask_of}

@@ -17,7 +17,7 @@ use Rattle.push_script.specs.declared.stated.Key.{Key}
 use Rattle.push_script.specs.declared.stated.Key.TheVariants as keyed
 use Rattle.push_script.specs.declared.feature.Feature.{Feature}
 use Rattle.push_script.specs.declared.scenario.Scenario.{Scenario}
-use Rattle.push_script.specs.declared.word.Word.{Word}
+use Rattle.push_terms.specs.declared.word.Word.{Word}
 use Rattle.push_script.specs.Names.{ends_name, utf16_length}
 use Rattle.push_script.specs.Stated.{Stated, Known}
 use Rattle.push_script.specs.Parts.{first_word, rest_of}

@@ -3,9 +3,9 @@ use Rattle.std.specs.Prelude.{ℕ, ◌+◌, List, [], ◌∷◌, ◌++◌, codes
 use Rattle.bt_base.specs.Counts.{HasCause}
 use Rattle.bt_base.specs.Streams.{IsPut}
 use Rattle.bt_base.specs.declared.ports.PortFault.{PortFault}
-use Rattle.push_script.specs.Outcomes.{outcome_text}
-use Rattle.push_script.specs.declared.outcome.Outcome.{Outcome}
-use Rattle.push_script.specs.declared.report.Peaks.{Peaks}
+use Rattle.push_terms.specs.Outcomes.{outcome_text}
+use Rattle.push_terms.specs.declared.outcome.Outcome.{Outcome}
+use Rattle.push_terms.specs.declared.peaks.Peaks.{Peaks}
 
 -- what stands before the name in the line of a push: its number and what came of it
 abbrev pub push_head : ℕ → Outcome → List ℕ

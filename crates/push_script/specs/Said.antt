@@ -2,12 +2,12 @@
 use Rattle.std.specs.Prelude.{ℕ, ◌≡◌, ◌*◌, ◌+◌, ◌&&◌, cond, nat_lt, List, [], ◌∷◌, codes, Option, Some, None}
 use Rattle.std.specs.Result.{result_ok}
 use Rattle.std.specs.Str.{bytes_eq}
-use Rattle.push_script.specs.declared.word.Word.{Word}
-use Rattle.push_script.specs.declared.outcome.Outcome.{Outcome}
-use Rattle.push_script.specs.declared.outcome.Outcome.TheVariants.{Done, LinkLost, RetryLimit, Refused, NoService, ShelfFault, Cancelled, PeerClosed, PeerFault, ScriptEnded}
-use Rattle.push_script.specs.Words.{word_text}
+use Rattle.push_terms.specs.declared.word.Word.{Word}
+use Rattle.push_terms.specs.declared.outcome.Outcome.{Outcome}
+use Rattle.push_terms.specs.declared.outcome.Outcome.TheVariants.{Done, LinkLost, RetryLimit, Refused, NoService, ShelfFault, Cancelled, PeerClosed, PeerFault, ScriptEnded}
+use Rattle.push_terms.specs.Words.{word_text}
 use Rattle.push_script.specs.Runs.{IsWord}
-use Rattle.push_script.specs.Outcomes.{outcome_text, IsOutcome}
+use Rattle.push_terms.specs.Outcomes.{outcome_text, IsOutcome}
 use Rattle.push_script.specs.Parts.{and_then, first_word, rest_of, hex_value, pair_of}
 use Rattle.push_script.specs.Radio.{said_of, word_within}
 

@@ -6,8 +6,8 @@ use Rattle.bt_base.specs.declared.settings.Transport.{Transport}
 use Rattle.bt_base.specs.declared.settings.Transport.TheVariants as transports
 use Rattle.bt_base.specs.declared.settings.Serves.{Serves}
 use Rattle.bt_base.specs.declared.settings.Serves.TheVariants as services
-use Rattle.push_script.specs.Words.{word_text}
-use Rattle.push_script.specs.declared.word.Word.{Word}
+use Rattle.push_terms.specs.Words.{word_text}
+use Rattle.push_terms.specs.declared.word.Word.{Word}
 use Rattle.push_script.specs.declared.scenario.Scenario.{Scenario}
 
 abbrev pub transport_text : Transport → List ℕ

@@ -6,7 +6,7 @@ ghost use Rattle.push_script.specs.Features.{same_feature, missing_features, key
 
 use crate::refusal::ScriptRefusal;
 use crate::stated::Key;
-use crate::word::Word;
+use push_terms::Word;
 
 /// What a scenario can ask for beside the defaults and the words `pass` and `drop`.
 #[derive(Clone, Copy, Debug, PartialEq, Eq)]

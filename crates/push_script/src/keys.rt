@@ -71,7 +71,7 @@ fn highest(key: Key) -> u16
     match key {
         Key::Mtu | Key::Obex => 32767,
         Key::Mps => 1010,
-        Key::Window => 32,
+        Key::Window => 63,
         Key::Tries => 20,
         Key::Credits => 40,
         _ => 4096,

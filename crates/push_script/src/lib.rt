@@ -10,9 +10,7 @@ pub mod laws;
 mod lines;
 mod made;
 mod names;
-mod outcome;
 mod parts;
-mod pen;
 mod radio;
 mod reading;
 mod refusal;
@@ -21,21 +19,19 @@ mod runs;
 mod said;
 mod scenario;
 mod stated;
-mod word;
 mod writing;
 
 pub use feature::Feature;
 pub use finding::object_line;
 pub use made::make_scenario;
 pub use names::Names;
-pub use outcome::{Outcome, put_outcome};
+pub use push_terms::{Outcome, Peaks, Side, Way, Word, put_outcome, put_word};
 pub use reading::{scenario_of, scenario_without};
 pub use refusal::{ScriptFault, ScriptRefusal};
-pub use report::{Peaks, put_refusal, put_report};
+pub use report::{put_refusal, put_report};
 pub use runs::Runs;
 pub use said::{outcome_of, word_of};
 pub use scenario::Scenario;
-pub use word::{Side, Way, Word, put_word};
 pub use writing::put_scenario;
 
 #[cfg(test)]

@@ -6,8 +6,8 @@ ghost use Rattle.std.specs.List.{before_first, list_all};
 ghost use Rattle.push_script.specs.Said.{octet_of};
 ghost use Rattle.push_script.specs.Parts.{first_word, rest_of, is_digit, has_leading_zero, is_number, number_of, hex_value, mask_of, way_of, side_of, transport_of, serves_of, switch_of, pair_of};
 
-use crate::word::{Side, Way};
 use bt_base::{Serves, Transport};
+use push_terms::{Side, Way};
 
 /// What stands before the first blank of a line, and what stands behind it, if there is one.
 pub(crate) fn split_word(line: &str) -> (&str, Option<&str>)

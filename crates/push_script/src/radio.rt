@@ -9,8 +9,8 @@ use crate::feature::{Feature, built, word_feature};
 use crate::keys::within;
 use crate::parts::{mask_of, number_of, side_of, split_word, way_of};
 use crate::refusal::ScriptRefusal;
-use crate::word::{Side, Way, Word};
 use bt_base::Transport;
+use push_terms::{Side, Way, Word};
 
 /// A word whose numbers are not judged yet.
 #[derive(Clone, Copy, Debug, PartialEq, Eq)]

@@ -66,7 +66,7 @@ fn settings_of(transport: Transport, keys: &Keys) -> Settings
         serves: keys.serves.unwrap_or(Serves::Both),
         mtu: number_or(keys.mtu, 255, 32767, 1024),
         mps: number_or(keys.mps, 48, 1010, 1010),
-        window: number_or(keys.window, 1, 32, 10) as u8,
+        window: number_or(keys.window, 1, 63, 10) as u8,
         tries: number_or(keys.tries, 2, 20, 4) as u8,
         credits: number_or(keys.credits, 1, 40, 7) as u8,
         obex: number_or(keys.obex, 255, 32767, 1024),

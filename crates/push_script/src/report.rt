@@ -2,33 +2,16 @@
 //! refused.
 
 ghost use Rattle.std.specs.Prelude.{◌≡◌, ◌+◌, ◌<◌, ◌≤◌, ◌^◌, ◌++◌, [], List, ℕ, length, codes, decimal};
-ghost use Rattle.push_script.specs.Outcomes.{outcome_text};
+ghost use Rattle.push_terms.specs.Outcomes.{outcome_text};
 ghost use Rattle.push_script.specs.Reports.{push_head, push_line, peaks_text, pair_line, push_line, push_lines, report_text, Tells};
 ghost use Rattle.push_script.specs.Refusals.{refusal_line};
 
 use crate::names::Name;
-use crate::outcome::Outcome;
 use crate::refusal::ScriptRefusal;
 use crate::scenario::Scenario;
 use arrayvec::ArrayString;
 use bt_base::{PortFault, Sink};
-
-/// The greatest values that a run reached at host a and at host b.
-#[derive(Clone, Copy, Debug, PartialEq, Eq)]
-pub struct Peaks {
-    /// ACL packets of host a that its controller held.
-    pub buffers_a: u16,
-    /// The same of host b.
-    pub buffers_b: u16,
-    /// Frames of an enhanced channel that host a had sent and that were not acknowledged.
-    pub window_a: u8,
-    /// The same of host b.
-    pub window_b: u8,
-    /// Credits of an RFCOMM channel that host a held.
-    pub credits_a: u16,
-    /// The same of host b.
-    pub credits_b: u16,
-}
+use push_terms::{Outcome, Peaks};
 
 /// A part of the report that is written at once.
 type ReportText = ArrayString<128>;

@@ -3,10 +3,10 @@
 ghost use Rattle.std.specs.Prelude.{◌≡◌, ◌≤◌, ◌<◌, ◌++◌, ◌∷◌, [], List, ℕ, Option, length, OnOk, OnErr};
 ghost use Rattle.std.specs.List.{slice_get, AllByRecursion};
 ghost use Rattle.push_script.specs.Runs.{IsRun};
-ghost use Rattle.push_script.specs.declared.word.Word.{Word};
+ghost use Rattle.push_terms.specs.declared.word.Word.{Word};
 
-use crate::word::Word;
 use bt_base::NoMemory;
+use push_terms::Word;
 use std::alloc::Global;
 use std::marker::Model;
 

@@ -4,10 +4,9 @@ ghost use Rattle.std.specs.Prelude.{◌≡◌, ◌&&◌, ◌<◌, Option, Some, 
 ghost use Rattle.std.specs.Str.{IsUtf8};
 ghost use Rattle.push_script.specs.Said.{SaysWord, SaysOutcome, word_read, short_outcome, fault_within, long_outcome, outcome_read};
 
-use crate::outcome::Outcome;
 use crate::parts::{octet_of, pair_of, split_word};
 use crate::radio::{said_of, word_within};
-use crate::word::Word;
+use push_terms::{Outcome, Word};
 
 /// The octets as text, if they are UTF-8.
 fn text_in(octets: &[u8]) -> Option<&str>

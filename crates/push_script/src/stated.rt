@@ -45,5 +45,5 @@ impl Model for Keys {
 
     ghost view = { λ k. record { transport = k.transport; serves = k.serves; acl = k.acl; chunk = k.chunk; mtu = k.mtu; mps = k.mps; window = k.window; tries = k.tries; credits = k.credits; obex = k.obex; srm = k.srm } };
 
-    ghost invariant = { λ k. IfSome k.acl (λ pair. IsBetween 27 1021 pair.0 × IsBetween 1 64 pair.1) × IfSome k.chunk (IsBetween 1 4096) × IfSome k.mtu (IsBetween 255 32767) × IfSome k.mps (IsBetween 48 1010) × IfSome k.window (IsBetween 1 32) × IfSome k.tries (IsBetween 2 20) × IfSome k.credits (IsBetween 1 40) × IfSome k.obex (IsBetween 255 32767) };
+    ghost invariant = { λ k. IfSome k.acl (λ pair. IsBetween 27 1021 pair.0 × IsBetween 1 64 pair.1) × IfSome k.chunk (IsBetween 1 4096) × IfSome k.mtu (IsBetween 255 32767) × IfSome k.mps (IsBetween 48 1010) × IfSome k.window (IsBetween 1 63) × IfSome k.tries (IsBetween 2 20) × IfSome k.credits (IsBetween 1 40) × IfSome k.obex (IsBetween 255 32767) };
 }

@@ -21,7 +21,7 @@ fn refusals_with_their_lines(rt: HostRuntime) {
             ScriptRefusal::UnknownKey,
         ),
         (
-            b"transport l2cap\nwindow 33\n",
+            b"transport l2cap\nwindow 64\n",
             2,
             ScriptRefusal::OutOfRange,
         ),

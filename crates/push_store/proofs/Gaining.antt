@@ -5,23 +5,23 @@ use Rattle.std.proofs.lemmas.List.{length-append}
 use Rattle.bt_base.specs.Objects.{Object, Contents, aborted}
 use Rattle.bt_base.specs.Objects as object_steps
 use Rattle.bt_base.specs.declared.ports.PortFault.{PortFault}
-use Rattle.obex_session.specs.declared.server.Reply.TheVariants.{Respond}
+use Rattle.small_session.specs.declared.server.Reply.TheVariants.{Respond}
 use Rattle.h4_framing.specs.Packets.{Packet}
-use Rattle.push_script.specs.declared.word.Side.TheVariants as sides
-use Rattle.obex_session.specs.Rules.{is_under_way}
-use Rattle.obex_session.specs.Past.{Serving as Session}
-use Rattle.obex_session.specs.Serving as session
-use Rattle.obex_session.specs.Laws.{Stores}
-use Rattle.obex_session.proofs.StoringLaws.{stores_as_answered}
-use Rattle.host_link.specs.Lines.{Line}
-use Rattle.host_link.specs.Hearing.{PlainNews, Nothing, LinkUp, LinkFailed, LinkDown, Pdu, news_of}
-use Rattle.host_link.specs.PuttingOut.{is_waiting}
-use Rattle.bt_host.specs.Channels.{Channel}
-use Rattle.bt_host.specs.Servers.{Served, Server, Kept, LeavesSession, LetsGo, HearsPacket, WhereTrue, NotesCommands, NotesPayload, NotesPdu, Notes, GoesOn, one_stored, stores, stepped, answering, putting_out}
-use Rattle.bt_host.specs.Servers as serving
-use Rattle.world_model.specs.Insides.{Inside, Pushing, Serving, Tells}
-use Rattle.world_model.specs.Moments.{Moment}
-use Rattle.world_model.specs.Happenings.{Happening, Departure, Arrival, GivingBack, Opening, Closing, Deed, Miss, Does}
+use Rattle.push_terms.specs.declared.word.Side.TheVariants as sides
+use Rattle.small_session.specs.Rules.{is_under_way}
+use Rattle.small_session.specs.Past.{Serving as Session}
+use Rattle.small_session.specs.Serving as session
+use Rattle.small_session.specs.Laws.{Stores}
+use Rattle.small_session.proofs.StoringLaws.{stores_as_answered}
+use Rattle.small_link.specs.Lines.{Line}
+use Rattle.small_link.specs.Hearing.{PlainNews, Nothing, LinkUp, LinkFailed, LinkDown, Pdu, news_of}
+use Rattle.small_link.specs.PuttingOut.{is_waiting}
+use Rattle.small_host.specs.Channels.{Channel}
+use Rattle.small_host.specs.Servers.{Served, Server, Kept, LeavesSession, LetsGo, HearsPacket, WhereTrue, NotesCommands, NotesPayload, NotesPdu, Notes, GoesOn, one_stored, stores, stepped, answering, putting_out}
+use Rattle.small_host.specs.Servers as serving
+use Rattle.small_model.specs.Insides.{Inside, Pushing, Serving, Tells}
+use Rattle.small_model.specs.Moments.{Moment}
+use Rattle.small_model.specs.Happenings.{Happening, Departure, Arrival, GivingBack, Opening, Closing, Deed, Miss, Does}
 use Rattle.push_store.specs.Gaining.{HasGained, Gains, KeepsWhatIsStored}
 
 -- ---- what a server notes

@@ -1,11 +1,11 @@
 -- What the inbox of a server gains while things happen (this project's own).
 use Rattle.std.specs.Prelude.{◌-◌, ◌^◌, ◌≡◌, ◌++◌, min, List, length, is_some, IfSome}
 use Rattle.bt_base.specs.Objects.{Object, Contents}
-use Rattle.obex_session.specs.Rules.{is_under_way}
-use Rattle.bt_host.specs.Servers.{Served}
-use Rattle.world_model.specs.Insides.{Inside, Pushing, Serving}
-use Rattle.world_model.specs.Moments.{Moment}
-use Rattle.world_model.specs.Happenings.{Happening, Runs}
+use Rattle.small_session.specs.Rules.{is_under_way}
+use Rattle.small_host.specs.Servers.{Served}
+use Rattle.small_model.specs.Insides.{Inside, Pushing, Serving}
+use Rattle.small_model.specs.Moments.{Moment}
+use Rattle.small_model.specs.Happenings.{Happening, Runs}
 
 -- behind the objects that were there before stand those that were gained, and the server counts these, to the greatest
 -- number of 32 bits; an object is pending where one is under way

@@ -3,8 +3,8 @@ use Rattle.std.proofs.Common.{◌≡◌, ℕ, ◌^◌, ◌<◌, ◌≤◌, Bool,
 use Rattle.std.specs.Prelude.{IsSomeAnd, nat_lt, ◌==◌, if◌then◌else◌}
 use Rattle.std.proofs.lemmas.Bool.{le-ltb}
 use Rattle.bt_base.proofs.OctetLemmas.{be16-number}
-use Rattle.push_script.specs.declared.word.Side.TheVariants as sides
-use Rattle.push_script.specs.declared.outcome.Outcome.TheVariants.{PeerFault, ShelfFault, Refused}
+use Rattle.push_terms.specs.declared.word.Side.TheVariants as sides
+use Rattle.push_terms.specs.declared.outcome.Outcome.TheVariants.{PeerFault, ShelfFault, Refused}
 use Rattle.l2cap_signal.specs.Commands.{Command, Content}
 use Rattle.l2cap_config.specs.declared.wish.Agreed.{Agreed}
 use Rattle.l2cap_config.specs.Agreement.{only_mtu}
@@ -15,19 +15,19 @@ use Rattle.obex_headers.specs.declared.packet.Phase.TheVariants.{Response, Conne
 use Rattle.obex_headers.specs.Packets.{PlainPacket, IsPacket, packet_octets, maximum_of}
 use Rattle.obex_headers.specs.Reading.{packet_in}
 use Rattle.obex_headers.proofs.PacketLaws.{packet_again}
-use Rattle.host_link.specs.Hearing.{PlainNews, LinkUp}
-use Rattle.bt_host.specs.declared.stages.Stage.{Stage}
-use Rattle.bt_host.specs.declared.stages.Stage.TheVariants.{Connecting, Configuring, Greeting, Greeted, Putting, Parting, ToClose, Closing, ToLeave, Leaving}
-use Rattle.bt_host.specs.declared.stages.PeerRequest.TheVariants.{Awaited}
-use Rattle.bt_host.specs.declared.stages.PeerRequest.TheVariants as request
-use Rattle.bt_host.specs.declared.steps.Step.TheVariants.{Wait, Send, BreakLink}
-use Rattle.bt_host.specs.Pdus.{own_endpoint, command_pdu, grants_connection, asks_configuration, grants_configuration, asks_disconnection, grants_disconnection}
-use Rattle.bt_host.specs.Pushing.{utf16, put_size, connect_packet, disconnect_packet, put_packet, packet_pdu}
-use Rattle.bt_host.specs.Courses.{Course, at, caused, ended}
-use Rattle.bt_host.specs.Events.{loss, agreement, room, disconnects, after_request, after_greeting, after_connect_response, after_put_response, after_disconnect_response, after_signal, answered_outcome}
-use Rattle.bt_host.specs.Clients.{after_commands}
-use Rattle.bt_host.specs.Steps.{next_step}
-use Rattle.bt_host.proofs.Agreeing.{requests_are_accepted}
+use Rattle.small_link.specs.Hearing.{PlainNews, LinkUp}
+use Rattle.small_host.specs.declared.stages.Stage.{Stage}
+use Rattle.small_host.specs.declared.stages.Stage.TheVariants.{Connecting, Configuring, Greeting, Greeted, Putting, Parting, ToClose, Closing, ToLeave, Leaving}
+use Rattle.small_host.specs.declared.stages.PeerRequest.TheVariants.{Awaited}
+use Rattle.small_host.specs.declared.stages.PeerRequest.TheVariants as request
+use Rattle.small_host.specs.declared.steps.Step.TheVariants.{Wait, Send, BreakLink}
+use Rattle.small_host.specs.Pdus.{own_endpoint, command_pdu, grants_connection, asks_configuration, grants_configuration, asks_disconnection, grants_disconnection}
+use Rattle.small_host.specs.Pushing.{utf16, put_size, connect_packet, disconnect_packet, put_packet, packet_pdu}
+use Rattle.small_host.specs.Courses.{Course, at, caused, ended}
+use Rattle.small_host.specs.Events.{loss, agreement, room, disconnects, after_request, after_greeting, after_connect_response, after_put_response, after_disconnect_response, after_signal, answered_outcome}
+use Rattle.small_host.specs.Clients.{after_commands}
+use Rattle.small_host.specs.Steps.{next_step}
+use Rattle.small_host.proofs.Agreeing.{requests_are_accepted}
 use Rattle.push_talk.specs.Conversing.{Says}
 use Rattle.push_talk.specs.Speaking.{told, CanBeSaid}
 use Rattle.push_talk.specs.ClientTurns.{Turn, turned, turn, greeting, unwelcome, response, answers_packet, IsWithinBounds, puts, ClientTurns}

@@ -3,8 +3,8 @@ use Rattle.std.proofs.Common.{◌≡◌, ℕ, ◌≤◌, zero, suc, List, [], �
 use Rattle.std.specs.Prelude.{take}
 use Rattle.std.specs.List.{flat_map, filter_map}
 use Rattle.std.proofs.lemmas.List.{append-nil, map-append}
-use Rattle.push_script.specs.declared.word.Side.{Side}
-use Rattle.push_script.specs.declared.word.Side.TheVariants as sides
+use Rattle.push_terms.specs.declared.word.Side.{Side}
+use Rattle.push_terms.specs.declared.word.Side.TheVariants as sides
 use Rattle.capture.specs.declared.channel.Channel.{Channel}
 use Rattle.capture.specs.Talk.{Talk, Payload}
 use Rattle.capture.specs.Hearing.{Heard, heard}
@@ -12,7 +12,7 @@ use Rattle.capture.specs.Modes.{own_mode, asks}
 use Rattle.capture.specs.Packets.{heard_packets, packet_of}
 use Rattle.capture.specs.Exchanges.{Spoken, spoken, spoken_by}
 use Rattle.capture.proofs.FurtherLaws.{packets-more, spoken-more}
-use Rattle.bt_host.specs.Pdus.{own_endpoint, asks_disconnection, grants_disconnection}
+use Rattle.small_host.specs.Pdus.{own_endpoint, asks_disconnection, grants_disconnection}
 use Rattle.push_talk.specs.Conversing.{Saying, Says, Sent, seen, seen_all, flow_at, opening, sends, closing}
 use Rattle.push_talk.specs.Laws.{heard_by, spoken_at, PayloadsArePackets}
 use Rattle.push_talk.proofs.Opening.{IsOpen, opened_so}

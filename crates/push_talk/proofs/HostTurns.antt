@@ -2,10 +2,10 @@
 use Rattle.std.proofs.Common.{◌≡◌, ℕ, List, Option, ap, subst, ◌∙◌}
 use Rattle.bt_base.specs.Objects.{Object}
 use Rattle.h4_framing.specs.Packets.{Packet}
-use Rattle.bt_host.specs.Clients.{Client, Gives, told, stepped, putting_out}
-use Rattle.bt_host.specs.Clients as client
-use Rattle.bt_host.specs.Servers.{Server, Served, Kept}
-use Rattle.bt_host.specs.Servers as server
+use Rattle.small_host.specs.Clients.{Client, Gives, told, stepped, putting_out}
+use Rattle.small_host.specs.Clients as client
+use Rattle.small_host.specs.Servers.{Server, Served, Kept}
+use Rattle.small_host.specs.Servers as server
 use Rattle.push_talk.specs.HostTurns.{ClientTakes, ServerTakes, HostsTakeTurns}
 
 client_takes : (content : Option (List Object)) (faults faults' : ℕ) (packet : Packet) (old new : Client) → client.Hears content faults faults' packet old new → ClientTakes content faults faults' packet old new

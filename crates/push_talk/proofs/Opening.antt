@@ -1,8 +1,8 @@
 -- The channel that was opened.
 use Rattle.std.proofs.Common.{◌≡◌, ℕ, ◌^◌, ◌<◌, List, [], ◌∷◌, ◌++◌, length, Bool, true, false, cond, eqb, None, refl, ap, arith}
 use Rattle.std.specs.List.{filter_map}
-use Rattle.push_script.specs.declared.word.Side.{Side}
-use Rattle.push_script.specs.declared.word.Side.TheVariants as sides
+use Rattle.push_terms.specs.declared.word.Side.{Side}
+use Rattle.push_terms.specs.declared.word.Side.TheVariants as sides
 use Rattle.l2cap_config.specs.Agreement.{only_mtu}
 use Rattle.l2cap_config.specs.Writing.{written}
 use Rattle.l2cap_config.specs.Laws.{Fits}

@@ -15,7 +15,7 @@ use Rattle.capture.specs.Modes.{own_mode, peer_mode, enhanced, is_enhanced, mode
 use Rattle.capture.specs.Packets.{heard_packets, packet_of, packet_by, carriage, Plain, Nothing}
 use Rattle.capture.specs.Exchanges.{spoken, packet_spoken, spoken_as, sent_on}
 use Rattle.capture.specs.Laws.{SameCarriage}
-use Rattle.bt_host.specs.Pdus.{own_endpoint}
+use Rattle.small_host.specs.Pdus.{own_endpoint}
 use Rattle.push_talk.specs.Conversing.{the_channel}
 use Rattle.push_talk.specs.Laws.{heard_with}
 use Rattle.capture.proofs.MoreLaws.{channels-more}

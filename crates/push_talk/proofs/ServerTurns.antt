@@ -1,18 +1,18 @@
 -- The turns of a server's channel, and what becomes of its session then.
 use Rattle.std.proofs.Common.{◌≡◌, ℕ, ◌^◌, ◌<◌, ◌≤◌, Bool, true, false, List, Option, Some, None, refl, ap, ◌∙◌, arith}
 use Rattle.std.specs.Prelude.{IsSomeAnd, if◌then◌else◌}
-use Rattle.push_script.specs.declared.word.Side.TheVariants as sides
+use Rattle.push_terms.specs.declared.word.Side.TheVariants as sides
 use Rattle.l2cap_signal.specs.Commands.{Command, Content}
 use Rattle.l2cap_config.specs.declared.wish.Agreed.{Agreed}
 use Rattle.l2cap_config.specs.Agreement.{only_mtu}
 use Rattle.l2cap_config.specs.Writing.{written}
-use Rattle.bt_host.specs.declared.channel_stages.ChannelStage.{ChannelStage}
-use Rattle.bt_host.specs.declared.channel_stages.ChannelStage.TheVariants.{Free, Asked, Taken, Heard, Configuring, Open, Parting, Closed}
-use Rattle.bt_host.specs.Pdus.{own_endpoint, command_pdu, asks_connection, asks_configuration, grants_configuration, asks_disconnection, grants_disconnection}
-use Rattle.bt_host.specs.Events.{agreement}
-use Rattle.bt_host.specs.Channels.{Channel, at, parts, is_accepted, hears, after_request, after_signal, sent, sent_at}
-use Rattle.bt_host.specs.Servers.{WhereTrue, after_commands}
-use Rattle.bt_host.proofs.Agreeing.{requests_are_accepted}
+use Rattle.small_host.specs.declared.channel_stages.ChannelStage.{ChannelStage}
+use Rattle.small_host.specs.declared.channel_stages.ChannelStage.TheVariants.{Free, Asked, Taken, Heard, Configuring, Open, Parting, Closed}
+use Rattle.small_host.specs.Pdus.{own_endpoint, command_pdu, asks_connection, asks_configuration, grants_configuration, asks_disconnection, grants_disconnection}
+use Rattle.small_host.specs.Events.{agreement}
+use Rattle.small_host.specs.Channels.{Channel, at, parts, is_accepted, hears, after_request, after_signal, sent, sent_at}
+use Rattle.small_host.specs.Servers.{WhereTrue, after_commands}
+use Rattle.small_host.proofs.Agreeing.{requests_are_accepted}
 use Rattle.push_talk.specs.Conversing.{Says}
 use Rattle.push_talk.specs.Speaking.{CanBeSaid}
 use Rattle.push_talk.specs.ServerTurns.{steps, behind, ChannelTurns, SessionTurns}

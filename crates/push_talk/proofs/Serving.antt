@@ -3,14 +3,14 @@ use Rattle.std.proofs.Common.{◌≡◌, ℕ, ◌≤◌, true, false, List, [], 
 use Rattle.bt_base.specs.Objects.{Contents, aborted}
 use Rattle.obex_headers.specs.declared.packet.Phase.TheVariants.{Request}
 use Rattle.obex_headers.specs.Packets.{PlainPacket, IsPacket, bare, packet_octets}
-use Rattle.obex_session.specs.Past.{Serving}
-use Rattle.obex_session.specs.PushReplies as session
-use Rattle.obex_session.proofs.ReplyLaws.{push_is_answered}
-use Rattle.bt_host.specs.Pdus.{own_endpoint, pdu}
-use Rattle.bt_host.specs.Pushing.{utf16, connect_packet, disconnect_packet, put_packet}
-use Rattle.bt_host.specs.Servers.{Served, Kept, kept, HearsPacket, stores, one_stored}
-use Rattle.bt_host.proofs.Names.{name_units}
-use Rattle.bt_host.proofs.SpelledLaws.{connect_is, put_is, put_has_size}
+use Rattle.small_session.specs.Past.{Serving}
+use Rattle.small_session.specs.PushReplies as session
+use Rattle.small_session.proofs.ReplyLaws.{push_is_answered}
+use Rattle.small_host.specs.Pdus.{own_endpoint, pdu}
+use Rattle.small_host.specs.Pushing.{utf16, connect_packet, disconnect_packet, put_packet}
+use Rattle.small_host.specs.Servers.{Served, Kept, kept, HearsPacket, stores, one_stored}
+use Rattle.small_host.proofs.Names.{name_units}
+use Rattle.small_host.proofs.SpelledLaws.{connect_is, put_is, put_has_size}
 use Rattle.push_talk.specs.ServerTurns.{IsReady, Replies, Answers, Agrees, PushIsServed}
 use Rattle.push_talk.specs.ClientTurns.{answers_packet}
 use Rattle.push_talk.specs.Speaking.{pdu_of}

@@ -8,11 +8,11 @@ use Rattle.l2cap_signal.specs.Reading.{answers}
 use Rattle.l2cap_signal.proofs.Payloads.{written_read}
 use Rattle.l2cap_config.specs.Agreement.{only_mtu}
 use Rattle.l2cap_config.specs.Writing.{written}
-use Rattle.push_script.specs.declared.word.Side.{Side}
-use Rattle.push_script.specs.declared.word.Side.TheVariants as sides
+use Rattle.push_terms.specs.declared.word.Side.{Side}
+use Rattle.push_terms.specs.declared.word.Side.TheVariants as sides
 use Rattle.capture.specs.Talk.{Signal, accepted, said_by}
-use Rattle.bt_host.specs.Pdus.{own_endpoint, asks_connection, grants_connection, asks_configuration, grants_configuration, asks_disconnection, grants_disconnection}
-use Rattle.bt_host.specs.Clients.{commands_in}
+use Rattle.small_host.specs.Pdus.{own_endpoint, asks_connection, grants_connection, asks_configuration, grants_configuration, asks_disconnection, grants_disconnection}
+use Rattle.small_host.specs.Clients.{commands_in}
 use Rattle.push_talk.specs.Conversing.{Saying, Says, Sends, seen, flow_at}
 use Rattle.push_talk.specs.Speaking.{pdu_of, speaker, CanBeSaid, SayingsAreRead}
 

@@ -2,20 +2,20 @@
 use Rattle.std.specs.Prelude.{ℕ, ◌^◌, ◌≡◌, ◌<◌, ◌≤◌, ◌==◌, true, false, List, [], ◌∷◌, length, Option, Some, None}
 use Rattle.std.specs.Option.{option_or}
 use Rattle.bt_base.specs.Octets.{be16}
-use Rattle.push_script.specs.declared.word.Side.TheVariants as sides
-use Rattle.push_script.specs.declared.outcome.Outcome.TheVariants.{ShelfFault, Refused}
+use Rattle.push_terms.specs.declared.word.Side.TheVariants as sides
+use Rattle.push_terms.specs.declared.outcome.Outcome.TheVariants.{ShelfFault, Refused}
 use Rattle.obex_headers.specs.Packets.{PlainPacket, bare, packet_octets}
-use Rattle.host_link.specs.Hearing.{PlainNews, LinkUp, LinkDown}
-use Rattle.bt_host.specs.declared.stages.Stage.TheVariants.{Idle, Paging, Connecting, Configuring, Greeting, Putting, Parting, Closing, Leaving}
-use Rattle.bt_host.specs.declared.stages.PeerRequest.TheVariants.{Awaited}
-use Rattle.bt_host.specs.declared.steps.Step.{Step}
-use Rattle.bt_host.specs.declared.steps.Step.TheVariants.{Wait, Send, BreakLink}
-use Rattle.bt_host.specs.Pdus.{own_endpoint, asks_connection, grants_connection, asks_configuration, grants_configuration, asks_disconnection, grants_disconnection}
-use Rattle.bt_host.specs.Pushing.{utf16, connect_packet, disconnect_packet, put_packet}
-use Rattle.bt_host.specs.Courses.{Course, at, caused}
-use Rattle.bt_host.specs.Events.{is_idle, loss, answered_outcome}
-use Rattle.bt_host.specs.Clients.{after_news}
-use Rattle.bt_host.specs.Steps.{next_step}
+use Rattle.small_link.specs.Hearing.{PlainNews, LinkUp, LinkDown}
+use Rattle.small_host.specs.declared.stages.Stage.TheVariants.{Idle, Paging, Connecting, Configuring, Greeting, Putting, Parting, Closing, Leaving}
+use Rattle.small_host.specs.declared.stages.PeerRequest.TheVariants.{Awaited}
+use Rattle.small_host.specs.declared.steps.Step.{Step}
+use Rattle.small_host.specs.declared.steps.Step.TheVariants.{Wait, Send, BreakLink}
+use Rattle.small_host.specs.Pdus.{own_endpoint, asks_connection, grants_connection, asks_configuration, grants_configuration, asks_disconnection, grants_disconnection}
+use Rattle.small_host.specs.Pushing.{utf16, connect_packet, disconnect_packet, put_packet}
+use Rattle.small_host.specs.Courses.{Course, at, caused}
+use Rattle.small_host.specs.Events.{is_idle, loss, answered_outcome}
+use Rattle.small_host.specs.Clients.{after_news}
+use Rattle.small_host.specs.Steps.{next_step}
 use Rattle.push_talk.specs.Conversing.{Saying, Says, Sends}
 use Rattle.push_talk.specs.Speaking.{pdu_of, told}
 

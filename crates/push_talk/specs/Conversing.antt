@@ -2,13 +2,13 @@
 -- Volume 3 Part A, 4; the order is this project's own).
 use Rattle.std.specs.Prelude.{ℕ, List, [], ◌∷◌, map}
 use Rattle.l2cap_signal.specs.Commands.{Content}
-use Rattle.push_script.specs.declared.word.Side.{Side}
-use Rattle.push_script.specs.declared.word.Side.TheVariants as sides
+use Rattle.push_terms.specs.declared.word.Side.{Side}
+use Rattle.push_terms.specs.declared.word.Side.TheVariants as sides
 use Rattle.capture.specs.declared.channel.Channel.{Channel}
 use Rattle.capture.specs.declared.flow.Flow.{Flow}
 use Rattle.capture.specs.declared.flow.Flow.TheVariants.{Out, Into}
 use Rattle.capture.specs.Talk.{Talk, Signal, Payload}
-use Rattle.bt_host.specs.Pdus.{own_endpoint, push_psm, asks_connection, grants_connection, asks_configuration, grants_configuration, asks_disconnection, grants_disconnection}
+use Rattle.small_host.specs.Pdus.{own_endpoint, push_psm, asks_connection, grants_connection, asks_configuration, grants_configuration, asks_disconnection, grants_disconnection}
 
 -- a host says a signalling command, or sends a payload to the other end of the channel
 pub data Saying : Type 0 where

@@ -2,13 +2,13 @@
 use Rattle.std.specs.Prelude.{ℕ, ◌≡◌, List, Option}
 use Rattle.bt_base.specs.Objects.{Object}
 use Rattle.h4_framing.specs.Packets.{Packet}
-use Rattle.host_link.specs.Hearing.{heard, news_of}
-use Rattle.host_link.specs.PuttingOut.{put_out, is_waiting}
-use Rattle.bt_host.specs.Clients.{Client, Gives, after_news, after_step}
-use Rattle.bt_host.specs.Clients as client
-use Rattle.bt_host.specs.Servers.{Server, Served, Kept, Notes, with_response}
-use Rattle.bt_host.specs.Servers as server
-use Rattle.bt_host.specs.Steps.{next_step}
+use Rattle.small_link.specs.Hearing.{heard, news_of}
+use Rattle.small_link.specs.PuttingOut.{put_out, is_waiting}
+use Rattle.small_host.specs.Clients.{Client, Gives, after_news, after_step}
+use Rattle.small_host.specs.Clients as client
+use Rattle.small_host.specs.Servers.{Server, Served, Kept, Notes, with_response}
+use Rattle.small_host.specs.Servers as server
+use Rattle.small_host.specs.Steps.{next_step}
 use Rattle.push_talk.specs.ClientTurns as client_turns
 use Rattle.push_talk.specs.ServerTurns as server_turns
 

@@ -4,16 +4,16 @@ use Rattle.std.specs.Option.{option_map}
 use Rattle.std.specs.Str.{IsUtf8}
 use Rattle.bt_base.specs.Counts.{HasRisen}
 use Rattle.bt_base.specs.Objects.{Contents, aborted}
-use Rattle.push_script.specs.declared.word.Side.TheVariants as sides
+use Rattle.push_terms.specs.declared.word.Side.TheVariants as sides
 use Rattle.obex_headers.specs.Packets.{PlainPacket, packet_octets}
-use Rattle.obex_session.specs.declared.ruling.Progress.TheVariants.{Unnamed}
-use Rattle.obex_session.specs.PushReplies.{storing}
-use Rattle.bt_host.specs.declared.channel_stages.ChannelStage.TheVariants.{Free, Taken, Configuring, Open, Closed}
-use Rattle.bt_host.specs.Pdus.{own_endpoint, asks_connection, grants_connection, asks_configuration, grants_configuration, asks_disconnection, grants_disconnection}
-use Rattle.bt_host.specs.Pushing.{utf16, connect_packet, disconnect_packet, put_packet}
-use Rattle.bt_host.specs.Channels.{Channel, at, hears, sent}
-use Rattle.bt_host.specs.Clients.{commands_in}
-use Rattle.bt_host.specs.Servers.{Served, Kept, after_commands, LeavesSession, LetsGo, HearsPacket, Notes, one_stored}
+use Rattle.small_session.specs.declared.ruling.Progress.TheVariants.{Unnamed}
+use Rattle.small_session.specs.PushReplies.{storing}
+use Rattle.small_host.specs.declared.channel_stages.ChannelStage.TheVariants.{Free, Taken, Configuring, Open, Closed}
+use Rattle.small_host.specs.Pdus.{own_endpoint, asks_connection, grants_connection, asks_configuration, grants_configuration, asks_disconnection, grants_disconnection}
+use Rattle.small_host.specs.Pushing.{utf16, connect_packet, disconnect_packet, put_packet}
+use Rattle.small_host.specs.Channels.{Channel, at, hears, sent}
+use Rattle.small_host.specs.Clients.{commands_in}
+use Rattle.small_host.specs.Servers.{Served, Kept, after_commands, LeavesSession, LetsGo, HearsPacket, Notes, one_stored}
 use Rattle.push_talk.specs.Conversing.{Saying, Says, Sends}
 use Rattle.push_talk.specs.Speaking.{pdu_of, told}
 use Rattle.push_talk.specs.ClientTurns.{answers_packet, greeting, response}

@@ -3,11 +3,11 @@ use Rattle.std.specs.Prelude.{ℕ, ◌^◌, ◌≡◌, ◌<◌, ◌≤◌, List,
 use Rattle.std.specs.List.{AllByRecursion}
 use Rattle.acl_fragments.specs.Pieces.{channel_of}
 use Rattle.l2cap_signal.specs.Commands.{Content, spelling, IsCommand}
-use Rattle.push_script.specs.declared.word.Side.{Side}
+use Rattle.push_terms.specs.declared.word.Side.{Side}
 use Rattle.capture.specs.Talk.{said_by}
-use Rattle.host_link.specs.Hearing.{PlainNews, Pdu}
-use Rattle.bt_host.specs.Pdus.{own_endpoint, pdu, command_pdu}
-use Rattle.bt_host.specs.Clients.{commands_in}
+use Rattle.small_link.specs.Hearing.{PlainNews, Pdu}
+use Rattle.small_host.specs.Pdus.{own_endpoint, pdu, command_pdu}
+use Rattle.small_host.specs.Clients.{commands_in}
 use Rattle.push_talk.specs.Conversing.{Saying, Says, Sends, seen, flow_at, opening, closing}
 
 -- a command stands alone in its PDU, and a payload goes to the other end of the channel

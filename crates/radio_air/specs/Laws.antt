@@ -1,59 +1,51 @@
--- What each step of a radio does to what it shows, and that the air obeys (this project's own).
-use Rattle.std.specs.Prelude.{ℕ, ◌≡◌, ◌⊎◌, ◌∷◌, ◌++◌, [], List, Option, Some, None, true}
-use Rattle.h4_framing.specs.Packets.{Packet, IsPacket}
-use Rattle.push_script.specs.declared.word.Side.{Side}
-use Rattle.push_script.specs.declared.word.Word.{Word}
-use Rattle.push_script.specs.declared.word.Word.TheVariants.{Pass, Drop}
-use Rattle.push_script.specs.declared.outcome.Outcome.{Outcome}
-use Rattle.capture.specs.declared.flow.Flow.TheVariants.{Out, Into}
-use Rattle.capture.specs.Entries.{Entry, Moved, Acted, Begun, Ended}
-use Rattle.capture.specs.Air.{KeepsTo, IsSettled, air_after, acted, FindsNothing}
-use Rattle.radio_air.specs.Controllers.{Answer, packet_of}
-use Rattle.radio_air.specs.Radio.{Radio, new_radio, controller, after_packet, after_offer, after_answer, is_quiet, passed, dropped}
-use Rattle.radio_air.specs.Showing.{Shows}
+-- Laws of the air, for every frame and every fate (this project's own).
+use Rattle.std.specs.Prelude.{ℕ, ◌+◌, ◌≡◌, ◌≤◌, ◌<◌, Bool, List, [], ◌∷◌, ◌++◌, length, slice_get, map}
+use Rattle.capture.specs.declared.flow.Flow.TheVariants.{Into}
+use Rattle.capture.specs.Pdus.{whole_of}
+use Rattle.acl_fragments.specs.Pieces.{Piece, starts, pdu_length}
+use Rattle.acl_fragments.specs.Answers.{answer, held_after}
+use Rattle.radio_air.specs.declared.fate.Fate.{Fate}
+use Rattle.radio_air.specs.declared.fate.Fate.TheVariants.{Delivered, Lost, Repeated, CutOff, Changed}
+use Rattle.radio_air.specs.Fates.{Meeting, meets, comes_of}
+use Rattle.radio_air.specs.Flights.{Met, position, step, of_frame, heard, handed, FindsFrames}
 
--- at first nothing has moved
-abbrev pub ShowsNothing : Type 0
-ShowsNothing = (size count : ℕ) → Shows [] (new_radio size count)
+-- ---- one direction of a link, over its whole life
 
--- a packet comes out of a host
-abbrev pub ShowsPacket : Type 0
-ShowsPacket = (past : List Entry) (radio : Radio) (side : Side) (packet : Packet) → IsPacket 65535 packet → Shows past radio → Shows (past ++ Moved side Out packet ∷ []) (after_packet side packet radio)
+-- a fate more is met at the position that those before it led to
+abbrev pub OneFateMore : Type 0
+OneFateMore = (size : ℕ) (frames : List (List ℕ)) (fates : List Met) (met : Met) →
+    (heard size frames (fates ++ met ∷ []) ≡ heard size frames fates ++ of_frame (comes_of size met.fate met.checked) (slice_get frames (position fates)))
+    × (handed size frames (fates ++ met ∷ []) ≡ handed size frames fates ++ of_frame (λ frame. (meets size met.fate met.checked frame).pieces) (slice_get frames (position fates)))
+    × (position (fates ++ met ∷ []) ≡ position fates + step met.fate)
 
--- all that a host offered was taken
-abbrev pub ShowsOffer : Type 0
-ShowsOffer = (past : List Entry) (radio : Radio) (side : Side) → Shows past radio → Shows past (after_offer side radio)
+-- frames that are said later change nothing of what was heard
+abbrev pub OneFrameMore : Type 0
+OneFrameMore = (size : ℕ) (frames : List (List ℕ)) (fates : List Met) (frame : List ℕ) → FindsFrames frames fates →
+    (heard size (frames ++ frame ∷ []) fates ≡ heard size frames fates)
+    × (handed size (frames ++ frame ∷ []) fates ≡ handed size frames fates)
+    × FindsFrames (frames ++ frame ∷ []) fates
 
--- the first answer that is owed comes into its host, and keeps to what was handed over
-abbrev pub ShowsAnswer : Type 0
-ShowsAnswer = (past : List Entry) (radio : Radio) (side : Side) (answer : Answer) (rest : List Answer) → (controller side radio).owed ≡ answer ∷ rest → Shows past radio
-    → ((script : List Word) → KeepsTo radio.size script past (Moved side Into (packet_of side answer))) × Shows (past ++ Moved side Into (packet_of side answer) ∷ []) (after_answer side radio)
+-- ---- the pieces of a frame, and what they give
 
--- a quiet radio is settled
-abbrev pub QuietIsSettled : Type 0
-QuietIsSettled = (past : List Entry) (radio : Radio) → is_quiet radio ≡ true → Shows past radio → IsSettled past (air_after radio.size past)
+-- the frames that pieces complete one after the other, while these octets are held
+abbrev pub given_from : (limit : ℕ) → (held : List ℕ) → List Piece → List (List ℕ)
+given_from limit held [] = []
+given_from limit held (piece ∷ pieces) =
+    map (λ pdu. pdu.octets) (whole_of Into (answer limit held (starts piece.boundary) piece.octets))
+    ++ given_from limit (held_after limit held (starts piece.boundary) piece.octets) pieces
 
--- a word acts on the air as on the radio
-abbrev pub ActsAs : Word → (Radio → Option Radio) → Type 0
-ActsAs word act = (past : List Entry) (radio : Radio) → is_quiet radio ≡ true → Shows past radio →
-    ((act radio ≡ None) → FindsNothing radio.size past (air_after radio.size past) word)
-    × ((next : Radio) → act radio ≡ Some next → ((ordinal : ℕ) → Shows (past ++ Acted ordinal word ∷ []) next)
-    × (acted radio.size past (air_after radio.size past) word ≡ None → ⊥))
+-- a whole PDU that a receiver with this limit takes
+pub record IsFrame (limit : ℕ) (frame : List ℕ) : Type 0 where
+  pub header : 4 ≤ length frame
+  pub whole : pdu_length frame ≡ length frame
+  pub within : length frame ≤ limit
 
-abbrev pub WordsAct : Type 0
-WordsAct = ActsAs Pass passed × ActsAs Drop dropped
+-- a change stands behind the header
+abbrev pub IsBehindHeader : Fate → Type 0
+IsBehindHeader (Changed at mask) = 4 ≤ at
+IsBehindHeader fate = Unit {0}
 
--- the begins and the ends of pushes change nothing
-abbrev pub ShowsMarks : Type 0
-ShowsMarks = (past : List Entry) (radio : Radio) (push : ℕ) (outcome : Outcome) → Shows past radio → Shows (past ++ Begun push ∷ []) radio × Shows (past ++ Ended push outcome ∷ []) radio
-
--- the length and the number of the ACL packets that controllers take
-abbrev pub sizes : Radio → ℕ × ℕ
-sizes radio = (radio.size, radio.count)
-
--- they stay
-abbrev pub SizesStay : Type 0
-SizesStay = (radio : Radio) (side : Side) →
-    ((packet : Packet) → sizes (after_packet side packet radio) ≡ sizes radio)
-    × (sizes (after_offer side radio) ≡ sizes radio) × (sizes (after_answer side radio) ≡ sizes radio)
-    × ((next : Radio) → (passed radio ≡ Some next) ⊎ (dropped radio ≡ Some next) → sizes next ≡ sizes radio)
+-- what comes of a frame is what its pieces give, whatever was held before
+abbrev pub PiecesGive : Type 0
+PiecesGive = (limit size : ℕ) (held : List ℕ) (fate : Fate) (checked : Bool) (frame : List ℕ) → 27 ≤ size → IsFrame limit frame → IsBehindHeader fate
+    → given_from limit held (meets size fate checked frame).pieces ≡ comes_of size fate checked frame

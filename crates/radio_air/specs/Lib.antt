@@ -1,6 +1,12 @@
+pub mod Rings
+pub mod Fates
+pub mod Words
 pub mod Controllers
 pub mod Radio
-pub mod Showing
-pub mod Laws
+pub mod Queues
 pub mod Owed
-pub mod Acting
+pub mod Flights
+pub mod Laws
+pub mod Air
+pub mod Honest
+pub mod Course

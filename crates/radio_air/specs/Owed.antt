@@ -1,17 +1,22 @@
 -- What the types of a controller stand for.
-use Rattle.std.specs.Prelude.{◌≡◌, ℕ, ◌+◌, ◌*◌, ◌≤◌, ◌==◌, List, [], ◌∷◌, ◌++◌, length, drop, map, Option, Some, None, if◌then◌else◌}
+use Rattle.std.specs.Prelude.{ℕ, ◌≡◌, ◌<◌, ◌+◌, ◌==◌, ◌||◌, nat_le, Bool, false, List, [], ◌∷◌, ◌++◌, length, Option, Some, None, if◌then◌else◌}
 use Rattle.bt_base.specs.Octets.{le16}
-use Rattle.h4_framing.specs.Packets.{Packet, Acl, spelling, IsPacket}
-use Rattle.hci_packets.specs.declared.acl.Boundary.{Boundary}
-use Rattle.hci_packets.specs.declared.acl.Boundary.TheVariants.{Continuing, FirstFromController}
-use Rattle.hci_packets.specs.AclWords.{flag_of}
+use Rattle.h4_framing.specs.Packets.{Packet}
 use Rattle.acl_fragments.specs.Pieces.{Piece}
-use Rattle.acl_fragments.specs.Cuts.{cut}
-use Rattle.push_script.specs.declared.word.Side.{Side}
+use Rattle.hci_packets.specs.declared.acl.Boundary.{Boundary}
+use Rattle.push_terms.specs.declared.word.Side.{Side}
+use Rattle.capture.specs.PieceHeads.{piece_head}
 use Rattle.radio_air.specs.declared.answer.Answer.{Answer as Told}
 use Rattle.radio_air.specs.declared.answer.Answer.TheVariants as told
-use Rattle.capture.specs.PieceHeads.{piece_head}
-use Rattle.radio_air.specs.Controllers.{Controller, Answer, Returned, Stated, Called, LinkMade, LinkGone, GivenBack, Carried, address, packet_of}
+use Rattle.radio_air.specs.declared.phase.Phase.{Phase as Stage}
+use Rattle.radio_air.specs.declared.phase.Phase.TheVariants as stages
+use Rattle.radio_air.specs.Controllers.{Controller, Answer, Returned, Stated, Called, LinkMade, LinkGone, GivenBack, address, answer_packet, after_telling}
+use Rattle.hci_packets.specs.Commands.{PlainCommand, CreateConnection, Disconnect, AcceptConnection, Reset, WriteScanEnable, ReadBufferSize, ReadBdAddr, Other}
+use Rattle.radio_air.specs.Radio.{Radio, Phase, Apart, Paging, Requested, Together, is_apart, is_together, owes, frames, scanning, after_paging, after_reaching, after_accepting, after_disconnecting}
+use Rattle.radio_air.specs.Queues.{Queue, HasPlaces, taking, is_crowded}
+use Rattle.radio_air.specs.Rings.{first_or_nothing}
+use Rattle.radio_air.specs.declared.deed.Deed.{Deed}
+use Rattle.radio_air.specs.declared.deed.Deed.TheVariants.{Nothing, Meets, Fires, FiresBoth, Breaks, Cancels}
 
 -- what the code keeps of an answer; all commands return status 0 first (Core 5.1, Volume 2 Part E, 7.3.2, 7.3.18, 7.4.5
 -- and 7.4.6)
@@ -25,60 +30,94 @@ plain_answer (told.LinkMade handle) = LinkMade handle
 plain_answer (told.LinkGone handle reason) = LinkGone handle reason
 plain_answer (told.GivenBack handle packets) = GivenBack handle packets
 
--- a frame that is being handed over: its handle, and the pieces that are left
-pub record Delivering : Type 0 where
-  pub handle : ℕ
-  pub pieces : List Piece
+abbrev pub plain_phase : Stage → Phase
+plain_phase stages.Apart = Apart
+plain_phase stages.Paging = Paging
+plain_phase stages.Requested = Requested
+plain_phase stages.Together = Together
 
--- the rest of a frame is continued, the whole of it is a start
-abbrev pub boundary_at : ℕ → Boundary
-boundary_at gone = if gone == 0 then FirstFromController else Continuing
+-- while a link is asked for there is a handle for it
+abbrev pub HasHandle : Stage → ℕ → Type 0
+HasHandle stage number = is_apart (plain_phase stage) ≡ false → is_together (plain_phase stage) ≡ false → number < 0x0EFF
 
--- what is left of a frame of which so many octets are gone
-abbrev pub pieces_left : (size gone : ℕ) → List ℕ → List Piece
-pieces_left size gone frame = cut size (boundary_at gone) (drop gone frame)
+-- a controller, with the direction from its host and the one to it
+abbrev pub with_queues : Queue → Queue → Controller → Controller
+with_queues own other controller = record controller { begun = own.begun; waiting = own.waiting; coming = other.coming }
 
--- what a controller owes: the pieces of a frame, and then all else
-abbrev pub owed_of : Delivering → List Told → List Answer
-owed_of delivering answers = map (Carried delivering.handle) delivering.pieces ++ map plain_answer answers
+-- the answer that comes next
+abbrev pub answer_first : Side → List Answer → Option Packet
+answer_first side [] = None
+answer_first side (answer ∷ owed) = Some (answer_packet side answer)
 
--- ---- packets that are handed to a host
+-- for so many answers memory is reserved
+abbrev pub answers_reserved : ℕ
+answers_reserved = 16
 
--- the packet stands at the front of the octets, the others are as before, and `count` says how many octets it has
-abbrev pub IsWritten : Packet → ℕ → List ℕ → List ℕ → Type 0
-IsWritten packet count from to = (count ≡ length (spelling packet)) × (to ≡ spelling packet ++ drop (length (spelling packet)) from)
+-- so many answers or more are owed to a host
+abbrev pub owes_many : (count : ℕ) → Radio → Bool
+owes_many count radio = nat_le count (length radio.a.owed) || nat_le count (length radio.b.owed)
 
--- each number of the packet is in its range, and it has no more octets than the limit
-abbrev pub IsShort : ℕ → Packet → Type 0
-IsShort limit packet = IsPacket 65535 packet × (length (spelling packet) ≤ limit)
+-- Where the radio may want memory for a packet of a host: fifteen answers are owed to a host already, or more frames would
+-- wait, or more octets of these, than memory is reserved for.
+abbrev pub wants_memory : (old new : Radio) → Bool
+wants_memory old new = owes_many 15 old || (is_crowded new.a.waiting || is_crowded new.b.waiting)
 
--- the packet of a piece on a handle
-abbrev pub piece_packet : ℕ → Piece → Packet
-piece_packet handle piece = Acl (handle + 0x1000 * flag_of piece.boundary) piece.octets
-
--- the longest packet into a host: a head of five octets, and 1021 octets
-abbrev pub longest_packet : ℕ
-longest_packet = 1026
-
--- the packet was written, and it is one that a capture may hold
-abbrev pub IsHandedOver : Packet → Option ℕ → List ℕ → List ℕ → Type 0
-IsHandedOver packet None from to = ⊥
-IsHandedOver packet (Some count) from to = IsWritten packet count from to × IsShort longest_packet packet
-
--- the first piece is handed over where one is left
-abbrev pub HandsPiece : ℕ → List Piece → List Piece → Option ℕ → List ℕ → List ℕ → Type 0
-HandsPiece handle [] left result from to = (result ≡ None) × (left ≡ []) × (to ≡ from)
-HandsPiece handle (piece ∷ rest) left result from to = (left ≡ rest) × IsHandedOver (piece_packet handle piece) result from to
-
--- the first of what is owed to the host of a side is handed over where anything is owed
-abbrev pub HandsFirst : Side → List Answer → Option ℕ → List ℕ → List ℕ → Type 0
-HandsFirst side [] result from to = (result ≡ None) × (to ≡ from)
-HandsFirst side (answer ∷ rest) result from to = IsHandedOver (packet_of side answer) result from to
-
--- where the piece of an ACL packet stands in its PDU, if it is one on the link that the host of a controller knows of
+-- where the piece of an ACL packet stands in its frame, if it is one on the link that the host of a controller knows of
 abbrev pub boundary_on : ℕ → Option (ℕ × Boundary) → Option Boundary
 boundary_on handle None = None
 boundary_on handle (Some head) = if head.0 == handle then Some head.1 else None
 
 abbrev pub boundary_from : Controller → ℕ → Option Boundary
 boundary_from controller word = if controller.up then boundary_on controller.told (piece_head word) else None
+
+-- ---- packets outstanding
+
+-- how many packets of a handle the answers give back
+abbrev pub back_by : ℕ → Answer → ℕ
+back_by handle (GivenBack other count) = if other == handle then count else 0
+back_by handle answer = 0
+
+abbrev pub back : ℕ → List Answer → ℕ
+back handle [] = 0
+back handle (answer ∷ rest) = back_by handle answer + back handle rest
+
+-- the packets of a host that are outstanding on the link that it was told of: those that were taken, and those that are
+-- about to be given back
+abbrev pub outstanding_at : Controller → ℕ
+outstanding_at one = if one.up then one.taken + back one.told one.owed else 0
+
+-- ---- commands by their kind
+
+-- a command that was read does what the row of its number says
+abbrev pub after_kind : Side → PlainCommand → Radio → Radio
+after_kind side (CreateConnection to packets repetition reserved clock switch) radio = after_paging side (owes side (Stated 0x0405 ∷ []) radio)
+after_kind side (Disconnect handle reason) radio = after_disconnecting side handle (owes side (Stated 0x0406 ∷ []) radio)
+after_kind side (AcceptConnection from role) radio = after_accepting side (owes side (Stated 0x0409 ∷ []) radio)
+after_kind side Reset radio = owes side (Returned 0x0C03 (0 ∷ []) ∷ []) radio
+after_kind side (WriteScanEnable value) radio = after_reaching (owes side (Returned 0x0C1A (0 ∷ []) ∷ []) (scanning side value radio))
+after_kind side ReadBufferSize radio = owes side (Returned 0x1005 (0 ∷ (le16 radio.size ++ (0 ∷ (le16 radio.count ++ le16 0)))) ∷ []) radio
+after_kind side ReadBdAddr radio = owes side (Returned 0x1009 (0 ∷ address side) ∷ []) radio
+after_kind side (Other opcode params) radio = radio
+
+-- where a frame is to meet its fate there is one, and it has the places
+abbrev pub IsMet : Deed → Radio → Type 0
+IsMet (Meets way fate) radio = (0 < length (frames way radio)) × HasPlaces fate (first_or_nothing (frames way radio))
+IsMet deed radio = Unit {0}
+
+-- ---- a host, and the two directions that are its own and the other's
+
+-- a piece of the host goes into its own direction, if there is one
+abbrev pub piece_taken : (flies : Bool) → Option Piece → Queue → Queue
+piece_taken flies None queue = queue
+piece_taken flies (Some piece) queue = taking flies piece queue
+
+-- what comes to the host next leaves the other direction, or what is owed
+abbrev pub told_first : List Piece → List Answer → Controller → Controller
+told_first (piece ∷ coming) owed controller = controller
+told_first [] (answer ∷ owed) controller = after_telling answer (record controller { owed = owed })
+told_first [] [] controller = controller
+
+-- a new link begins with nothing
+abbrev pub forgot_begun : List Piece → List Answer → Queue → Queue
+forgot_begun [] (LinkMade handle ∷ owed) queue = record queue { begun = [] }
+forgot_begun coming owed queue = queue

@@ -1,19 +1,24 @@
 -- The simulated radio: two controllers and the air between them (this project's own).
-use Rattle.std.specs.Prelude.{ℕ, ◌+◌, ◌%◌, ◌==◌, ◌&&◌, not, nat_lt, nat_le, Bool, true, false, List, [], ◌∷◌, ◌++◌, map, Option, Some, None, is_none, slice_index, if◌then◌else◌}
+use Rattle.std.specs.Prelude.{ℕ, ◌+◌, ◌%◌, ◌==◌, ◌&&◌, not, nat_lt, nat_le, Bool, true, false, List, [], ◌∷◌, ◌++◌, length, map, Option, Some, None, is_none, slice_index, if◌then◌else◌}
 use Rattle.byteorder.specs.Endian.{little_number}
 use Rattle.bt_base.specs.Octets.{le16}
 use Rattle.h4_framing.specs.Packets.{Packet, Command, Acl, Sync, Event}
 use Rattle.hci_packets.specs.Commands.{command_refusal}
-use Rattle.acl_fragments.specs.Pieces.{Piece, starts}
+use Rattle.acl_fragments.specs.Pieces.{Piece, starts, channel_of}
 use Rattle.acl_fragments.specs.Answers.{answer, held_after}
 use Rattle.capture.specs.declared.flow.Flow.TheVariants.{Out}
 use Rattle.capture.specs.Pdus.{piece_of, whole_of}
-use Rattle.capture.specs.Frames.{frame_pieces, way_served}
-use Rattle.push_script.specs.declared.word.Side.{Side}
-use Rattle.push_script.specs.declared.word.Side.TheVariants as sides
-use Rattle.push_script.specs.declared.word.Way.{Way}
-use Rattle.push_script.specs.declared.word.Way.TheVariants.{Ab, Ba}
-use Rattle.radio_air.specs.Controllers.{Answer, Returned, Stated, Called, LinkMade, LinkGone, Carried, address, Controller, new_controller, owing, after_giving_back, after_handing}
+use Rattle.push_terms.specs.declared.word.Side.{Side}
+use Rattle.push_terms.specs.declared.word.Side.TheVariants as sides
+use Rattle.push_terms.specs.declared.word.Way.{Way}
+use Rattle.push_terms.specs.declared.word.Word.{Word}
+use Rattle.radio_air.specs.declared.fate.Fate.{Fate}
+use Rattle.radio_air.specs.declared.deed.Deed.{Deed}
+use Rattle.radio_air.specs.declared.deed.Deed.TheVariants.{Nothing, Meets, Fires, FiresBoth, Breaks, Cancels}
+use Rattle.radio_air.specs.Rings.{first_or_nothing}
+use Rattle.radio_air.specs.Fates.{Meeting, meets}
+use Rattle.radio_air.specs.Words.{sender, receiver, deed_of, served_by}
+use Rattle.radio_air.specs.Controllers.{Answer, Returned, Stated, Called, LinkMade, LinkGone, address, other_side, Controller, new_controller, owing, after_giving_back, first_packet, after_handing, is_empty}
 
 -- how far the two devices are with a link
 pub data Phase : Type 0 where
@@ -28,19 +33,19 @@ pub data Phase : Type 0 where
 
 abbrev pub is_apart : Phase → Bool
 is_apart Apart = true
-is_apart _ = false
+is_apart phase = false
 
 abbrev pub is_paging : Phase → Bool
 is_paging Paging = true
-is_paging _ = false
+is_paging phase = false
 
 abbrev pub is_requested : Phase → Bool
 is_requested Requested = true
-is_requested _ = false
+is_requested phase = false
 
 abbrev pub is_together : Phase → Bool
 is_together Together = true
-is_together _ = false
+is_together phase = false
 
 pub record Radio : Type 0 where
   -- the length and the number of the ACL packets that each controller takes
@@ -51,15 +56,11 @@ pub record Radio : Type 0 where
   pub phase : Phase
   -- how many links there were so far
   pub number : ℕ
-  -- the frames that wait in each direction
-  pub ab : List (List ℕ)
-  pub ba : List (List ℕ)
   -- the direction that a `pass` served last
   pub served : Option Way
 
 abbrev pub new_radio : ℕ → ℕ → Radio
-new_radio size count =
-    record { size = size; count = count; a = new_controller; b = new_controller; phase = Apart; number = 0; ab = []; ba = []; served = None }
+new_radio size count = record { size = size; count = count; a = new_controller; b = new_controller; phase = Apart; number = 0; served = None }
 
 abbrev pub controller : Side → Radio → Controller
 controller sides.A radio = radio.a
@@ -71,8 +72,7 @@ with_controller sides.B one radio = record radio { b = one }
 
 -- the controller of a side owes its host something more
 abbrev pub owes : Side → List Answer → Radio → Radio
-owes sides.A more radio = record radio { a = owing more radio.a }
-owes sides.B more radio = record radio { b = owing more radio.b }
+owes side more radio = with_controller side (owing more (controller side radio)) radio
 
 -- ---- commands of a host
 
@@ -104,10 +104,12 @@ abbrev pub after_accepting : Side → Radio → Radio
 after_accepting sides.A radio = radio
 after_accepting sides.B radio = if is_requested radio.phase then joined radio else radio
 
--- the link ends, for each host with its reason; all frames leave the air
-abbrev pub parted : ℕ → ℕ → Radio → Radio
-parted for_a for_b radio =
-    record radio { a = owing (LinkGone radio.number for_a ∷ []) radio.a; b = owing (LinkGone radio.number for_b ∷ []) radio.b; phase = Apart; ab = []; ba = [] }
+-- the link ends for one host, with its reason; all its frames leave the air
+abbrev pub parting : (handle reason : ℕ) → Controller → Controller
+parting handle reason controller = record controller { waiting = []; owed = controller.owed ++ LinkGone handle reason ∷ [] }
+
+abbrev pub parted : (for_a for_b : ℕ) → Radio → Radio
+parted for_a for_b radio = record radio { a = parting radio.number for_a radio.a; b = parting radio.number for_b radio.b; phase = Apart }
 
 -- the host of that side knows of the link in the air, and that it is up
 abbrev pub knows_link : Side → Radio → Bool
@@ -118,6 +120,7 @@ abbrev pub parted_by : Side → Radio → Radio
 parted_by sides.A radio = parted 0x16 0x13 radio
 parted_by sides.B radio = parted 0x13 0x16 radio
 
+-- one for another handle, or for a link that is gone already, has no effect
 abbrev pub after_disconnecting : Side → ℕ → Radio → Radio
 after_disconnecting side handle radio = if knows_link side radio && (handle == radio.number) then parted_by side radio else radio
 
@@ -146,7 +149,7 @@ after_command side opcode params radio = if is_none (command_refusal opcode para
 
 -- ---- ACL packets of a host
 
--- the longest PDU: as long as its length field can say
+-- the longest frame: as long as its length field can say
 abbrev pub frame_limit : ℕ
 frame_limit = 65539
 
@@ -154,16 +157,18 @@ frame_limit = 65539
 abbrev pub piece_from : Controller → Packet → Option Piece
 piece_from controller packet = if controller.up then piece_of controller.told packet else None
 
-abbrev pub after_piece : Controller → Option Piece → Controller
-after_piece controller None = controller
-after_piece controller (Some piece) =
-    record controller { joining = held_after frame_limit controller.joining (starts piece.boundary) piece.octets }
+-- the frame that a piece completes, and what was begun after it
+abbrev pub frames_by : List ℕ → Piece → List (List ℕ)
+frames_by begun piece = map (λ pdu. pdu.octets) (whole_of Out (answer frame_limit begun (starts piece.boundary) piece.octets))
 
--- the frame that a piece completes
-abbrev pub frames_by : Controller → Option Piece → List (List ℕ)
-frames_by controller None = []
-frames_by controller (Some piece) =
-    map (λ pdu. pdu.octets) (whole_of Out (answer frame_limit controller.joining (starts piece.boundary) piece.octets))
+abbrev pub begun_after : List ℕ → Piece → List ℕ
+begun_after begun piece = held_after frame_limit begun (starts piece.boundary) piece.octets
+
+-- a frame that is complete waits behind the others, where its host knows of the link in the air; else it is dropped
+abbrev pub with_piece : (flies : Bool) → Option Piece → Controller → Controller
+with_piece flies None controller = controller
+with_piece flies (Some piece) controller =
+    record controller { begun = begun_after controller.begun piece; waiting = if flies then controller.waiting ++ frames_by controller.begun piece else controller.waiting }
 
 -- A packet on the handle of the last link that the host was told of is taken. Where as many were taken as one event can
 -- give back, they are given back first.
@@ -175,18 +180,11 @@ after_taking handle controller =
     else record controller { taken = controller.taken + 1 })
     else controller
 
--- a frame is put into the air behind those that wait, where its host knows of the link in the air
-abbrev pub with_frames : Side → List (List ℕ) → Radio → Radio
-with_frames sides.A frames radio = record radio { ab = radio.ab ++ frames }
-with_frames sides.B frames radio = record radio { ba = radio.ba ++ frames }
-
-abbrev pub putting : Side → List (List ℕ) → Radio → Radio
-putting side frames radio = if knows_link side radio then with_frames side frames radio else radio
-
 abbrev pub after_acl : Side → ℕ → List ℕ → Radio → Radio
 after_acl side word octets radio =
-    putting side (frames_by (controller side radio) (piece_from (controller side radio) (Acl word octets)))
-    (with_controller side (after_taking (word % 0x1000) (after_piece (controller side radio) (piece_from (controller side radio) (Acl word octets)))) radio)
+    with_controller side
+    (after_taking (word % 0x1000) (with_piece (knows_link side radio) (piece_from (controller side radio) (Acl word octets)) (controller side radio)))
+    radio
 
 -- ---- what the radio does
 
@@ -201,43 +199,55 @@ after_packet side (Event code params) radio = radio
 abbrev pub after_offer : Side → Radio → Radio
 after_offer side radio = with_controller side (after_giving_back (controller side radio)) radio
 
--- the first answer that is owed was handed to the host
+-- the packet that comes to the host of a side next
+abbrev pub next_packet : Side → Radio → Option Packet
+next_packet side radio = first_packet side radio.number (controller side radio).coming (controller side radio).owed
+
+-- it was handed to the host
 abbrev pub after_answer : Side → Radio → Radio
 after_answer side radio = with_controller side (after_handing (controller side radio)) radio
 
--- nothing is owed to either host
-abbrev pub is_owed_nothing : List Answer → Bool
-is_owed_nothing [] = true
-is_owed_nothing (answer ∷ rest) = false
+-- nothing is on its way to either host
+abbrev pub is_idle : Controller → Bool
+is_idle controller = is_empty controller.coming && is_empty controller.owed
 
 abbrev pub is_quiet : Radio → Bool
-is_quiet radio = is_owed_nothing radio.a.owed && is_owed_nothing radio.b.owed
+is_quiet radio = is_idle radio.a && is_idle radio.b
 
 -- ---- the words of a script
 
--- a frame is handed over in pieces and leaves its direction
-abbrev pub delivered : Way → List ℕ → List (List ℕ) → Radio → Radio
-delivered Ab frame rest radio =
-    record radio { b = owing (map (Carried radio.number) (frame_pieces radio.size frame)) radio.b; ab = rest; served = Some Ab }
-delivered Ba frame rest radio =
-    record radio { a = owing (map (Carried radio.number) (frame_pieces radio.size frame)) radio.a; ba = rest; served = Some Ba }
-
-abbrev pub delivered_first : Way → List (List ℕ) → Radio → Option Radio
-delivered_first way [] radio = None
-delivered_first way (frame ∷ rest) radio = Some (delivered way frame rest radio)
-
+-- the frames that wait in a direction
 abbrev pub frames : Way → Radio → List (List ℕ)
-frames Ab radio = radio.ab
-frames Ba radio = radio.ba
+frames way radio = (controller (sender way) radio).waiting
 
-abbrev pub served_next : Option Way → Radio → Option Radio
-served_next None radio = None
-served_next (Some way) radio = delivered_first way (frames way radio) radio
+-- the channel of the first of them, where it has a whole header: its receiver is asked whether it has a check word for it
+abbrev pub first_channel : List (List ℕ) → Option ℕ
+first_channel waiting = if nat_lt (length (first_or_nothing waiting)) 4 then None else Some (channel_of (first_or_nothing waiting))
 
--- `pass`: a frame is delivered; nothing happens where none waits
-abbrev pub passed : Radio → Option Radio
-passed radio = served_next (way_served radio.served radio.ab radio.ba) radio
+abbrev pub channel : Way → Radio → Option ℕ
+channel way radio = first_channel (frames way radio)
 
--- `drop`: the link breaks, with reason 08 for both hosts; nothing happens where there is none
-abbrev pub dropped : Radio → Option Radio
-dropped radio = if is_together radio.phase then Some (parted 0x08 0x08 radio) else None
+-- the first frame that waits in a direction meets its fate: what stays of it is still the first, and its pieces come to
+-- the host that the direction leads to
+abbrev pub hands : Way → Meeting → List (List ℕ) → Radio → Radio
+hands way meeting rest radio =
+    with_controller (receiver way) (record (controller (receiver way) radio) { coming = (controller (receiver way) radio).coming ++ meeting.pieces })
+    (with_controller (sender way) (record (controller (sender way) radio) { waiting = meeting.stays ++ rest }) radio)
+
+abbrev pub after_meeting : Way → Fate → (checked : Bool) → List (List ℕ) → Radio → Radio
+after_meeting way fate checked [] radio = radio
+after_meeting way fate checked (frame ∷ rest) radio = record (hands way (meets radio.size fate checked frame) rest radio) { served = served_by way fate radio.served }
+
+-- what a word finds
+abbrev pub found : Word → Radio → Deed
+found word radio = deed_of word radio.served radio.a.waiting radio.b.waiting (is_together radio.phase)
+
+-- The radio after what a word found: a broken link ends with reason 08 for both hosts. That timers fire, and that a push
+-- is cancelled, is done by the hosts.
+abbrev pub after_deed : (checked : Bool) → Deed → Radio → Radio
+after_deed checked Nothing radio = radio
+after_deed checked (Meets way fate) radio = after_meeting way fate checked (frames way radio) radio
+after_deed checked (Fires side) radio = radio
+after_deed checked FiresBoth radio = radio
+after_deed checked Breaks radio = parted 0x08 0x08 radio
+after_deed checked Cancels radio = radio

@@ -4,13 +4,13 @@ ghost use Rattle.std.specs.Prelude.{◌≡◌, ◌+◌, ◌≤◌, ◌<◌, ◌�
 ghost use Rattle.hci_packets.specs.Units.{Writes, event_unit};
 ghost use Rattle.hci_packets.specs.Events.{ConnectionComplete, ConnectionRequest, DisconnectionComplete, CommandComplete, CommandStatus, CompletedPackets};
 ghost use Rattle.bt_base.specs.Octets.{le16};
-ghost use Rattle.radio_air.specs.Controllers.{address, other_side, packet_of};
-ghost use Rattle.radio_air.specs.Owed.{plain_answer, IsWritten, IsShort};
-ghost use Rattle.radio_air.specs.Showing.{back_by};
+ghost use Rattle.radio_air.specs.Controllers.{address, other_side, answer_packet};
+ghost use Rattle.radio_air.specs.Owed.{plain_answer, back_by};
+ghost use Rattle.radio_air.specs.Queues.{IsWritten, IsShort};
 
 use bt_base::{BdAddr, Handle};
 use hci_packets::{Event, put_event};
-use push_script::Side;
+use push_terms::Side;
 
 /// What a controller tells its host (Core 5.1, Volume 2 Part E, 7.7).
 #[derive(Clone, Copy, Debug)]
@@ -176,8 +176,8 @@ impl Answer {
     /// It needs room for 14 octets, which the longest has.
     pub(crate) fn write(&self, side: Side, into: &mut [u8]) -> usize
         requires room { 14 ≤ length into.old }
-        ensures written { IsWritten (packet_of side (plain_answer self.now)) result into.old into.new }
-        ensures short { IsShort 14 (packet_of side (plain_answer self.now)) }
+        ensures written { IsWritten (answer_packet side (plain_answer self.now)) result into.old into.new }
+        ensures short { IsShort 14 (answer_packet side (plain_answer self.now)) }
     {
         match *self {
             Answer::Done(opcode) => put_returned(opcode, &[0], into),

@@ -1,15 +1,15 @@
 //! Commands of a host.
 
-ghost use Rattle.std.specs.Prelude.{◌≡◌, OnOk};
+ghost use Rattle.std.specs.Prelude.{◌≡◌, true, OnOk, OnErr};
 ghost use Rattle.hci_packets.specs.Commands.{plain_command, ReadBufferSize};
-ghost use Rattle.radio_air.specs.Acting.{after_kind};
+ghost use Rattle.radio_air.specs.Owed.{after_kind, owes_many};
 ghost use Rattle.radio_air.specs.Radio.{after_command};
 
 use crate::answer::Answer;
 use crate::radio::Radio;
 use bt_base::NoMemory;
 use hci_packets::{Command, command_of};
-use push_script::Side;
+use push_terms::Side;
 
 const CREATE_CONNECTION: u16 = 0x0405;
 
@@ -25,18 +25,20 @@ impl Radio {
     /// A host sends a command (Core 5.1, Volume 2 Part E, 7). One whose parameters are refused does
     /// nothing.
     pub(crate) fn obey(&mut self, side: Side, opcode: u16, params: &[u8]) -> Result<(), NoMemory>
-        ensures { OnOk result (self.new ≡ after_command side opcode params.now self.old) }
+        ensures ok { OnOk result (self.new ≡ after_command side opcode params.now self.old) }
+        ensures full { OnErr result (owes_many 15 self.old ≡ true) }
     {
         let Ok(command) = command_of(opcode, params) else {
             return Ok(());
         };
-        self.act(side, &command)?;
+        self.do_command(side, &command)?;
         Ok(())
     }
 
     /// Answers a command, and does what it says.
-    fn act(&mut self, side: Side, command: &Command<'_>) -> Result<(), NoMemory>
-        ensures { OnOk result (self.new ≡ after_kind side (plain_command command.now) self.old) }
+    fn do_command(&mut self, side: Side, command: &Command<'_>) -> Result<(), NoMemory>
+        ensures ok { OnOk result (self.new ≡ after_kind side (plain_command command.now) self.old) }
+        ensures full { OnErr result (owes_many 15 self.old ≡ true) }
     {
         match *command {
             Command::CreateConnection { .. } => {
@@ -64,7 +66,8 @@ impl Radio {
     }
 
     fn owe_sizes(&mut self, side: Side) -> Result<(), NoMemory>
-        ensures { OnOk result (self.new ≡ after_kind side ReadBufferSize self.old) }
+        ensures ok { OnOk result (self.new ≡ after_kind side ReadBufferSize self.old) }
+        ensures full { OnErr result (owes_many 15 self.old ≡ true) }
     {
         let answer = Answer::BufferSizes {
             size: self.size,

@@ -1,133 +1,167 @@
-//! Frames that are put into the air, and that leave it.
+//! Frames in a ring of octets.
 
-ghost use Rattle.std.specs.Prelude.{◌≡◌, ◌%◌, true, is_some, Some, IfOk, OnOk, option_to_list};
-ghost use Rattle.std.specs.Option.{option_map};
-ghost use Rattle.h4_framing.specs.Packets.{Acl};
-ghost use Rattle.capture.specs.Frames.{other_way, way_served};
-ghost use Rattle.push_script.specs.declared.word.Way.{Way};
-ghost use Rattle.radio_air.specs.Acting.{or_as_before};
-ghost use Rattle.radio_air.specs.Radio.{controller, with_controller, piece_from, after_piece, frames_by, after_taking, after_acl, putting, is_quiet, passed, served_next};
+ghost use Rattle.std.specs.Prelude.{◌≡◌, ◌≢◌, ◌+◌, ◌≤◌, ◌<◌, ◌^◌, ◌++◌, ◌∷◌, [], length, take, drop, bit_xor, slice_set, slice_index, IfOk, OnOk, OnErr};
+ghost use Rattle.byteorder.specs.Endian.{little_number};
+ghost use Rattle.radio_air.specs.Rings.{total, first_or_nothing, with_first, octets_in, octets_reserved, frames_reserved};
 
-use crate::radio::Radio;
+use crate::ring::{append, change, copy_from, make_room, number_at};
 use bt_base::NoMemory;
-use push_script::{Side, Way};
+use circular_buffer::HeapCircularBuffer;
+use std::alloc::Global;
+use std::marker::Model;
 
-/// The direction whose turn it is: other than the last one that was served, and from a to b at first.
-fn other_way(last: Option<Way>) -> Way
-    ensures { result ≡ other_way last }
-{
-    match last {
-        Some(Way::Ab) => Way::Ba,
-        Some(Way::Ba) | None => Way::Ab,
-    }
+/// For how many octets there is room at first: 1,048,576 that wait, and the longest frame.
+const OCTETS: usize = 1_114_115;
+
+/// For how many frames there is room at first.
+const FRAMES: usize = 256;
+
+/// Frames, one behind the other, and behind them the octets of one that was begun. A clause sees the
+/// octets of each.
+#[derive(Drop)]
+pub(crate) struct Frames {
+    lengths: HeapCircularBuffer<usize>,
+    octets: HeapCircularBuffer<u8>,
+    /// How many octets the whole frames have together.
+    whole: usize,
 }
 
-impl Radio {
-    /// An ACL packet comes out of the host of a side. The frame that it completes is put into the
-    /// air, where the host knows of the link there.
-    pub(crate) fn carry(&mut self, side: Side, word: u16, octets: &[u8]) -> Result<(), NoMemory>
-        ensures { OnOk result (self.new ≡ after_acl side word octets.now self.old) }
-    {
-        let frame = self.take_acl(side, word, octets)?;
-        self.put(side, frame)
-    }
+impl Model for Frames {
+    ghost use Rattle.radio_air.specs.Rings.{Kept, kept_of, IsRing};
 
-    /// The controller of a side takes an ACL packet. Answers the frame that it completes.
-    fn take_acl(
-        &mut self,
-        side: Side,
-        word: u16,
-        octets: &[u8],
-    ) -> Result<Option<Vec<u8>>, NoMemory>
-        ensures frame { IfOk result (λ frame. option_to_list (option_map (λ octets. octets.items) frame) ≡ frames_by (controller side self.old) (piece_from (controller side self.old) (Acl word octets.now))) }
-        ensures radio { OnOk result (self.new ≡ with_controller side (after_taking (word % 0x1000) (after_piece (controller side self.old) (piece_from (controller side self.old) (Acl word octets.now)))) self.old) }
-    {
-        match side {
-            Side::A => self.a.take_acl(self.alloc, word, octets),
-            Side::B => self.b.take_acl(self.alloc, word, octets),
-        }
-    }
+    ghost Value = { Kept };
 
-    /// Puts a frame of the host of a side behind those that wait.
-    fn put(&mut self, side: Side, frame: Option<Vec<u8>>) -> Result<(), NoMemory>
-        ensures { OnOk result (self.new ≡ putting side (option_to_list (option_map (λ octets. octets.items) frame)) self.old) }
-    {
-        if !self.knows_link(side) {
-            return Ok(());
-        }
-        let Some(frame) = frame else {
-            return Ok(());
+    ghost view = { λ frames. kept_of frames.whole frames.lengths.items frames.octets.items };
+
+    ghost invariant = { λ frames. IsRing frames.whole frames.lengths.items frames.octets.items frames.lengths.capacity frames.octets.capacity };
+}
+
+/// Takes the first lengths away, of which it needs as many, and answers their sum.
+fn take_lengths(lengths: &mut HeapCircularBuffer<usize>, count: usize) -> usize
+    requires enough { count ≤ length lengths.old.items }
+    requires fits { total lengths.old.items < 2 ^ 63 }
+    ensures sum { result ≡ total (take count lengths.old.items) }
+    ensures left { lengths.new.items ≡ drop count lengths.old.items }
+    ensures room { lengths.new.capacity ≡ lengths.old.capacity }
+{
+    let mut octets = 0;
+    for _ in 0..count {
+        let Some(length) = lengths.pop_front() else {
+            unreachable!()
         };
-        match side {
-            Side::A => self.ab.push(frame),
-            Side::B => self.ba.push(frame),
+        octets += length;
+    }
+    octets
+}
+
+impl Frames {
+    /// No frame, with the room that is reserved. `NoMemory` where that cannot be had.
+    pub(crate) fn new(alloc: Global) -> Result<Frames, NoMemory>
+        ensures { IfOk result (λ frames. frames ≡ record { frames = []; begun = [] }) }
+    {
+        Ok(Frames {
+            lengths: HeapCircularBuffer::with_capacity(alloc, FRAMES)?,
+            octets: HeapCircularBuffer::with_capacity(alloc, OCTETS)?,
+            whole: 0,
+        })
+    }
+
+    /// How many frames are whole.
+    pub(crate) fn len(&self) -> usize
+        ensures { result ≡ length self.now.frames }
+    {
+        self.lengths.len()
+    }
+
+    /// How many octets of a frame were begun.
+    pub(crate) fn begun(&self) -> usize
+        ensures length { result ≡ length self.now.begun }
+        ensures small { result < 2 ^ 63 }
+    {
+        self.octets.len() - self.whole
+    }
+
+    /// The number in the first two octets of what was begun.
+    pub(crate) fn begun_number(&self) -> u16
+        requires { 2 ≤ length self.now.begun }
+        ensures { result ≡ little_number 2 self.now.begun }
+    {
+        number_at(&self.octets, self.whole)
+    }
+
+    /// Goes on with the frame that was begun. `NoMemory` where there is no room for it.
+    pub(crate) fn go_on(&mut self, octets: &[u8]) -> Result<(), NoMemory>
+        requires { length octets.now < 2 ^ 32 }
+        ensures ok { OnOk result (self.new ≡ record { frames = self.old.frames; begun = self.old.begun ++ octets.now }) }
+        ensures unchanged { OnErr result (self.new ≡ self.old) }
+        ensures full { OnErr result (octets_reserved < octets_in self.old + length octets.now) }
+    {
+        append(&mut self.octets, octets)?;
+        Ok(())
+    }
+
+    /// What was begun is a frame. `NoMemory` where there is no room for it.
+    pub(crate) fn complete(&mut self) -> Result<(), NoMemory>
+        ensures ok { OnOk result (self.new ≡ record { frames = self.old.frames ++ self.old.begun ∷ []; begun = [] }) }
+        ensures unchanged { OnErr result (self.new ≡ self.old) }
+        ensures full { OnErr result (frames_reserved ≤ length self.old.frames) }
+    {
+        make_room(&mut self.lengths, 1)?;
+        let length = self.octets.len() - self.whole;
+        let _none_leaves = self.lengths.push_back(length);
+        self.whole = self.octets.len();
+        Ok(())
+    }
+
+    /// Forgets what was begun.
+    pub(crate) fn forget(&mut self)
+        ensures { self.new ≡ record { frames = self.old.frames; begun = [] } }
+    {
+        self.octets.truncate_back(self.whole);
+    }
+
+    /// The first frames leave, of which it needs as many.
+    pub(crate) fn leave(&mut self, count: usize)
+        requires { count ≤ length self.old.frames }
+        ensures { self.new ≡ record { frames = drop count self.old.frames; begun = self.old.begun } }
+    {
+        let octets = self.octets.len();
+        let gone = take_lengths(&mut self.lengths, count);
+        self.octets.truncate_front(octets - gone);
+        self.whole -= gone;
+    }
+
+    /// How many octets the first frame has, none where there is none.
+    pub(crate) fn first_len(&self) -> usize
+        ensures { result ≡ length (first_or_nothing self.now.frames) }
+    {
+        match self.lengths.front() {
+            Some(length) => *length,
+            None => 0,
         }
     }
 
-    /// The direction that is served next. `None` where no frame waits.
-    fn way_served(&self) -> Option<Way>
-        ensures { result ≡ way_served self.now.served self.now.ab self.now.ba }
+    /// The number in two octets of the first frame.
+    pub(crate) fn first_number(&self, at: usize) -> u16
+        requires { at + 2 ≤ length (first_or_nothing self.now.frames) }
+        ensures { result ≡ little_number 2 (drop at (first_or_nothing self.now.frames)) }
     {
-        match (self.ab.is_empty(), self.ba.is_empty()) {
-            (true, true) => None,
-            (false, true) => Some(Way::Ab),
-            (true, false) => Some(Way::Ba),
-            (false, false) => Some(other_way(self.served)),
-        }
+        number_at(&self.octets, at)
     }
 
-    /// The first frame of the direction whose turn it is leaves the air, and is handed over in
-    /// pieces of at most the size of an ACL packet. Where frames wait in one direction alone, it is
-    /// that one. Answers whether a frame waited; where none did, all stays as it is. It takes no
-    /// memory.
-    ///
-    /// It needs that nothing is owed to either host.
-    pub fn pass(&mut self) -> bool
-        requires quiet { is_quiet self.old ≡ true }
-        ensures passed { result ≡ is_some (passed self.old) }
-        ensures radio { self.new ≡ or_as_before (passed self.old) self.old }
+    /// Copies octets of the first frame from the place `from` on, as many as `into` has.
+    pub(crate) fn copy_first(&self, from: usize, into: &mut [u8])
+        requires { from + length into.old ≤ length (first_or_nothing self.now.frames) }
+        ensures { into.new ≡ take (length into.old) (drop from (first_or_nothing self.now.frames)) }
     {
-        let Some(way) = self.way_served() else {
-            return false;
-        };
-        self.deliver(way)
+        copy_from(&self.octets, from, into);
     }
 
-    /// The first frame of a direction is handed over. Answers whether one waited.
-    fn deliver(&mut self, way: Way) -> bool
-        requires quiet { is_quiet self.old ≡ true }
-        ensures passed { result ≡ is_some (served_next (Some way) self.old) }
-        ensures radio { self.new ≡ or_as_before (served_next (Some way) self.old) self.old }
+    /// Combines an octet of the first frame by exclusive or with a mask.
+    pub(crate) fn change_first(&mut self, at: usize, mask: u8)
+        requires { at < length (first_or_nothing self.old.frames) }
+        ensures { self.new ≡ record { frames = with_first (slice_set (first_or_nothing self.old.frames) at (bit_xor (slice_index (first_or_nothing self.old.frames) at) mask)) self.old.frames; begun = self.old.begun } }
     {
-        match way {
-            Way::Ab => self.deliver_to_b(),
-            Way::Ba => self.deliver_to_a(),
-        }
-    }
-
-    fn deliver_to_b(&mut self) -> bool
-        requires quiet { is_quiet self.old ≡ true }
-        ensures passed { result ≡ is_some (served_next (Some Way.Ab) self.old) }
-        ensures radio { self.new ≡ or_as_before (served_next (Some Way.Ab) self.old) self.old }
-    {
-        let Some(frame) = self.ab.pop() else {
-            return false;
-        };
-        self.b.deliver(self.number, self.size, frame);
-        self.served = Some(Way::Ab);
-        true
-    }
-
-    fn deliver_to_a(&mut self) -> bool
-        requires quiet { is_quiet self.old ≡ true }
-        ensures passed { result ≡ is_some (served_next (Some Way.Ba) self.old) }
-        ensures radio { self.new ≡ or_as_before (served_next (Some Way.Ba) self.old) self.old }
-    {
-        let Some(frame) = self.ba.pop() else {
-            return false;
-        };
-        self.a.deliver(self.number, self.size, frame);
-        self.served = Some(Way::Ba);
-        true
+        change(&mut self.octets, at, mask);
     }
 }

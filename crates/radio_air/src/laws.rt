@@ -1,43 +1,21 @@
-//! Laws of the radio: what it does is what a capture of it says.
+//! Laws of the air, for every frame and every fate. They speak of the definitions alone, which the
+//! contracts of the radio cite.
 
-ghost use Rattle.radio_air.specs.Laws.{ShowsNothing, ShowsPacket, ShowsOffer, ShowsAnswer, QuietIsSettled, WordsAct, ShowsMarks, SizesStay};
+ghost use Rattle.radio_air.specs.Laws.{OneFateMore, OneFrameMore, PiecesGive};
 
-/// A new radio shows an empty capture.
-pub fn nothing_is_shown_at_first()
-    ensures { ShowsNothing }
+/// What is heard on one direction of a link grows by what comes of the frame at the position that
+/// the fates before led to.
+pub fn one_fate_more()
+    ensures { OneFateMore }
 {}
 
-/// A packet that comes out of a host.
-pub fn packets_are_shown()
-    ensures { ShowsPacket }
+/// Frames that are said later change nothing of what was heard.
+pub fn one_frame_more()
+    ensures { OneFrameMore }
 {}
 
-/// All that a host offered was taken.
-pub fn offers_are_shown()
-    ensures { ShowsOffer }
-{}
-
-/// An answer that comes into a host is the one that is due.
-pub fn answers_are_shown()
-    ensures { ShowsAnswer }
-{}
-
-/// A radio that owes nothing has handed over all that was due, and both hosts know of its link.
-pub fn quiet_is_settled()
-    ensures { QuietIsSettled }
-{}
-
-/// The words `pass` and `drop` act as they do on the air of the capture.
-pub fn words_act_on_the_air()
-    ensures { WordsAct }
-{}
-
-/// The begin and the end of a push change nothing in the air.
-pub fn marks_are_shown()
-    ensures { ShowsMarks }
-{}
-
-/// The length and the number of the ACL packets stay.
-pub fn sizes_stay()
-    ensures { SizesStay }
+/// The pieces of a frame that met its fate give what comes of it, whatever was held before.
+#[tactic(auto, using(crate::proofs::Flying::pieces_give))]
+pub fn pieces_give_what_comes()
+    ensures { PiecesGive }
 {}

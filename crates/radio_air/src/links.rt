@@ -1,15 +1,15 @@
 //! Links that are asked for, made and ended.
 
-ghost use Rattle.std.specs.Prelude.{◌≡◌, ◌<◌, ◌&&◌, is_some, OnOk, IfOk};
-ghost use Rattle.push_script.specs.declared.word.Side.{Side};
-ghost use Rattle.radio_air.specs.Acting.{or_as_before};
-ghost use Rattle.radio_air.specs.Radio.{may_page, is_reached, is_requested, knows_link, joined, parted, parted_by, scanning, after_reaching, after_paging, after_accepting, after_disconnecting, dropped};
+ghost use Rattle.std.specs.Prelude.{◌≡◌, ◌<◌, ◌&&◌, true, OnOk, OnErr};
+ghost use Rattle.push_terms.specs.declared.word.Side.{Side};
+ghost use Rattle.radio_air.specs.Owed.{owes_many};
+ghost use Rattle.radio_air.specs.Radio.{may_page, is_reached, is_requested, knows_link, joined, parted, parted_by, scanning, after_reaching, after_paging, after_accepting, after_disconnecting, is_quiet};
 
 use crate::answer::Answer;
 use crate::phase::Phase;
 use crate::radio::Radio;
 use bt_base::{Handle, NoMemory};
-use push_script::Side;
+use push_terms::Side;
 
 /// Connection Timeout (Core 5.1, Volume 1 Part F, 2.8).
 const TIMEOUT: u8 = 0x08;
@@ -46,7 +46,8 @@ impl Radio {
 
     /// The host of b is asked once device b hears that it is paged.
     pub(crate) fn reach(&mut self) -> Result<(), NoMemory>
-        ensures { OnOk result (self.new ≡ after_reaching self.old) }
+        ensures ok { OnOk result (self.new ≡ after_reaching self.old) }
+        ensures full { OnErr result (owes_many 16 self.old ≡ true) }
     {
         if self.is_reached() {
             self.b.owe(Answer::Called)?;
@@ -57,7 +58,8 @@ impl Radio {
 
     /// Device a pages device b. Device b pages nobody.
     pub(crate) fn page(&mut self, side: Side) -> Result<(), NoMemory>
-        ensures { OnOk result (self.new ≡ after_paging side self.old) }
+        ensures ok { OnOk result (self.new ≡ after_paging side self.old) }
+        ensures full { OnErr result (owes_many 16 self.old ≡ true) }
     {
         match side {
             Side::A => self.page_b(),
@@ -66,7 +68,8 @@ impl Radio {
     }
 
     fn page_b(&mut self) -> Result<(), NoMemory>
-        ensures { OnOk result (self.new ≡ after_paging Side.A self.old) }
+        ensures ok { OnOk result (self.new ≡ after_paging Side.A self.old) }
+        ensures full { OnErr result (owes_many 16 self.old ≡ true) }
     {
         if self.may_page() {
             self.phase = Phase::Paging;
@@ -77,7 +80,8 @@ impl Radio {
 
     /// The host of b takes the link that it was asked for: both hosts are told of a new link.
     pub(crate) fn accept(&mut self, side: Side) -> Result<(), NoMemory>
-        ensures { OnOk result (self.new ≡ after_accepting side self.old) }
+        ensures ok { OnOk result (self.new ≡ after_accepting side self.old) }
+        ensures full { OnErr result (owes_many 16 self.old ≡ true) }
     {
         match side {
             Side::A => Ok(()),
@@ -86,7 +90,8 @@ impl Radio {
     }
 
     fn make_link(&mut self) -> Result<(), NoMemory>
-        ensures { OnOk result (self.new ≡ after_accepting Side.B self.old) }
+        ensures ok { OnOk result (self.new ≡ after_accepting Side.B self.old) }
+        ensures full { OnErr result (owes_many 16 self.old ≡ true) }
     {
         if self.phase.is_requested() {
             let handle = Handle::of(self.number.get() + 1).unwrap();
@@ -100,7 +105,8 @@ impl Radio {
 
     /// The link ends, for each host with its reason. All frames leave the air.
     fn part(&mut self, for_a: u8, for_b: u8) -> Result<(), NoMemory>
-        ensures { OnOk result (self.new ≡ parted for_a for_b self.old) }
+        ensures ok { OnOk result (self.new ≡ parted for_a for_b self.old) }
+        ensures full { OnErr result (owes_many 16 self.old ≡ true) }
     {
         let handle = self.number;
         let reason = for_a;
@@ -126,7 +132,8 @@ impl Radio {
 
     /// The host of a side ends the link.
     pub(crate) fn disconnect(&mut self, side: Side, handle: Handle) -> Result<(), NoMemory>
-        ensures { OnOk result (self.new ≡ after_disconnecting side handle self.old) }
+        ensures ok { OnOk result (self.new ≡ after_disconnecting side handle self.old) }
+        ensures full { OnErr result (owes_many 16 self.old ≡ true) }
     {
         if !self.knows_link(side) || handle.get() != self.number.get() {
             return Ok(());
@@ -137,18 +144,16 @@ impl Radio {
         }
     }
 
-    /// The link breaks with reason 08 for both hosts, and all frames leave the air. Answers whether
-    /// there was a link; where there was none, all stays as it is. `NoMemory` where what the hosts
-    /// are told cannot be kept.
-    pub fn break_link(&mut self) -> Result<bool, NoMemory>
-        ensures broken { IfOk result (λ broken. broken ≡ is_some (dropped self.old)) }
-        ensures radio { OnOk result (self.new ≡ or_as_before (dropped self.old) self.old) }
+    /// The link breaks: it ends with reason 08 for both hosts. It takes no memory.
+    ///
+    /// It needs that nothing is on its way to either host.
+    pub(crate) fn break_link(&mut self)
+        requires { is_quiet self.old ≡ true }
+        ensures { self.new ≡ parted 0x08 0x08 self.old }
     {
-        if !self.phase.is_together() {
-            return Ok(false);
+        if self.part(TIMEOUT, TIMEOUT).is_err() {
+            unreachable!()
         }
-        self.part(TIMEOUT, TIMEOUT)?;
-        Ok(true)
     }
 
     /// The host of a side writes Scan Enable.

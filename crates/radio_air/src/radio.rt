@@ -1,52 +1,82 @@
 //! The simulated radio: two controllers and the air between them.
 
-ghost use Rattle.std.specs.Prelude.{◌≡◌, ◌≤◌, ◌∷◌, [], true, min, length, slice_get, IfOk, OnOk};
-ghost use Rattle.std.specs.Option.{option_map};
+ghost use Rattle.std.specs.Prelude.{◌≡◌, ◌≤◌, ◌<◌, ◌^◌, ◌∷◌, [], true, min, length, drop, IfOk, OnOk, OnErr};
 ghost use Rattle.h4_framing.specs.Packets.{packet};
-ghost use Rattle.radio_air.specs.Acting.{IsSize};
-ghost use Rattle.radio_air.specs.Owed.{plain_answer, longest_packet, HandsFirst};
-ghost use Rattle.radio_air.specs.Radio.{new_radio, controller, owes, frames, after_packet, after_offer, after_answer, is_quiet, is_together};
-ghost use Rattle.radio_air.specs.Showing.{outstanding_at};
+ghost use Rattle.push_terms.specs.declared.word.Way.{Way};
+ghost use Rattle.radio_air.specs.Controllers.{first_packet};
+ghost use Rattle.radio_air.specs.Queues.{IsSize, IsHandedOver, longest_packet};
+ghost use Rattle.radio_air.specs.Owed.{plain_answer, told_first, forgot_begun, answers_reserved, owes_many, wants_memory, outstanding_at};
+ghost use Rattle.radio_air.specs.Radio.{new_radio, controller, with_controller, owes, channel, found, after_packet, after_offer, after_answer, after_deed, next_packet, is_quiet, is_together};
 
 use crate::answer::Answer;
-use crate::controller::Controller;
+use crate::deed::Deed;
+use crate::manager::LinkManager;
 use crate::phase::Phase;
-use crate::queue::FrameQueue;
+use crate::queue::AirQueue;
 use bt_base::{Handle, NoMemory};
 use h4_framing::Unit;
-use push_script::{Side, Way};
+use push_terms::{Side, Way, Word};
 use std::alloc::Global;
 use std::marker::Model;
 
 /// The controllers of two hosts, a and b, and the air between them. A clause sees what each
 /// controller owes its host, and the frames that wait in the air.
+///
+/// In each direction memory is reserved for 256 frames and 1,048,576 octets that wait.
 #[derive(Drop)]
 pub struct Radio {
-    pub(crate) alloc: Global,
     /// How many octets an ACL packet may have.
     pub(crate) size: u16,
     /// How many ACL packets each controller takes.
     pub(crate) count: u16,
-    pub(crate) a: Controller,
-    pub(crate) b: Controller,
+    pub(crate) a: LinkManager,
+    pub(crate) b: LinkManager,
     pub(crate) phase: Phase,
     /// The handle of the last link, 0 where there was none: the n-th link has handle n.
     pub(crate) number: Handle,
-    pub(crate) ab: FrameQueue,
-    pub(crate) ba: FrameQueue,
-    /// The direction that was served last.
+    pub(crate) ab: AirQueue,
+    pub(crate) ba: AirQueue,
+    /// The direction that a `pass` served last.
     pub(crate) served: Option<Way>,
 }
 
 impl Model for Radio {
+    ghost use Rattle.std.specs.Prelude.{◌≡◌};
     ghost use Rattle.radio_air.specs.Radio.{Radio as Seen};
-    ghost use Rattle.radio_air.specs.Acting.{IsSize, HasHandle, plain_phase};
+    ghost use Rattle.radio_air.specs.Queues.{IsSize};
+    ghost use Rattle.radio_air.specs.Owed.{HasHandle, plain_phase, with_queues};
 
     ghost Value = { Seen };
 
-    ghost view = { λ radio. record { size = radio.size; count = radio.count; a = radio.a; b = radio.b; phase = plain_phase radio.phase; number = radio.number; ab = radio.ab; ba = radio.ba; served = radio.served } };
+    ghost view = { λ radio. record { size = radio.size; count = radio.count; a = with_queues radio.ab radio.ba radio.a; b = with_queues radio.ba radio.ab radio.b; phase = plain_phase radio.phase; number = radio.number; served = radio.served } };
 
-    ghost invariant = { λ radio. IsSize radio.size × HasHandle radio.phase radio.number };
+    ghost invariant = { λ radio. IsSize radio.size × HasHandle radio.phase radio.number × (radio.ab.size ≡ radio.size) × (radio.ba.size ≡ radio.size) };
+}
+
+/// Hands what comes next to the host of a side: a piece of the other direction on the link of that
+/// handle, or else an answer. A new link begins with nothing in its own direction.
+fn hand(
+    side: Side,
+    handle: Handle,
+    manager: &mut LinkManager,
+    own: &mut AirQueue,
+    other: &mut AirQueue,
+    into: &mut [u8],
+) -> Option<usize>
+    requires room { longest_packet ≤ length into.old }
+    ensures handed { IsHandedOver (first_packet side handle other.old.coming manager.old.owed) result into.old into.new }
+    ensures manager { manager.new ≡ told_first other.old.coming manager.old.owed manager.old }
+    ensures own { own.new ≡ forgot_begun other.old.coming manager.old.owed own.old }
+    ensures other { other.new ≡ record other.old { coming = drop 1 other.old.coming } }
+{
+    if let Some(count) = other.hand(handle, into) {
+        return Some(count);
+    }
+    let answer = manager.next()?;
+    if let Answer::LinkMade(_) = answer {
+        own.forget();
+    }
+    Some(answer.write(side, into))
 }
 
 impl Radio {
@@ -57,24 +87,25 @@ impl Radio {
         ensures { IfOk result (λ radio. radio ≡ new_radio size count) }
     {
         Ok(Radio {
-            alloc,
             size,
             count,
-            a: Controller::new(alloc)?,
-            b: Controller::new(alloc)?,
+            a: LinkManager::new(alloc)?,
+            b: LinkManager::new(alloc)?,
             phase: Phase::Apart,
             number: Handle::of(0).unwrap(),
-            ab: FrameQueue::new(alloc)?,
-            ba: FrameQueue::new(alloc)?,
+            ab: AirQueue::new(alloc, size)?,
+            ba: AirQueue::new(alloc, size)?,
             served: None,
         })
     }
 
     /// A packet comes out of the host of a side: a command is obeyed, and the piece of an ACL packet
     /// may complete a frame, which is put into the air. Nothing else is done (Core 5.1, Volume 2
-    /// Part E, 4.1). `NoMemory` where what it leads to cannot be kept.
+    /// Part E, 4.1). While nothing is handed over, `NoMemory` comes only where fifteen answers are
+    /// owed to a host already, or more frames or octets would wait than are reserved for.
     pub fn take(&mut self, side: Side, unit: &Unit<'_>) -> Result<(), NoMemory>
-        ensures { OnOk result (self.new ≡ after_packet side (packet unit.now) self.old) }
+        ensures ok { OnOk result (self.new ≡ after_packet side (packet unit.now) self.old) }
+        ensures memory { OnErr result (self.old.a.coming ≡ [] → self.old.b.coming ≡ [] → wants_memory self.old (after_packet side (packet unit.now) self.old) ≡ true) }
     {
         match *unit {
             Unit::Command { opcode, params } => self.obey(side, opcode, params),
@@ -84,9 +115,11 @@ impl Radio {
     }
 
     /// All that the host of a side offered was taken: the ACL packets among it are given back by one
-    /// event (Core 5.1, Volume 2 Part E, 7.7.19). `NoMemory` where that cannot be kept.
+    /// event (Core 5.1, Volume 2 Part E, 7.7.19). `NoMemory` only where sixteen answers are owed to a
+    /// host already.
     pub fn offered(&mut self, side: Side) -> Result<(), NoMemory>
-        ensures { OnOk result (self.new ≡ after_offer side self.old) }
+        ensures ok { OnOk result (self.new ≡ after_offer side self.old) }
+        ensures memory { OnErr result (owes_many 16 self.old ≡ true) }
     {
         match side {
             Side::A => self.a.give_back(),
@@ -94,27 +127,28 @@ impl Radio {
         }
     }
 
-    /// Hands what is owed first to the host of a side: writes its packet at the front of `into`, and
-    /// answers how many octets it has. The rest of `into` stays as it is. `None` where nothing is
-    /// owed: then all stays as it is. It takes no memory.
+    /// Hands what comes next to the host of a side: writes its packet at the front of `into`, and
+    /// answers how many octets it has. The rest of `into` stays as it is. `None` where nothing is on
+    /// its way to the host: then all stays as it is. It takes no memory.
     ///
     /// It needs room for 1,026 octets, which the longest packet has.
     pub fn hand(&mut self, side: Side, into: &mut [u8]) -> Option<usize>
         requires room { longest_packet ≤ length into.old }
-        ensures handed { HandsFirst side (controller side self.old).owed result into.old into.new }
+        ensures handed { IsHandedOver (next_packet side self.old) result into.old into.new }
         ensures radio { self.new ≡ after_answer side self.old }
     {
+        let handle = self.number;
         match side {
-            Side::A => self.a.hand(side, into),
-            Side::B => self.b.hand(side, into),
+            Side::A => hand(side, handle, &mut self.a, &mut self.ab, &mut self.ba, into),
+            Side::B => hand(side, handle, &mut self.b, &mut self.ba, &mut self.ab, into),
         }
     }
 
-    /// Whether nothing is owed to either host.
+    /// Whether nothing is on its way to either host.
     pub fn is_quiet(&self) -> bool
         ensures { result ≡ is_quiet self.now }
     {
-        self.a.owes_nothing() && self.b.owes_nothing()
+        self.ba.is_over() && self.a.owes_nothing() && self.ab.is_over() && self.b.owes_nothing()
     }
 
     /// How many packets of the host of a side are outstanding on the link that it was told of, as its
@@ -135,19 +169,10 @@ impl Radio {
         self.phase.is_together()
     }
 
-    /// The octets of the first frame that waits in a direction. `None` where none waits.
-    pub fn front(&self, way: Way) -> Option<&[u8]>
-        ensures { option_map (λ frame. frame.now) result ≡ slice_get (frames way self.now) 0 }
-    {
-        match way {
-            Way::Ab => self.ab.front(),
-            Way::Ba => self.ba.front(),
-        }
-    }
-
     /// The controller of a side owes its host an answer more.
     pub(crate) fn owe(&mut self, side: Side, answer: Answer) -> Result<(), NoMemory>
-        ensures { OnOk result (self.new ≡ owes side (plain_answer answer ∷ []) self.old) }
+        ensures ok { OnOk result (self.new ≡ owes side (plain_answer answer ∷ []) self.old) }
+        ensures full { OnErr result (owes_many 16 self.old ≡ true) }
     {
         match side {
             Side::A => self.a.owe(answer),

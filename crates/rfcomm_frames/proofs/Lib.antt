@@ -9,3 +9,7 @@ pub mod Messages
 pub mod Found
 pub mod OneAnswer
 pub mod OneControl
+pub mod FrameReading
+pub mod MessageReading
+pub mod ObexSplits
+pub mod LookingBack

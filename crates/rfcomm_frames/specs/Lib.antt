@@ -5,3 +5,8 @@ pub mod Controls
 pub mod ControlAnswers
 pub mod Reading
 pub mod Laws
+pub mod FrameReading
+pub mod Connections
+pub mod Multiplexing
+pub mod ObexPackets
+pub mod LookingBack

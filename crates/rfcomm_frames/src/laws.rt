@@ -1,5 +1,8 @@
 //! Laws of the frames and control messages and their octets, for all octets.
 
+ghost use Rattle.rfcomm_frames.specs.FrameReading.{FrameIsAnswered, MessageIsAnswered, SpelledIsAnswered};
+ghost use Rattle.rfcomm_frames.specs.ObexPackets.{ObexPacketsAreRight, ObexPacketsAreOne};
+ghost use Rattle.rfcomm_frames.specs.LookingBack.{LooksBack};
 ghost use Rattle.rfcomm_frames.specs.Laws.{OneAnswer, OneFrame, OneControlAnswer, OneControl, WrittenIsRead, WrittenControlIsRead, WrongLengthsAreRefused, WrongValuesAreRefused, WrittenIsNoLonger, WrittenControlIsNoLonger, ChangedFramesAreSeen, ChangedOctetsAreSeen, AreWorkedValues};
 
 /// Octets have one answer: one frame that they spell, or one refusal.
@@ -44,4 +47,22 @@ pub fn changed_frames_are_seen()
 /// The definitions give octets that were worked out by hand.
 pub fn worked_values()
     ensures { AreWorkedValues }
+{}
+
+/// The functions that read frames and control messages give these answers.
+pub fn functions_answer()
+    ensures frame { FrameIsAnswered }
+    ensures control { MessageIsAnswered }
+    ensures spelled { SpelledIsAnswered }
+{}
+
+/// A stream of octets is split into OBEX packets by their lengths, in one way.
+pub fn obex_packets_are_split()
+    ensures right { ObexPacketsAreRight }
+    ensures one { ObexPacketsAreOne }
+{}
+
+/// What is read of connections in one pass is what looking back over all frames says.
+pub fn one_pass_looks_back()
+    ensures { LooksBack }
 {}

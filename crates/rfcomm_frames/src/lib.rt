@@ -2,6 +2,7 @@
 //! subset of TS 07.10).
 #![tactic(auto)]
 
+mod connection;
 mod control;
 mod control_reading;
 mod control_writing;
@@ -14,6 +15,7 @@ mod refusal;
 mod writing;
 
 pub use check_words::fcs8;
+pub use connection::{Dlc, Role};
 pub use control::Control;
 pub use control_reading::control_of;
 pub use control_writing::put_control;

@@ -3,26 +3,26 @@ use Rattle.std.proofs.Common.{◌≡◌, ℕ, ◌+◌, ◌<◌, List, [], ◌∷
 use Rattle.std.specs.Prelude.{is_some}
 use Rattle.std.specs.List.{AllByRecursion}
 use Rattle.h4_framing.specs.Packets.{Packet}
-use Rattle.push_script.specs.declared.word.Side.TheVariants as sides
+use Rattle.push_terms.specs.declared.word.Side.TheVariants as sides
 use Rattle.capture.specs.declared.flow.Flow.TheVariants.{Into}
 use Rattle.capture.specs.Entries.{Entry, Moved, Begun}
 use Rattle.capture.specs.Moves.{moves}
 use Rattle.capture.specs.Links.{Link, Linking, after_move, linking}
 use Rattle.capture.proofs.FurtherLaws.{entry_links-more}
-use Rattle.host_link.specs.Lines.{Line}
-use Rattle.host_link.specs.PuttingOut.{put_out}
-use Rattle.host_link.specs.Hearing.{heard}
-use Rattle.host_link.specs.Stands.{into}
-use Rattle.bt_host.specs.Courses.{Course}
-use Rattle.bt_host.specs.Clients.{Client, GoesOn, told}
-use Rattle.bt_host.specs.Servers as servers
-use Rattle.radio_air.specs.Controllers.{Answer, Controller, packet_of}
-use Rattle.radio_air.specs.Radio.{Radio, Phase, Apart, Paging, Requested, Together, after_answer}
-use Rattle.radio_air.specs.Showing.{Shows, ShowsUp}
-use Rattle.world_model.specs.Faces.{Face}
-use Rattle.world_model.specs.Hearing.{put_out_again, HearsBehind}
-use Rattle.world_model.specs.Hosts.{links_told, OwesHonestly}
-use Rattle.world_model.specs.Insides.{Inside, Shelved, Pushing, Serving, Tells, client, server as serving}
+use Rattle.small_link.specs.Lines.{Line}
+use Rattle.small_link.specs.PuttingOut.{put_out}
+use Rattle.small_link.specs.Hearing.{heard}
+use Rattle.small_link.specs.Stands.{into}
+use Rattle.small_host.specs.Courses.{Course}
+use Rattle.small_host.specs.Clients.{Client, GoesOn, told}
+use Rattle.small_host.specs.Servers as servers
+use Rattle.small_air.specs.Controllers.{Answer, Controller, packet_of}
+use Rattle.small_air.specs.Radio.{Radio, Phase, Apart, Paging, Requested, Together, after_answer}
+use Rattle.small_air.specs.Showing.{Shows, ShowsUp}
+use Rattle.small_model.specs.Faces.{Face}
+use Rattle.small_model.specs.Hearing.{put_out_again, HearsBehind}
+use Rattle.small_model.specs.Hosts.{links_told, OwesHonestly}
+use Rattle.small_model.specs.Insides.{Inside, Shelved, Pushing, Serving, Tells, client, server as serving}
 use Rattle.world_links.proofs.Reaching.{Reach, AtRest, Due, Calling, Onward, reach}
 use Rattle.world_links.proofs.Ways.{on_way, HostAt, puts_next, puts_again}
 use Rattle.world_links.proofs.Pacing.{View, view}

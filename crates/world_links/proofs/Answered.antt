@@ -3,27 +3,27 @@ use Rattle.std.proofs.Common.{◌≡◌, ℕ, ◌+◌, ◌<◌, ◌≤◌, List,
 use Rattle.std.proofs.lemmas.Bool.{cases_Bool}
 use Rattle.std.specs.Prelude.{is_some, ◌||◌, ◌==◌, nat_lt, nat_le}
 use Rattle.h4_framing.specs.Packets.{Packet}
-use Rattle.push_script.specs.declared.word.Side.TheVariants as sides
+use Rattle.push_terms.specs.declared.word.Side.TheVariants as sides
 use Rattle.capture.specs.declared.flow.Flow.TheVariants.{Into}
 use Rattle.capture.specs.Entries.{Entry, Moved}
 use Rattle.capture.specs.Moves.{moves}
 use Rattle.capture.specs.Links.{Linking, after_move, linking}
-use Rattle.host_link.specs.declared.role.Role.TheVariants.{Server}
-use Rattle.host_link.specs.HostCommands.{opcode}
-use Rattle.host_link.specs.Lines.{Line}
-use Rattle.host_link.specs.Hearing.{may_accept, heard, news_of}
-use Rattle.host_link.specs.Stands.{into}
-use Rattle.bt_host.specs.Courses.{Course}
-use Rattle.radio_air.specs.Controllers.{Answer, Returned, Stated, Called, LinkMade, LinkGone, GivenBack, Carried, address, packet_of}
-use Rattle.radio_air.specs.Radio.{Radio, Phase, Requested, after_answer}
-use Rattle.radio_air.specs.Showing.{Shows}
-use Rattle.world_model.specs.Faces.{Face}
-use Rattle.world_model.specs.Hearing.{put_out_again, HearsBehind}
-use Rattle.world_model.specs.Hosts.{OwesHonestly}
-use Rattle.world_model.specs.Insides.{Inside, Tells, server as serving}
-use Rattle.world_model.specs.Media.{in_radio}
-use Rattle.world_model.specs.Moments.{Moment, with_face, with_medium}
-use Rattle.world_model.proofs.Hearing.{none_up}
+use Rattle.small_link.specs.declared.role.Role.TheVariants.{Server}
+use Rattle.small_link.specs.HostCommands.{opcode}
+use Rattle.small_link.specs.Lines.{Line}
+use Rattle.small_link.specs.Hearing.{may_accept, heard, news_of}
+use Rattle.small_link.specs.Stands.{into}
+use Rattle.small_host.specs.Courses.{Course}
+use Rattle.small_air.specs.Controllers.{Answer, Returned, Stated, Called, LinkMade, LinkGone, GivenBack, Carried, address, packet_of}
+use Rattle.small_air.specs.Radio.{Radio, Phase, Requested, after_answer}
+use Rattle.small_air.specs.Showing.{Shows}
+use Rattle.small_model.specs.Faces.{Face}
+use Rattle.small_model.specs.Hearing.{put_out_again, HearsBehind}
+use Rattle.small_model.specs.Hosts.{OwesHonestly}
+use Rattle.small_model.specs.Insides.{Inside, Tells, server as serving}
+use Rattle.small_model.specs.Media.{in_radio}
+use Rattle.small_model.specs.Moments.{Moment, with_face, with_medium}
+use Rattle.small_model.proofs.Hearing.{none_up}
 use Rattle.world_links.proofs.Reaching.{reach, is_leaving}
 use Rattle.world_links.proofs.Ways.{number_of, on_way, HostAt, puts_again}
 use Rattle.world_links.proofs.Pacing.{View, view, is_called}

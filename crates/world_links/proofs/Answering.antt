@@ -8,20 +8,20 @@ use Rattle.bt_base.proofs.OctetLemmas.{le16-number}
 use Rattle.h4_framing.specs.Packets.{Packet, Command, Acl, Sync, Event}
 use Rattle.hci_packets.specs.Events.{PlainEvent, event_params, code_of, event_refusal}
 use Rattle.acl_fragments.specs.Pieces.{Piece}
-use Rattle.push_script.specs.declared.word.Side.{Side}
-use Rattle.push_script.specs.declared.word.Side.TheVariants as sides
-use Rattle.host_link.specs.declared.host_command.HostCommand.TheVariants.{AcceptConnection}
-use Rattle.host_link.specs.Returning.{returned_by, completes}
-use Rattle.host_link.specs.CommandFlows.{with_command}
-use Rattle.host_link.specs.EventReading.{event_at}
-use Rattle.host_link.specs.Hearing.{with_flow, after_complete, after_status, complete_fault, command_fault, makes_link, after_connection, may_accept, after_request, ends_link, after_disconnection, after_completed, piece_on, after_piece, heard}
-use Rattle.host_link.specs.Lines.{Line}
-use Rattle.radio_air.specs.Controllers.{Answer, Returned, Stated, Called, LinkMade, LinkGone, GivenBack, Carried, address, event_of, packet_of}
+use Rattle.push_terms.specs.declared.word.Side.{Side}
+use Rattle.push_terms.specs.declared.word.Side.TheVariants as sides
+use Rattle.small_link.specs.declared.host_command.HostCommand.TheVariants.{AcceptConnection}
+use Rattle.small_link.specs.Returning.{returned_by, completes}
+use Rattle.small_link.specs.CommandFlows.{with_command}
+use Rattle.small_link.specs.EventReading.{event_at}
+use Rattle.small_link.specs.Hearing.{with_flow, after_complete, after_status, complete_fault, command_fault, makes_link, after_connection, may_accept, after_request, ends_link, after_disconnection, after_completed, piece_on, after_piece, heard}
+use Rattle.small_link.specs.Lines.{Line}
+use Rattle.small_air.specs.Controllers.{Answer, Returned, Stated, Called, LinkMade, LinkGone, GivenBack, Carried, address, event_of, packet_of}
 use Rattle.acl_credits.specs.Ledgers.{without}
-use Rattle.world_model.specs.Hosts.{IsHonest}
-use Rattle.world_model.proofs.Lists.{chosen}
-use Rattle.world_model.proofs.Reading.{heard_by, returned_again, link_made_again, link_gone_again}
-use Rattle.world_model.proofs.Answering.{returns_good, complete_right, status_right, unless_none}
+use Rattle.small_model.specs.Hosts.{IsHonest}
+use Rattle.small_model.proofs.Lists.{chosen}
+use Rattle.small_model.proofs.Reading.{heard_by, returned_again, link_made_again, link_gone_again}
+use Rattle.small_model.proofs.Answering.{returns_good, complete_right, status_right, unless_none}
 use Rattle.world_links.proofs.Ways.{number_of}
 use Rattle.world_links.proofs.Asking.{asked_behind, IsLow}
 use Rattle.world_links.proofs.Tidying.{is_asking, is_acl, IsOn, codes_owed}

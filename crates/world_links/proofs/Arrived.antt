@@ -2,29 +2,29 @@
 use Rattle.std.proofs.Common.{◌≡◌, ℕ, ◌<◌, List, [], ◌∷◌, ◌++◌, Bool, true, false, Option, refl, sym, ap, subst, ◌∙◌, arith, inl, inr}
 use Rattle.std.specs.Prelude.{is_some, ◌&&◌}
 use Rattle.h4_framing.specs.Packets.{Packet}
-use Rattle.push_script.specs.declared.word.Side.TheVariants as sides
+use Rattle.push_terms.specs.declared.word.Side.TheVariants as sides
 use Rattle.capture.specs.declared.flow.Flow.TheVariants.{Into}
 use Rattle.capture.specs.Entries.{Entry, Moved}
 use Rattle.capture.specs.Moves.{moves}
 use Rattle.capture.specs.Links.{Linking, after_move, linking}
-use Rattle.host_link.specs.declared.role.Role.{Role}
-use Rattle.host_link.specs.declared.role.Role.TheVariants.{Client}
-use Rattle.host_link.specs.declared.host_command.HostCommand.{HostCommand}
-use Rattle.host_link.specs.Lines.{Line}
-use Rattle.host_link.specs.Hearing.{is_server, heard, news_of}
-use Rattle.host_link.specs.Stands.{into}
-use Rattle.bt_host.specs.Courses.{Course}
-use Rattle.bt_host.specs.Clients.{after_news, told}
-use Rattle.radio_air.specs.Controllers.{Answer, Returned, Stated, Called, LinkMade, LinkGone, GivenBack, Carried, packet_of}
-use Rattle.radio_air.specs.Radio.{Radio, after_answer, is_together}
-use Rattle.radio_air.specs.Showing.{Shows}
-use Rattle.world_model.specs.Faces.{Face}
-use Rattle.world_model.specs.Hearing.{put_out_again, HearsBehind}
-use Rattle.world_model.specs.Hosts.{OwesHonestly}
-use Rattle.world_model.specs.Insides.{Inside, Tells, client}
-use Rattle.world_model.specs.Media.{in_radio}
-use Rattle.world_model.specs.Moments.{Moment, with_face, with_medium}
-use Rattle.world_model.proofs.Hearing.{owed_below}
+use Rattle.small_link.specs.declared.role.Role.{Role}
+use Rattle.small_link.specs.declared.role.Role.TheVariants.{Client}
+use Rattle.small_link.specs.declared.host_command.HostCommand.{HostCommand}
+use Rattle.small_link.specs.Lines.{Line}
+use Rattle.small_link.specs.Hearing.{is_server, heard, news_of}
+use Rattle.small_link.specs.Stands.{into}
+use Rattle.small_host.specs.Courses.{Course}
+use Rattle.small_host.specs.Clients.{after_news, told}
+use Rattle.small_air.specs.Controllers.{Answer, Returned, Stated, Called, LinkMade, LinkGone, GivenBack, Carried, packet_of}
+use Rattle.small_air.specs.Radio.{Radio, after_answer, is_together}
+use Rattle.small_air.specs.Showing.{Shows}
+use Rattle.small_model.specs.Faces.{Face}
+use Rattle.small_model.specs.Hearing.{put_out_again, HearsBehind}
+use Rattle.small_model.specs.Hosts.{OwesHonestly}
+use Rattle.small_model.specs.Insides.{Inside, Tells, client}
+use Rattle.small_model.specs.Media.{in_radio}
+use Rattle.small_model.specs.Moments.{Moment, with_face, with_medium}
+use Rattle.small_model.proofs.Hearing.{owed_below}
 use Rattle.world_links.proofs.Reaching.{Reach, Calling, reach, is_leaving}
 use Rattle.world_links.proofs.Ways.{number_of, on_way, puts_again}
 use Rattle.world_links.proofs.Pacing.{View, view, is_called}

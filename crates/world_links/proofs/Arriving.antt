@@ -3,23 +3,23 @@ use Rattle.std.proofs.Common.{◌≡◌, ℕ, ◌≤◌, List, ◌∷◌, Bool, 
 use Rattle.std.specs.Prelude.{is_some, ◌&&◌}
 use Rattle.std.specs.List.{AllByRecursion}
 use Rattle.h4_framing.specs.Packets.{Packet}
-use Rattle.push_script.specs.declared.word.Side.{Side}
+use Rattle.push_terms.specs.declared.word.Side.{Side}
 use Rattle.capture.specs.Entries.{Entry}
 use Rattle.capture.specs.Moves.{moves}
 use Rattle.capture.specs.Links.{after_move, linking}
-use Rattle.host_link.specs.declared.role.Role.{Role}
-use Rattle.host_link.specs.declared.role.Role.TheVariants.{Client}
-use Rattle.host_link.specs.Lines.{Line}
-use Rattle.host_link.specs.Hearing.{PlainNews, Nothing, LinkUp, LinkFailed, LinkDown, Pdu, is_server, heard}
-use Rattle.host_link.specs.Stands.{into}
-use Rattle.radio_air.specs.Controllers.{Answer, Returned, Stated, Called, LinkMade, LinkGone, GivenBack, Carried, packet_of}
-use Rattle.radio_air.specs.Radio.{Radio, controller, is_together}
-use Rattle.radio_air.specs.Showing.{Shows, IsOwed}
-use Rattle.radio_air.proofs.Entering.{owed-of}
-use Rattle.world_model.specs.Hosts.{IsHonest, OwesHonestly}
-use Rattle.world_model.proofs.Honest.{of_side}
-use Rattle.world_model.proofs.Hearing.{tells_of, hears}
-use Rattle.world_model.proofs.Hearing.{owed_below}
+use Rattle.small_link.specs.declared.role.Role.{Role}
+use Rattle.small_link.specs.declared.role.Role.TheVariants.{Client}
+use Rattle.small_link.specs.Lines.{Line}
+use Rattle.small_link.specs.Hearing.{PlainNews, Nothing, LinkUp, LinkFailed, LinkDown, Pdu, is_server, heard}
+use Rattle.small_link.specs.Stands.{into}
+use Rattle.small_air.specs.Controllers.{Answer, Returned, Stated, Called, LinkMade, LinkGone, GivenBack, Carried, packet_of}
+use Rattle.small_air.specs.Radio.{Radio, controller, is_together}
+use Rattle.small_air.specs.Showing.{Shows, IsOwed}
+use Rattle.small_air.proofs.Entering.{owed-of}
+use Rattle.small_model.specs.Hosts.{IsHonest, OwesHonestly}
+use Rattle.small_model.proofs.Honest.{of_side}
+use Rattle.small_model.proofs.Hearing.{tells_of, hears}
+use Rattle.small_model.proofs.Hearing.{owed_below}
 use Rattle.world_links.proofs.Reaching.{Reach, AtRest, Due, Calling, Onward, reach_up, reach_after}
 use Rattle.world_links.proofs.Ways.{HostAt}
 use Rattle.world_links.proofs.Pacing.{View}

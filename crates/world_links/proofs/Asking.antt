@@ -3,14 +3,14 @@ use Rattle.std.proofs.Common.{◌≡◌, ℕ, ◌≤◌, List, [], ◌∷◌, �
 use Rattle.std.specs.Prelude.{◌==◌, ◌&&◌, ◌||◌, is_none}
 use Rattle.h4_framing.specs.Packets.{Packet, Command, Acl, Sync, Event}
 use Rattle.hci_packets.specs.Commands.{command_refusal}
-use Rattle.push_script.specs.declared.word.Side.{Side}
-use Rattle.push_script.specs.declared.word.Side.TheVariants as sides
+use Rattle.push_terms.specs.declared.word.Side.{Side}
+use Rattle.push_terms.specs.declared.word.Side.TheVariants as sides
 use Rattle.capture.specs.Moves.{Move}
 use Rattle.capture.specs.Links.{Link, Linking, LinkNews, Asked, Answered, LinkEnded, NoNews, link_news, gone_on, ends_with, after_news, after_move}
-use Rattle.host_link.specs.Stands.{into, out_of}
-use Rattle.radio_air.specs.Controllers.{Answer, Returned, Stated, Called, LinkMade, LinkGone, GivenBack, Carried, packet_of}
-use Rattle.radio_air.specs.Radio.{Radio, Requested, after_command}
-use Rattle.world_model.proofs.Reading.{returned_news, stated_news, called_news, given_back_news, link_made_news, link_gone_news}
+use Rattle.small_link.specs.Stands.{into, out_of}
+use Rattle.small_air.specs.Controllers.{Answer, Returned, Stated, Called, LinkMade, LinkGone, GivenBack, Carried, packet_of}
+use Rattle.small_air.specs.Radio.{Radio, Requested, after_command}
+use Rattle.small_model.proofs.Reading.{returned_news, stated_news, called_news, given_back_news, link_made_news, link_gone_news}
 use Rattle.world_links.proofs.Ways.{has_opcode}
 use Rattle.world_links.proofs.Pacing.{View, view, made, accepts_where}
 

@@ -3,22 +3,22 @@ use Rattle.std.proofs.Common.{◌≡◌, ℕ, ◌+◌, ◌<◌, ◌≤◌, List,
 use Rattle.std.specs.Prelude.{is_some}
 use Rattle.std.specs.List.{AllByRecursion}
 use Rattle.h4_framing.specs.Packets.{Packet}
-use Rattle.push_script.specs.declared.word.Side.{Side}
+use Rattle.push_terms.specs.declared.word.Side.{Side}
 use Rattle.capture.specs.Entries.{Entry}
 use Rattle.capture.specs.Moves.{moves}
 use Rattle.capture.specs.Links.{Link, Linking, after_move, linking}
-use Rattle.host_link.specs.Lines.{Line}
-use Rattle.host_link.specs.PuttingOut.{put_out}
-use Rattle.host_link.specs.Hearing.{heard}
-use Rattle.host_link.specs.Stands.{into}
-use Rattle.radio_air.specs.Controllers.{Answer, Returned, Stated, Called, LinkMade, LinkGone, GivenBack, Carried, Controller, packet_of, after_handing, after_telling, after_first}
-use Rattle.radio_air.specs.Radio.{Radio, controller, is_together}
-use Rattle.radio_air.specs.Showing.{Shows, IsOwed}
-use Rattle.world_model.specs.Hosts.{RunsAhead, links_told, IsHonest, OwesHonestly}
-use Rattle.world_model.specs.Hearing.{put_out_again}
-use Rattle.world_model.proofs.Honest.{of_side}
-use Rattle.world_model.proofs.Hearing.{Tells, tells_of}
-use Rattle.world_model.proofs.Hearing.{owed_below, none_up}
+use Rattle.small_link.specs.Lines.{Line}
+use Rattle.small_link.specs.PuttingOut.{put_out}
+use Rattle.small_link.specs.Hearing.{heard}
+use Rattle.small_link.specs.Stands.{into}
+use Rattle.small_air.specs.Controllers.{Answer, Returned, Stated, Called, LinkMade, LinkGone, GivenBack, Carried, Controller, packet_of, after_handing, after_telling, after_first}
+use Rattle.small_air.specs.Radio.{Radio, controller, is_together}
+use Rattle.small_air.specs.Showing.{Shows, IsOwed}
+use Rattle.small_model.specs.Hosts.{RunsAhead, links_told, IsHonest, OwesHonestly}
+use Rattle.small_model.specs.Hearing.{put_out_again}
+use Rattle.small_model.proofs.Honest.{of_side}
+use Rattle.small_model.proofs.Hearing.{Tells, tells_of}
+use Rattle.small_model.proofs.Hearing.{owed_below, none_up}
 use Rattle.world_links.proofs.Ways.{number_of, on_way, HostAt, puts_next, puts_again}
 use Rattle.world_links.proofs.Asking.{asked_behind, asked_heard, IsLow}
 use Rattle.world_links.proofs.Arriving.{hears_host, owed_first, low_of}

@@ -2,18 +2,18 @@
 use Rattle.std.proofs.Common.{◌≡◌, ℕ, ◌+◌, ◌<◌, ◌≤◌, List, [], ◌∷◌, ◌++◌, length, Bool, true, false, cond, Option, Some, None, refl, sym, ap, subst, ◌∙◌, arith, inl, inr}
 use Rattle.std.specs.Prelude.{is_some, slice_get}
 use Rattle.std.proofs.lemmas.Option.{slice_get_within}
-use Rattle.push_script.specs.declared.word.Side.TheVariants as sides
+use Rattle.push_terms.specs.declared.word.Side.TheVariants as sides
 use Rattle.capture.specs.Entries.{Entry, Begun}
 use Rattle.capture.specs.Moves.{moves}
 use Rattle.capture.specs.Links.{Linking, linking}
-use Rattle.host_link.specs.declared.host_command.HostCommand.{HostCommand}
-use Rattle.bt_host.specs.Courses.{Course, begun}
-use Rattle.radio_air.specs.Radio.{Radio}
-use Rattle.radio_air.specs.Showing.{Shows}
-use Rattle.world_model.specs.Insides.{Inside, StartsPush, client, idles}
-use Rattle.world_model.specs.Ordering.{one_begun}
-use Rattle.world_model.specs.Moments.{Moment, with_face, with_pushes}
-use Rattle.world_model.specs.Happenings.{Opens}
+use Rattle.small_link.specs.declared.host_command.HostCommand.{HostCommand}
+use Rattle.small_host.specs.Courses.{Course, begun}
+use Rattle.small_air.specs.Radio.{Radio}
+use Rattle.small_air.specs.Showing.{Shows}
+use Rattle.small_model.specs.Insides.{Inside, StartsPush, client, idles}
+use Rattle.small_model.specs.Ordering.{one_begun}
+use Rattle.small_model.specs.Moments.{Moment, with_face, with_pushes}
+use Rattle.small_model.specs.Happenings.{Opens}
 use Rattle.world_links.proofs.Reaching.{rests_not_calls, Reach, AtRest, Calling, reach, is_leaving, idle_rests}
 use Rattle.world_links.proofs.Pacing.{View, view}
 use Rattle.world_links.proofs.Advancing.{Advance, advances}

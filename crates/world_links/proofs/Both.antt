@@ -2,11 +2,11 @@
 use Rattle.std.proofs.Common.{◌≡◌, ℕ, List, [], ◌∷◌, ◌++◌, map, Bool, true, false, cond, Option, Some, None, refl, sym, ap, subst, inl, inr}
 use Rattle.std.specs.List.{AllByRecursion}
 use Rattle.h4_framing.specs.Packets.{Packet}
-use Rattle.push_script.specs.declared.word.Side.{Side}
-use Rattle.push_script.specs.declared.word.Side.TheVariants as sides
-use Rattle.push_script.specs.declared.word.Way.{Way}
-use Rattle.push_script.specs.declared.word.Way.TheVariants.{Ab, Ba}
-use Rattle.push_script.specs.declared.word.Word.{Word}
+use Rattle.push_terms.specs.declared.word.Side.{Side}
+use Rattle.push_terms.specs.declared.word.Side.TheVariants as sides
+use Rattle.push_terms.specs.declared.word.Way.{Way}
+use Rattle.push_terms.specs.declared.word.Way.TheVariants.{Ab, Ba}
+use Rattle.push_terms.specs.declared.word.Word.{Word}
 use Rattle.acl_fragments.specs.Pieces.{Piece}
 use Rattle.capture.specs.declared.flow.Flow.TheVariants.{Out}
 use Rattle.capture.specs.Entries.{Entry, Moved}
@@ -15,14 +15,14 @@ use Rattle.capture.specs.Links.{Linking, after_move, linking}
 use Rattle.capture.specs.Laws.{led_on}
 use Rattle.capture.specs.Frames.{frame_pieces, way_served}
 use Rattle.capture.proofs.FurtherLaws.{entry_links-more}
-use Rattle.host_link.specs.Lines.{Line}
-use Rattle.host_link.specs.Stands.{out_of}
-use Rattle.radio_air.specs.Controllers.{Carried, Controller, owing}
-use Rattle.radio_air.specs.Radio.{Radio, after_packet, after_offer, parted, is_together, delivered_first, frames, served_next}
-use Rattle.world_model.specs.Acting.{Makes}
-use Rattle.world_model.specs.Moments.{Moment}
-use Rattle.world_model.specs.Happenings.{Departs}
-use Rattle.world_model.proofs.Departing.{moved_sizes}
+use Rattle.small_link.specs.Lines.{Line}
+use Rattle.small_link.specs.Stands.{out_of}
+use Rattle.small_air.specs.Controllers.{Carried, Controller, owing}
+use Rattle.small_air.specs.Radio.{Radio, after_packet, after_offer, parted, is_together, delivered_first, frames, served_next}
+use Rattle.small_model.specs.Acting.{Makes}
+use Rattle.small_model.specs.Moments.{Moment}
+use Rattle.small_model.specs.Happenings.{Departs}
+use Rattle.small_model.proofs.Departing.{moved_sizes}
 use Rattle.world_links.proofs.Tidying.{Ours, codes_owed, Tidy}
 use Rattle.world_links.proofs.Departing.{moves_first}
 use Rattle.world_links.proofs.Answering.{Proper}

@@ -3,20 +3,20 @@ use Rattle.std.proofs.Common.{◌≡◌, ℕ, ◌+◌, ◌<◌, ◌≤◌, List,
 use Rattle.std.specs.Prelude.{is_none, ◌&&◌, ◌||◌, ◌==◌, not, nat_lt}
 use Rattle.std.specs.List.{list_any}
 use Rattle.h4_framing.specs.Packets.{Packet}
-use Rattle.push_script.specs.declared.word.Side.TheVariants as sides
-use Rattle.host_link.specs.declared.role.Role.TheVariants.{Server}
-use Rattle.host_link.specs.declared.host_command.HostCommand.{HostCommand}
-use Rattle.host_link.specs.declared.host_command.HostCommand.TheVariants.{Reset, ReadBufferSize, ReadBdAddr, WriteScanEnable, CreateConnection, AcceptConnection, Disconnect}
-use Rattle.host_link.specs.HostCommands.{opcode, accepts}
-use Rattle.host_link.specs.CommandFlows.{Flow, with_command}
-use Rattle.host_link.specs.Lines.{Line}
-use Rattle.host_link.specs.Hearing.{PlainNews, is_server, may_accept, after_request, with_flow, heard}
-use Rattle.host_link.specs.PuttingOut.{with_pdu}
-use Rattle.bt_host.specs.Channels.{sent}
-use Rattle.bt_host.specs.Servers as servers
-use Rattle.radio_air.specs.Controllers.{Answer, Returned, Stated, Called, LinkMade, LinkGone, GivenBack, Carried, Controller, address, packet_of, after_handing, after_telling, after_first}
-use Rattle.radio_air.specs.Radio.{is_together}
-use Rattle.world_model.proofs.Hearing.{owed_below}
+use Rattle.push_terms.specs.declared.word.Side.TheVariants as sides
+use Rattle.small_link.specs.declared.role.Role.TheVariants.{Server}
+use Rattle.small_link.specs.declared.host_command.HostCommand.{HostCommand}
+use Rattle.small_link.specs.declared.host_command.HostCommand.TheVariants.{Reset, ReadBufferSize, ReadBdAddr, WriteScanEnable, CreateConnection, AcceptConnection, Disconnect}
+use Rattle.small_link.specs.HostCommands.{opcode, accepts}
+use Rattle.small_link.specs.CommandFlows.{Flow, with_command}
+use Rattle.small_link.specs.Lines.{Line}
+use Rattle.small_link.specs.Hearing.{PlainNews, is_server, may_accept, after_request, with_flow, heard}
+use Rattle.small_link.specs.PuttingOut.{with_pdu}
+use Rattle.small_host.specs.Channels.{sent}
+use Rattle.small_host.specs.Servers as servers
+use Rattle.small_air.specs.Controllers.{Answer, Returned, Stated, Called, LinkMade, LinkGone, GivenBack, Carried, Controller, address, packet_of, after_handing, after_telling, after_first}
+use Rattle.small_air.specs.Radio.{is_together}
+use Rattle.small_model.proofs.Hearing.{owed_below}
 use Rattle.world_links.proofs.Reaching.{Reach}
 use Rattle.world_links.proofs.Ways.{number_of, number_of-append, on_way}
 use Rattle.world_links.proofs.Pacing.{View, is_called}

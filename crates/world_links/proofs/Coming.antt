@@ -2,26 +2,26 @@
 use Rattle.std.proofs.Common.{◌≡◌, ℕ, List, [], ◌∷◌, ◌++◌, Bool, refl, sym, ap, subst, ◌∙◌, arith}
 use Rattle.std.specs.Prelude.{is_some}
 use Rattle.h4_framing.specs.Packets.{Packet}
-use Rattle.push_script.specs.declared.word.Side.TheVariants as sides
+use Rattle.push_terms.specs.declared.word.Side.TheVariants as sides
 use Rattle.capture.specs.declared.flow.Flow.TheVariants.{Into}
 use Rattle.capture.specs.Entries.{Entry, Moved}
 use Rattle.capture.specs.Moves.{moves}
 use Rattle.capture.specs.Links.{Linking, after_move, linking}
-use Rattle.host_link.specs.Lines.{Line}
-use Rattle.host_link.specs.Hearing.{heard, news_of}
-use Rattle.host_link.specs.Stands.{into}
-use Rattle.bt_host.specs.Courses.{Course}
-use Rattle.bt_host.specs.Clients.{Hears, after_news, told}
-use Rattle.radio_air.specs.Controllers.{Answer, Returned, Stated, Called, LinkMade, LinkGone, GivenBack, Carried, packet_of}
-use Rattle.radio_air.specs.Radio.{Radio, after_answer}
-use Rattle.radio_air.specs.Showing.{Shows}
-use Rattle.radio_air.proofs.Sizing.{sizes-stay}
-use Rattle.world_model.specs.Faces.{Face}
-use Rattle.world_model.specs.Hearing.{put_out_again, HearsBehind}
-use Rattle.world_model.specs.Hosts.{OwesHonestly}
-use Rattle.world_model.specs.Insides.{Inside, Shelved, Pushing, Serving, Tells, client}
-use Rattle.world_model.specs.Moments.{Moment}
-use Rattle.world_model.specs.Happenings.{Arrives}
+use Rattle.small_link.specs.Lines.{Line}
+use Rattle.small_link.specs.Hearing.{heard, news_of}
+use Rattle.small_link.specs.Stands.{into}
+use Rattle.small_host.specs.Courses.{Course}
+use Rattle.small_host.specs.Clients.{Hears, after_news, told}
+use Rattle.small_air.specs.Controllers.{Answer, Returned, Stated, Called, LinkMade, LinkGone, GivenBack, Carried, packet_of}
+use Rattle.small_air.specs.Radio.{Radio, after_answer}
+use Rattle.small_air.specs.Showing.{Shows}
+use Rattle.small_air.proofs.Sizing.{sizes-stay}
+use Rattle.small_model.specs.Faces.{Face}
+use Rattle.small_model.specs.Hearing.{put_out_again, HearsBehind}
+use Rattle.small_model.specs.Hosts.{OwesHonestly}
+use Rattle.small_model.specs.Insides.{Inside, Shelved, Pushing, Serving, Tells, client}
+use Rattle.small_model.specs.Moments.{Moment}
+use Rattle.small_model.specs.Happenings.{Arrives}
 use Rattle.world_links.proofs.Reaching.{Reach, reach, reach_after, Clean, news_goes}
 use Rattle.world_links.proofs.Ways.{HostAt, puts_again}
 use Rattle.world_links.proofs.Pacing.{View, view}

@@ -1,23 +1,23 @@
 -- A packet moves from a host to its controller.
 use Rattle.std.proofs.Common.{◌≡◌, ℕ, ◌+◌, ◌≤◌, List, [], ◌∷◌, ◌++◌, Bool, true, cond, refl, sym, ap, subst, ◌∙◌, arith, inl, inr}
 use Rattle.h4_framing.specs.Packets.{Packet, spelling, IsPacket}
-use Rattle.push_script.specs.declared.word.Side.{Side}
-use Rattle.push_script.specs.declared.word.Side.TheVariants as sides
+use Rattle.push_terms.specs.declared.word.Side.{Side}
+use Rattle.push_terms.specs.declared.word.Side.TheVariants as sides
 use Rattle.capture.specs.declared.flow.Flow.TheVariants.{Out}
 use Rattle.capture.specs.Entries.{Entry, Moved}
 use Rattle.capture.specs.Moves.{move_of, moves}
 use Rattle.capture.specs.Links.{Linking, after_move, linking}
 use Rattle.capture.specs.Laws.{led_on}
 use Rattle.capture.proofs.FurtherLaws.{entry_links-more}
-use Rattle.host_link.specs.Lines.{Line}
-use Rattle.host_link.specs.Stands.{out_of}
-use Rattle.radio_air.specs.Radio.{Radio, after_packet}
-use Rattle.world_model.specs.Moments.{Moment}
-use Rattle.world_model.specs.Happenings.{Departs}
-use Rattle.host_link.specs.declared.host_command.HostCommand.{HostCommand}
-use Rattle.world_model.proofs.Standing.{Keeps}
-use Rattle.world_model.proofs.Moving.{keeps_moved}
-use Rattle.world_model.proofs.Departing.{first_is, moved_sizes}
+use Rattle.small_link.specs.Lines.{Line}
+use Rattle.small_link.specs.Stands.{out_of}
+use Rattle.small_air.specs.Radio.{Radio, after_packet}
+use Rattle.small_model.specs.Moments.{Moment}
+use Rattle.small_model.specs.Happenings.{Departs}
+use Rattle.small_link.specs.declared.host_command.HostCommand.{HostCommand}
+use Rattle.small_model.proofs.Standing.{Keeps}
+use Rattle.small_model.proofs.Moving.{keeps_moved}
+use Rattle.small_model.proofs.Departing.{first_is, moved_sizes}
 use Rattle.world_links.proofs.Reaching.{Reach, AtRest, Due, Calling, Onward, reach}
 use Rattle.world_links.proofs.Ways.{has_opcode, on_way, HostAt}
 use Rattle.world_links.proofs.Pacing.{View, view, paged, requested, broken}

@@ -5,9 +5,9 @@ use Rattle.std.specs.Prelude.{◌==◌, ◌&&◌, not, nat_lt, is_none}
 use Rattle.h4_framing.specs.Packets.{Packet, Command, Acl, Sync, Event}
 use Rattle.hci_packets.specs.declared.refusal.HciRefusal.{HciRefusal}
 use Rattle.hci_packets.specs.Commands.{command_refusal}
-use Rattle.push_script.specs.declared.word.Side.TheVariants as sides
-use Rattle.radio_air.specs.Controllers.{Stated}
-use Rattle.radio_air.specs.Radio.{Radio, Phase, Apart, Paging, Requested, Together, is_apart, may_page, owes, after_row, after_reaching, after_packet}
+use Rattle.push_terms.specs.declared.word.Side.TheVariants as sides
+use Rattle.small_air.specs.Controllers.{Stated}
+use Rattle.small_air.specs.Radio.{Radio, Phase, Apart, Paging, Requested, Together, is_apart, may_page, owes, after_row, after_reaching, after_packet}
 use Rattle.world_links.proofs.Reaching.{Reach, Calling}
 use Rattle.world_links.proofs.Ways.{has_opcode}
 use Rattle.world_links.proofs.Pacing.{View, view, paged, requested, made, broken, IsClear, reaches, accepts_where}

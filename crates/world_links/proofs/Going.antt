@@ -1,18 +1,18 @@
 -- What a controller gives back, and the words of a script.
 use Rattle.std.proofs.Common.{◌≡◌, ℕ, ◌+◌, List, [], ◌∷◌, ◌++◌, Bool, refl, sym, ap, subst, ◌∙◌, inl, inr}
 use Rattle.std.proofs.lemmas.List.{append-nil}
-use Rattle.push_script.specs.declared.word.Side.{Side}
-use Rattle.push_script.specs.declared.word.Side.TheVariants as sides
-use Rattle.push_script.specs.declared.word.Word.{Word}
+use Rattle.push_terms.specs.declared.word.Side.{Side}
+use Rattle.push_terms.specs.declared.word.Side.TheVariants as sides
+use Rattle.push_terms.specs.declared.word.Word.{Word}
 use Rattle.capture.specs.Entries.{Entry, Acted}
 use Rattle.capture.specs.Moves.{moves}
 use Rattle.capture.specs.Links.{linking}
-use Rattle.radio_air.specs.Radio.{Radio, after_offer}
-use Rattle.radio_air.proofs.Sizing.{sizes-stay}
-use Rattle.world_model.specs.Acting.{Makes}
-use Rattle.world_model.specs.Media.{Medium, in_radio}
-use Rattle.world_model.specs.Moments.{Moment}
-use Rattle.world_model.specs.Happenings.{GivesBack, Acts, Misses}
+use Rattle.small_air.specs.Radio.{Radio, after_offer}
+use Rattle.small_air.proofs.Sizing.{sizes-stay}
+use Rattle.small_model.specs.Acting.{Makes}
+use Rattle.small_model.specs.Media.{Medium, in_radio}
+use Rattle.small_model.specs.Moments.{Moment}
+use Rattle.small_model.specs.Happenings.{GivesBack, Acts, Misses}
 use Rattle.world_links.proofs.Reaching.{Reach, reach}
 use Rattle.world_links.proofs.Pacing.{View, view, broken}
 use Rattle.world_links.proofs.Viewing.{view_offer, passed_view, dropped_view}

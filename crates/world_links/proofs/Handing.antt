@@ -1,9 +1,9 @@
 -- An answer is handed to a host: how far the push is, beside how far the radio is.
 use Rattle.std.proofs.Common.{◌≡◌, ℕ, ◌+◌, ◌≤◌, List, ◌∷◌, Bool, true, false, refl, subst, arith}
-use Rattle.radio_air.specs.Controllers.{Answer, Returned, Stated, Called, LinkMade, LinkGone, GivenBack, Carried}
-use Rattle.radio_air.specs.Radio.{Phase, Apart, Paging, Requested, Together, is_together}
-use Rattle.radio_air.specs.Showing.{IsOwed}
-use Rattle.world_model.proofs.Hearing.{owed_below}
+use Rattle.small_air.specs.Controllers.{Answer, Returned, Stated, Called, LinkMade, LinkGone, GivenBack, Carried}
+use Rattle.small_air.specs.Radio.{Phase, Apart, Paging, Requested, Together, is_together}
+use Rattle.small_air.specs.Showing.{IsOwed}
+use Rattle.small_model.proofs.Hearing.{owed_below}
 use Rattle.world_links.proofs.Reaching.{Reach, AtRest, Due, Calling, Onward}
 use Rattle.world_links.proofs.Ways.{number_of}
 use Rattle.world_links.proofs.Pacing.{View, is_called}

@@ -1,10 +1,10 @@
 -- How far a push is, beside how far the radio is: what stands between them, and that it stays so.
 use Rattle.std.proofs.Common.{◌≡◌, ℕ, ◌+◌, ◌≤◌, List, [], ◌∷◌, Bool, true, false, refl, sym, ap, arith}
 use Rattle.std.specs.Prelude.{◌||◌}
-use Rattle.radio_air.specs.Controllers.{Answer, Returned, Stated, Called, LinkMade, LinkGone, GivenBack, Carried}
-use Rattle.radio_air.specs.Radio.{Radio, Phase, Apart, Paging, Requested, Together, is_paging, is_requested, is_together}
-use Rattle.radio_air.specs.Showing.{IsOwed, IsOrdered}
-use Rattle.world_model.proofs.Hearing.{owed_below}
+use Rattle.small_air.specs.Controllers.{Answer, Returned, Stated, Called, LinkMade, LinkGone, GivenBack, Carried}
+use Rattle.small_air.specs.Radio.{Radio, Phase, Apart, Paging, Requested, Together, is_paging, is_requested, is_together}
+use Rattle.small_air.specs.Showing.{IsOwed, IsOrdered}
+use Rattle.small_model.proofs.Hearing.{owed_below}
 use Rattle.world_links.proofs.Reaching.{Reach, AtRest, Due, Calling, Onward}
 use Rattle.world_links.proofs.Pacing.{View, view, paged, requested, made, broken, IsClear}
 

@@ -1,14 +1,14 @@
 -- No page is lost when a packet comes into host a.
 use Rattle.std.proofs.Common.{◌≡◌, ℕ, ◌≤◌, List, [], ◌∷◌, length, Bool, true, false, refl, sym, ap, subst, ◌∙◌, arith, inl, inr}
 use Rattle.std.specs.Prelude.{is_some}
-use Rattle.host_link.specs.declared.host_command.HostCommand.{HostCommand}
-use Rattle.host_link.specs.Lines.{Line}
-use Rattle.host_link.specs.Hearing.{PlainNews, Nothing, LinkUp, LinkFailed, LinkDown, Pdu}
-use Rattle.bt_host.specs.Courses.{Course}
-use Rattle.bt_host.specs.Clients.{after_news}
-use Rattle.radio_air.specs.Controllers.{Answer, Returned, Stated, Called, LinkMade, LinkGone, GivenBack, Carried}
-use Rattle.radio_air.specs.Radio.{is_together}
-use Rattle.world_model.proofs.Hearing.{owed_below}
+use Rattle.small_link.specs.declared.host_command.HostCommand.{HostCommand}
+use Rattle.small_link.specs.Lines.{Line}
+use Rattle.small_link.specs.Hearing.{PlainNews, Nothing, LinkUp, LinkFailed, LinkDown, Pdu}
+use Rattle.small_host.specs.Courses.{Course}
+use Rattle.small_host.specs.Clients.{after_news}
+use Rattle.small_air.specs.Controllers.{Answer, Returned, Stated, Called, LinkMade, LinkGone, GivenBack, Carried}
+use Rattle.small_air.specs.Radio.{is_together}
+use Rattle.small_model.proofs.Hearing.{owed_below}
 use Rattle.world_links.proofs.Reaching.{rests_not_calls, Reach, AtRest, Due, Calling, Onward, reach, is_leaving, reach_up, reach_after, news_goes, down_out, pdu_stays}
 use Rattle.world_links.proofs.Ways.{number_of}
 use Rattle.world_links.proofs.Pacing.{View, IsClear}

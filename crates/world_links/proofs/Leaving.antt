@@ -2,17 +2,17 @@
 use Rattle.std.proofs.Common.{◌≡◌, ℕ, ◌+◌, ◌≤◌, List, [], ◌∷◌, ◌++◌, Bool, true, false, refl, sym, ap, subst, ◌∙◌, arith, inl, inr}
 use Rattle.std.proofs.lemmas.Bool.{cases_Bool, eqb-true}
 use Rattle.h4_framing.specs.Packets.{Packet, Command, Acl, Sync, Event}
-use Rattle.push_script.specs.declared.word.Side.TheVariants as sides
+use Rattle.push_terms.specs.declared.word.Side.TheVariants as sides
 use Rattle.capture.specs.declared.flow.Flow.TheVariants.{Out}
 use Rattle.capture.specs.Entries.{Entry, Moved}
 use Rattle.capture.specs.Moves.{moves}
 use Rattle.capture.specs.Links.{Linking, after_move, linking}
-use Rattle.host_link.specs.Stands.{out_of}
-use Rattle.radio_air.specs.Radio.{Radio, Phase, Apart, Paging, Requested, Together, after_packet}
-use Rattle.radio_air.specs.Showing.{Shows}
-use Rattle.world_model.specs.Moments.{Moment}
-use Rattle.world_model.specs.Happenings.{Departs}
-use Rattle.world_model.proofs.Departing.{moved_sizes}
+use Rattle.small_link.specs.Stands.{out_of}
+use Rattle.small_air.specs.Radio.{Radio, Phase, Apart, Paging, Requested, Together, after_packet}
+use Rattle.small_air.specs.Showing.{Shows}
+use Rattle.small_model.specs.Moments.{Moment}
+use Rattle.small_model.specs.Happenings.{Departs}
+use Rattle.small_model.proofs.Departing.{moved_sizes}
 use Rattle.world_links.proofs.Reaching.{Reach, AtRest, Due, Calling, Onward, reach}
 use Rattle.world_links.proofs.Ways.{has_opcode, on_way, HostAt}
 use Rattle.world_links.proofs.Pacing.{View, view, requested, made, broken}

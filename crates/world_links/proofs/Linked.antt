@@ -3,28 +3,28 @@ use Rattle.std.proofs.Common.{◌≡◌, ℕ, ◌+◌, ◌≤◌, List, [], ◌�
 use Rattle.std.proofs.lemmas.List.{append-nil}
 use Rattle.std.specs.Prelude.{is_some, nat_le}
 use Rattle.h4_framing.specs.Packets.{Packet}
-use Rattle.push_script.specs.declared.word.Side.{Side}
-use Rattle.push_script.specs.declared.word.Side.TheVariants as sides
+use Rattle.push_terms.specs.declared.word.Side.{Side}
+use Rattle.push_terms.specs.declared.word.Side.TheVariants as sides
 use Rattle.capture.specs.declared.flow.Flow.TheVariants.{Out, Into}
 use Rattle.capture.specs.Entries.{Entry, Moved, Begun, Ended, Acted}
 use Rattle.capture.specs.Moves.{moves}
 use Rattle.capture.specs.Links.{Link, linking}
 use Rattle.capture.proofs.FurtherLaws.{entry_links-more}
-use Rattle.host_link.specs.Lines.{Line}
-use Rattle.bt_host.specs.Events.{is_idle}
-use Rattle.radio_air.specs.Controllers.{Controller, packet_of}
-use Rattle.radio_air.specs.Radio.{Radio, Phase, Apart, Paging, Requested, Together, is_together, after_offer}
-use Rattle.radio_air.specs.Showing.{ShowsUp, IsOwed}
-use Rattle.world_model.specs.Hosts.{RunsAhead}
-use Rattle.world_model.specs.Moving.{HasNoPacket}
-use Rattle.world_model.specs.Hearing.{HearsBehind}
-use Rattle.world_model.specs.Insides.{idles, came_of}
-use Rattle.world_model.specs.Ordering.{one_ended}
-use Rattle.world_model.specs.Media.{Medium, in_radio}
-use Rattle.world_model.specs.Moments.{Moment, IsAtRest}
-use Rattle.world_model.specs.Happenings.{Happening, Departure, Arrival, GivingBack, Opening, Closing, Deed, Miss, Does, entries_of, Arrives}
-use Rattle.world_model.specs.Holding.{Holds}
-use Rattle.world_model.proofs.Holding.{holds_on}
+use Rattle.small_link.specs.Lines.{Line}
+use Rattle.small_host.specs.Events.{is_idle}
+use Rattle.small_air.specs.Controllers.{Controller, packet_of}
+use Rattle.small_air.specs.Radio.{Radio, Phase, Apart, Paging, Requested, Together, is_together, after_offer}
+use Rattle.small_air.specs.Showing.{ShowsUp, IsOwed}
+use Rattle.small_model.specs.Hosts.{RunsAhead}
+use Rattle.small_model.specs.Moving.{HasNoPacket}
+use Rattle.small_model.specs.Hearing.{HearsBehind}
+use Rattle.small_model.specs.Insides.{idles, came_of}
+use Rattle.small_model.specs.Ordering.{one_ended}
+use Rattle.small_model.specs.Media.{Medium, in_radio}
+use Rattle.small_model.specs.Moments.{Moment, IsAtRest}
+use Rattle.small_model.specs.Happenings.{Happening, Departure, Arrival, GivingBack, Opening, Closing, Deed, Miss, Does, entries_of, Arrives}
+use Rattle.small_model.specs.Holding.{Holds}
+use Rattle.small_model.proofs.Holding.{holds_on}
 use Rattle.world_links.specs.LinkFacts.{IsDone, IsLinked}
 use Rattle.world_links.proofs.Reaching.{Reach, AtRest, Due, Calling, Onward, reach, idle_rests}
 use Rattle.world_links.proofs.Ways.{number_of, on_way}

@@ -5,21 +5,21 @@ use Rattle.h4_framing.specs.Packets.{Packet}
 use Rattle.hci_packets.specs.Events.{PlainEvent, ConnectionComplete, ConnectionRequest, DisconnectionComplete, code_of, event_params, event_refusal}
 use Rattle.acl_fragments.specs.Pieces.{Piece}
 use Rattle.acl_fragments.specs.Answers as joined
-use Rattle.push_script.specs.declared.word.Side.{Side}
-use Rattle.push_script.specs.declared.word.Side.TheVariants as sides
-use Rattle.host_link.specs.declared.news.ControllerFault.{ControllerFault}
-use Rattle.host_link.specs.declared.returned.Returned.{Returned as Return}
-use Rattle.host_link.specs.declared.returned.Returned.TheVariants.{Refused, Unlisted, Status, Buffers}
-use Rattle.host_link.specs.declared.host_command.HostCommand.TheVariants.{AcceptConnection}
-use Rattle.host_link.specs.HostCommands.{opcode}
-use Rattle.host_link.specs.CommandFlows.{Flow, awaits, stated, answered, with_command, is_number}
-use Rattle.host_link.specs.Hearing.{PlainNews, Nothing, LinkUp, LinkDown, Pdu, with_flow, learn, after_answer, after_other, after_complete, after_status, after_connection, connection_news, is_server, may_accept, after_request, after_disconnection, disconnection_news, after_completed, piece_on, after_piece, joined_news, piece_news, after_event, event_news, event_fault, unless_fault, heard, news_of}
+use Rattle.push_terms.specs.declared.word.Side.{Side}
+use Rattle.push_terms.specs.declared.word.Side.TheVariants as sides
+use Rattle.small_link.specs.declared.news.ControllerFault.{ControllerFault}
+use Rattle.small_link.specs.declared.returned.Returned.{Returned as Return}
+use Rattle.small_link.specs.declared.returned.Returned.TheVariants.{Refused, Unlisted, Status, Buffers}
+use Rattle.small_link.specs.declared.host_command.HostCommand.TheVariants.{AcceptConnection}
+use Rattle.small_link.specs.HostCommands.{opcode}
+use Rattle.small_link.specs.CommandFlows.{Flow, awaits, stated, answered, with_command, is_number}
+use Rattle.small_link.specs.Hearing.{PlainNews, Nothing, LinkUp, LinkDown, Pdu, with_flow, learn, after_answer, after_other, after_complete, after_status, after_connection, connection_news, is_server, may_accept, after_request, after_disconnection, disconnection_news, after_completed, piece_on, after_piece, joined_news, piece_news, after_event, event_news, event_fault, unless_fault, heard, news_of}
 use Rattle.acl_credits.specs.Ledgers.{without}
-use Rattle.host_link.specs.EventReading.{event_at}
-use Rattle.host_link.specs.Lines.{Line}
-use Rattle.radio_air.specs.Controllers.{Answer, Returned, Stated, Called, LinkMade, LinkGone, GivenBack, Carried, event_of, packet_of}
-use Rattle.world_model.proofs.Lists.{chosen}
-use Rattle.world_model.proofs.Reading.{heard_by}
+use Rattle.small_link.specs.EventReading.{event_at}
+use Rattle.small_link.specs.Lines.{Line}
+use Rattle.small_air.specs.Controllers.{Answer, Returned, Stated, Called, LinkMade, LinkGone, GivenBack, Carried, event_of, packet_of}
+use Rattle.small_model.proofs.Lists.{chosen}
+use Rattle.small_model.proofs.Reading.{heard_by}
 use Rattle.world_links.proofs.Ways.{number_of, number_of-append, Kin, kin_same}
 use Rattle.world_links.proofs.Pacing.{is_called, both_left}
 

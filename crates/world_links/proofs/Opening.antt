@@ -1,21 +1,21 @@
 -- A push begins, and a push ends.
 use Rattle.std.proofs.Common.{◌≡◌, ℕ, ◌+◌, ◌≤◌, List, [], ◌∷◌, ◌++◌, length, Bool, true, false, cond, Option, Some, None, refl, sym, ap, subst, ◌∙◌, arith}
 use Rattle.std.specs.Prelude.{is_some}
-use Rattle.push_script.specs.declared.word.Side.TheVariants as sides
-use Rattle.push_script.specs.declared.outcome.Outcome.{Outcome}
+use Rattle.push_terms.specs.declared.word.Side.TheVariants as sides
+use Rattle.push_terms.specs.declared.outcome.Outcome.{Outcome}
 use Rattle.capture.specs.Entries.{Entry, Begun, Ended}
 use Rattle.capture.specs.Moves.{moves}
 use Rattle.capture.specs.Links.{Linking, linking}
-use Rattle.host_link.specs.Lines.{Line}
-use Rattle.bt_host.specs.Courses.{Course, begun}
-use Rattle.bt_host.specs.ClientHosts.{PushesOn}
-use Rattle.radio_air.specs.Controllers.{Answer}
-use Rattle.radio_air.specs.Radio.{Radio, Phase, Apart, is_together}
-use Rattle.radio_air.specs.Showing.{Shows, IsOwed}
-use Rattle.radio_air.proofs.Entering.{links-of}
-use Rattle.world_model.specs.Insides.{Inside, Shelved, Pushing, Serving, StartsPush, client, idles}
-use Rattle.world_model.specs.Moments.{Moment}
-use Rattle.world_model.specs.Happenings.{Opens, Closes}
+use Rattle.small_link.specs.Lines.{Line}
+use Rattle.small_host.specs.Courses.{Course, begun}
+use Rattle.small_host.specs.ClientHosts.{PushesOn}
+use Rattle.small_air.specs.Controllers.{Answer}
+use Rattle.small_air.specs.Radio.{Radio, Phase, Apart, is_together}
+use Rattle.small_air.specs.Showing.{Shows, IsOwed}
+use Rattle.small_air.proofs.Entering.{links-of}
+use Rattle.small_model.specs.Insides.{Inside, Shelved, Pushing, Serving, StartsPush, client, idles}
+use Rattle.small_model.specs.Moments.{Moment}
+use Rattle.small_model.specs.Happenings.{Opens, Closes}
 use Rattle.world_links.proofs.Reaching.{Reach, AtRest, Due, Calling, Onward, reach, Clean, idle_rests}
 use Rattle.world_links.proofs.Pacing.{View, view}
 use Rattle.world_links.proofs.Advancing.{Advance, advances}

@@ -6,11 +6,11 @@ use Rattle.std.specs.Prelude.{◌==◌, ◌&&◌, nat_lt, nat_le, slice_index}
 use Rattle.std.specs.List.{AllByRecursion}
 use Rattle.h4_framing.specs.Packets.{Packet, Command, Acl, Sync, Event}
 use Rattle.acl_fragments.specs.Pieces.{Piece}
-use Rattle.push_script.specs.declared.word.Side.{Side}
-use Rattle.push_script.specs.declared.word.Side.TheVariants as sides
-use Rattle.radio_air.specs.Controllers.{Answer, Called, LinkMade, LinkGone, GivenBack, Controller, owing, gives_back, after_giving_back, other_side}
-use Rattle.radio_air.specs.Radio.{Radio, controller, owes, scanning, knows_link, piece_from, after_piece, frames_by, after_taking, with_frames, after_acl, after_packet}
-use Rattle.world_model.proofs.Lists.{chosen, all_both}
+use Rattle.push_terms.specs.declared.word.Side.{Side}
+use Rattle.push_terms.specs.declared.word.Side.TheVariants as sides
+use Rattle.small_air.specs.Controllers.{Answer, Called, LinkMade, LinkGone, GivenBack, Controller, owing, gives_back, after_giving_back, other_side}
+use Rattle.small_air.specs.Radio.{Radio, controller, owes, scanning, knows_link, piece_from, after_piece, frames_by, after_taking, with_frames, after_acl, after_packet}
+use Rattle.small_model.proofs.Lists.{chosen, all_both}
 use Rattle.world_links.proofs.Ways.{number_of, number_of-append}
 use Rattle.world_links.proofs.Tidying.{one_if, is_acl, IsOn, Ours, codes_said, codes_owed, codes_owed-append}
 use Rattle.world_links.proofs.Answering.{Proper}

@@ -4,12 +4,12 @@ use Rattle.std.proofs.lemmas.Bool.{eqb-true}
 use Rattle.std.specs.Prelude.{◌==◌, ◌&&◌, not, is_none, slice_index}
 use Rattle.byteorder.specs.Endian.{little_number}
 use Rattle.hci_packets.specs.Commands.{command_refusal}
-use Rattle.push_script.specs.declared.word.Side.{Side}
-use Rattle.push_script.specs.declared.word.Side.TheVariants as sides
-use Rattle.radio_air.specs.Controllers.{Answer, Returned, Stated, Called, LinkMade, LinkGone, owing}
-use Rattle.radio_air.specs.Radio.{Radio, Phase, Apart, Paging, Requested, Together, is_apart, is_paging, is_requested, is_together, owes, may_page, is_reached, after_reaching, after_paging, joined, after_accepting, parted, parted_by, knows_link, after_disconnecting, scanning, returned, after_row, after_command}
-use Rattle.world_model.proofs.Lists.{chosen}
-use Rattle.world_model.proofs.Putting.{both_right}
+use Rattle.push_terms.specs.declared.word.Side.{Side}
+use Rattle.push_terms.specs.declared.word.Side.TheVariants as sides
+use Rattle.small_air.specs.Controllers.{Answer, Returned, Stated, Called, LinkMade, LinkGone, owing}
+use Rattle.small_air.specs.Radio.{Radio, Phase, Apart, Paging, Requested, Together, is_apart, is_paging, is_requested, is_together, owes, may_page, is_reached, after_reaching, after_paging, joined, after_accepting, parted, parted_by, knows_link, after_disconnecting, scanning, returned, after_row, after_command}
+use Rattle.small_model.proofs.Lists.{chosen}
+use Rattle.small_model.proofs.Putting.{both_right}
 use Rattle.world_links.proofs.Ways.{number_of, number_of-append}
 
 abbrev pub is_called : Answer → Bool

@@ -2,20 +2,20 @@
 use Rattle.std.proofs.Common.{◌≡◌, ℕ, ◌+◌, ◌≤◌, List, [], ◌∷◌, ◌++◌, true, refl, sym, ap, subst, ◌∙◌, arith, inl, inr}
 use Rattle.std.specs.Prelude.{is_some}
 use Rattle.h4_framing.specs.Packets.{Packet}
-use Rattle.push_script.specs.declared.word.Side.{Side}
-use Rattle.push_script.specs.declared.word.Side.TheVariants as sides
+use Rattle.push_terms.specs.declared.word.Side.{Side}
+use Rattle.push_terms.specs.declared.word.Side.TheVariants as sides
 use Rattle.capture.specs.declared.flow.Flow.TheVariants.{Out}
 use Rattle.capture.specs.Entries.{Entry, Moved}
 use Rattle.capture.specs.Moves.{moves}
 use Rattle.capture.specs.Links.{Linking, linking}
-use Rattle.host_link.specs.Lines.{Line}
-use Rattle.bt_host.specs.Courses.{Course}
-use Rattle.radio_air.specs.Radio.{Radio, after_packet}
-use Rattle.radio_air.specs.Showing.{Shows}
-use Rattle.world_model.specs.Faces.{with_out}
-use Rattle.world_model.specs.Media.{after_moving}
-use Rattle.world_model.specs.Moments.{Moment, with_face, with_medium}
-use Rattle.world_model.specs.Happenings.{Departs}
+use Rattle.small_link.specs.Lines.{Line}
+use Rattle.small_host.specs.Courses.{Course}
+use Rattle.small_air.specs.Radio.{Radio, after_packet}
+use Rattle.small_air.specs.Showing.{Shows}
+use Rattle.small_model.specs.Faces.{with_out}
+use Rattle.small_model.specs.Media.{after_moving}
+use Rattle.small_model.specs.Moments.{Moment, with_face, with_medium}
+use Rattle.small_model.specs.Happenings.{Departs}
 use Rattle.world_links.proofs.Reaching.{Reach, AtRest, Due, Calling, Onward, reach, is_leaving}
 use Rattle.world_links.proofs.Ways.{on_way, HostAt}
 use Rattle.world_links.proofs.Pacing.{View, view}

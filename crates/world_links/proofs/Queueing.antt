@@ -3,18 +3,18 @@ use Rattle.std.proofs.Common.{◌≡◌, ℕ, zero, suc, ◌+◌, ◌<◌, ◌�
 use Rattle.std.specs.Prelude.{◌==◌, ◌&&◌}
 use Rattle.bt_base.specs.Objects.{Object}
 use Rattle.acl_fragments.specs.Pieces.{Piece}
-use Rattle.host_link.specs.declared.host_command.HostCommand.{HostCommand}
-use Rattle.host_link.specs.declared.host_command.HostCommand.TheVariants.{CreateConnection, Disconnect}
-use Rattle.host_link.specs.HostCommands.{opcode}
-use Rattle.host_link.specs.CommandFlows.{Flow, with_command, next_command}
-use Rattle.host_link.specs.Lines.{Line}
-use Rattle.host_link.specs.PuttingOut.{has_room, has_buffer, with_piece, with_pieces, put_pieces_on, put_pieces, with_next, put_out, ending, with_pdu}
-use Rattle.bt_host.specs.declared.steps.Step.{Step}
-use Rattle.bt_host.specs.declared.steps.Step.TheVariants.{Wait, Page, Send, BreakLink}
-use Rattle.bt_host.specs.Steps.{next_step}
-use Rattle.bt_host.specs.Clients.{Client, peer_address, after_step, StepsOn, GoesOn}
-use Rattle.world_model.specs.Hearing.{put_out_again}
-use Rattle.world_model.proofs.Lists.{chosen}
+use Rattle.small_link.specs.declared.host_command.HostCommand.{HostCommand}
+use Rattle.small_link.specs.declared.host_command.HostCommand.TheVariants.{CreateConnection, Disconnect}
+use Rattle.small_link.specs.HostCommands.{opcode}
+use Rattle.small_link.specs.CommandFlows.{Flow, with_command, next_command}
+use Rattle.small_link.specs.Lines.{Line}
+use Rattle.small_link.specs.PuttingOut.{has_room, has_buffer, with_piece, with_pieces, put_pieces_on, put_pieces, with_next, put_out, ending, with_pdu}
+use Rattle.small_host.specs.declared.steps.Step.{Step}
+use Rattle.small_host.specs.declared.steps.Step.TheVariants.{Wait, Page, Send, BreakLink}
+use Rattle.small_host.specs.Steps.{next_step}
+use Rattle.small_host.specs.Clients.{Client, peer_address, after_step, StepsOn, GoesOn}
+use Rattle.small_model.specs.Hearing.{put_out_again}
+use Rattle.small_model.proofs.Lists.{chosen}
 use Rattle.world_links.proofs.Reaching.{Reach, AtRest, Due, Calling, Onward, reach, is_leaving, IsOnLink, StepReach, step_goes, LeaveStep, step_leaves}
 use Rattle.world_links.proofs.Ways.{number_of}
 use Rattle.world_links.proofs.Tidying.{one_if}

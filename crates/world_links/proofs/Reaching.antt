@@ -2,25 +2,25 @@
 use Rattle.std.proofs.Common.{rules, ◌≡◌, ℕ, Bool, true, false, List, [], ◌∷◌, drop, Option, Some, None, Result, Ok, Err, refl, sym, ap, ◌∙◌}
 use Rattle.std.specs.Prelude.{◌==◌, is_some, if◌then◌else◌, ◌≢◌}
 use Rattle.std.specs.Option.{option_or}
-use Rattle.push_script.specs.declared.outcome.Outcome.{Outcome}
-use Rattle.push_script.specs.declared.outcome.Outcome.TheVariants.{Refused, PeerFault, ShelfFault, ScriptEnded}
+use Rattle.push_terms.specs.declared.outcome.Outcome.{Outcome}
+use Rattle.push_terms.specs.declared.outcome.Outcome.TheVariants.{Refused, PeerFault, ShelfFault, ScriptEnded}
 use Rattle.l2cap_signal.specs.Commands.{Command, Content, reject, connection_request, connection_response, configuration_request, configuration_response, disconnection_request, disconnection_response, echo_request, echo_response, information_request, information_response}
 use Rattle.l2cap_config.specs.declared.wish.Agreed.{Agreed}
 use Rattle.obex_headers.specs.declared.fault.ObexRefusal.{ObexRefusal}
 use Rattle.obex_headers.specs.declared.packet.Phase.TheVariants.{Response, ConnectResponse}
 use Rattle.obex_headers.specs.Packets.{PlainPacket}
 use Rattle.obex_headers.specs.Reading.{packet_in}
-use Rattle.bt_host.specs.declared.stages.Stage.{Stage}
-use Rattle.bt_host.specs.declared.stages.Stage.TheVariants.{Idle, ToPage, Paging, Linked, Connecting, Connected, Configuring, Greeting, Greeted, Putting, ToPart, Parting, ToClose, Closing, ToLeave, Leaving}
-use Rattle.bt_host.specs.declared.stages.PeerRequest.TheVariants.{Awaited, Heard, Accepted}
-use Rattle.bt_host.specs.declared.steps.Step.{Step}
-use Rattle.bt_host.specs.declared.steps.Step.TheVariants.{Wait, Page, BreakLink}
-use Rattle.bt_host.specs.Pdus.{own_endpoint}
-use Rattle.bt_host.specs.Courses.{Course, at, caused, ended}
-use Rattle.bt_host.specs.Events as events
-use Rattle.bt_host.specs.Steps.{step_at}
-use Rattle.host_link.specs.Hearing.{PlainNews, Nothing, LinkUp, LinkFailed, LinkDown, Pdu}
-use Rattle.bt_host.specs.Clients.{commands_in, after_commands, after_pdu, after_news}
+use Rattle.small_host.specs.declared.stages.Stage.{Stage}
+use Rattle.small_host.specs.declared.stages.Stage.TheVariants.{Idle, ToPage, Paging, Linked, Connecting, Connected, Configuring, Greeting, Greeted, Putting, ToPart, Parting, ToClose, Closing, ToLeave, Leaving}
+use Rattle.small_host.specs.declared.stages.PeerRequest.TheVariants.{Awaited, Heard, Accepted}
+use Rattle.small_host.specs.declared.steps.Step.{Step}
+use Rattle.small_host.specs.declared.steps.Step.TheVariants.{Wait, Page, BreakLink}
+use Rattle.small_host.specs.Pdus.{own_endpoint}
+use Rattle.small_host.specs.Courses.{Course, at, caused, ended}
+use Rattle.small_host.specs.Events as events
+use Rattle.small_host.specs.Steps.{step_at}
+use Rattle.small_link.specs.Hearing.{PlainNews, Nothing, LinkUp, LinkFailed, LinkDown, Pdu}
+use Rattle.small_host.specs.Clients.{commands_in, after_commands, after_pdu, after_news}
 
 -- no push goes on; the peer is to be paged; it is paged; there is a link
 pub data Reach : Type 0 where

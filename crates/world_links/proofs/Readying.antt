@@ -5,22 +5,22 @@ use Rattle.bt_base.specs.Octets.{IsOctets}
 use Rattle.bt_base.specs.Objects.{Object}
 use Rattle.h4_framing.specs.Packets.{Packet}
 use Rattle.capture.specs.Links.{Linking}
-use Rattle.host_link.specs.declared.host_command.HostCommand.{HostCommand}
-use Rattle.host_link.specs.declared.host_command.HostCommand.TheVariants.{CreateConnection, Disconnect}
-use Rattle.host_link.specs.HostCommands.{IsWhole}
-use Rattle.host_link.specs.CommandFlows.{Flow, with_command}
-use Rattle.host_link.specs.Hearing.{with_flow}
-use Rattle.host_link.specs.Lines.{Line}
-use Rattle.host_link.specs.PuttingOut.{put_out, ending, with_pdu}
-use Rattle.bt_host.specs.declared.steps.Step.{Step}
-use Rattle.bt_host.specs.declared.steps.Step.TheVariants.{Wait, Page, Send, BreakLink}
-use Rattle.bt_host.specs.Steps.{next_step}
-use Rattle.bt_host.specs.Clients as clients
-use Rattle.bt_host.specs.Channels.{sent}
-use Rattle.bt_host.specs.Servers as servers
-use Rattle.world_model.specs.Hosts.{links_told, IsAddress, IsAddressed}
-use Rattle.world_model.proofs.Lists.{chosen}
-use Rattle.world_model.proofs.Putting.{is_last}
+use Rattle.small_link.specs.declared.host_command.HostCommand.{HostCommand}
+use Rattle.small_link.specs.declared.host_command.HostCommand.TheVariants.{CreateConnection, Disconnect}
+use Rattle.small_link.specs.HostCommands.{IsWhole}
+use Rattle.small_link.specs.CommandFlows.{Flow, with_command}
+use Rattle.small_link.specs.Hearing.{with_flow}
+use Rattle.small_link.specs.Lines.{Line}
+use Rattle.small_link.specs.PuttingOut.{put_out, ending, with_pdu}
+use Rattle.small_host.specs.declared.steps.Step.{Step}
+use Rattle.small_host.specs.declared.steps.Step.TheVariants.{Wait, Page, Send, BreakLink}
+use Rattle.small_host.specs.Steps.{next_step}
+use Rattle.small_host.specs.Clients as clients
+use Rattle.small_host.specs.Channels.{sent}
+use Rattle.small_host.specs.Servers as servers
+use Rattle.small_model.specs.Hosts.{links_told, IsAddress, IsAddressed}
+use Rattle.small_model.proofs.Lists.{chosen}
+use Rattle.small_model.proofs.Putting.{is_last}
 use Rattle.world_links.proofs.Ways.{HostAt, with_more, flow_host, send_host}
 use Rattle.world_links.proofs.Trimming.{Trim, trim_waits, IsCalm, tidy_of}
 use Rattle.world_links.proofs.Neatly.{Done, done_putting}

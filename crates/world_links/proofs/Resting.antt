@@ -4,24 +4,24 @@ use Rattle.std.proofs.lemmas.List.{append-nil}
 use Rattle.std.specs.Prelude.{option_to_list}
 use Rattle.std.specs.List.{AllByRecursion}
 use Rattle.h4_framing.specs.Packets.{Packet, spellings, IsPacket}
-use Rattle.push_script.specs.declared.word.Side.TheVariants as sides
+use Rattle.push_terms.specs.declared.word.Side.TheVariants as sides
 use Rattle.capture.specs.declared.flow.Flow.TheVariants.{Out, Into}
 use Rattle.capture.specs.Entries.{Entry, Moved, Begun, Ended, Acted}
 use Rattle.capture.specs.Links.{Linking, no_links}
-use Rattle.host_link.specs.declared.role.Role.{Role}
-use Rattle.host_link.specs.declared.role.Role.TheVariants.{Client, Server}
-use Rattle.host_link.specs.HostCommands.{start_commands, IsWhole}
-use Rattle.host_link.specs.Lines.{Line, fresh}
-use Rattle.host_link.specs.PuttingOut.{put_out}
-use Rattle.bt_host.specs.Servers.{Kept}
-use Rattle.radio_air.specs.Controllers.{Controller, packet_of, new_controller}
-use Rattle.radio_air.specs.Radio.{Radio, after_answer}
-use Rattle.world_model.specs.Moving.{HasNoPacket}
-use Rattle.world_model.specs.Hearing.{HearsBehind}
-use Rattle.world_model.specs.Insides.{Inside, Shelved, StartsPush, client}
-use Rattle.world_model.specs.Moments.{Moment, first_moment, with_face, with_medium, with_pushes}
-use Rattle.world_model.specs.Happenings.{Happening, Departure, Arrival, GivingBack, Opening, Closing, Deed, Miss, Does, entries_of, Arrives, Opens}
-use Rattle.world_model.specs.Holding.{Holds}
+use Rattle.small_link.specs.declared.role.Role.{Role}
+use Rattle.small_link.specs.declared.role.Role.TheVariants.{Client, Server}
+use Rattle.small_link.specs.HostCommands.{start_commands, IsWhole}
+use Rattle.small_link.specs.Lines.{Line, fresh}
+use Rattle.small_link.specs.PuttingOut.{put_out}
+use Rattle.small_host.specs.Servers.{Kept}
+use Rattle.small_air.specs.Controllers.{Controller, packet_of, new_controller}
+use Rattle.small_air.specs.Radio.{Radio, after_answer}
+use Rattle.small_model.specs.Moving.{HasNoPacket}
+use Rattle.small_model.specs.Hearing.{HearsBehind}
+use Rattle.small_model.specs.Insides.{Inside, Shelved, StartsPush, client}
+use Rattle.small_model.specs.Moments.{Moment, first_moment, with_face, with_medium, with_pushes}
+use Rattle.small_model.specs.Happenings.{Happening, Departure, Arrival, GivingBack, Opening, Closing, Deed, Miss, Does, entries_of, Arrives, Opens}
+use Rattle.small_model.specs.Holding.{Holds}
 use Rattle.world_links.specs.LinkFacts.{IsDone}
 use Rattle.world_links.proofs.Reaching.{reach}
 use Rattle.world_links.proofs.Ways.{number_of}
@@ -31,8 +31,8 @@ use Rattle.world_links.proofs.Opening.{begins_client}
 use Rattle.world_links.proofs.Tidying.{is_acl, codes_said, codes_owed, Tidy}
 use Rattle.world_links.proofs.Owning.{is_back, backs}
 use Rattle.world_links.proofs.Running.{fresh_host}
-use Rattle.world_model.specs.Media.{Medium, in_radio}
-use Rattle.world_model.specs.Ordering.{one_begun}
+use Rattle.small_model.specs.Media.{Medium, in_radio}
+use Rattle.small_model.specs.Ordering.{one_begun}
 use Rattle.world_links.proofs.Neatly.{done_putting}
 use Rattle.world_links.proofs.Steadying.{Steady}
 use Rattle.world_links.proofs.Both.{BothSteady, both_beside, both_departs_a, both_departs_b, both_offer, both_made}

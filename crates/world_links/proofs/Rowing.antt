@@ -6,11 +6,11 @@ use Rattle.byteorder.specs.Endian.{little_number}
 use Rattle.bt_base.specs.Octets.{le16}
 use Rattle.hci_packets.specs.declared.refusal.HciRefusal.{HciRefusal}
 use Rattle.hci_packets.specs.Commands.{command_refusal}
-use Rattle.push_script.specs.declared.word.Side.{Side}
-use Rattle.push_script.specs.declared.word.Side.TheVariants as sides
-use Rattle.radio_air.specs.Controllers.{Answer, Returned, Stated, Called, address, owing}
-use Rattle.radio_air.specs.Radio.{Radio, Paging, Requested, owes, may_page, is_reached, after_reaching, after_paging, is_requested, joined, after_accepting, parted, parted_by, knows_link, after_disconnecting, scanning, after_row, after_command}
-use Rattle.world_model.proofs.Lists.{chosen}
+use Rattle.push_terms.specs.declared.word.Side.{Side}
+use Rattle.push_terms.specs.declared.word.Side.TheVariants as sides
+use Rattle.small_air.specs.Controllers.{Answer, Returned, Stated, Called, address, owing}
+use Rattle.small_air.specs.Radio.{Radio, Paging, Requested, owes, may_page, is_reached, after_reaching, after_paging, is_requested, joined, after_accepting, parted, parted_by, knows_link, after_disconnecting, scanning, after_row, after_command}
+use Rattle.small_model.proofs.Lists.{chosen}
 use Rattle.world_links.proofs.Tidying.{codes_owed, is_listed}
 use Rattle.world_links.proofs.Answering.{Proper}
 

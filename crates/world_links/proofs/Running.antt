@@ -1,21 +1,21 @@
 -- What is true of a world and its links holds at first, and along each run.
 use Rattle.std.proofs.Common.{ℕ, List, [], ◌++◌, refl, ap, arith}
 use Rattle.std.specs.Prelude.{is_some}
-use Rattle.push_script.specs.declared.word.Side.TheVariants as sides
+use Rattle.push_terms.specs.declared.word.Side.TheVariants as sides
 use Rattle.capture.specs.Entries.{Entry}
 use Rattle.capture.specs.Links.{no_links}
-use Rattle.host_link.specs.declared.role.Role.{Role}
-use Rattle.host_link.specs.declared.role.Role.TheVariants.{Client, Server}
-use Rattle.host_link.specs.Lines.{fresh}
-use Rattle.bt_host.specs.Servers.{Kept}
-use Rattle.bt_host.specs.Courses.{resting}
-use Rattle.world_model.specs.Insides.{Shelved}
-use Rattle.world_model.specs.Moments.{Moment, first_moment}
-use Rattle.world_model.specs.Happenings.{Happening, Departure, Arrival, GivingBack, Opening, Closing, Deed, Miss, Does, entries_of, all_entries}
-use Rattle.world_model.specs.Holding.{Holds}
-use Rattle.world_model.proofs.Letting.{start_addressed}
-use Rattle.world_model.proofs.Beginning.{stands_started, shows_nothing, honest_at_first}
-use Rattle.world_model.proofs.Holding.{holds_on, kept_along}
+use Rattle.small_link.specs.declared.role.Role.{Role}
+use Rattle.small_link.specs.declared.role.Role.TheVariants.{Client, Server}
+use Rattle.small_link.specs.Lines.{fresh}
+use Rattle.small_host.specs.Servers.{Kept}
+use Rattle.small_host.specs.Courses.{resting}
+use Rattle.small_model.specs.Insides.{Shelved}
+use Rattle.small_model.specs.Moments.{Moment, first_moment}
+use Rattle.small_model.specs.Happenings.{Happening, Departure, Arrival, GivingBack, Opening, Closing, Deed, Miss, Does, entries_of, all_entries}
+use Rattle.small_model.specs.Holding.{Holds}
+use Rattle.small_model.proofs.Letting.{start_addressed}
+use Rattle.small_model.proofs.Beginning.{stands_started, shows_nothing, honest_at_first}
+use Rattle.small_model.proofs.Holding.{holds_on, kept_along}
 use Rattle.world_links.specs.LinkFacts.{IsBeginning, LinksOfRuns}
 use Rattle.world_links.proofs.Ways.{HostAt, puts_next}
 use Rattle.world_links.proofs.Splitting.{split_first}

@@ -7,11 +7,11 @@ use Rattle.h4_framing.specs.Packets.{Packet, Command, Acl, Sync, Event}
 use Rattle.hci_packets.specs.declared.refusal.HciRefusal.{HciRefusal}
 use Rattle.hci_packets.specs.Commands.{command_refusal}
 use Rattle.acl_fragments.specs.Pieces.{Piece}
-use Rattle.push_script.specs.declared.word.Side.{Side}
-use Rattle.push_script.specs.declared.word.Side.TheVariants as sides
-use Rattle.radio_air.specs.Controllers.{Answer, Returned, Stated, Called, Controller, owing, after_giving_back}
-use Rattle.radio_air.specs.Radio.{Radio, Apart, Paging, Requested, Together, is_paging, is_requested, owes, may_page, is_reached, after_reaching, after_paging, joined, after_accepting, parted_by, knows_link, after_disconnecting, scanning, returned, after_row, piece_from, after_piece, frames_by, after_taking, with_frames, after_acl, after_packet}
-use Rattle.world_model.proofs.Lists.{chosen}
+use Rattle.push_terms.specs.declared.word.Side.{Side}
+use Rattle.push_terms.specs.declared.word.Side.TheVariants as sides
+use Rattle.small_air.specs.Controllers.{Answer, Returned, Stated, Called, Controller, owing, after_giving_back}
+use Rattle.small_air.specs.Radio.{Radio, Apart, Paging, Requested, Together, is_paging, is_requested, owes, may_page, is_reached, after_reaching, after_paging, joined, after_accepting, parted_by, knows_link, after_disconnecting, scanning, returned, after_row, piece_from, after_piece, frames_by, after_taking, with_frames, after_acl, after_packet}
+use Rattle.small_model.proofs.Lists.{chosen}
 use Rattle.world_links.proofs.Ways.{has_opcode}
 use Rattle.world_links.proofs.Tidying.{IsAnswered, Ours}
 use Rattle.world_links.proofs.Rowing.{Closed, commanded, row_scan}

@@ -2,9 +2,9 @@
 use Rattle.std.proofs.Common.{ℕ, List, Option, Some, None, sym, subst}
 use Rattle.h4_framing.specs.Packets.{Packet}
 use Rattle.capture.specs.Links.{Linking}
-use Rattle.host_link.specs.Lines.{Line}
-use Rattle.bt_host.specs.Channels.{sent}
-use Rattle.bt_host.specs.Servers.{Server, with_response, IsSendable, answering, stepped, putting_out, GoesOn}
+use Rattle.small_link.specs.Lines.{Line}
+use Rattle.small_host.specs.Channels.{sent}
+use Rattle.small_host.specs.Servers.{Server, with_response, IsSendable, answering, stepped, putting_out, GoesOn}
 use Rattle.world_links.proofs.Ways.{HostAt, Next, next_same, next_then, puts_next, sends_next}
 
 module _ (moved : Linking) (count : ℕ) where

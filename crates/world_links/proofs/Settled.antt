@@ -1,15 +1,15 @@
 -- The link of a push is up at rest in each run from the beginning.
 use Rattle.std.proofs.Common.{◌≡◌, ℕ, ◌≤◌, List, [], length, refl, sym, ap, subst, ◌∙◌, arith, inl}
 use Rattle.capture.specs.Links.{no_links}
-use Rattle.host_link.specs.declared.role.Role.TheVariants.{Client, Server}
-use Rattle.host_link.specs.Lines.{fresh}
-use Rattle.host_link.specs.PuttingOut.{put_out}
-use Rattle.bt_host.specs.Courses.{Course, resting}
-use Rattle.bt_host.specs.Servers.{Kept}
-use Rattle.world_model.specs.Insides.{Shelved, idles}
-use Rattle.world_model.specs.Moments.{Moment, IsAtRest, first_moment}
-use Rattle.world_model.specs.Happenings.{Happening, Runs, all_entries}
-use Rattle.world_model.proofs.Holding.{kept_along}
+use Rattle.small_link.specs.declared.role.Role.TheVariants.{Client, Server}
+use Rattle.small_link.specs.Lines.{fresh}
+use Rattle.small_link.specs.PuttingOut.{put_out}
+use Rattle.small_host.specs.Courses.{Course, resting}
+use Rattle.small_host.specs.Servers.{Kept}
+use Rattle.small_model.specs.Insides.{Shelved, idles}
+use Rattle.small_model.specs.Moments.{Moment, IsAtRest, first_moment}
+use Rattle.small_model.specs.Happenings.{Happening, Runs, all_entries}
+use Rattle.small_model.proofs.Holding.{kept_along}
 use Rattle.world_links.specs.LinkFacts.{IsBeginning, IsDone, RestsOfRuns}
 use Rattle.world_links.proofs.Reaching.{rests_not_calls, Reach, AtRest, reach, is_leaving}
 use Rattle.world_links.proofs.Ways.{puts_next}

@@ -9,11 +9,11 @@ use Rattle.hci_packets.specs.Commands.{command_refusal}
 use Rattle.h4_framing.specs.Packets.{Packet, Command, Acl, Sync, Event}
 use Rattle.capture.specs.Moves.{Move}
 use Rattle.capture.specs.Links.{Linking, Asked, NoNews, after_news, after_move}
-use Rattle.host_link.specs.Lines.{Line}
-use Rattle.host_link.specs.Stands.{out_of}
-use Rattle.radio_air.specs.Controllers.{Controller}
-use Rattle.world_model.specs.Hosts.{links_told}
-use Rattle.world_model.proofs.Longer.{goes_out}
+use Rattle.small_link.specs.Lines.{Line}
+use Rattle.small_link.specs.Stands.{out_of}
+use Rattle.small_air.specs.Controllers.{Controller}
+use Rattle.small_model.specs.Hosts.{links_told}
+use Rattle.small_model.proofs.Longer.{goes_out}
 use Rattle.world_links.proofs.Ways.{number_of, HostAt}
 use Rattle.world_links.proofs.Tidying.{one_if, is_asking, is_acl, NoneBehind, IsOn, Ours, codes_said, codes_owed, Tidy}
 use Rattle.world_links.proofs.Answering.{Proper}

@@ -2,23 +2,23 @@
 use Rattle.std.proofs.Common.{◌≡◌, ℕ, ◌≤◌, List, [], ◌∷◌, length, Bool, true, false, cond, Option, Some, None, refl, sym, ap, subst, ◌∙◌, arith, inl, inr, ◌⊎◌}
 use Rattle.std.specs.Prelude.{is_some}
 use Rattle.h4_framing.specs.Packets.{Packet}
-use Rattle.push_script.specs.declared.word.Side.{Side}
-use Rattle.push_script.specs.declared.word.Side.TheVariants as sides
-use Rattle.push_script.specs.declared.word.Way.{Way}
-use Rattle.push_script.specs.declared.word.Way.TheVariants.{Ab, Ba}
-use Rattle.push_script.specs.declared.word.Word.{Word}
+use Rattle.push_terms.specs.declared.word.Side.{Side}
+use Rattle.push_terms.specs.declared.word.Side.TheVariants as sides
+use Rattle.push_terms.specs.declared.word.Way.{Way}
+use Rattle.push_terms.specs.declared.word.Way.TheVariants.{Ab, Ba}
+use Rattle.push_terms.specs.declared.word.Word.{Word}
 use Rattle.capture.specs.Entries.{Entry}
 use Rattle.capture.specs.Moves.{moves}
 use Rattle.capture.specs.Links.{Linking, linking}
 use Rattle.capture.specs.Frames.{way_served}
-use Rattle.host_link.specs.declared.role.Role.TheVariants.{Server}
-use Rattle.host_link.specs.Lines.{Line}
-use Rattle.bt_host.specs.Courses.{Course, resting}
-use Rattle.radio_air.specs.Radio.{Radio, is_together, after_offer, parted, delivered_first, frames, served_next}
-use Rattle.world_model.specs.Acting.{Makes}
-use Rattle.world_model.specs.Insides.{Inside, Shelved, Pushing, Serving}
-use Rattle.world_model.specs.Scenes.{Scene}
-use Rattle.world_model.specs.Moments.{Moment}
+use Rattle.small_link.specs.declared.role.Role.TheVariants.{Server}
+use Rattle.small_link.specs.Lines.{Line}
+use Rattle.small_host.specs.Courses.{Course, resting}
+use Rattle.small_air.specs.Radio.{Radio, is_together, after_offer, parted, delivered_first, frames, served_next}
+use Rattle.small_model.specs.Acting.{Makes}
+use Rattle.small_model.specs.Insides.{Inside, Shelved, Pushing, Serving}
+use Rattle.small_model.specs.Scenes.{Scene}
+use Rattle.small_model.specs.Moments.{Moment}
 use Rattle.world_links.proofs.Reaching.{Reach, AtRest, reach, is_leaving}
 use Rattle.world_links.proofs.Ways.{on_way, HostAt}
 use Rattle.world_links.proofs.Pacing.{View, view}

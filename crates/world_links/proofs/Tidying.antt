@@ -9,18 +9,18 @@ use Rattle.hci_packets.proofs.CommandLaws.{command_accepted}
 use Rattle.hci_packets.proofs.Lists.{of_six}
 use Rattle.acl_fragments.specs.Pieces.{Piece}
 use Rattle.capture.specs.Links.{Link, Linking}
-use Rattle.host_link.specs.declared.host_command.HostCommand.{HostCommand}
-use Rattle.host_link.specs.declared.host_command.HostCommand.TheVariants.{Reset, ReadBufferSize, ReadBdAddr, WriteScanEnable, CreateConnection, AcceptConnection, Disconnect}
-use Rattle.host_link.specs.HostCommands.{opcode, command_of, command_packet, asks, IsWhole}
-use Rattle.host_link.specs.CommandFlows.{next_command, first_of}
-use Rattle.host_link.specs.Lines.{Line}
-use Rattle.host_link.specs.PuttingOut.{piece_packet, with_piece, with_next}
-use Rattle.radio_air.specs.Controllers.{Answer, Returned, Stated, Called, LinkMade, LinkGone, GivenBack, Carried}
-use Rattle.world_model.specs.Hosts.{RunsAhead, links_told}
-use Rattle.world_model.proofs.Lists.{all_both, all_behind}
-use Rattle.world_model.proofs.Saying.{on_handle}
-use Rattle.world_model.proofs.Putting.{IsLast, is_last}
-use Rattle.world_model.proofs.Commanding.{next_waits}
+use Rattle.small_link.specs.declared.host_command.HostCommand.{HostCommand}
+use Rattle.small_link.specs.declared.host_command.HostCommand.TheVariants.{Reset, ReadBufferSize, ReadBdAddr, WriteScanEnable, CreateConnection, AcceptConnection, Disconnect}
+use Rattle.small_link.specs.HostCommands.{opcode, command_of, command_packet, asks, IsWhole}
+use Rattle.small_link.specs.CommandFlows.{next_command, first_of}
+use Rattle.small_link.specs.Lines.{Line}
+use Rattle.small_link.specs.PuttingOut.{piece_packet, with_piece, with_next}
+use Rattle.small_air.specs.Controllers.{Answer, Returned, Stated, Called, LinkMade, LinkGone, GivenBack, Carried}
+use Rattle.small_model.specs.Hosts.{RunsAhead, links_told}
+use Rattle.small_model.proofs.Lists.{all_both, all_behind}
+use Rattle.small_model.proofs.Saying.{on_handle}
+use Rattle.small_model.proofs.Putting.{IsLast, is_last}
+use Rattle.small_model.proofs.Commanding.{next_waits}
 use Rattle.world_links.proofs.Ways.{number_of, number_of-append, has_opcode, on_way, HostAt, Kin, piece_kin, command_kin}
 
 -- ---- packets

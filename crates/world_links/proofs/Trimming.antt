@@ -5,17 +5,17 @@ use Rattle.std.specs.Prelude.{◌&&◌, ◌||◌, not, nat_lt, is_none, option_t
 use Rattle.std.specs.List.{AllByRecursion}
 use Rattle.h4_framing.specs.Packets.{Packet, spelling, spellings, IsPacket}
 use Rattle.capture.specs.Links.{Linking}
-use Rattle.host_link.specs.declared.returned.Returned.{Returned as Return}
-use Rattle.host_link.specs.declared.returned.Returned.TheVariants.{Refused, Unlisted, Status, Buffers}
-use Rattle.host_link.specs.declared.host_command.HostCommand.{HostCommand}
-use Rattle.host_link.specs.HostCommands.{IsWhole}
-use Rattle.host_link.specs.Returning.{completes}
-use Rattle.host_link.specs.CommandFlows.{Flow, with_command, is_number, awaits, stated, answered}
-use Rattle.host_link.specs.Hearing.{with_flow, learn, after_answer, after_other, after_complete, after_status}
-use Rattle.host_link.specs.Lines.{Line}
-use Rattle.world_model.specs.Hosts.{links_told}
-use Rattle.world_model.proofs.Lists.{chosen, all_both}
-use Rattle.world_model.proofs.Departing.{first_is}
+use Rattle.small_link.specs.declared.returned.Returned.{Returned as Return}
+use Rattle.small_link.specs.declared.returned.Returned.TheVariants.{Refused, Unlisted, Status, Buffers}
+use Rattle.small_link.specs.declared.host_command.HostCommand.{HostCommand}
+use Rattle.small_link.specs.HostCommands.{IsWhole}
+use Rattle.small_link.specs.Returning.{completes}
+use Rattle.small_link.specs.CommandFlows.{Flow, with_command, is_number, awaits, stated, answered}
+use Rattle.small_link.specs.Hearing.{with_flow, learn, after_answer, after_other, after_complete, after_status}
+use Rattle.small_link.specs.Lines.{Line}
+use Rattle.small_model.specs.Hosts.{links_told}
+use Rattle.small_model.proofs.Lists.{chosen, all_both}
+use Rattle.small_model.proofs.Departing.{first_is}
 use Rattle.world_links.proofs.Ways.{number_of, on_way, HostAt, with_more}
 use Rattle.world_links.proofs.Tidying.{is_asking, is_acl, NoneBehind, IsOn, Ours, codes_said, Tidy}
 

@@ -2,23 +2,23 @@
 use Rattle.std.proofs.Common.{◌≡◌, ℕ, ◌+◌, ◌<◌, ◌≤◌, List, length, Bool, true, false, refl, sym, ap, subst, ◌∙◌, arith}
 use Rattle.std.specs.Prelude.{is_some}
 use Rattle.h4_framing.specs.Packets.{Packet}
-use Rattle.push_script.specs.declared.word.Side.{Side}
-use Rattle.push_script.specs.declared.word.Side.TheVariants as sides
+use Rattle.push_terms.specs.declared.word.Side.{Side}
+use Rattle.push_terms.specs.declared.word.Side.TheVariants as sides
 use Rattle.capture.specs.Entries.{Entry}
 use Rattle.capture.specs.Moves.{moves}
 use Rattle.capture.specs.Links.{linking, links}
-use Rattle.host_link.specs.declared.role.Role.TheVariants.{Client}
-use Rattle.host_link.specs.Lines.{Line}
-use Rattle.bt_host.specs.declared.stages.Stage.{Stage}
-use Rattle.bt_host.specs.declared.stages.Stage.TheVariants.{Idle, ToPage, Paging, Linked, Connecting, Connected, Configuring, Greeting, Greeted, Putting, ToPart, Parting, ToClose, Closing, ToLeave, Leaving}
-use Rattle.bt_host.specs.Courses.{Course}
-use Rattle.bt_host.specs.Events.{is_idle}
-use Rattle.bt_host.specs.Servers.{Served, Kept}
-use Rattle.radio_air.specs.Showing.{Shows}
-use Rattle.radio_air.proofs.Entering.{links-of}
-use Rattle.world_model.specs.Insides.{Shelved, Pushing, Serving, idles, came_of}
-use Rattle.world_model.specs.Moments.{Moment}
-use Rattle.world_model.proofs.Hearing.{none_up}
+use Rattle.small_link.specs.declared.role.Role.TheVariants.{Client}
+use Rattle.small_link.specs.Lines.{Line}
+use Rattle.small_host.specs.declared.stages.Stage.{Stage}
+use Rattle.small_host.specs.declared.stages.Stage.TheVariants.{Idle, ToPage, Paging, Linked, Connecting, Connected, Configuring, Greeting, Greeted, Putting, ToPart, Parting, ToClose, Closing, ToLeave, Leaving}
+use Rattle.small_host.specs.Courses.{Course}
+use Rattle.small_host.specs.Events.{is_idle}
+use Rattle.small_host.specs.Servers.{Served, Kept}
+use Rattle.small_air.specs.Showing.{Shows}
+use Rattle.small_air.proofs.Entering.{links-of}
+use Rattle.small_model.specs.Insides.{Shelved, Pushing, Serving, idles, came_of}
+use Rattle.small_model.specs.Moments.{Moment}
+use Rattle.small_model.proofs.Hearing.{none_up}
 use Rattle.world_links.specs.LinkFacts.{since_begin, IsUnlinked, LinkFacts}
 use Rattle.world_links.proofs.Reaching.{rests_not_calls, Reach, AtRest, Calling, Onward, reach, Clean}
 use Rattle.world_links.proofs.Ways.{on_way, HostAt}

@@ -3,14 +3,14 @@ use Rattle.std.proofs.Common.{◌≡◌, ℕ, ◌+◌, ◌%◌, List, [], ◌∷
 use Rattle.std.specs.Prelude.{◌==◌, ◌&&◌, nat_lt, nat_le}
 use Rattle.h4_framing.specs.Packets.{Packet, Command, Acl, Sync, Event}
 use Rattle.acl_fragments.specs.Pieces.{Piece}
-use Rattle.push_script.specs.declared.word.Side.{Side}
-use Rattle.push_script.specs.declared.word.Side.TheVariants as sides
-use Rattle.push_script.specs.declared.word.Way.{Way}
-use Rattle.push_script.specs.declared.word.Way.TheVariants.{Ab, Ba}
+use Rattle.push_terms.specs.declared.word.Side.{Side}
+use Rattle.push_terms.specs.declared.word.Side.TheVariants as sides
+use Rattle.push_terms.specs.declared.word.Way.{Way}
+use Rattle.push_terms.specs.declared.word.Way.TheVariants.{Ab, Ba}
 use Rattle.capture.specs.Frames.{frame_pieces, way_served}
-use Rattle.radio_air.specs.Controllers.{Answer, Returned, Stated, Called, LinkMade, LinkGone, GivenBack, Carried, Controller, gives_back, after_giving_back, after_telling, after_first, after_handing}
-use Rattle.radio_air.specs.Radio.{Radio, Paging, Requested, Together, is_together, controller, with_controller, parted, knows_link, piece_from, after_piece, frames_by, after_taking, with_frames, after_acl, after_packet, after_offer, after_answer, delivered_first, frames, served_next, passed, dropped}
-use Rattle.world_model.proofs.Lists.{chosen}
+use Rattle.small_air.specs.Controllers.{Answer, Returned, Stated, Called, LinkMade, LinkGone, GivenBack, Carried, Controller, gives_back, after_giving_back, after_telling, after_first, after_handing}
+use Rattle.small_air.specs.Radio.{Radio, Paging, Requested, Together, is_together, controller, with_controller, parted, knows_link, piece_from, after_piece, frames_by, after_taking, with_frames, after_acl, after_packet, after_offer, after_answer, delivered_first, frames, served_next, passed, dropped}
+use Rattle.small_model.proofs.Lists.{chosen}
 use Rattle.world_links.proofs.Ways.{number_of, number_of-append, has_opcode}
 use Rattle.world_links.proofs.Pacing.{is_called, View, view, paged, requested, made, broken, IsClear, plus_none, together_is, parts, command_a, command_b}
 

@@ -9,21 +9,21 @@ use Rattle.acl_fragments.specs.Pieces.{Piece}
 use Rattle.acl_fragments.specs.Cuts.{cut}
 use Rattle.acl_credits.specs.Ledgers.{packets_of}
 use Rattle.capture.specs.Links.{Linking, after_move}
-use Rattle.host_link.specs.declared.host_command.HostCommand.{HostCommand}
-use Rattle.host_link.specs.HostCommands.{opcode, command_packet}
-use Rattle.host_link.specs.CommandFlows.{Flow, with_command, next_command, first_of}
-use Rattle.host_link.specs.Hearing.{with_flow}
-use Rattle.host_link.specs.Lines.{Line}
-use Rattle.host_link.specs.PuttingOut.{has_room, has_buffer, piece_packet, with_piece, with_pieces, put_pieces_on, put_pieces, with_next, put_command, put_out, with_pdu}
-use Rattle.host_link.specs.Stands.{out_of}
-use Rattle.world_model.specs.Hosts.{IsAddressed, IsShort}
-use Rattle.world_model.specs.Hearing.{put_out_again}
-use Rattle.world_model.proofs.Lists.{chosen, all_both}
-use Rattle.world_model.proofs.Standing.{Keeps}
-use Rattle.world_model.proofs.Altering.{keeps_flow, keeps_pieces}
-use Rattle.world_model.proofs.Putting.{keeps_piece, both_right}
-use Rattle.world_model.proofs.Commanding.{keeps_command, first_addressed, next_waits}
-use Rattle.world_model.proofs.Letting.{cut_short}
+use Rattle.small_link.specs.declared.host_command.HostCommand.{HostCommand}
+use Rattle.small_link.specs.HostCommands.{opcode, command_packet}
+use Rattle.small_link.specs.CommandFlows.{Flow, with_command, next_command, first_of}
+use Rattle.small_link.specs.Hearing.{with_flow}
+use Rattle.small_link.specs.Lines.{Line}
+use Rattle.small_link.specs.PuttingOut.{has_room, has_buffer, piece_packet, with_piece, with_pieces, put_pieces_on, put_pieces, with_next, put_command, put_out, with_pdu}
+use Rattle.small_link.specs.Stands.{out_of}
+use Rattle.small_model.specs.Hosts.{IsAddressed, IsShort}
+use Rattle.small_model.specs.Hearing.{put_out_again}
+use Rattle.small_model.proofs.Lists.{chosen, all_both}
+use Rattle.small_model.proofs.Standing.{Keeps}
+use Rattle.small_model.proofs.Altering.{keeps_flow, keeps_pieces}
+use Rattle.small_model.proofs.Putting.{keeps_piece, both_right}
+use Rattle.small_model.proofs.Commanding.{keeps_command, first_addressed, next_waits}
+use Rattle.small_model.proofs.Letting.{cut_short}
 
 -- how many members pass a test
 abbrev pub number_of : {X : Type 0} → (X → Bool) → List X → ℕ

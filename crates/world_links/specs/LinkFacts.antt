@@ -1,18 +1,18 @@
 -- What is true of the links of a world in each run from the beginning (this project's own).
 use Rattle.std.specs.Prelude.{ℕ, ◌≡◌, ◌≢◌, ◌≤◌, true, false, List, [], ◌∷◌, ◌++◌, length, fold, Some, None, is_some}
-use Rattle.push_script.specs.declared.word.Side.{Side}
-use Rattle.push_script.specs.declared.word.Side.TheVariants as sides
-use Rattle.push_script.specs.declared.outcome.Outcome.{Outcome}
-use Rattle.push_script.specs.declared.outcome.Outcome.TheVariants.{ScriptEnded}
+use Rattle.push_terms.specs.declared.word.Side.{Side}
+use Rattle.push_terms.specs.declared.word.Side.TheVariants as sides
+use Rattle.push_terms.specs.declared.outcome.Outcome.{Outcome}
+use Rattle.push_terms.specs.declared.outcome.Outcome.TheVariants.{ScriptEnded}
 use Rattle.capture.specs.Entries.{Entry, Begun}
 use Rattle.capture.specs.Moves.{moves}
 use Rattle.capture.specs.Links.{linking, links, link_up}
-use Rattle.host_link.specs.Lines.{Line}
-use Rattle.bt_host.specs.Servers.{Kept}
-use Rattle.world_model.specs.Insides.{Shelved, idles, came_of}
-use Rattle.world_model.specs.Ordering.{next_name}
-use Rattle.world_model.specs.Moments.{Moment, IsAtRest, first_moment}
-use Rattle.world_model.specs.Happenings.{Happening, Runs, all_entries}
+use Rattle.small_link.specs.Lines.{Line}
+use Rattle.small_host.specs.Servers.{Kept}
+use Rattle.small_model.specs.Insides.{Shelved, idles, came_of}
+use Rattle.small_model.specs.Ordering.{next_name}
+use Rattle.small_model.specs.Moments.{Moment, IsAtRest, first_moment}
+use Rattle.small_model.specs.Happenings.{Happening, Runs, all_entries}
 
 -- ---- behind the last begin of a push
 

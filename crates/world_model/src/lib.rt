@@ -1,5 +1,2 @@
-//! The pure world: two hosts, the radio between them, the pushes and the script; what may happen in
-//! it, and what stands after a capture of all that happened.
+//! The pure world over abstract hosts, and the world of turns.
 #![tactic(auto)]
-
-pub mod laws;

@@ -1,9 +1,9 @@
 use Rattle.std.proofs.Common.{rules}
 use Rattle.std.proofs.lemmas.Result.{err_from_is_err_and}
-use Rattle.radio_world.proofs.Blaming.{blames_err, keeps_err}
+use Rattle.small_world.proofs.Blaming.{blames_err, keeps_err}
 use Rattle.btpush.proofs.Played.{Tells, plays_of}
-use Rattle.radio_world.specs.declared.fault.WorldFault.TheVariants as world
-use Rattle.radio_world.proofs.Breaking.{same_fault}
+use Rattle.small_world.specs.declared.fault.WorldFault.TheVariants as world
+use Rattle.small_world.proofs.Breaking.{same_fault}
 use Rattle.btpush.specs.Plays.{stocked}
 use Rattle.btpush.proofs.Short.{setting_of, plays_short, whole_short, unbegun_short}
 use Rattle.btpush.proofs.playing.play.Goals as goal

@@ -1,5 +1,5 @@
 use Rattle.std.proofs.Common.{refl}
-use Rattle.radio_world.specs.declared.fault.WorldFault.TheVariants as world
+use Rattle.small_world.specs.declared.fault.WorldFault.TheVariants as world
 use Rattle.btpush.specs.Pushing.{RanToEnd, RanUnbuilt, RanShort}
 use Rattle.btpush.proofs.Blaming.{still_trace, beside_trace}
 use Rattle.btpush.proofs.pushing.run_scenario.Goals as goal

@@ -14,5 +14,5 @@ loop-handle-preserved c = (
 pub returns-clause-line : goal.returns-clause-line
 returns-clause-line c =
     let link : c.args.self.now.link ≡ Some c.in-Some.handle = sym (ap (λ (l : Line). l.link) c.self.view_is) ∙ c.in-Some.is in
-    sym (stuck c.in-Some.handle c.loop-handle.self (sym c.may_put_piece.ensures ∙ c.loop-handle-test.false))
+    sym (stuck c.in-Some.handle c.loop-handle.self (sym c.may_put_piece.ensures.piece ∙ c.loop-handle-test.false))
     ∙ (c.loop-handle.invariant.1 ∙ sym (ap (λ (l : Option ℕ). put_pieces_on l c.args.self.now) link))

@@ -1,0 +1,5 @@
+use Rattle.obex_session.proofs.PairLaws.{pairs_mean_well}
+use Rattle.obex_session.proofs.laws.pairs_mean_well.Goals as goal
+
+pub returns : goal.returns
+returns c = pairs_mean_well

@@ -1,0 +1,47 @@
+-- Honest controllers, over the finished capture (Core 5.1, Volume 2 Part E, 4.1.1 and 7.7.19).
+use Rattle.std.specs.Prelude.{ℕ, ◌%◌, ◌≡◌, ◌≤◌, ◌==◌, List, [], sum_by, Option, Some, None, if◌then◌else◌}
+use Rattle.std.specs.List.{flat_map}
+use Rattle.h4_framing.specs.Packets.{Packet, Acl}
+use Rattle.acl_credits.specs.Histories.{BufferEvent, Sent, Completed}
+use Rattle.push_terms.specs.declared.word.Side.{Side}
+use Rattle.push_terms.specs.declared.word.Side.TheVariants as sides
+use Rattle.capture.specs.declared.flow.Flow.TheVariants.{Out}
+use Rattle.capture.specs.Histories.{AtEach, EachAfter}
+use Rattle.capture.specs.Entries.{Entry, Moved}
+use Rattle.capture.specs.Moves.{moves}
+use Rattle.capture.specs.Links.{Link, link_up}
+use Rattle.capture.specs.Buffers.{buffer_events}
+
+-- the packets that went out on a handle, and those that were said to be completed on it
+abbrev pub sent_on : ℕ → BufferEvent → ℕ
+sent_on handle (Sent other) = if other == handle then 1 else 0
+sent_on handle event = 0
+
+abbrev pub completed_on : ℕ → BufferEvent → ℕ
+completed_on handle (Completed other count) = if other == handle then count else 0
+completed_on handle event = 0
+
+abbrev pub all_sent : Side → ℕ → List Entry → ℕ
+all_sent side handle past = sum_by (sent_on handle) (flat_map buffer_events (moves side past))
+
+abbrev pub all_completed : Side → ℕ → List Entry → ℕ
+all_completed side handle past = sum_by (completed_on handle) (flat_map buffer_events (moves side past))
+
+-- At each moment a controller has said of no handle that more packets were completed than went out on it since the
+-- beginning.
+abbrev pub IsHonest : Side → List Entry → Type 0
+IsHonest side entries = AtEach (λ past. (handle : ℕ) → all_completed side handle past ≤ all_sent side handle past) entries
+
+-- a packet out of a host has the handle of the link that is up for it
+abbrev pub IsOnLink : ℕ → Option Link → Type 0
+IsOnLink word None = ⊥
+IsOnLink word (Some link) = word % 0x1000 ≡ link.handle
+
+abbrev pub IsOnItsLink : List Entry → Entry → Type 0
+IsOnItsLink past (Moved side Out (Acl word octets)) = IsOnLink word (link_up side past)
+IsOnItsLink past entry = Unit {0}
+
+pub record AreHonest (entries : List Entry) : Type 0 where
+  pub a : IsHonest sides.A entries
+  pub b : IsHonest sides.B entries
+  pub handles : EachAfter IsOnItsLink [] entries

@@ -1,0 +1,6 @@
+pub mod Controllers
+pub mod Radio
+pub mod Showing
+pub mod Laws
+pub mod Owed
+pub mod Acting

@@ -1,0 +1,10 @@
+pub mod Pieces
+pub mod Reading
+pub mod Commands
+pub mod Standing
+pub mod Accounts
+pub mod Soundness
+pub mod LinkEvents
+pub mod OtherEvents
+pub mod HeardPackets
+pub mod Saying

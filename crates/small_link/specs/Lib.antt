@@ -1,0 +1,10 @@
+pub mod HostCommands
+pub mod CommandFlows
+pub mod Waiting
+pub mod Lines
+pub mod PuttingOut
+pub mod EventReading
+pub mod Returning
+pub mod Hearing
+pub mod Stands
+pub mod Laws

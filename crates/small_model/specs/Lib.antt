@@ -1,0 +1,14 @@
+pub mod Insides
+pub mod Faces
+pub mod Hosts
+pub mod Hearing
+pub mod HostLaws
+pub mod Media
+pub mod Standing
+pub mod Moving
+pub mod Acting
+pub mod Ordering
+pub mod Scenes
+pub mod Moments
+pub mod Happenings
+pub mod Holding

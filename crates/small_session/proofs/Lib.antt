@@ -1,0 +1,15 @@
+pub mod AskLaws
+pub mod PutLaws
+pub mod PacketLaws
+pub mod RuleLaws
+pub mod PastLaws
+pub mod ServingLaws
+pub mod FailingLaws
+pub mod ListLaws
+pub mod PutPacketLaws
+pub mod NameLaws
+pub mod WritingLaws
+pub mod StoringLaws
+pub mod ReplyLaws
+pub mod UnstoredLaws
+pub mod CleaningLaws

@@ -1,0 +1,10 @@
+pub mod Responses
+pub mod Rules
+pub mod Asks
+pub mod Past
+pub mod Serving
+pub mod Laws
+pub mod Asking
+pub mod PutPackets
+pub mod NextPut
+pub mod PushReplies
