@@ -1,0 +1,7 @@
+pub mod Parts
+pub mod Rings
+pub mod Cutting
+pub mod Keeping
+pub mod Windowing
+pub mod Valuing
+pub mod Handing

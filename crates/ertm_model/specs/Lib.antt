@@ -1,0 +1,11 @@
+pub mod Reasons
+pub mod Value
+pub mod Submitting
+pub mod Giving
+pub mod Hearing
+pub mod Pair
+pub mod Order
+pub mod Laws
+pub mod Runs
+pub mod Recovery
+pub mod Absolute
