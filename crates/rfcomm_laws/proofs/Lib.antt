@@ -1,0 +1,5 @@
+pub mod Opening
+pub mod Running
+pub mod Joining
+pub mod Stages
+pub mod Covering

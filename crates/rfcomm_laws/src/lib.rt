@@ -1,0 +1,16 @@
+//! Laws of the two sides of a multiplexer of RFCOMM together, over a pipe in each direction.
+#![tactic(auto)]
+
+ghost use Rattle.rfcomm_laws.specs.Covers.{CreditsCover};
+ghost use Rattle.rfcomm_laws.specs.Pairs.{PairsArePipes};
+
+/// The two sides are a pipe of octets each way, and neither closes, whatever frames are under way.
+pub fn pairs_are_pipes()
+    ensures { PairsArePipes }
+{}
+
+/// The credits that a side holds, its frames with information under way and the grants under way to it are together no
+/// more than what the other side counts as granted and not yet used.
+pub fn credits_cover()
+    ensures { CreditsCover }
+{}

@@ -1,0 +1,6 @@
+pub mod Closing
+pub mod Keeping
+pub mod Stepping
+pub mod Talking
+pub mod Giving
+pub mod Reading

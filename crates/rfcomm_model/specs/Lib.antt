@@ -1,0 +1,5 @@
+pub mod Written
+pub mod Machine
+pub mod Hearing
+pub mod Saying
+pub mod Sides

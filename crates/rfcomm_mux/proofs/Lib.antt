@@ -1,0 +1,4 @@
+pub mod Sizes
+pub mod Loops
+pub mod Answered
+pub mod Sending
