@@ -1,0 +1,15 @@
+pub mod Value
+pub mod Policies
+pub mod Changing
+pub mod Asking
+pub mod Closing
+pub mod Answers
+pub mod Configuring
+pub mod Following
+pub mod Responses
+pub mod Carrying
+pub mod Hearing
+pub mod Timing
+pub mod Giving
+pub mod Calls
+pub mod Examples

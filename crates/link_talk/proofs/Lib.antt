@@ -1,0 +1,10 @@
+pub mod OnePass
+pub mod Runs
+pub mod InPlace
+pub mod Turns
+pub mod Picking
+pub mod Speaking
+pub mod Multiplexed
+pub mod Spelling
+pub mod Growing
+pub mod Worked

@@ -1,0 +1,25 @@
+-- The small talks, worked out.
+use Rattle.std.proofs.Common.{refl}
+use Rattle.link_talk.specs.Examples.{AreExchanged, AreAnswered, DoWait}
+
+pub are_exchanged : AreExchanged
+are_exchanged = record { one_by_one = refl; together = refl; aborted = refl; fault_then_goodbye = refl; unasked = refl }
+
+pub are_answered : AreAnswered
+are_answered = record { joined = refl; twice = refl; another = refl; unfinished = refl; refused = refl }
+
+pub do_wait : DoWait
+do_wait = record {
+  nothing = refl;
+  call = refl;
+  repeated = refl;
+  pending = refl;
+  refused = refl;
+  low = refl;
+  forgone = refl;
+  information = refl;
+  told = refl;
+  ending = refl;
+  ended = refl;
+  crossed = refl;
+}

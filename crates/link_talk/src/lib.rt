@@ -1,0 +1,17 @@
+//! What a link says: the talk of one of its hosts, and the channels, SDUs, packets and objects that
+//! are read off it.
+#![tactic(auto)]
+
+mod call;
+mod channel;
+pub mod laws;
+mod life;
+mod party;
+pub mod readers;
+mod word;
+
+pub use call::{Call, Failure, Wanted};
+pub use channel::Channel;
+pub use life::Life;
+pub use party::Party;
+pub use word::Word;
