@@ -1,0 +1,5 @@
+pub mod Rooms
+pub mod Hearing
+pub mod Breaking
+pub mod Going
+pub mod Feeding

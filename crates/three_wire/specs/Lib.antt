@@ -1,0 +1,6 @@
+pub mod Held
+pub mod Wire
+pub mod Inside
+pub mod Crossing
+pub mod Going
+pub mod Feeding

@@ -1,0 +1,15 @@
+//! The three-wire UART transport (Bluetooth Core Specification 5.1, Volume 4 Part D): one end of a
+//! line, and units that are carried over a line that loses packets.
+#![tactic(auto)]
+
+mod crossing;
+mod draws;
+mod ends;
+mod fault;
+mod feed;
+mod held;
+mod line;
+mod wire;
+
+pub use fault::{CarryEnd, CarryFault};
+pub use wire::{Wire, WireHeard, WireSubmit};

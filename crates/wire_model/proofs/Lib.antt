@@ -1,0 +1,9 @@
+pub mod Running
+pub mod Saying
+pub mod Handshake
+pub mod Hearing
+pub mod Obeying
+pub mod Picking
+pub mod Standing
+pub mod Delivering
+pub mod Carrying

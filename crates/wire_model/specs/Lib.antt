@@ -1,0 +1,6 @@
+pub mod Machine
+pub mod Line
+pub mod Draws
+pub mod Trace
+pub mod Pair
+pub mod Laws

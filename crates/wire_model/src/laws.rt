@@ -1,0 +1,28 @@
+//! Laws of the two ends. Each is the contract of a function that does nothing.
+
+ghost use Rattle.wire_model.specs.Laws.{TagsObey, NeverReset, CarriedInOrder, WithinWindow, AllCarried};
+
+/// The tags of a run obey the draws.
+pub fn tags_obey()
+    ensures { TagsObey }
+{}
+
+/// Neither end is ever reset.
+pub fn never_reset()
+    ensures { NeverReset }
+{}
+
+/// What is carried is a front of what was taken, each unit whole, once and in order.
+pub fn carried_in_order()
+    ensures { CarriedInOrder }
+{}
+
+/// At most four units are unacknowledged.
+pub fn within_window()
+    ensures { WithinWindow }
+{}
+
+/// Where none is unacknowledged all was carried.
+pub fn all_carried()
+    ensures { AllCarried }
+{}

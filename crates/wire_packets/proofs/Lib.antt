@@ -1,0 +1,5 @@
+pub mod Walking
+pub mod Spelling
+pub mod Spelled
+pub mod Finding
+pub mod Taking
