@@ -46,5 +46,5 @@ pub answered : (app : App) (words : List Text) (found : ArgMatches) (form : Opti
     → IsSpelled (given_by (rows_of (found_of found))) form → IsAnswered words form
 answered app words found form same taken has =
     asked words (rows_of (found_of found)) form
-        (sym (ap (λ a. fault_of a words) same) ∙ taken (ap is_simple_and_free same ∙ is_plain))
-        ((has (ap is_simple same ∙ is_simple_one)).0 ∙ ap (λ a. matches_of a words) same)
+    (sym (ap (λ a. fault_of a words) same) ∙ taken (ap is_simple_and_free same ∙ is_plain))
+    ((has (ap is_simple same ∙ is_simple_one)).0 ∙ ap (λ a. matches_of a words) same)

@@ -20,7 +20,9 @@ pub struct NoMemory;
 fn number_of(text: &str) -> Option<u32>
     ensures { IsNumberOf text.now result }
 {
-    let Ok(number) = text.parse::<u32>() else { return None };
+    let Ok(number) = text.parse::<u32>() else {
+        return None
+    };
     let mut buffer = Buffer::new();
     if buffer.format(number) == text {
         Some(number)
@@ -74,7 +76,9 @@ fn form_found(found: &ArgMatches<'_>) -> Option<Form>
     ensures { IsSpelled (given_by (rows_of (found_of found.now))) result }
 {
     let tagged = is_tagged(found);
-    let Some(word) = text_found(found, "form") else { return None };
+    let Some(word) = text_found(found, "form") else {
+        return None
+    };
     match text_found(found, "number") {
         None => plain_form(word, tagged),
         Some(number) => numbered_form(word, tagged, number),
@@ -86,7 +90,9 @@ fn form_found(found: &ArgMatches<'_>) -> Option<Form>
 pub fn form_of<'a>(alloc: Global, words: &'a [String]) -> Result<Option<Form>, NoMemory>
     ensures { IfOk result (IsAnswered (map string_bytes words.now)) }
 {
-    let Ok(command) = the_command(alloc) else { return Err(NoMemory) };
+    let Ok(command) = the_command(alloc) else {
+        return Err(NoMemory)
+    };
     match command.try_get_matches_from(words) {
         Ok(found) => Ok(form_found(&found)),
         Err(fault) => match fault.kind() {
