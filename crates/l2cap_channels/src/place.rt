@@ -1,0 +1,160 @@
+//! A channel.
+
+ghost use Rattle.std.specs.Prelude.{◌≡◌, ◌≤◌, ◌+◌, None, Some, option_map};
+ghost use Rattle.channel_model.specs.Value as value;
+ghost use Rattle.channel_model.specs.Changing.{setup_of, stage_with, is_open};
+ghost use Rattle.channel_model.specs.Calls as calls;
+
+use crate::line::Line;
+use crate::request::Request;
+use crate::setup::{Own, Setup};
+use crate::stage::Stage;
+use bt_base::{Cid, Psm};
+use std::marker::Model;
+
+/// A channel that counts. A clause sees it as `channel_model` has it.
+#[derive(Drop)]
+pub(crate) struct Place {
+    psm: Psm,
+    own: Cid,
+    stage: Stage,
+    setup: Setup,
+    line: Line,
+}
+
+impl Model for Place {
+    ghost use Rattle.channel_model.specs.Value.{Held};
+
+    ghost Value = { Held };
+
+    ghost use Rattle.l2cap_channels.specs.Places.{place_value, IsPlace};
+
+    ghost view = { place_value };
+
+    ghost invariant = { IsPlace };
+}
+
+impl Place {
+    ghost use Rattle.l2cap_channels.specs.Parts.{request_value};
+    ghost use Rattle.l2cap_channels.specs.Places.{IsOpenLine, IsLineOf};
+
+    /// A channel that the host asks for.
+    pub(crate) fn requested(psm: Psm, own: Cid, request: Request, line: Line) -> Place
+        ensures { result ≡ record { psm = psm; own = own; stage = value.Requested (request_value request) } }
+    {
+        Place {
+            psm,
+            own,
+            stage: Stage::Requested(request),
+            setup: Setup::new(),
+            line,
+        }
+    }
+
+    /// A channel that is there, with the peer's endpoint of it.
+    pub(crate) fn connected(psm: Psm, own: Cid, peer: Cid, line: Line) -> Place
+        ensures { result ≡ record { psm = psm; own = own; stage = value.Connected peer value.no_setup } }
+    {
+        let mut line = line;
+        line.clear();
+        Place {
+            psm,
+            own,
+            stage: Stage::Connected(peer),
+            setup: Setup::new(),
+            line,
+        }
+    }
+
+    /// The memory of a channel that counts no more.
+    pub(crate) fn into_line(self) -> Line {
+        self.line
+    }
+
+    /// The host's own endpoint.
+    pub(crate) fn own(&self) -> Cid
+        ensures { result ≡ self.now.own }
+    {
+        self.own
+    }
+
+    /// The multiplexer that it is for.
+    pub(crate) fn psm(&self) -> Psm
+        ensures { result ≡ self.now.psm }
+    {
+        self.psm
+    }
+
+    /// What carries the SDUs of an open channel: both requests for its options were accepted.
+    fn open_line(&self) -> Option<&Line>
+        ensures { IsOpenLine result self.now.stage }
+    {
+        match (self.stage, &self.setup.own) {
+            (Stage::Connected(_) | Stage::Leaving(_, _), Own::Granted) => Some(&self.line),
+            _ => None,
+        }
+    }
+
+    /// The longest SDU that the peer takes; there is none where the channel is not open.
+    pub(crate) fn peer_mtu(&self) -> Option<u16>
+        ensures { result ≡ option_map calls.carrier_mtu (calls.open_carrier (setup_of self.now.stage)) }
+    {
+        self.open_line()?.mtu()
+    }
+
+    /// Whether an SDU that was taken waits.
+    pub(crate) fn waits(&self) -> bool
+        ensures { result ≡ calls.some_waits (calls.open_carrier (setup_of self.now.stage)) }
+    {
+        match self.open_line() {
+            Some(line) => line.waits(),
+            None => false,
+        }
+    }
+
+    /// The carrier, where the peer's request for options was accepted.
+    fn line(&self) -> Option<&Line>
+        ensures { IsLineOf result (setup_of self.now.stage) }
+    {
+        match self.stage {
+            Stage::Connected(_) | Stage::Leaving(_, _) => Some(&self.line),
+            Stage::Requested(_) | Stage::Closing(_, _) | Stage::Crossed(_, _) => None,
+        }
+    }
+
+    /// Whether what comes in for it has a check word.
+    pub(crate) fn has_fcs(&self) -> bool
+        ensures { result ≡ calls.has_fcs_on (setup_of self.now.stage) }
+    {
+        match self.line() {
+            Some(line) => line.is_retransmitting(),
+            None => false,
+        }
+    }
+
+    /// How many frames are not acknowledged.
+    pub(crate) fn window_used(&self) -> u8
+        ensures { result ≡ calls.setup_window (setup_of self.now.stage) }
+    {
+        match self.line() {
+            Some(line) => line.window_used(),
+            None => 0,
+        }
+    }
+
+    /// Whether an own request waits for its response, or the machine for an acknowledgement or the
+    /// answer to a poll.
+    pub(crate) fn armed(&self) -> bool
+        ensures { result ≡ calls.is_armed self.now.stage }
+    {
+        match self.stage {
+            Stage::Connected(_) => {
+                matches!(self.setup.own, Own::Asking(_, _)) || self.line.armed()
+            }
+            Stage::Requested(_)
+            | Stage::Leaving(_, _)
+            | Stage::Closing(_, _)
+            | Stage::Crossed(_, _) => true,
+        }
+    }
+}
