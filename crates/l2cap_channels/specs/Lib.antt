@@ -8,3 +8,4 @@ pub mod Memories
 pub mod Machine
 pub mod Sound
 pub mod Whole
+pub mod Finding

@@ -1,8 +1,12 @@
 //! The channels of a link.
 
-ghost use Rattle.std.specs.Prelude.{◌≡◌, ◌≤◌, ◌<◌, [], length, vec_capacity, IfOk};
+ghost use Rattle.std.specs.Prelude.{◌≡◌, ◌≤◌, ◌<◌, [], length, vec_capacity, true, IfOk, IfSome};
 ghost use Rattle.channel_model.specs.Calls as calls;
-ghost use Rattle.channel_model.specs.Changing.{tells};
+ghost use Rattle.channel_model.specs.Asking.{asks};
+ghost use Rattle.channel_model.specs.Changing.{held_at, tells};
+ghost use Rattle.channel_model.specs.Value.{no_setup};
+ghost use Rattle.l2cap_channels.specs.Finding.{place_at, added};
+ghost use Rattle.l2cap_channels.specs.Sound.{owns, is_known};
 ghost use Rattle.l2cap_channels.specs.Machine.{new_machine, policy_of, with_channels};
 
 use crate::identifier::Identifier;
@@ -11,8 +15,9 @@ use crate::memory::Memory;
 use crate::place::Place;
 use crate::queue::Queue;
 use crate::request::Request;
-use bt_base::{NoMemory, Settings};
-use channel_model::ChannelEvent;
+use crate::stage::Stage;
+use bt_base::{Cid, NoMemory, Psm, Settings};
+use channel_model::{ChannelEvent, Errand};
 use circular_buffer::HeapCircularBuffer;
 use std::alloc::Global;
 use std::marker::Model;
@@ -67,6 +72,8 @@ fn four_lines(alloc: Global) -> Result<Vec<Line>, NoMemory>
 }
 
 impl Channels {
+    ghost use Rattle.l2cap_channels.specs.Places.{stage_value};
+
     /// The channels of a host, with no link. It reserves all memory that is ever needed; `NoMemory` is
     /// answered for want of memory alone.
     pub fn new(alloc: Global, settings: &Settings, server: bool) -> Result<Channels, NoMemory>
@@ -112,5 +119,115 @@ impl Channels {
         ensures { result ≡ calls.armed self.now.channels }
     {
         self.features.is_some() || self.places.iter().any(|place| place.armed())
+    }
+
+    /// The place of the channel of an own endpoint.
+    fn place_of(&self, own: u16) -> Option<usize>
+        ensures place { place_at result self.now.channels ≡ held_at own self.now.channels }
+        ensures within { IfSome result (λ at. at < length self.now.channels.held) }
+    {
+        for (at, place) in self.places.iter().enumerate() {
+            if place.own().get() == own {
+                return Some(at);
+            }
+        }
+        None
+    }
+
+    /// The longest SDU that the peer takes on a channel, in octets, at most 32,767; None exactly where
+    /// the channel is not open.
+    pub fn peer_mtu(&self, cid: Cid) -> Option<u16>
+        ensures { result ≡ calls.peer_mtu cid self.now.channels }
+    {
+        let at = self.place_of(cid.get())?;
+        self.places[at].peer_mtu()
+    }
+
+    /// Whether an SDU that was taken on a channel still waits, so that `send` would answer `Busy`.
+    pub fn waits(&self, cid: Cid) -> bool
+        ensures { result ≡ calls.waits cid self.now.channels }
+    {
+        let Some(at) = self.place_of(cid.get()) else {
+            return false;
+        };
+        self.places[at].waits()
+    }
+
+    /// Whether what comes in for an own endpoint has a check word: its channel wishes retransmission,
+    /// and the peer's options were accepted.
+    pub fn has_fcs(&self, cid: u16) -> bool
+        ensures { result ≡ calls.has_fcs cid self.now.channels }
+    {
+        let Some(at) = self.place_of(cid) else {
+            return false;
+        };
+        self.places[at].has_fcs()
+    }
+
+    /// The most frames that are not acknowledged on a channel.
+    pub fn window_used(&self) -> u8
+        ensures { result ≡ calls.window_used self.now.channels }
+    {
+        let mut most = 0;
+        for place in &self.places {
+            most = most.max(place.window_used());
+        }
+        most
+    }
+
+    /// Whether a channel may be added: at most four count, and each endpoint is given one time on a link.
+    fn can_connect(&self) -> bool
+        ensures { result ≡ calls.can_connect self.now.channels }
+    {
+        self.places.len() < PLACES && self.next <= 0xFFFF
+    }
+
+    /// A channel is there, where one may be added: the answer is its own endpoint, which is never given
+    /// again on the link.
+    fn add(&mut self, psm: Psm, stage: Stage) -> Option<Cid>
+        ensures answer { result ≡ calls.connect_answer self.old.channels }
+        ensures after { self.new ≡ with_channels self.old (added (calls.can_connect self.old.channels) psm (stage_value stage no_setup) self.old.channels) }
+    {
+        if !self.can_connect() {
+            return None;
+        }
+        let own = Cid::of(self.next as u16)?;
+        let line = self.free.remove(self.free.len() - 1);
+        let _room_was_reserved = self.places.push(Place::new(psm, own, stage, line));
+        self.next += 1;
+        Some(own)
+    }
+
+    /// A new own request waits to be given, in place of any before it.
+    fn ask(&mut self, errand: Errand)
+        requires { is_known (owns self.old.channels.held) errand ≡ true }
+        ensures { self.new ≡ with_channels self.old (asks errand self.old.channels) }
+    {
+        self.queue.forget(errand);
+        self.queue.ask(errand);
+        self.identifier = self.identifier.next();
+    }
+
+    /// Asks for a channel, and answers its own endpoint; None exactly where four channels are there or
+    /// the endpoint 0xFFFF was given on this link.
+    pub fn connect(&mut self, psm: Psm) -> Option<Cid>
+        ensures answer { result ≡ calls.connect_answer self.old.channels }
+        ensures after { self.new ≡ with_channels self.old (calls.connected psm self.old.channels) }
+    {
+        let request = Request::new(self.identifier);
+        let own = self.add(psm, Stage::Requested(request))?;
+        self.ask(Errand::Connection { own: own.get() });
+        Some(own)
+    }
+
+    /// Asks for the peer's features, unless an earlier question waits.
+    pub fn ask_features(&mut self)
+        ensures { self.new ≡ with_channels self.old (calls.asks_features self.old.channels) }
+    {
+        if self.features.is_some() {
+            return;
+        }
+        self.features = Some(Request::new(self.identifier));
+        self.ask(Errand::Features);
     }
 }

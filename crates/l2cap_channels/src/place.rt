@@ -1,6 +1,8 @@
 //! A channel.
 
 ghost use Rattle.std.specs.Prelude.{◌≡◌, ◌≤◌, ◌+◌, None, Some, option_map};
+ghost use Rattle.std.specs.Option.{option_to_list};
+ghost use Rattle.channel_model.specs.declared.event.ChannelEvent.TheVariants.{Closed};
 ghost use Rattle.channel_model.specs.Value as value;
 ghost use Rattle.channel_model.specs.Changing.{setup_of, stage_with, is_open};
 ghost use Rattle.channel_model.specs.Calls as calls;
@@ -10,6 +12,7 @@ use crate::request::Request;
 use crate::setup::{Own, Setup};
 use crate::stage::Stage;
 use bt_base::{Cid, Psm};
+use channel_model::{ChannelEvent, CloseReason};
 use std::marker::Model;
 
 /// A channel that counts. A clause sees it as `channel_model` has it.
@@ -35,32 +38,18 @@ impl Model for Place {
 }
 
 impl Place {
-    ghost use Rattle.l2cap_channels.specs.Parts.{request_value};
-    ghost use Rattle.l2cap_channels.specs.Places.{IsOpenLine, IsLineOf};
+    ghost use Rattle.l2cap_channels.specs.Places.{stage_value, IsOpenLine, IsLineOf};
 
-    /// A channel that the host asks for.
-    pub(crate) fn requested(psm: Psm, own: Cid, request: Request, line: Line) -> Place
-        ensures { result ≡ record { psm = psm; own = own; stage = value.Requested (request_value request) } }
-    {
-        Place {
-            psm,
-            own,
-            stage: Stage::Requested(request),
-            setup: Setup::new(),
-            line,
-        }
-    }
-
-    /// A channel that is there, with the peer's endpoint of it.
-    pub(crate) fn connected(psm: Psm, own: Cid, peer: Cid, line: Line) -> Place
-        ensures { result ≡ record { psm = psm; own = own; stage = value.Connected peer value.no_setup } }
+    /// A channel of which nothing is agreed on.
+    pub(crate) fn new(psm: Psm, own: Cid, stage: Stage, line: Line) -> Place
+        ensures { result ≡ record { psm = psm; own = own; stage = stage_value stage value.no_setup } }
     {
         let mut line = line;
         line.clear();
         Place {
             psm,
             own,
-            stage: Stage::Connected(peer),
+            stage,
             setup: Setup::new(),
             line,
         }
@@ -156,5 +145,24 @@ impl Place {
             | Stage::Closing(_, _)
             | Stage::Crossed(_, _) => true,
         }
+    }
+
+    /// That it is lost with the link, where it was not closed.
+    pub(crate) fn lost(&self) -> Option<ChannelEvent>
+        ensures { option_to_list result ≡ calls.lost_at self.now.stage self.now }
+    {
+        match self.stage {
+            Stage::Requested(_) | Stage::Connected(_) | Stage::Leaving(_, _) => {
+                Some(self.closed(CloseReason::LinkDown))
+            }
+            Stage::Closing(_, _) | Stage::Crossed(_, _) => None,
+        }
+    }
+
+    /// That it is closed.
+    pub(crate) fn closed(&self, reason: CloseReason) -> ChannelEvent
+        ensures { result ≡ Closed self.now.own self.now.psm reason }
+    {
+        ChannelEvent::Closed(self.own, self.psm, reason)
     }
 }
