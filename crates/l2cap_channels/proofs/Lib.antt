@@ -5,3 +5,4 @@ pub mod Queuing
 pub mod Rooming
 pub mod Finding
 pub mod Keeping
+pub mod Changed

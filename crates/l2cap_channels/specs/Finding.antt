@@ -12,3 +12,8 @@ place_at (Some at) v = slice_get v.held at
 abbrev pub added : Bool → (psm : ℕ) → Stage → Channels → Channels
 added true psm stage v = with_channel psm stage v
 added false psm stage v = v
+
+-- what is done to the channel at a place
+abbrev pub on_place : (Held → Channels → Channels) → Option Held → Channels → Channels
+on_place f None v = v
+on_place f (Some held) v = f held v

@@ -1,5 +1,5 @@
 -- A channel as it is kept.
-use Rattle.std.specs.Prelude.{ℕ, ◌≡◌, ◌≤◌, Option, Some, None}
+use Rattle.std.specs.Prelude.{ℕ, ◌≡◌, ◌≤◌, Bool, true, false, Option, Some, None}
 use denote.Bor.{Bor}
 use Rattle.channel_model.specs.Changing.{setup_of}
 use Rattle.channel_model.specs.Calls.{open_carrier}
@@ -45,3 +45,23 @@ abbrev pub IsLineOf : Option (Bor (Option value.Carrier)) → Option value.Setup
 IsLineOf None setup = setup ≡ None
 IsLineOf (Some line) None = ⊥
 IsLineOf (Some line) (Some setup) = setup.carrier ≡ line.now
+
+-- it is this stage, with some setup
+abbrev pub IsStage : Stage → value.Stage → Type 0
+IsStage stage is = (setup : value.Setup) × (is ≡ stage_value stage setup)
+
+-- a stage at which options do not matter
+abbrev pub hides_setup : Stage → Bool
+hides_setup (Requested request) = true
+hides_setup (Connected peer) = false
+hides_setup (Leaving peer request) = false
+hides_setup (Closing peer request) = true
+hides_setup (Crossed peer request) = true
+
+-- a channel that is there, once the host asked for its end
+abbrev pub left : value.Request → value.Stage → value.Stage
+left request (value.Requested before) = value.Requested before
+left request (value.Connected peer setup) = value.Leaving peer setup request
+left request (value.Leaving peer setup before) = value.Leaving peer setup before
+left request (value.Closing peer before) = value.Closing peer before
+left request (value.Crossed peer before) = value.Crossed peer before

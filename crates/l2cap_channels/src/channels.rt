@@ -1,11 +1,11 @@
 //! The channels of a link.
 
-ghost use Rattle.std.specs.Prelude.{◌≡◌, ◌≤◌, ◌<◌, [], length, vec_capacity, true, IfOk, IfSome};
+ghost use Rattle.std.specs.Prelude.{◌≡◌, ◌≤◌, ◌<◌, [], length, vec_capacity, slice_get, ◌+◌, true, IfOk, IfSome};
 ghost use Rattle.channel_model.specs.Calls as calls;
 ghost use Rattle.channel_model.specs.Asking.{asks};
-ghost use Rattle.channel_model.specs.Changing.{held_at, tells};
+ghost use Rattle.channel_model.specs.Changing.{held_at, forgets, gone, tells, to_stage};
 ghost use Rattle.channel_model.specs.Value.{no_setup};
-ghost use Rattle.l2cap_channels.specs.Finding.{place_at, added};
+ghost use Rattle.l2cap_channels.specs.Finding.{place_at, added, on_place};
 ghost use Rattle.l2cap_channels.specs.Sound.{owns, is_known};
 ghost use Rattle.l2cap_channels.specs.Machine.{new_machine, policy_of, with_channels};
 
@@ -71,8 +71,22 @@ fn four_lines(alloc: Global) -> Result<Vec<Line>, NoMemory>
     Ok(lines)
 }
 
+/// Takes the memory of channels back.
+fn release(places: &mut Vec<Place>, free: &mut Vec<Line>)
+    requires four { length places.old.items + length free.old.items ≡ 4 }
+    requires room { 4 ≤ vec_capacity free.old }
+    ensures none { places.new.items ≡ [] }
+    ensures all { length free.new.items ≡ 4 }
+    ensures room { 4 ≤ vec_capacity free.new }
+    ensures places_room { vec_capacity places.old ≤ vec_capacity places.new }
+{
+    while let Some(place) = places.pop() {
+        let _room_was_reserved = free.push(place.into_line());
+    }
+}
+
 impl Channels {
-    ghost use Rattle.l2cap_channels.specs.Places.{stage_value};
+    ghost use Rattle.l2cap_channels.specs.Places.{stage_value, hides_setup};
 
     /// The channels of a host, with no link. It reserves all memory that is ever needed; `NoMemory` is
     /// answered for want of memory alone.
@@ -229,5 +243,52 @@ impl Channels {
         }
         self.features = Some(Request::new(self.identifier));
         self.ask(Errand::Features);
+    }
+
+    /// A copy that waits of an own request is not given.
+    fn forget(&mut self, errand: Errand)
+        ensures { self.new ≡ with_channels self.old (forgets errand self.old.channels) }
+    {
+        self.queue.forget(errand);
+    }
+
+    /// The channel at a place counts no more, and nothing is asked of it.
+    fn remove(&mut self, at: usize)
+        requires { at < length self.old.channels.held }
+        ensures { self.new ≡ with_channels self.old (on_place gone (slice_get self.old.channels.held at) self.old.channels) }
+    {
+        let place = self.places.remove(at);
+        self.queue.forget_channel(place.own().get());
+        let _room_was_reserved = self.free.push(place.into_line());
+    }
+
+    /// The channel at a place goes on to a stage at which its options do not matter.
+    fn hide(&mut self, at: usize, stage: Stage)
+        requires place { at < length self.old.channels.held }
+        requires stage { hides_setup stage ≡ true }
+        ensures { self.new ≡ with_channels self.old (on_place (λ held. to_stage held (stage_value stage no_setup)) (slice_get self.old.channels.held at) self.old.channels) }
+    {
+        let place = &mut self.places[at];
+        place.hide(stage);
+    }
+
+    /// Has no channels, as on a link that is new. The events stay.
+    fn clear(&mut self)
+        ensures { self.new ≡ with_channels self.old (calls.link_up self.old.channels) }
+    {
+        release(&mut self.places, &mut self.free);
+        self.next = FIRST_ENDPOINT;
+        self.identifier = Identifier::first();
+        self.queue.clear();
+        self.features = None;
+        self.memory = Memory::new();
+    }
+
+    /// A link is there: it has no channels, and its first own request has the identifier 1.
+    pub fn link_up(&mut self)
+        requires { self.old.channels.events ≡ [] }
+        ensures { self.new ≡ with_channels self.old (calls.link_up self.old.channels) }
+    {
+        self.clear();
     }
 }

@@ -1,6 +1,6 @@
 //! A channel.
 
-ghost use Rattle.std.specs.Prelude.{◌≡◌, ◌≤◌, ◌+◌, None, Some, option_map};
+ghost use Rattle.std.specs.Prelude.{◌≡◌, ◌≤◌, ◌+◌, None, Some, true, option_map};
 ghost use Rattle.std.specs.Option.{option_to_list};
 ghost use Rattle.channel_model.specs.declared.event.ChannelEvent.TheVariants.{Closed};
 ghost use Rattle.channel_model.specs.Value as value;
@@ -38,7 +38,8 @@ impl Model for Place {
 }
 
 impl Place {
-    ghost use Rattle.l2cap_channels.specs.Places.{stage_value, IsOpenLine, IsLineOf};
+    ghost use Rattle.l2cap_channels.specs.Parts.{request_value};
+    ghost use Rattle.l2cap_channels.specs.Places.{stage_value, IsOpenLine, IsLineOf, IsStage, hides_setup, left};
 
     /// A channel of which nothing is agreed on.
     pub(crate) fn new(psm: Psm, own: Cid, stage: Stage, line: Line) -> Place
@@ -164,5 +165,30 @@ impl Place {
         ensures { result ≡ Closed self.now.own self.now.psm reason }
     {
         ChannelEvent::Closed(self.own, self.psm, reason)
+    }
+
+    /// How far it is.
+    pub(crate) fn stage(&self) -> Stage
+        ensures { IsStage result self.now.stage }
+    {
+        self.stage
+    }
+
+    /// It goes on to a stage at which its options do not matter.
+    pub(crate) fn hide(&mut self, stage: Stage)
+        requires { hides_setup stage ≡ true }
+        ensures { self.new ≡ record self.old { stage = stage_value stage value.no_setup } }
+    {
+        self.stage = stage;
+    }
+
+    /// The host asks for its end.
+    pub(crate) fn leave(&mut self, request: Request)
+        ensures { self.new ≡ record self.old { stage = left (request_value request) self.old.stage } }
+    {
+        let stage = self.stage;
+        if let Stage::Connected(peer) = stage {
+            self.stage = Stage::Leaving(peer, request);
+        }
     }
 }
