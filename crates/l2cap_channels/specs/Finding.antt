@@ -1,0 +1,19 @@
+-- Where a channel is kept.
+use Rattle.std.specs.Prelude.{ℕ, Bool, true, false, slice_get, Option, Some, None}
+use Rattle.channel_model.specs.Value.{Stage, Held, Channels}
+use Rattle.channel_model.specs.Following.{with_channel}
+
+-- the channel at a place
+abbrev pub place_at : Option ℕ → Channels → Option Held
+place_at None v = None
+place_at (Some at) v = slice_get v.held at
+
+-- a channel is there, where one may be
+abbrev pub added : Bool → (psm : ℕ) → Stage → Channels → Channels
+added true psm stage v = with_channel psm stage v
+added false psm stage v = v
+
+-- what is done to the channel at a place
+abbrev pub on_place : (Held → Channels → Channels) → Option Held → Channels → Channels
+on_place f None v = v
+on_place f (Some held) v = f held v

@@ -1,0 +1,11 @@
+pub mod Parts
+pub mod Heads
+pub mod Responses
+pub mod Queues
+pub mod Lines
+pub mod Places
+pub mod Memories
+pub mod Machine
+pub mod Sound
+pub mod Whole
+pub mod Finding

@@ -1,0 +1,294 @@
+//! The channels of a link.
+
+ghost use Rattle.std.specs.Prelude.{◌≡◌, ◌≤◌, ◌<◌, [], length, vec_capacity, slice_get, ◌+◌, true, IfOk, IfSome};
+ghost use Rattle.channel_model.specs.Calls as calls;
+ghost use Rattle.channel_model.specs.Asking.{asks};
+ghost use Rattle.channel_model.specs.Changing.{held_at, forgets, gone, tells, to_stage};
+ghost use Rattle.channel_model.specs.Value.{no_setup};
+ghost use Rattle.l2cap_channels.specs.Finding.{place_at, added, on_place};
+ghost use Rattle.l2cap_channels.specs.Sound.{owns, is_known};
+ghost use Rattle.l2cap_channels.specs.Machine.{new_machine, policy_of, with_channels};
+
+use crate::identifier::Identifier;
+use crate::line::Line;
+use crate::memory::Memory;
+use crate::place::Place;
+use crate::queue::Queue;
+use crate::request::Request;
+use crate::stage::Stage;
+use bt_base::{Cid, NoMemory, Psm, Settings};
+use channel_model::{ChannelEvent, Errand};
+use circular_buffer::HeapCircularBuffer;
+use std::alloc::Global;
+use std::marker::Model;
+
+/// How many channels a link has at most (this project's own).
+const PLACES: usize = 4;
+
+/// The own endpoint of the first channel of a link (Core 5.1, Volume 3 Part A, 2.1).
+const FIRST_ENDPOINT: u32 = 0x0040;
+
+/// How many events arise in one call at most: one for each command of a payload of 672 octets.
+const EVENTS: usize = 168;
+
+/// The channels of a link, as one of its hosts keeps them (Core 5.1, Volume 3 Part A). A clause sees the
+/// settings of the host, whether it is a server, and its channels as `channel_model` has them.
+#[derive(Drop)]
+pub struct Channels {
+    settings: Settings,
+    server: bool,
+    places: Vec<Place>,
+    free: Vec<Line>,
+    next: u32,
+    identifier: Identifier,
+    queue: Queue,
+    features: Option<Request>,
+    memory: Memory,
+    events: HeapCircularBuffer<ChannelEvent>,
+}
+
+impl Model for Channels {
+    ghost use Rattle.l2cap_channels.specs.Machine.{Machine};
+
+    ghost Value = { Machine };
+
+    ghost use Rattle.l2cap_channels.specs.Whole.{machine_of, IsSound};
+
+    ghost view = { machine_of };
+
+    ghost invariant = { IsSound };
+}
+
+/// The memory of four channels.
+fn four_lines(alloc: Global) -> Result<Vec<Line>, NoMemory>
+    ensures four { IfOk result (λ lines. length lines.items ≡ 4) }
+    ensures room { IfOk result (λ lines. 4 ≤ vec_capacity lines) }
+{
+    let mut lines = Vec::with_capacity(alloc, PLACES)?;
+    for _ in 0..PLACES {
+        lines.push(Line::new(alloc)?)?;
+    }
+    Ok(lines)
+}
+
+/// Takes the memory of channels back.
+fn release(places: &mut Vec<Place>, free: &mut Vec<Line>)
+    requires four { length places.old.items + length free.old.items ≡ 4 }
+    requires room { 4 ≤ vec_capacity free.old }
+    ensures none { places.new.items ≡ [] }
+    ensures all { length free.new.items ≡ 4 }
+    ensures room { 4 ≤ vec_capacity free.new }
+    ensures places_room { vec_capacity places.old ≤ vec_capacity places.new }
+{
+    while let Some(place) = places.pop() {
+        let _room_was_reserved = free.push(place.into_line());
+    }
+}
+
+impl Channels {
+    ghost use Rattle.l2cap_channels.specs.Places.{stage_value, hides_setup};
+
+    /// The channels of a host, with no link. It reserves all memory that is ever needed; `NoMemory` is
+    /// answered for want of memory alone.
+    pub fn new(alloc: Global, settings: &Settings, server: bool) -> Result<Channels, NoMemory>
+        ensures { IfOk result (λ channels. channels ≡ new_machine settings.now server) }
+    {
+        let free = four_lines(alloc)?;
+        let places = Vec::with_capacity(alloc, PLACES)?;
+        let queue = Queue::new(alloc)?;
+        let events = HeapCircularBuffer::with_capacity(alloc, EVENTS)?;
+        Ok(Channels {
+            settings: *settings,
+            server,
+            places,
+            free,
+            next: FIRST_ENDPOINT,
+            identifier: Identifier::first(),
+            queue,
+            features: None,
+            memory: Memory::new(),
+            events,
+        })
+    }
+
+    /// An event arose.
+    fn tell(&mut self, event: ChannelEvent)
+        requires { length self.old.channels.events < 168 }
+        ensures { self.new ≡ with_channels self.old (tells event self.old.channels) }
+    {
+        let _none_leaves = self.events.push_back(event);
+    }
+
+    /// The next event, in the order in which they arose; None exactly where none waits.
+    pub fn next_event(&mut self) -> Option<ChannelEvent>
+        ensures answer { result ≡ calls.next_event self.old.channels }
+        ensures after { self.new ≡ with_channels self.old (calls.after_event self.old.channels) }
+    {
+        self.events.pop_front()
+    }
+
+    /// Whether an own request waits for its response, or a machine for an acknowledgement or the answer
+    /// to a poll.
+    pub fn armed(&self) -> bool
+        ensures { result ≡ calls.armed self.now.channels }
+    {
+        self.features.is_some() || self.places.iter().any(|place| place.armed())
+    }
+
+    /// The place of the channel of an own endpoint.
+    fn place_of(&self, own: u16) -> Option<usize>
+        ensures place { place_at result self.now.channels ≡ held_at own self.now.channels }
+        ensures within { IfSome result (λ at. at < length self.now.channels.held) }
+    {
+        for (at, place) in self.places.iter().enumerate() {
+            if place.own().get() == own {
+                return Some(at);
+            }
+        }
+        None
+    }
+
+    /// The longest SDU that the peer takes on a channel, in octets, at most 32,767; None exactly where
+    /// the channel is not open.
+    pub fn peer_mtu(&self, cid: Cid) -> Option<u16>
+        ensures { result ≡ calls.peer_mtu cid self.now.channels }
+    {
+        let at = self.place_of(cid.get())?;
+        self.places[at].peer_mtu()
+    }
+
+    /// Whether an SDU that was taken on a channel still waits, so that `send` would answer `Busy`.
+    pub fn waits(&self, cid: Cid) -> bool
+        ensures { result ≡ calls.waits cid self.now.channels }
+    {
+        let Some(at) = self.place_of(cid.get()) else {
+            return false;
+        };
+        self.places[at].waits()
+    }
+
+    /// Whether what comes in for an own endpoint has a check word: its channel wishes retransmission,
+    /// and the peer's options were accepted.
+    pub fn has_fcs(&self, cid: u16) -> bool
+        ensures { result ≡ calls.has_fcs cid self.now.channels }
+    {
+        let Some(at) = self.place_of(cid) else {
+            return false;
+        };
+        self.places[at].has_fcs()
+    }
+
+    /// The most frames that are not acknowledged on a channel.
+    pub fn window_used(&self) -> u8
+        ensures { result ≡ calls.window_used self.now.channels }
+    {
+        let mut most = 0;
+        for place in &self.places {
+            most = most.max(place.window_used());
+        }
+        most
+    }
+
+    /// Whether a channel may be added: at most four count, and each endpoint is given one time on a link.
+    fn can_connect(&self) -> bool
+        ensures { result ≡ calls.can_connect self.now.channels }
+    {
+        self.places.len() < PLACES && self.next <= 0xFFFF
+    }
+
+    /// A channel is there, where one may be added: the answer is its own endpoint, which is never given
+    /// again on the link.
+    fn add(&mut self, psm: Psm, stage: Stage) -> Option<Cid>
+        ensures answer { result ≡ calls.connect_answer self.old.channels }
+        ensures after { self.new ≡ with_channels self.old (added (calls.can_connect self.old.channels) psm (stage_value stage no_setup) self.old.channels) }
+    {
+        if !self.can_connect() {
+            return None;
+        }
+        let own = Cid::of(self.next as u16)?;
+        let line = self.free.remove(self.free.len() - 1);
+        let _room_was_reserved = self.places.push(Place::new(psm, own, stage, line));
+        self.next += 1;
+        Some(own)
+    }
+
+    /// A new own request waits to be given, in place of any before it.
+    fn ask(&mut self, errand: Errand)
+        requires { is_known (owns self.old.channels.held) errand ≡ true }
+        ensures { self.new ≡ with_channels self.old (asks errand self.old.channels) }
+    {
+        self.queue.forget(errand);
+        self.queue.ask(errand);
+        self.identifier = self.identifier.next();
+    }
+
+    /// Asks for a channel, and answers its own endpoint; None exactly where four channels are there or
+    /// the endpoint 0xFFFF was given on this link.
+    pub fn connect(&mut self, psm: Psm) -> Option<Cid>
+        ensures answer { result ≡ calls.connect_answer self.old.channels }
+        ensures after { self.new ≡ with_channels self.old (calls.connected psm self.old.channels) }
+    {
+        let request = Request::new(self.identifier);
+        let own = self.add(psm, Stage::Requested(request))?;
+        self.ask(Errand::Connection { own: own.get() });
+        Some(own)
+    }
+
+    /// Asks for the peer's features, unless an earlier question waits.
+    pub fn ask_features(&mut self)
+        ensures { self.new ≡ with_channels self.old (calls.asks_features self.old.channels) }
+    {
+        if self.features.is_some() {
+            return;
+        }
+        self.features = Some(Request::new(self.identifier));
+        self.ask(Errand::Features);
+    }
+
+    /// A copy that waits of an own request is not given.
+    fn forget(&mut self, errand: Errand)
+        ensures { self.new ≡ with_channels self.old (forgets errand self.old.channels) }
+    {
+        self.queue.forget(errand);
+    }
+
+    /// The channel at a place counts no more, and nothing is asked of it.
+    fn remove(&mut self, at: usize)
+        requires { at < length self.old.channels.held }
+        ensures { self.new ≡ with_channels self.old (on_place gone (slice_get self.old.channels.held at) self.old.channels) }
+    {
+        let place = self.places.remove(at);
+        self.queue.forget_channel(place.own().get());
+        let _room_was_reserved = self.free.push(place.into_line());
+    }
+
+    /// The channel at a place goes on to a stage at which its options do not matter.
+    fn hide(&mut self, at: usize, stage: Stage)
+        requires place { at < length self.old.channels.held }
+        requires stage { hides_setup stage ≡ true }
+        ensures { self.new ≡ with_channels self.old (on_place (λ held. to_stage held (stage_value stage no_setup)) (slice_get self.old.channels.held at) self.old.channels) }
+    {
+        let place = &mut self.places[at];
+        place.hide(stage);
+    }
+
+    /// Has no channels, as on a link that is new. The events stay.
+    fn clear(&mut self)
+        ensures { self.new ≡ with_channels self.old (calls.link_up self.old.channels) }
+    {
+        release(&mut self.places, &mut self.free);
+        self.next = FIRST_ENDPOINT;
+        self.identifier = Identifier::first();
+        self.queue.clear();
+        self.features = None;
+        self.memory = Memory::new();
+    }
+
+    /// A link is there: it has no channels, and its first own request has the identifier 1.
+    pub fn link_up(&mut self)
+        requires { self.old.channels.events ≡ [] }
+        ensures { self.new ≡ with_channels self.old (calls.link_up self.old.channels) }
+    {
+        self.clear();
+    }
+}

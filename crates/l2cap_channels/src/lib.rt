@@ -1,0 +1,17 @@
+//! The channels of a link, as one of its hosts keeps them (Bluetooth Core Specification 5.1, Volume 3
+//! Part A, sections 2.1, 3, 4, 6 and 7): signalling, basic channels, and channels in enhanced
+//! retransmission mode.
+#![tactic(auto)]
+
+mod channels;
+mod identifier;
+mod line;
+mod memory;
+mod place;
+mod queue;
+mod request;
+mod response;
+mod setup;
+mod stage;
+
+pub use channels::Channels;
