@@ -22,4 +22,5 @@ do_wait = record {
   ending = refl;
   ended = refl;
   crossed = refl;
+  of_another = refl;
 }

@@ -1,6 +1,6 @@
 -- Small talks, worked out by hand, and what is read off them.
 use Rattle.std.specs.Prelude.{ℕ, ◌≡◌, Bool, true, false, List, [], ◌∷◌, ◌++◌, map, Some, Ok, Err}
-use Rattle.l2cap_signal.specs.Commands.{Content, connection_request, connection_response, disconnection_request, disconnection_response, information_request, information_response, reject}
+use Rattle.l2cap_signal.specs.Commands.{Content, connection_request, connection_response, configuration_request, disconnection_request, disconnection_response, information_request, information_response, reject}
 use Rattle.capture.specs.declared.flow.Flow.{Flow}
 use Rattle.capture.specs.declared.flow.Flow.TheVariants.{Out, Into}
 use Rattle.rfcomm_frames.specs.declared.connection.Role.TheVariants.{Initiator}
@@ -77,8 +77,12 @@ asked = says 1 (connection_request 0x0001 0x40)
 abbrev pub granted : Saying
 granted = hears 1 (connection_response 0x50 0x40 0 0)
 
+-- a channel whose request for options was never answered, and which is no more
+abbrev pub gone : List Saying
+gone = asked ∷ granted ∷ says 2 (configuration_request 0x50 0 []) ∷ hears 9 (disconnection_request 0x40 0x50) ∷ says 9 (disconnection_response 0x40 0x50) ∷ []
+
 -- A request for a channel waits while it is pending, and until it is refused, granted or given up; a grant of an endpoint
--- that no channel can have is none.
+-- that no channel can have is none. A channel does not wait for what was asked on an earlier one.
 pub record DoWait : Type 0 where
   pub nothing : waits client [] ≡ false
   pub call : waits client (asked ∷ []) ≡ true
@@ -92,3 +96,4 @@ pub record DoWait : Type 0 where
   pub ending : waits client (asked ∷ granted ∷ says 2 (disconnection_request 0x50 0x40) ∷ []) ≡ true
   pub ended : waits client (asked ∷ granted ∷ says 2 (disconnection_request 0x50 0x40) ∷ hears 2 (disconnection_response 0x50 0x40) ∷ []) ≡ false
   pub crossed : waits client (asked ∷ granted ∷ says 2 (disconnection_request 0x50 0x40) ∷ says 9 (disconnection_response 0x40 0x50) ∷ []) ≡ true
+  pub of_another : waits client (gone ++ says 3 (connection_request 0x0001 0x41) ∷ hears 3 (connection_response 0x50 0x41 0 0) ∷ []) ≡ false

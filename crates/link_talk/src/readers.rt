@@ -4,6 +4,7 @@ mod carrying;
 #[cfg(test)]
 mod enhanced_samples;
 mod entries;
+mod exchanging;
 mod joining;
 mod meaning;
 mod multiplexing;
@@ -23,6 +24,7 @@ mod tests;
 use capture::Flow;
 pub use carrying::{mode_of, stretch};
 pub use entries::{Entry, Setup};
+pub use exchanging::{Exchange, Pending, exchanges};
 use l2cap_signal::{Signal, SignalRefusal};
 pub use meaning::Requests;
 pub use objects::{channel_objects, link_objects, objects_heard, spelled_within};
