@@ -18,3 +18,4 @@ pub mod PairLaws
 pub mod AskingLaws
 pub mod NameLaws
 pub mod WritingLaws
+pub mod LookingLaws

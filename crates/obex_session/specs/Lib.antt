@@ -15,3 +15,4 @@ pub mod Laws
 pub mod PutPackets
 pub mod Asking
 pub mod NextPut
+pub mod Views

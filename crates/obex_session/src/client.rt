@@ -9,6 +9,8 @@ ghost use Rattle.obex_session.specs.PutPackets.{Reaches, units_in};
 ghost use Rattle.obex_session.specs.NextPut.{PutsNext, outcome_of};
 ghost use Rattle.obex_session.specs.declared.asking.Request.TheVariants.{Connect, Abort, Disconnect};
 
+mod looking;
+
 use crate::asking::{Request, is_waiting, limit_by};
 use crate::codes::Code;
 use crate::marks::{Marks, marks_of};

@@ -7,6 +7,8 @@ ghost use Rattle.obex_session.specs.Past.{StandsFor};
 ghost use Rattle.obex_session.specs.Rules.{is_under_way, progress_in};
 ghost use Rattle.obex_session.specs.Serving.{Hears, LetsGo, CountsShortages, IsUnasked, minds_inbox};
 
+mod looking;
+
 use crate::codes::Code;
 use crate::course::Course;
 use crate::hearing::hear;

@@ -5,6 +5,7 @@ ghost use Rattle.rfcomm_frames.specs.declared.connection.Role.TheVariants.{Initi
 ghost use Rattle.rfcomm_model.specs.Machine.{new_mux, first_credits, first_asks, is_leaving, reset, taken_count, sends, leaves, may_pass, is_ready, closes};
 
 mod hearing;
+mod looking;
 mod messages;
 mod saying;
 

@@ -3,3 +3,4 @@ pub mod Reading
 pub mod Asking
 pub mod Hearing
 pub mod Laws
+pub mod Views

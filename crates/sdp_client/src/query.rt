@@ -1,5 +1,7 @@
 //! The query of a client.
 
+mod looking;
+
 use crate::reading::target_in;
 use crate::reason::{Found, QueryReason};
 use crate::reply::{is_of_another, said_in};
