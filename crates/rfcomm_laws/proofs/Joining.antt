@@ -1,5 +1,5 @@
 -- Two sides with an open user channel stay a pipe each way.
-use Rattle.std.proofs.Common.{arith, ◌≡◌, ◌<◌, ◌≤◌, ℕ, zero, suc, ◌==◌, ◌+◌, Bool, true, false, ◌&&◌, cond, List, [], ◌∷◌, ◌++◌, length, take, map, Option, Some, None, Ok, refl, sym, ap, subst, ◌∙◌, append_assoc}
+use Rattle.std.proofs.Common.{arith, ◌≡◌, ◌<◌, ◌≤◌, ℕ, ◌==◌, ◌+◌, Bool, true, false, ◌&&◌, cond, List, [], ◌∷◌, ◌++◌, length, take, map, Option, Some, None, refl, sym, ap, subst, ◌∙◌, append_assoc}
 use Rattle.std.specs.Prelude.{not, nat_lt, nat_le}
 use Rattle.std.proofs.lemmas.Bool.{eq-eqb, ne_eqb}
 use Rattle.std.proofs.lemmas.List.{append-nil, map-append}
@@ -8,14 +8,14 @@ use Rattle.rfcomm_frames.specs.declared.connection.Role.{Role}
 use Rattle.rfcomm_frames.specs.declared.connection.Role.TheVariants.{Initiator, Responder}
 use Rattle.rfcomm_frames.specs.Frames.{PlainFrame}
 use Rattle.rfcomm_frames.specs.FrameReading.{is_empty}
-use Rattle.rfcomm_model.specs.Machine.{Mux, may_pass, is_ready, taken_count, sends}
+use Rattle.rfcomm_model.specs.Machine.{Mux, may_pass, is_ready}
 use Rattle.rfcomm_model.specs.Written.{response_frame}
-use Rattle.rfcomm_model.specs.Hearing.{control_answered, hears_ua, hears_answer, news}
+use Rattle.rfcomm_model.specs.Hearing.{control_answered, hears_ua, news}
 use Rattle.rfcomm_model.specs.Sides.{handed}
 use Rattle.rfcomm_frames.specs.Connections.{turned}
 use Rattle.rfcomm_model.specs.Saying.{Said, next}
-use Rattle.rfcomm_laws.specs.Pairs.{End, Move, Speak, Give, Deliver, spoken, taking, hearing, near, far, handed_by, Pair, Turn, ByInitiator, ByResponder, turn, IsFront, Pipes}
-use Rattle.rfcomm_laws.proofs.Running.{Item, frame_of, cost, bonus, flow, costs, bonuses, flows, Body, due, mux_at, Goes, Speaks, SaysItem, side_speaks, Comes, Heard, item_heard}
+use Rattle.rfcomm_laws.specs.Pairs.{End, Speak, Give, Deliver, spoken, taking, hearing, handed_by, Pair, Turn, ByInitiator, ByResponder, turn, Pipes}
+use Rattle.rfcomm_laws.proofs.Running.{Item, frame_of, cost, bonus, flow, costs, bonuses, flows, Body, due, mux_at, Goes, SaysItem, side_speaks, Heard, item_heard}
 
 -- ---- lists of items
 

@@ -3,3 +3,4 @@ pub mod Running
 pub mod Joining
 pub mod Stages
 pub mod Covering
+pub mod Falling

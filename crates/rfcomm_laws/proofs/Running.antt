@@ -1,30 +1,29 @@
 -- Two sides whose user channel was agreed to: what each sends, the other one takes.
-use Rattle.std.proofs.Common.{rules, arith, ◌≡◌, ◌⊎◌, inl, inr, ◌<◌, ◌≤◌, ℕ, zero, suc, ◌==◌, ◌+◌, ◌-◌, ◌*◌, ◌/◌, Bool, true, false, ◌&&◌, cond, List, [], ◌∷◌, ◌++◌, length, take, map, Option, Some, None, Ok, refl, sym, ap, subst, ◌∙◌, append_assoc}
-use Rattle.std.specs.Prelude.{not, nat_lt, nat_le, is_none}
-use Rattle.std.proofs.lemmas.Bool.{eq-eqb, ne_eqb, le-ltb, ltb-true, ltb-false, leb-true}
+use Rattle.std.proofs.Common.{arith, ◌≡◌, ◌<◌, ◌≤◌, ℕ, ◌==◌, ◌+◌, ◌-◌, ◌*◌, ◌/◌, Bool, true, false, ◌&&◌, cond, List, [], ◌∷◌, ◌++◌, map, Option, Some, None, Ok, refl, sym, ap, subst, ◌∙◌}
+use Rattle.std.specs.Prelude.{not, nat_lt, nat_le}
+use Rattle.std.proofs.lemmas.Bool.{eq-eqb, ne_eqb, le-ltb, ltb-true, leb-true}
 use Rattle.std.proofs.lemmas.List.{append-nil, map-append}
-use Rattle.rfcomm_frames.specs.declared.frame.MuxKind.TheVariants.{Ua, Uih}
+use Rattle.rfcomm_frames.specs.declared.frame.MuxKind.TheVariants.{Uih}
 use Rattle.rfcomm_frames.specs.declared.connection.Role.{Role}
 use Rattle.rfcomm_frames.specs.declared.connection.Role.TheVariants.{Initiator, Responder}
 use Rattle.rfcomm_frames.specs.declared.connection.Dlc.{Dlc}
 use Rattle.rfcomm_frames.specs.declared.connection.Dlc.TheVariants.{Asked, Open}
 use Rattle.rfcomm_frames.specs.Connections.{turned}
 use Rattle.rfcomm_frames.specs.Frames.{PlainFrame}
-use Rattle.rfcomm_frames.specs.Controls.{msc, written}
+use Rattle.rfcomm_frames.specs.Controls.{msc}
 use Rattle.rfcomm_frames.specs.FrameReading.{is_empty, MessageAnswer, messages}
-use Rattle.rfcomm_credits.specs.Accounts.{Credits, grant_of}
-use Rattle.rfcomm_model.specs.declared.state.MuxReason.{MuxReason}
+use Rattle.rfcomm_credits.specs.Accounts.{grant_of}
 use Rattle.rfcomm_model.specs.declared.state.Command.TheVariants.{OpenUser, Signal}
 use Rattle.rfcomm_model.specs.declared.state.Asks.{Asks}
 use Rattle.rfcomm_model.specs.declared.state.Asks.TheVariants.{Nothing, Due, Awaited}
 use Rattle.rfcomm_model.specs.declared.state.Readiness.{Readiness}
-use Rattle.rfcomm_model.specs.Machine.{Mux, is_both, may_pass, is_ready, taken_count, sends}
-use Rattle.rfcomm_model.specs.Written.{response_frame, control_frame, grant_frame, data_frame}
+use Rattle.rfcomm_model.specs.Machine.{Mux, may_pass, is_ready}
+use Rattle.rfcomm_model.specs.Written.{control_frame, grant_frame, data_frame}
 use Rattle.rfcomm_model.specs.Hearing.{has_room, answering, peer_answered, own_answered, signals_answered, hears_msc, hears_messages, hears_data, hears_answer, news, data_of}
 use Rattle.rfcomm_model.specs.Saying.{Said, passes, says, says_grant, says_data, says_command, says_answer, first_of, next}
 use Rattle.rfcomm_model.specs.Sides.{handed}
-use Rattle.rfcomm_laws.specs.Pairs.{End, handed_by}
-use Rattle.rfcomm_model.proofs.Stepping.{cond_same, and_false}
+use Rattle.rfcomm_laws.specs.Pairs.{handed_by}
+use Rattle.rfcomm_model.proofs.Stepping.{cond_same}
 use Rattle.rfcomm_laws.proofs.Opening.{msc_read}
 
 -- ---- what passes, and what the sides are

@@ -1,5 +1,5 @@
 -- The two sides of a multiplexer over a pipe of frames in each direction, which keeps its order or breaks.
-use Rattle.std.specs.Prelude.{ℕ, ◌+◌, ◌^◌, ◌<◌, ◌≤◌, ◌≡◌, ◌&&◌, not, List, [], ◌∷◌, ◌++◌, length, take, Option, Some, None, Ok, if◌then◌else◌}
+use Rattle.std.specs.Prelude.{ℕ, ◌^◌, ◌<◌, ◌≤◌, ◌≡◌, ◌&&◌, not, List, [], ◌∷◌, ◌++◌, length, take, Option, Some, None, Ok, if◌then◌else◌}
 use Rattle.rfcomm_frames.specs.declared.connection.Role.TheVariants.{Initiator, Responder}
 use Rattle.rfcomm_frames.specs.Frames.{PlainFrame}
 use Rattle.rfcomm_model.specs.Machine.{Mux, new_mux, may_pass, is_ready, taken_count, sends}

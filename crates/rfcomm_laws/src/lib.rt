@@ -2,6 +2,7 @@
 #![tactic(auto)]
 
 ghost use Rattle.rfcomm_laws.specs.Covers.{CreditsCover};
+ghost use Rattle.rfcomm_laws.specs.Happenings.{FramesAreFew};
 ghost use Rattle.rfcomm_laws.specs.Pairs.{PairsArePipes};
 
 /// The two sides are a pipe of octets each way, and neither closes, whatever frames are under way.
@@ -13,4 +14,10 @@ pub fn pairs_are_pipes()
 /// more than what the other side counts as granted and not yet used.
 pub fn credits_cover()
     ensures { CreditsCover }
+{}
+
+/// Each frame that comes to a side lowers a number of the pair, whatever the frame and the sides; so finitely many come
+/// for all octets that are given, and for every closing.
+pub fn frames_are_few()
+    ensures { FramesAreFew }
 {}
