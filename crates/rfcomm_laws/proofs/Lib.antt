@@ -4,3 +4,4 @@ pub mod Joining
 pub mod Stages
 pub mod Covering
 pub mod Falling
+pub mod Resting

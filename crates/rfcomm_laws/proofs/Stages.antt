@@ -18,8 +18,8 @@ use Rattle.rfcomm_model.specs.Hearing.{lesser, hears_answer, hears_messages, hea
 use Rattle.rfcomm_model.specs.Sides.{handed}
 use Rattle.rfcomm_laws.specs.Pairs.{End, Speak, Give, Deliver, Pair, Turn, ByInitiator, ByResponder, turn, all_turns, Terms, new_pair, Pipes, PairsArePipes}
 use Rattle.rfcomm_laws.proofs.Opening.{pn_read}
-use Rattle.rfcomm_laws.proofs.Running.{Body, none, due}
-use Rattle.rfcomm_laws.proofs.Joining.{Money, Runs, runs_on, runs_pipe}
+use Rattle.rfcomm_laws.proofs.Running.{Body, due}
+use Rattle.rfcomm_laws.proofs.Joining.{Tally, Runs, runs_on, runs_pipe}
 
 -- ---- the sides, stage by stage
 
@@ -268,12 +268,12 @@ module _ (t : Terms) where
     frame = lesser t.own (frame_r t);
     agreed = true;
     stated = true;
-    wish = none;
+    wish = due;
     ready = Neither;
     cap = t.cap;
     held = 0 + first_credits t.cap_peer % 8;
     peer = first_credits t.cap;
-    answers = [];
+    answers = 0;
     waiting = [];
   }
 
@@ -289,15 +289,31 @@ module _ (t : Terms) where
     cap = t.cap_peer;
     held = 0 + first_credits t.cap % 8;
     peer = first_credits t.cap_peer;
-    answers = [];
+    answers = 0;
     waiting = [];
   }
 
-  at_first : Money body_i body_r [] []
+  at_first : Tally false body_i body_r [] []
   at_first =
       let one = first_small t.cap in
       let two = first_small t.cap_peer in
-      record { forth = omega arith; back = omega arith; few = omega arith; few_peer = omega arith; cap = t.cap_most; cap_peer = t.cap_peer_most }
+      record {
+        forth = omega arith;
+        back = omega arith;
+        few = omega arith;
+        few_peer = omega arith;
+        cap = t.cap_most;
+        cap_peer = t.cap_peer_most;
+        some = t.cap_least;
+        some_peer = t.cap_peer_least;
+        asked_forth = refl;
+        asked_back = refl;
+        own_forth = refl;
+        own_back = refl;
+        peer_forth = refl;
+        peer_back = refl;
+        early = λ e. refl;
+      }
 
   step_user_asked : (m : Turn) → Good t (turn m (stage t user_asked))
   step_user_asked (ByInitiator Speak) = opens user_asked refl
@@ -317,7 +333,7 @@ module _ (t : Terms) where
         gr = [];
         is = ap (λ (b : Bool). both (i_wants t) [] (record (r_agreed t) { asks = Due Signal; control = cond b Open Open; user = cond (t.dlci == t.dlci) Open Asked }) (response_frame Responder Ua t.dlci ∷ [])) not_zero
             ∙ ap (λ (b : Bool). both (i_wants t) [] (record (r_agreed t) { asks = Due Signal; user = cond b Open Asked }) (response_frame Responder Ua t.dlci ∷ [])) same;
-        money = at_first;
+        tally = at_first;
         forth = refl;
         back = refl;
       })

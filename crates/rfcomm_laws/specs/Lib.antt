@@ -1,3 +1,4 @@
 pub mod Pairs
 pub mod Covers
 pub mod Happenings
+pub mod Rests

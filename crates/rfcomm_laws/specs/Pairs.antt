@@ -87,6 +87,8 @@ pub record Terms : Type 0 where
   pub most_peer : own_peer < 2 ^ 16
   pub cap : ℕ
   pub cap_peer : ℕ
+  pub cap_least : 1 ≤ cap
+  pub cap_peer_least : 1 ≤ cap_peer
   pub cap_most : cap ≤ 40
   pub cap_peer_most : cap_peer ≤ 40
 

@@ -4,6 +4,7 @@
 ghost use Rattle.rfcomm_laws.specs.Covers.{CreditsCover};
 ghost use Rattle.rfcomm_laws.specs.Happenings.{FramesAreFew};
 ghost use Rattle.rfcomm_laws.specs.Pairs.{PairsArePipes};
+ghost use Rattle.rfcomm_laws.specs.Rests.{StillIsDone};
 
 /// The two sides are a pipe of octets each way, and neither closes, whatever frames are under way.
 pub fn pairs_are_pipes()
@@ -20,4 +21,10 @@ pub fn credits_cover()
 /// for all octets that are given, and for every closing.
 pub fn frames_are_few()
     ensures { FramesAreFew }
+{}
+
+/// Where no frame is on the way and neither side has one to send, the channel is open both ways and all octets that were
+/// taken have come, if both sides grant credits and nobody closes.
+pub fn still_is_done()
+    ensures { StillIsDone }
 {}
