@@ -5,3 +5,4 @@ pub mod Stages
 pub mod Covering
 pub mod Falling
 pub mod Resting
+pub mod Splitting

@@ -2,3 +2,4 @@ pub mod Pairs
 pub mod Covers
 pub mod Happenings
 pub mod Rests
+pub mod Assembling

@@ -1,6 +1,7 @@
 //! Laws of the two sides of a multiplexer of RFCOMM together, over a pipe in each direction.
 #![tactic(auto)]
 
+ghost use Rattle.rfcomm_laws.specs.Assembling.{PiecesAreOfOneStream};
 ghost use Rattle.rfcomm_laws.specs.Covers.{CreditsCover};
 ghost use Rattle.rfcomm_laws.specs.Happenings.{FramesAreFew};
 ghost use Rattle.rfcomm_laws.specs.Pairs.{PairsArePipes};
@@ -27,4 +28,9 @@ pub fn frames_are_few()
 /// taken have come, if both sides grant credits and nobody closes.
 pub fn still_is_done()
     ensures { StillIsDone }
+{}
+
+/// Octets given to an assembler in any pieces give the packets into which the whole stream falls by its lengths.
+pub fn pieces_are_of_one_stream()
+    ensures { PiecesAreOfOneStream }
 {}
