@@ -1,2 +1,5 @@
 pub mod Pairs
 pub mod Covers
+pub mod Happenings
+pub mod Rests
+pub mod Assembling
