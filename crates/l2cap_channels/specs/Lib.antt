@@ -9,3 +9,4 @@ pub mod Machine
 pub mod Sound
 pub mod Whole
 pub mod Finding
+pub mod Sending

@@ -1,11 +1,14 @@
 //! The channels of a link.
 
-ghost use Rattle.std.specs.Prelude.{◌≡◌, ◌≤◌, ◌<◌, [], length, vec_capacity, slice_get, ◌+◌, true, IfOk, IfSome};
+ghost use Rattle.std.specs.Prelude.{◌≡◌, ◌≤◌, ◌<◌, [], length, vec_capacity, slice_get, ◌+◌, ◌==◌, true, Some, option_map, IfOk, IfSome};
 ghost use Rattle.channel_model.specs.Calls as calls;
+ghost use Rattle.std.specs.List.{list_any};
+ghost use Rattle.channel_model.specs.declared.event.ChannelEvent.TheVariants.{Closed};
 ghost use Rattle.channel_model.specs.Asking.{asks};
+ghost use Rattle.channel_model.specs.Closing.{closes};
 ghost use Rattle.channel_model.specs.Changing.{held_at, forgets, gone, tells, to_stage};
 ghost use Rattle.channel_model.specs.Value.{no_setup};
-ghost use Rattle.l2cap_channels.specs.Finding.{place_at, added, on_place};
+ghost use Rattle.l2cap_channels.specs.Finding.{place_at, place_mtu, added, on_place, IsStageAt};
 ghost use Rattle.l2cap_channels.specs.Sound.{owns, is_known};
 ghost use Rattle.l2cap_channels.specs.Machine.{new_machine, policy_of, with_channels};
 
@@ -17,7 +20,7 @@ use crate::queue::Queue;
 use crate::request::Request;
 use crate::stage::Stage;
 use bt_base::{Cid, NoMemory, Psm, Settings};
-use channel_model::{ChannelEvent, Errand};
+use channel_model::{ChannelEvent, CloseReason, Errand};
 use circular_buffer::HeapCircularBuffer;
 use std::alloc::Global;
 use std::marker::Model;
@@ -86,7 +89,8 @@ fn release(places: &mut Vec<Place>, free: &mut Vec<Line>)
 }
 
 impl Channels {
-    ghost use Rattle.l2cap_channels.specs.Places.{stage_value, hides_setup};
+    ghost use Rattle.l2cap_channels.specs.Places.{stage_value, hides_setup, left, sent};
+    ghost use Rattle.l2cap_channels.specs.Parts.{request_value};
 
     /// The channels of a host, with no link. It reserves all memory that is ever needed; `NoMemory` is
     /// answered for want of memory alone.
@@ -290,5 +294,111 @@ impl Channels {
         ensures { self.new ≡ with_channels self.old (calls.link_up self.old.channels) }
     {
         self.clear();
+    }
+
+    /// How far the channel at a place is.
+    fn stage(&self, at: usize) -> Stage
+        requires { at < length self.now.channels.held }
+        ensures { IsStageAt (slice_get self.now.channels.held at) result }
+    {
+        self.places[at].stage()
+    }
+
+    /// The own endpoint of the channel at a place.
+    fn endpoint(&self, at: usize) -> u16
+        requires { at < length self.now.channels.held }
+        ensures own { option_map (λ held. held.own) (slice_get self.now.channels.held at) ≡ Some result }
+        ensures known { list_any (λ own. own == result) (owns self.now.channels.held) ≡ true }
+    {
+        self.places[at].own().get()
+    }
+
+    /// That the channel at a place is closed.
+    fn closed(&self, at: usize, reason: CloseReason) -> ChannelEvent
+        requires { at < length self.now.channels.held }
+        ensures { option_map (λ held. Closed held.own held.psm reason) (slice_get self.now.channels.held at) ≡ Some result }
+    {
+        self.places[at].closed(reason)
+    }
+
+    /// The host asks for the end of the channel at a place.
+    fn leave(&mut self, at: usize, request: Request)
+        requires { at < length self.old.channels.held }
+        ensures { self.new ≡ with_channels self.old (on_place (λ held. to_stage held (left (request_value request) held.stage)) (slice_get self.old.channels.held at) self.old.channels) }
+    {
+        let place = &mut self.places[at];
+        place.leave(request);
+    }
+
+    /// The channel at a place closes. One that is only asked for is no more; for any other a request for
+    /// its end goes out, unless one waits.
+    fn close(&mut self, at: usize, reason: CloseReason)
+        requires place { at < length self.old.channels.held }
+        requires room { length self.old.channels.events < 168 }
+        ensures closes { self.new ≡ with_channels self.old (on_place (closes reason) (slice_get self.old.channels.held at) self.old.channels) }
+        ensures few { length self.new.channels.events ≤ length self.old.channels.events + 1 }
+    {
+        let event = self.closed(at, reason);
+        let own = self.endpoint(at);
+        match self.stage(at) {
+            Stage::Requested(_) => {
+                self.remove(at);
+                self.tell(event);
+            }
+            Stage::Connected(peer) => {
+                let request = Request::new(self.identifier);
+                self.forget(Errand::Configuration { own });
+                self.ask(Errand::Disconnection { own });
+                self.hide(at, Stage::Closing(peer, request));
+                self.tell(event);
+            }
+            Stage::Leaving(peer, request) => {
+                self.forget(Errand::Configuration { own });
+                self.hide(at, Stage::Closing(peer, request));
+                self.tell(event);
+            }
+            Stage::Closing(_, _) | Stage::Crossed(_, _) => {}
+        }
+    }
+
+    /// The host asks for the end of the channel at a place, unless it did so before.
+    fn disconnect_at(&mut self, at: usize)
+        requires place { at < length self.old.channels.held }
+        requires room { length self.old.channels.events < 168 }
+        ensures { self.new ≡ with_channels self.old (calls.disconnected_held (slice_get self.old.channels.held at) self.old.channels) }
+    {
+        let own = self.endpoint(at);
+        match self.stage(at) {
+            Stage::Requested(_) => self.close(at, CloseReason::OwnClosed),
+            Stage::Connected(_) => {
+                let request = Request::new(self.identifier);
+                self.ask(Errand::Disconnection { own });
+                self.leave(at, request);
+            }
+            Stage::Leaving(_, _) | Stage::Closing(_, _) | Stage::Crossed(_, _) => {}
+        }
+    }
+
+    /// Asks for the end of a channel, which is closed with `OwnClosed` once the response comes; one that
+    /// is only asked for is closed at once. Ignored where there is no such channel, or its end was asked
+    /// for before.
+    pub fn disconnect(&mut self, cid: Cid)
+        requires { self.old.channels.events ≡ [] }
+        ensures { self.new ≡ with_channels self.old (calls.disconnected cid self.old.channels) }
+    {
+        let Some(at) = self.place_of(cid.get()) else {
+            return;
+        };
+        self.disconnect_at(at);
+    }
+
+    /// Hands an SDU to the channel at a place.
+    fn put(&mut self, at: usize, sdu: &[u8])
+        requires place { at < length self.old.channels.held }
+        requires fits { IfSome (place_mtu (slice_get self.old.channels.held at)) (λ mtu. length sdu.now ≤ mtu) }
+        ensures { self.new ≡ with_channels self.old (on_place (λ held. to_stage held (sent sdu.now held.stage)) (slice_get self.old.channels.held at) self.old.channels) }
+    {
+        let place = &mut self.places[at];
+        place.put(sdu);
     }
 }

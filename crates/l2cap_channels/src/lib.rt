@@ -3,6 +3,7 @@
 //! retransmission mode.
 #![tactic(auto)]
 
+mod answers;
 mod channels;
 mod identifier;
 mod line;
@@ -14,4 +15,5 @@ mod response;
 mod setup;
 mod stage;
 
+pub use answers::SendAnswer;
 pub use channels::Channels;

@@ -1,6 +1,6 @@
 //! A channel.
 
-ghost use Rattle.std.specs.Prelude.{◌≡◌, ◌≤◌, ◌+◌, None, Some, true, option_map};
+ghost use Rattle.std.specs.Prelude.{◌≡◌, ◌≤◌, ◌+◌, length, IfSome, None, Some, true, option_map};
 ghost use Rattle.std.specs.Option.{option_to_list};
 ghost use Rattle.channel_model.specs.declared.event.ChannelEvent.TheVariants.{Closed};
 ghost use Rattle.channel_model.specs.Value as value;
@@ -39,7 +39,7 @@ impl Model for Place {
 
 impl Place {
     ghost use Rattle.l2cap_channels.specs.Parts.{request_value};
-    ghost use Rattle.l2cap_channels.specs.Places.{stage_value, IsOpenLine, IsLineOf, IsStage, hides_setup, left};
+    ghost use Rattle.l2cap_channels.specs.Places.{stage_value, IsOpenLine, IsLineOf, IsStage, hides_setup, left, sent};
 
     /// A channel of which nothing is agreed on.
     pub(crate) fn new(psm: Psm, own: Cid, stage: Stage, line: Line) -> Place
@@ -189,6 +189,17 @@ impl Place {
         let stage = self.stage;
         if let Stage::Connected(peer) = stage {
             self.stage = Stage::Leaving(peer, request);
+        }
+    }
+
+    /// An SDU of at most `peer_mtu` octets waits from now on, where it is open and none waits.
+    pub(crate) fn put(&mut self, sdu: &[u8])
+        requires { IfSome (option_map calls.carrier_mtu (calls.open_carrier (setup_of self.old.stage))) (λ mtu. length sdu.now ≤ mtu) }
+        ensures { self.new ≡ record self.old { stage = sent sdu.now self.old.stage } }
+    {
+        match (self.stage, &self.setup.own) {
+            (Stage::Connected(_) | Stage::Leaving(_, _), Own::Granted) => self.line.put(sdu),
+            _ => {}
         }
     }
 }
