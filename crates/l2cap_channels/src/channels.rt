@@ -3,15 +3,18 @@
 ghost use Rattle.std.specs.Prelude.{◌≡◌, ◌≤◌, ◌<◌, [], length, vec_capacity, slice_get, ◌+◌, ◌==◌, true, Some, option_map, IfOk, IfSome};
 ghost use Rattle.channel_model.specs.Calls as calls;
 ghost use Rattle.std.specs.List.{list_any};
+ghost use Rattle.std.specs.Option.{option_to_list};
+ghost use Rattle.l2cap_channels.specs.Sending.{send_answer, Sends};
 ghost use Rattle.channel_model.specs.declared.event.ChannelEvent.TheVariants.{Closed};
 ghost use Rattle.channel_model.specs.Asking.{asks};
 ghost use Rattle.channel_model.specs.Closing.{closes};
 ghost use Rattle.channel_model.specs.Changing.{held_at, forgets, gone, tells, to_stage};
 ghost use Rattle.channel_model.specs.Value.{no_setup};
-ghost use Rattle.l2cap_channels.specs.Finding.{place_at, place_mtu, added, on_place, IsStageAt};
+ghost use Rattle.l2cap_channels.specs.Finding.{place_at, place_mtu, place_waits, place_lost, loses, added, on_place, IsStageAt};
 ghost use Rattle.l2cap_channels.specs.Sound.{owns, is_known};
 ghost use Rattle.l2cap_channels.specs.Machine.{new_machine, policy_of, with_channels};
 
+use crate::answers::SendAnswer;
 use crate::identifier::Identifier;
 use crate::line::Line;
 use crate::memory::Memory;
@@ -400,5 +403,84 @@ impl Channels {
     {
         let place = &mut self.places[at];
         place.put(sdu);
+    }
+
+    /// What is answered to an SDU for the channel at a place.
+    fn send_answer(&self, at: usize) -> SendAnswer
+        requires { at < length self.now.channels.held }
+        ensures { result ≡ send_answer (place_mtu (slice_get self.now.channels.held at)) (place_waits (slice_get self.now.channels.held at)) }
+    {
+        if self.places[at].peer_mtu().is_none() {
+            return SendAnswer::NotOpen;
+        }
+        if self.places[at].waits() {
+            return SendAnswer::Busy;
+        }
+        SendAnswer::Taken
+    }
+
+    /// An SDU for the channel at a place waits from now on, where the channel is open and none waits.
+    fn send_at(&mut self, at: usize, sdu: &[u8])
+        requires place { at < length self.old.channels.held }
+        requires fits { IfSome (place_mtu (slice_get self.old.channels.held at)) (λ mtu. length sdu.now ≤ mtu) }
+        ensures { self.new ≡ with_channels self.old (calls.sends_held (slice_get self.old.channels.held at) sdu.now self.old.channels) }
+    {
+        match self.stage(at) {
+            Stage::Connected(_) | Stage::Leaving(_, _) => self.put(at, sdu),
+            Stage::Requested(_) | Stage::Closing(_, _) | Stage::Crossed(_, _) => {}
+        }
+    }
+
+    /// Takes an SDU of at most `peer_mtu` octets for a channel: `NotOpen` exactly where the channel is not
+    /// open, else `Busy` exactly where the SDU before still waits, and then nothing changes.
+    pub fn send(&mut self, cid: Cid, sdu: &[u8]) -> SendAnswer
+        requires { IfSome (calls.peer_mtu cid self.old.channels) (λ mtu. length sdu.now ≤ mtu) }
+        ensures { Sends self.old cid sdu.now result self.new }
+    {
+        let Some(at) = self.place_of(cid.get()) else {
+            return SendAnswer::NotOpen;
+        };
+        let answer = self.send_answer(at);
+        self.send_at(at, sdu);
+        answer
+    }
+
+    /// That the channel at a place is lost with the link, where it was not closed.
+    fn lost(&self, at: usize) -> Option<ChannelEvent>
+        requires { at < length self.now.channels.held }
+        ensures { option_to_list result ≡ place_lost (slice_get self.now.channels.held at) }
+    {
+        self.places[at].lost()
+    }
+
+    /// Tells that the channel at a place is lost with the link, where it was not closed.
+    fn lose(&mut self, at: usize)
+        requires place { at < length self.old.channels.held }
+        requires room { length self.old.channels.events < 168 }
+        ensures after { self.new ≡ with_channels self.old (loses (slice_get self.old.channels.held at) self.old.channels) }
+        ensures few { length self.new.channels.events ≤ length self.old.channels.events + 1 }
+    {
+        if let Some(event) = self.lost(at) {
+            self.tell(event);
+        }
+    }
+
+    /// How many channels count.
+    fn count(&self) -> usize
+        ensures count { result ≡ length self.now.channels.held }
+        ensures few { result ≤ 4 }
+    {
+        self.places.len()
+    }
+
+    /// The link is no more: each channel that was not closed is closed with `LinkDown`.
+    pub fn link_down(&mut self)
+        requires { self.old.channels.events ≡ [] }
+        ensures { self.new ≡ with_channels self.old (calls.link_down self.old.channels) }
+    {
+        for at in 0..self.count() {
+            self.lose(at);
+        }
+        self.clear();
     }
 }
