@@ -10,3 +10,4 @@ pub mod Sound
 pub mod Whole
 pub mod Finding
 pub mod Sending
+pub mod Given
