@@ -8,10 +8,10 @@ use Rattle.std.proofs.lemmas.Bool.{both_ways}
 found : {X : Type 0} (test : X → Bool) (x : X) (rest : Option X) (b : Bool) → test x ≡ b → b ≡ true → cond (test x) (Some x) rest ≡ Some x
 found test x rest b is holds = rw (is ∙ holds) refl
 
-passed : {X : Type 0} (test : X → Bool) (x : X) (rest : Option X) → test x ≡ false → cond (test x) (Some x) rest ≡ rest
+pub passed : {X : Type 0} (test : X → Bool) (x : X) (rest : Option X) → test x ≡ false → cond (test x) (Some x) rest ≡ rest
 passed test x rest fails = rw fails refl
 
-fails_at : {X : Type 0} (test : X → Bool) (x : X) (rest : Option X) → cond (test x) (Some x) rest ≡ None → test x ≡ false
+pub fails_at : {X : Type 0} (test : X → Bool) (x : X) (rest : Option X) → cond (test x) (Some x) rest ≡ None → test x ≡ false
 fails_at test x rest none = fails_by (test x) refl
   where
     fails_by : (b : Bool) → test x ≡ b → test x ≡ false

@@ -6,3 +6,6 @@ pub mod Rooming
 pub mod Finding
 pub mod Keeping
 pub mod Changed
+pub mod Sizes
+pub mod Framing
+pub mod Giving

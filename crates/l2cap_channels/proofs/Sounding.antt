@@ -1,8 +1,8 @@
 -- What always holds of endpoints is kept.
 use Rattle.std.proofs.Common.{◌≡◌, ◌∙◌, ℕ, zero, suc, ◌+◌, ◌≤◌, ◌<◌, Bool, true, false, List, [], ◌∷◌, ◌++◌, map, length, refl, sym, ap, subst, arith, inl, inr}
 use Rattle.std.specs.Prelude.{filter, not, nat_lt, ◌==◌, ◌&&◌, slice_get, slice_set, Option, Some, None, if◌then◌else◌}
-use Rattle.std.specs.List.{list_all, remove}
-use Rattle.std.proofs.lemmas.Bool.{lt-ltb, ltb-true, eq-eqb, ne_eqb, and_parts, and_from}
+use Rattle.std.specs.List.{list_any, list_all, remove}
+use Rattle.std.proofs.lemmas.Bool.{lt-ltb, ltb-true, eq-eqb, ne_eqb, and_parts, and_from, or_left, or_right}
 use Rattle.channel_model.specs.Value.{Held}
 use Rattle.channel_model.specs.Changing.{in_place_of, has_own}
 use Rattle.l2cap_channels.specs.Sound.{owns, rises_above, AreGiven}
@@ -124,3 +124,8 @@ rising_kept (o ∷ os) test low rises =
 pub given_kept : (os : List ℕ) (test : ℕ → Bool) (next : ℕ) → AreGiven os next → AreGiven (filter test os) next
 given_kept os test next given =
     record { rising = rising_kept os test 0x003F given.rising; below = below_kept os test next given.below; from = given.from; to = given.to }
+
+pub known_at : (held : List Held) (at : ℕ) (h : Held) (own : ℕ) → slice_get held at ≡ Some h → own ≡ h.own → list_any (λ o. o == own) (owns held) ≡ true
+known_at [] at h own is same = cc
+known_at (x ∷ held) zero h own is same = let e : x ≡ h = cc in or_left _ _ (eq-eqb x.own own (ap (λ (k : Held). k.own) e ∙ sym same))
+known_at (x ∷ held) (suc at) h own is same = or_right _ _ (known_at held at h own is same)

@@ -9,3 +9,5 @@ pub mod Machine
 pub mod Sound
 pub mod Whole
 pub mod Finding
+pub mod Sending
+pub mod Given

@@ -1,8 +1,8 @@
 -- A channel as it is kept.
-use Rattle.std.specs.Prelude.{ℕ, ◌≡◌, ◌≤◌, Bool, true, false, Option, Some, None}
+use Rattle.std.specs.Prelude.{ℕ, ◌≡◌, ◌≤◌, Bool, true, false, List, Option, Some, None}
 use denote.Bor.{Bor}
-use Rattle.channel_model.specs.Changing.{setup_of}
-use Rattle.channel_model.specs.Calls.{open_carrier}
+use Rattle.channel_model.specs.Changing.{setup_of, stage_with}
+use Rattle.channel_model.specs.Calls.{open_carrier, sends_setup}
 use Rattle.channel_model.specs.Value as value
 use Rattle.l2cap_channels.specs.Parts.{request_value}
 use Rattle.l2cap_channels.specs.declared.stage.Stage.{Stage}
@@ -65,3 +65,11 @@ left request (value.Connected peer setup) = value.Leaving peer setup request
 left request (value.Leaving peer setup before) = value.Leaving peer setup before
 left request (value.Closing peer before) = value.Closing peer before
 left request (value.Crossed peer before) = value.Crossed peer before
+
+abbrev pub sent_on : Option value.Setup → List ℕ → value.Stage → value.Stage
+sent_on None sdu stage = stage
+sent_on (Some setup) sdu stage = stage_with (sends_setup setup sdu) stage
+
+-- a channel once an SDU was handed to it
+abbrev pub sent : List ℕ → value.Stage → value.Stage
+sent sdu stage = sent_on (setup_of stage) sdu stage

@@ -3,6 +3,7 @@
 //! retransmission mode.
 #![tactic(auto)]
 
+mod answers;
 mod channels;
 mod identifier;
 mod line;
@@ -13,5 +14,7 @@ mod request;
 mod response;
 mod setup;
 mod stage;
+mod writing;
 
+pub use answers::SendAnswer;
 pub use channels::Channels;

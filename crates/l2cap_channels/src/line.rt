@@ -4,8 +4,11 @@ ghost use Rattle.std.specs.Prelude.{◌≡◌, ◌≤◌, None, Some, false, len
 ghost use Rattle.std.specs.Option.{option_map};
 ghost use Rattle.channel_model.specs.Calls as calls;
 ghost use Rattle.channel_model.specs.Configuring.{new_carrier};
+ghost use Rattle.channel_model.specs.Giving.{some_carrier_gives, carrier_given};
+ghost use Rattle.l2cap_channels.specs.Given.{WritesNext};
 
-use bt_base::NoMemory;
+use crate::writing::put_sdu;
+use bt_base::{Cid, NoMemory};
 use ertm_machine::Ertm;
 use ertm_model::ErtmReason;
 use l2cap_config::{Agreed, Mode};
@@ -209,6 +212,30 @@ impl Line {
                 }
                 closed
             }
+        }
+    }
+
+    /// Writes the next PDU for the peer's endpoint from the front of `into`, of at least 32,775 octets, and
+    /// answers how many octets it has; None where there is nothing to give.
+    pub(crate) fn give(&mut self, peer: Cid, into: &mut [u8]) -> Option<usize>
+        requires { 32775 ≤ length into.old }
+        ensures pdu { WritesNext (some_carrier_gives self.old peer) into.old result into.new }
+        ensures after { self.new ≡ option_map carrier_given self.old }
+    {
+        match self.carrying {
+            Carrying::Nothing => None,
+            Carrying::Basic { waits: false, .. } => None,
+            Carrying::Basic {
+                agreed,
+                waits: true,
+            } => {
+                self.carrying = Carrying::Basic {
+                    agreed,
+                    waits: false,
+                };
+                Some(put_sdu(peer.get(), &self.sdu, into))
+            }
+            Carrying::Enhanced => self.machine.next_frame(peer, into),
         }
     }
 }

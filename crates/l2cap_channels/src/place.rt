@@ -1,18 +1,25 @@
 //! A channel.
 
-ghost use Rattle.std.specs.Prelude.{◌≡◌, ◌≤◌, ◌+◌, None, Some, true, option_map};
+ghost use Rattle.std.specs.Prelude.{◌≡◌, ◌≤◌, ◌+◌, ◌++◌, drop, length, IfSome, None, Some, true, option_map};
 ghost use Rattle.std.specs.Option.{option_to_list};
 ghost use Rattle.channel_model.specs.declared.event.ChannelEvent.TheVariants.{Closed};
 ghost use Rattle.channel_model.specs.Value as value;
 ghost use Rattle.channel_model.specs.Changing.{setup_of, stage_with, is_open};
+ghost use Rattle.l2cap_signal.specs.Commands.{configuration_request, spelling};
+ghost use Rattle.l2cap_config.specs.Writing.{written};
 ghost use Rattle.channel_model.specs.Calls as calls;
+ghost use Rattle.channel_model.specs.Giving.{Signal, headed, stage_gives, connection_at, configuration_at, disconnection_at, connection_given, configuration_given, disconnection_given};
+ghost use Rattle.l2cap_channels.specs.Given.{WritesNext, command_at, spent, stage_counted};
 
 use crate::line::Line;
 use crate::request::Request;
 use crate::setup::{Own, Setup};
 use crate::stage::Stage;
+use crate::writing::put_command;
 use bt_base::{Cid, Psm};
-use channel_model::{ChannelEvent, CloseReason};
+use channel_model::{ChannelEvent, CloseReason, Errand};
+use l2cap_config::{Options, put_options};
+use l2cap_signal::SignalKind;
 use std::marker::Model;
 
 /// A channel that counts. A clause sees it as `channel_model` has it.
@@ -37,9 +44,26 @@ impl Model for Place {
     ghost invariant = { IsPlace };
 }
 
+/// Writes an own request for options, as `put_command` does.
+#[tactic(auto, using(crate::proofs::Sizes::short_written))]
+fn put_options_request(peer: Cid, request: &Request, options: &Options, into: &mut [u8]) -> usize
+    requires { 32775 ≤ length into.old }
+    ensures count { result ≡ length (headed 0x0001 (spelling (record { identifier = request.now.identifier; content = configuration_request peer 0 (written options.now) }))) }
+    ensures octets { into.new ≡ headed 0x0001 (spelling (record { identifier = request.now.identifier; content = configuration_request peer 0 (written options.now) })) ++ drop result into.old }
+{
+    let mut octets = [0; 18];
+    let size = put_options(options, &mut octets);
+    let kind = SignalKind::ConfigurationRequest {
+        destination: peer.get(),
+        flags: 0,
+        options: &octets[..size],
+    };
+    put_command(request.identifier, kind, into)
+}
+
 impl Place {
     ghost use Rattle.l2cap_channels.specs.Parts.{request_value};
-    ghost use Rattle.l2cap_channels.specs.Places.{stage_value, IsOpenLine, IsLineOf, IsStage, hides_setup, left};
+    ghost use Rattle.l2cap_channels.specs.Places.{stage_value, IsOpenLine, IsLineOf, IsStage, hides_setup, left, sent};
 
     /// A channel of which nothing is agreed on.
     pub(crate) fn new(psm: Psm, own: Cid, stage: Stage, line: Line) -> Place
@@ -189,6 +213,134 @@ impl Place {
         let stage = self.stage;
         if let Stage::Connected(peer) = stage {
             self.stage = Stage::Leaving(peer, request);
+        }
+    }
+
+    /// An SDU of at most `peer_mtu` octets waits from now on, where it is open and none waits.
+    pub(crate) fn put(&mut self, sdu: &[u8])
+        requires { IfSome (option_map calls.carrier_mtu (calls.open_carrier (setup_of self.old.stage))) (λ mtu. length sdu.now ≤ mtu) }
+        ensures { self.new ≡ record self.old { stage = sent sdu.now self.old.stage } }
+    {
+        match (self.stage, &self.setup.own) {
+            (Stage::Connected(_) | Stage::Leaving(_, _), Own::Granted) => self.line.put(sdu),
+            _ => {}
+        }
+    }
+
+    /// Writes the next PDU of its carrier, as `Line::give` does.
+    pub(crate) fn give(&mut self, into: &mut [u8]) -> Option<usize>
+        requires { 32775 ≤ length into.old }
+        ensures pdu { WritesNext (stage_gives self.old.stage) into.old result into.new }
+        ensures after { self.new ≡ record self.old { stage = spent self.old.stage } }
+    {
+        let stage = self.stage;
+        match stage {
+            Stage::Connected(peer) => self.line.give(peer, into),
+            Stage::Leaving(peer, _) => self.line.give(peer, into),
+            Stage::Requested(_) | Stage::Closing(_, _) | Stage::Crossed(_, _) => None,
+        }
+    }
+
+    /// Writes the own request about it, where it waits for its response, as `Line::give` does.
+    pub(crate) fn put_request(&self, errand: Errand, into: &mut [u8]) -> Option<usize>
+        requires { 32775 ≤ length into.old }
+        ensures { WritesNext (option_map Signal (command_at errand self.now)) into.old result into.new }
+    {
+        match errand {
+            Errand::Connection { .. } => self.put_connection(into),
+            Errand::Configuration { .. } => self.put_configuration(into),
+            Errand::Disconnection { .. } => self.put_disconnection(into),
+            Errand::Features => None,
+        }
+    }
+
+    fn put_connection(&self, into: &mut [u8]) -> Option<usize>
+        requires { 32775 ≤ length into.old }
+        ensures { WritesNext (option_map Signal (connection_at self.now.stage self.now)) into.old result into.new }
+    {
+        let Stage::Requested(request) = self.stage else {
+            return None;
+        };
+        let kind = SignalKind::ConnectionRequest {
+            psm: self.psm.get(),
+            source: self.own.get(),
+        };
+        Some(put_command(request.identifier, kind, into))
+    }
+
+    fn put_configuration(&self, into: &mut [u8]) -> Option<usize>
+        requires { 32775 ≤ length into.old }
+        ensures { WritesNext (option_map Signal (configuration_at self.now.stage)) into.old result into.new }
+    {
+        let Own::Asking(request, options) = &self.setup.own else {
+            return None;
+        };
+        match self.stage {
+            Stage::Connected(peer) => Some(put_options_request(peer, request, options, into)),
+            Stage::Leaving(peer, _) => Some(put_options_request(peer, request, options, into)),
+            Stage::Requested(_) | Stage::Closing(_, _) | Stage::Crossed(_, _) => None,
+        }
+    }
+
+    fn put_disconnection(&self, into: &mut [u8]) -> Option<usize>
+        requires { 32775 ≤ length into.old }
+        ensures { WritesNext (option_map Signal (disconnection_at self.now.stage self.now)) into.old result into.new }
+    {
+        let (peer, request) = match self.stage {
+            Stage::Leaving(peer, request) => (peer, request),
+            Stage::Closing(peer, request) => (peer, request),
+            Stage::Crossed(peer, request) => (peer, request),
+            Stage::Requested(_) | Stage::Connected(_) => return None,
+        };
+        let kind = SignalKind::DisconnectionRequest {
+            destination: peer.get(),
+            source: self.own.get(),
+        };
+        Some(put_command(request.identifier, kind, into))
+    }
+
+    /// The own request about it was given once more.
+    pub(crate) fn count(&mut self, errand: Errand)
+        ensures { self.new ≡ record self.old { stage = stage_counted errand self.old.stage } }
+    {
+        match errand {
+            Errand::Connection { .. } => self.count_connection(),
+            Errand::Configuration { .. } => self.count_configuration(),
+            Errand::Disconnection { .. } => self.count_disconnection(),
+            Errand::Features => {}
+        }
+    }
+
+    fn count_connection(&mut self)
+        ensures { self.new ≡ record self.old { stage = connection_given self.old.stage } }
+    {
+        let stage = self.stage;
+        if let Stage::Requested(request) = stage {
+            self.stage = Stage::Requested(request.once_more());
+        }
+    }
+
+    fn count_configuration(&mut self)
+        ensures { self.new ≡ record self.old { stage = configuration_given self.old.stage } }
+    {
+        self.setup.own.count();
+    }
+
+    fn count_disconnection(&mut self)
+        ensures { self.new ≡ record self.old { stage = disconnection_given self.old.stage } }
+    {
+        let stage = self.stage;
+        match stage {
+            Stage::Leaving(peer, request) => {
+                self.stage = Stage::Leaving(peer, request.once_more());
+            }
+            Stage::Closing(peer, request) => {
+                self.stage = Stage::Closing(peer, request.once_more());
+            }
+            Stage::Crossed(peer, request) => {
+                self.stage = Stage::Crossed(peer, request.once_more());
+            }
+            Stage::Requested(_) | Stage::Connected(_) => {}
         }
     }
 }

@@ -26,6 +26,23 @@ pub(crate) struct Setup {
     pub(crate) renewed: u8,
 }
 
+impl Own {
+    ghost use Rattle.std.specs.Prelude.{◌≡◌};
+    ghost use Rattle.channel_model.specs.Giving.{own_given};
+    ghost use Rattle.l2cap_channels.specs.Places.{own_value};
+
+    /// It was given once more.
+    pub(crate) fn count(&mut self)
+        ensures { own_value self.new ≡ own_given (own_value self.old) }
+    {
+        match self {
+            Own::Asking(request, _) => *request = request.once_more(),
+            Own::Unasked => {}
+            Own::Granted => {}
+        }
+    }
+}
+
 impl Setup {
     ghost use Rattle.std.specs.Prelude.{◌≡◌, None};
     ghost use Rattle.channel_model.specs.Value.{no_setup};
