@@ -15,6 +15,7 @@ do_wait = record {
   repeated = refl;
   pending = refl;
   refused = refl;
+  early = refl;
   low = refl;
   forgone = refl;
   information = refl;

@@ -82,13 +82,15 @@ abbrev pub gone : List Saying
 gone = asked ∷ granted ∷ says 2 (configuration_request 0x50 0 []) ∷ hears 9 (disconnection_request 0x40 0x50) ∷ says 9 (disconnection_response 0x40 0x50) ∷ []
 
 -- A request for a channel waits while it is pending, and until it is refused, granted or given up; a grant of an endpoint
--- that no channel can have is none. A channel does not wait for what was asked on an earlier one.
+-- that no channel can have is none. A refusal ahead of the request
+-- refuses nothing. A channel does not wait for what was asked on an earlier one.
 pub record DoWait : Type 0 where
   pub nothing : waits client [] ≡ false
   pub call : waits client (asked ∷ []) ≡ true
   pub repeated : waits client (asked ∷ asked ∷ granted ∷ []) ≡ false
   pub pending : waits client (asked ∷ hears 1 (connection_response 0 0x40 1 0) ∷ []) ≡ true
   pub refused : waits client (asked ∷ hears 1 (connection_response 0 0x40 2 0) ∷ []) ≡ false
+  pub early : waits client (hears 1 (connection_response 0 0x40 2 0) ∷ asked ∷ []) ≡ true
   pub low : waits client (asked ∷ hears 1 (connection_response 0x3F 0x40 0 0) ∷ []) ≡ true
   pub forgone : waits client (asked ∷ GaveUp (Connection 1 0x40) ∷ []) ≡ false
   pub information : waits client (says 1 (information_request 2) ∷ []) ≡ true
