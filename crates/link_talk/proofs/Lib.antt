@@ -9,3 +9,4 @@ pub mod Spelling
 pub mod Growing
 pub mod Worked
 pub mod Waiting
+pub mod Answering

@@ -12,6 +12,7 @@ pub mod Packets
 pub mod ObjectsHeard
 pub mod Exchanges
 pub mod Exchanging
+pub mod Silences
 pub mod ServiceAnswers
 pub mod Accounts
 pub mod Waits

@@ -1,5 +1,6 @@
 //! Plain readers of talk, for tests and tools: each computes a definition as it stands.
 
+mod answering;
 mod carrying;
 #[cfg(test)]
 mod enhanced_samples;
@@ -21,6 +22,7 @@ mod sensing;
 #[cfg(test)]
 mod tests;
 
+pub use answering::{answers_in, channel_answers};
 use capture::Flow;
 pub use carrying::{mode_of, stretch};
 pub use entries::{Entry, Setup};
