@@ -2,6 +2,7 @@
 //! the air did, and how pushes follow one another.
 #![tactic(auto)]
 
+ghost use Rattle.air_laws.specs.Accounts.{BuffersAreKept, CompletionsAreHonest};
 ghost use Rattle.air_laws.specs.AirLaws.{AirIsKept, AirIsObeyed, PushesAreMarked};
 ghost use Rattle.world_model.specs.Machines.{Upper};
 
@@ -18,4 +19,15 @@ pub fn air_is_obeyed<S, T, G, H>()
 /// Pushes are in turn, and the links of each lie within it.
 pub fn pushes_are_marked<S, T, G, H>()
     ensures { (U : Upper S G) (V : Upper T H) → PushesAreMarked U V }
+{}
+
+/// At each moment a host has no more packets outstanding than its controller takes, and no more
+/// than 64.
+pub fn buffers_are_kept<S, T, G, H>()
+    ensures { (U : Upper S G) (V : Upper T H) → BuffersAreKept U V }
+{}
+
+/// A controller says of no handle that more packets were completed than went out on it.
+pub fn completions_are_honest<S, T, G, H>()
+    ensures { (U : Upper S G) (V : Upper T H) → CompletionsAreHonest U V }
 {}
