@@ -14,3 +14,4 @@ pub mod Owing
 pub mod Accounting
 pub mod Booking
 pub mod Balancing
+pub mod Exampling
