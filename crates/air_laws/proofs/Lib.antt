@@ -9,3 +9,9 @@ pub mod Resting
 pub mod Obeying
 pub mod Ending
 pub mod Marking
+pub mod Counting
+pub mod Owing
+pub mod Accounting
+pub mod Booking
+pub mod Balancing
+pub mod Exampling
