@@ -67,6 +67,12 @@ written packet maximum (saying.Confirmation code) room room' answer says = subst
 written packet maximum saying.Silence room room' answer says = subst (λ (a : Reply). Written [] room room' a) (sym says.0) (refl, says.1)
 written packet maximum saying.NoMemory room room' answer says = subst (λ (a : Reply). Written [] room room' a) (sym says.0) tt
 
+none_is : (packet : List ℕ) (maximum : ℕ) (said : Saying) (lacks : Bool) → is_shortage said ≡ lacks → lacks ≡ true → octets_said packet maximum said ≡ []
+none_is packet maximum (saying.Response code) lacks short e = absurd (let f : false ≡ true = short ∙ e in cc)
+none_is packet maximum (saying.Confirmation code) lacks short e = absurd (let f : false ≡ true = short ∙ e in cc)
+none_is packet maximum saying.Silence lacks short e = refl
+none_is packet maximum saying.NoMemory lacks short e = refl
+
 -- ---- the call
 
 viewed_is : (session session' : Serving) (packet : List ℕ) (answers left : List Answer) (said : Saying) (lacks : Bool) → heard_with session packet answers ≡ record { session = session'; saying = said; left = left } → is_shortage said ≡ lacks
@@ -87,6 +93,7 @@ answered session session' packet content content' f f' s s' room room' answer he
       turn = λ rest. viewed_is session session' packet (hears.used ++ rest) rest hears.saying (is_none (count_in answer)) (hears.turn rest) short;
       held = λ rest. held_ahead calls hears.used content (λ others. ap (λ (t : Turn). t.left) (hears.turn others)) rest ∙ sym hears.content_is;
       written = written packet session.maximum hears.saying room room' answer hears.says;
+      none = λ lacks. none_is packet session.maximum hears.saying (is_none (count_in answer)) short lacks;
       short = λ lacks. hears.cause.short (short_of session.offered session.course (kind_heard session packet) (ruling_on session packet).verdict (come_of calls hears.used)
         (ap (λ (a : List Answer). is_shortage (said_after session.offered session.course (kind_heard session packet) (outcome_on session packet a))) (sym (append-nil hears.used)) ∙ said ∙ lacks));
     }

@@ -117,4 +117,5 @@ pub record IsAnswered (session session' : Serving) (packet : List ℕ) (content 
   pub turn : (rest : List Answer) → viewed session packet (used ++ rest) ≡ record { session = session'; response = response; short = is_none (count_in answer); left = rest }
   pub held : (rest : List Answer) → held_after (ruling_on session packet).calls (used ++ rest) content ≡ content'
   pub written : IfSome (count_in answer) (λ count. (count ≡ length response) × (room' ≡ response ++ drop count room))
+  pub none : is_none (count_in answer) ≡ true → response ≡ []
   pub short : is_none (count_in answer) ≡ true → HasRisen shortages shortages'

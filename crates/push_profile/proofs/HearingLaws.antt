@@ -65,6 +65,7 @@ answers transport old session' packet content content' f f' s s' room room' answ
       heard = λ rest. heard_is _ _ _ _ _ _ _ _ (ap (λ (v : Viewed). with_session transport v.session old) (done.turn rest)) (ap (λ (v : Viewed). v.response) (done.turn rest))
           (ap (λ (v : Viewed). v.short) (done.turn rest) ∙ sym lacks) (gift_is _ _ _ _ (done.held rest) (ap (λ (v : Viewed). v.left) (done.turn rest)));
       written = written_by done.response room room' (count_in answer) result count done.written;
+      none = λ e. done.none (lacks_by (count_in answer) result lacks e);
       short = λ e. done.short (lacks_by (count_in answer) result lacks e);
       stays = hears.cause.shortages_stay;
     }
@@ -83,6 +84,7 @@ named_short t old mid packet content content' s s' room lack other name lets = r
   heard = λ rest. let gift = given content (lets.used ++ rest) in
       ap (λ (b : Bool). (if b then hears_after t packet (lets_go (other_of t) old gift) else answers_to t packet old gift)) name ∙ ap (hears_after t packet) (lets.parted rest);
   written = tt;
+  none = λ e. refl;
   short = λ e. lets.short e;
   stays = lets.stays;
 }
@@ -97,6 +99,7 @@ named t old mid new packet c0 c1 c2 s0 s1 s2 room room' done result name lets an
       ∙ ap (λ (b : Bool). (if b then hears_after t packet (lets_go (other_of t) old (given c0 (lets.used ++ (answer.used ++ rest)))) else answers_to t packet old (given c0 (lets.used ++ (answer.used ++ rest))))) name
       ∙ ap (hears_after t packet) (lets.parted (answer.used ++ rest)) ∙ answer.heard rest;
   written = answer.written;
+  none = answer.none;
   short = λ e. rises s0 s1 s2 lets.stays answer.stays (answer.short e);
   stays = omega (arith, lets.stays, answer.stays);
 }
@@ -109,6 +112,7 @@ nameless t old new packet content content' s s' room room' result name answer = 
   heard = λ rest. let gift = given content (answer.used ++ rest) in
       ap (λ (b : Bool). (if b then hears_after t packet (lets_go (other_of t) old gift) else answers_to t packet old gift)) name ∙ answer.heard rest;
   written = answer.written;
+  none = answer.none;
   short = answer.short;
   stays = answer.stays;
 }

@@ -1,2 +1,3 @@
 pub mod PartingLaws
 pub mod HearingLaws
+pub mod ServiceLaws

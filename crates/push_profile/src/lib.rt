@@ -2,6 +2,7 @@
 //! stores objects over two transports, and the client that pushes.
 #![tactic(auto)]
 
+mod service;
 mod sessions;
 
 pub use push_model::CloseCause;

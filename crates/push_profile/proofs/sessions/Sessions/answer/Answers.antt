@@ -30,7 +30,7 @@ returns-in-L2cap-clause-pending g c =
     let packet = c.args.packet.now in
     let done = c.on_packet in
     let single = subst (λ (s : Sessions). is_naming L2cap packet s ≡ true → has_object (session_of Rfcomm s) ≡ false) (sym c.self.view_is)
-        (subst (λ (t : Transport). is_naming t packet c.args.self.now ≡ true → has_object (session_of (other_of t) c.args.self.now) ≡ false) c.in-L2cap.is c.requires.single) in
+    (subst (λ (t : Transport). is_naming t packet c.args.self.now ≡ true → has_object (session_of (other_of t) c.args.self.now) ≡ false) c.in-L2cap.is c.requires.single) in
     after_of (has_object before.direct) (is_naming L2cap packet before) (has_object before.carried) (has_object done.new.self) (g.B.Inbox.is_pending c.args.inbox.now) (g.B.Inbox.is_pending done.new.inbox)
     c.self.invariant single (c.requires.pending ∙ ap is_pending (sym c.self.view_is)) done.ensures.pending done.ensures.unasked done.ensures.none
 
@@ -40,7 +40,7 @@ returns-in-Rfcomm-clause-pending g c =
     let packet = c.args.packet.now in
     let done = c.on_packet-in-Rfcomm in
     let single = subst (λ (s : Sessions). is_naming Rfcomm packet s ≡ true → has_object (session_of L2cap s) ≡ false) (sym c.self.view_is)
-        (subst (λ (t : Transport). is_naming t packet c.args.self.now ≡ true → has_object (session_of (other_of t) c.args.self.now) ≡ false) c.in-Rfcomm.is c.requires.single) in
+    (subst (λ (t : Transport). is_naming t packet c.args.self.now ≡ true → has_object (session_of (other_of t) c.args.self.now) ≡ false) c.in-Rfcomm.is c.requires.single) in
     after_of (has_object before.carried) (is_naming Rfcomm packet before) (has_object before.direct) (has_object done.new.self) (g.B.Inbox.is_pending c.args.inbox.now) (g.B.Inbox.is_pending done.new.inbox)
     (and_swap (has_object before.carried) (has_object before.direct) ∙ c.self.invariant) single (c.requires.pending ∙ ap is_pending (sym c.self.view_is) ∙ or_swap (has_object before.direct) (has_object before.carried)) done.ensures.pending done.ensures.unasked done.ensures.none
     ∙ or_swap (has_object done.new.self) (has_object before.direct)
