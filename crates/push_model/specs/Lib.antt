@@ -7,3 +7,4 @@ pub mod Client
 pub mod Responding
 pub mod Events
 pub mod Steps
+pub mod Laws
