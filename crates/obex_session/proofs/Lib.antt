@@ -19,3 +19,4 @@ pub mod AskingLaws
 pub mod NameLaws
 pub mod WritingLaws
 pub mod LookingLaws
+pub mod ViewLaws

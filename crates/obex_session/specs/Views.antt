@@ -1,15 +1,20 @@
 -- Sessions as those see them that know no names of requests and of sayings.
-use Rattle.std.specs.Prelude.{ℕ, Bool, true, false, List, [], Option, Some, None}
+use Rattle.std.specs.Prelude.{◌≡◌, ℕ, Bool, true, false, List, [], ◌++◌, length, drop, Option, Some, None, is_none, IfSome}
+use Rattle.bt_base.specs.Counts.{HasRisen}
+use Rattle.bt_base.specs.Objects.{Contents}
 use Rattle.obex_session.specs.declared.asking.Request.{Request}
 use Rattle.obex_session.specs.declared.asking.Request.TheVariants.{Connect, FirstPut, Put, Stream, FinalPut, Abort, Disconnect}
 use Rattle.obex_session.specs.declared.client.Answered.{Answered}
 use Rattle.obex_session.specs.declared.course.Course.TheVariants.{Rests}
 use Rattle.obex_session.specs.declared.responding.Saying.{Saying}
 use Rattle.obex_session.specs.declared.responding.Saying.TheVariants as saying
+use Rattle.obex_session.specs.declared.server.Reply.{Reply}
+use Rattle.obex_session.specs.declared.server.Reply.TheVariants as reply
+use Rattle.obex_session.specs.InboxCalls.{Answer, held_after}
 use Rattle.obex_session.specs.Asking.{Asking, asks_for, answer_to, after_answer}
 use Rattle.obex_session.specs.Past.{Serving}
 use Rattle.obex_session.specs.Responses.{response_octets, confirmation_octets}
-use Rattle.obex_session.specs.Serving.{heard_with}
+use Rattle.obex_session.specs.Serving.{heard_with, ruling_on}
 
 -- ---- a client's session
 
@@ -80,3 +85,37 @@ is_silence saying.NoMemory = false
 -- the packet is heard in silence, where no call of the inbox fails
 abbrev pub is_silent : Serving → List ℕ → Bool
 is_silent session packet = is_silence (heard_with session packet []).saying
+
+-- ---- a packet was answered
+
+-- the session behind a packet, the octets that it says, whether it says none for want of memory, and which answers of the
+-- inbox are left
+pub record Viewed : Type 0 where
+  pub session : Serving
+  pub response : List ℕ
+  pub short : Bool
+  pub left : List Answer
+
+abbrev pub viewed : Serving → List ℕ → List Answer → Viewed
+viewed session packet answers = record {
+  session = (heard_with session packet answers).session;
+  response = octets_said packet session.maximum (heard_with session packet answers).saying;
+  short = is_shortage (heard_with session packet answers).saying;
+  left = (heard_with session packet answers).left;
+}
+
+-- how many octets were written, if memory was not wanting
+abbrev pub count_in : Reply → Option ℕ
+count_in (reply.Respond count) = Some count
+count_in reply.Silent = Some 0
+count_in reply.NoMemory = None
+
+-- what a call with a packet does, whatever answers of the inbox are left over
+pub record IsAnswered (session session' : Serving) (packet : List ℕ) (content content' : Option Contents) (shortages shortages' : ℕ) (room room' : List ℕ) (answer : Reply) : Type 0 where
+  pub used : List Answer
+  pub response : List ℕ
+  pub turn : (rest : List Answer) → viewed session packet (used ++ rest) ≡ record { session = session'; response = response; short = is_none (count_in answer); left = rest }
+  pub held : (rest : List Answer) → held_after (ruling_on session packet).calls (used ++ rest) content ≡ content'
+  pub written : IfSome (count_in answer) (λ count. (count ≡ length response) × (room' ≡ response ++ drop count room))
+  pub none : is_none (count_in answer) ≡ true → response ≡ []
+  pub short : is_none (count_in answer) ≡ true → HasRisen shortages shortages'

@@ -239,7 +239,7 @@ armed client = is_search client.stage && is_awaiting client.query
 abbrev pub fires : Client → Client
 fires client =
     if armed client && not (client.given || is_due client.query) then
-      (if nat_le client.tries client.sent then ends outcome.RetryLimit client else record client { query = after_resend client.query })
+    (if nat_le client.tries client.sent then ends outcome.RetryLimit client else record client { query = after_resend client.query })
     else client
 
 -- ---- any of these

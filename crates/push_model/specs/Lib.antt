@@ -1,8 +1,10 @@
 pub mod Causes
 pub mod Streams
 pub mod Sessions
+pub mod Service
 pub mod Server
 pub mod Client
 pub mod Responding
 pub mod Events
 pub mod Steps
+pub mod Laws

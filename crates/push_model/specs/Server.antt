@@ -1,6 +1,6 @@
 -- A server of Object Push: the service records, and for each transport a session; over RFCOMM a multiplexer and the
 -- stream of packets that it brings (this project's own).
-use Rattle.std.specs.Prelude.{ℕ, zero, suc, ◌==◌, ◌||◌, ◌&&◌, not, Bool, true, false, List, [], ◌∷◌, ◌++◌, length, take, drop, Option, Some, None, is_some, Result, Ok, Err, if◌then◌else◌}
+use Rattle.std.specs.Prelude.{ℕ, zero, suc, ◌==◌, ◌&&◌, not, Bool, true, false, List, [], ◌++◌, length, take, drop, Option, Some, None, is_some, Result, Ok, Err, if◌then◌else◌}
 use Rattle.bt_base.specs.declared.settings.Serves.{Serves}
 use Rattle.bt_base.specs.declared.settings.Transport.{Transport}
 use Rattle.bt_base.specs.declared.settings.Transport.TheVariants.{L2cap, Rfcomm}
@@ -17,8 +17,8 @@ use Rattle.obex_headers.specs.declared.fault.ObexRefusal.TheVariants.{Short, Bad
 use Rattle.obex_headers.specs.declared.packet.Phase.TheVariants.{Request}
 use Rattle.obex_headers.specs.Packets.{PlainPacket}
 use Rattle.obex_headers.specs.Reading.{packet_in}
-use Rattle.push_model.specs.Sessions.{Sessions, Gift, Parted, Heard, session_of, lets_go, hears}
-use Rattle.obex_session.specs.Views.{is_silent}
+use Rattle.push_model.specs.Sessions.{Gift}
+use Rattle.push_model.specs.Service.{Service, Served, hears_packet, parts}
 use Rattle.push_model.specs.Streams.{Front, Whole, Partial, Broken, front_of}
 
 -- where its SDUs go: to the service records, to the session over L2CAP, to the multiplexer
@@ -29,21 +29,17 @@ pub data Outlet : Type 0 where
 
 pub record Server : Type 0 where
   pub serves : Serves
-  pub sessions : Sessions
-  -- the reply to a search that waits, and the response of the session over L2CAP; none is without octets
+  -- the reply to a search that waits; none is without octets
   pub reply : List ℕ
-  pub response : List ℕ
-  -- the multiplexer, the octets of a packet that is not whole, and what it has not taken of the session's response
+  pub service : Service
+  -- the multiplexer, and the octets of a packet that is not whole
   pub mux : Mux
   pub held : List ℕ
-  pub answer : List ℕ
   -- the multiplexer is to be closed once the response is out
   pub breaks : Bool
   -- its frame that waits, and which SDU was lent last and is not taken
   pub frame : Option PlainFrame
   pub lent : Option Outlet
-  -- a call answered want of memory
-  pub failed : Bool
 
 -- the server after a call, and the inbox
 pub record Reacted : Type 0 where
@@ -52,37 +48,14 @@ pub record Reacted : Type 0 where
 
 -- ---- packets
 
--- one response waits at a time, over both transports
-abbrev pub has_response : Server → Bool
-has_response server = not (is_empty server.response) || not (is_empty server.answer)
+abbrev pub reacted_by : Server → Served → Reacted
+reacted_by server served = record { server = record server { service = served.service }; gift = served.gift }
 
--- The new response takes the place of one that waits: that is so only where a call of the inbox failed at a packet that
--- would have been heard in silence.
-abbrev pub response_over : Transport → List ℕ → Server → Server
-response_over transport [] server = server
-response_over L2cap (octet ∷ octets) server = record server { response = octet ∷ octets }
-response_over Rfcomm (octet ∷ octets) server = record server { answer = octet ∷ octets }
+abbrev pub hears_by : Transport → List ℕ → Server → Gift → Reacted
+hears_by transport packet server gift = reacted_by server (hears_packet transport packet server.service gift)
 
-abbrev pub after_heard : Transport → Server → Heard → Reacted
-after_heard transport server heard = record {
-  server = response_over transport heard.response (record server { sessions = heard.sessions; failed = server.failed || heard.short });
-  gift = heard.gift;
-}
-
-abbrev pub after_parted : Server → Parted → Reacted
-after_parted server parted = record {
-  server = record server { sessions = parted.sessions; failed = server.failed || parted.short };
-  gift = parted.gift;
-}
-
--- A packet whose response would be one too many is ignored as if it were lost; its session lets go of its object.
-abbrev pub is_ignored : Transport → List ℕ → Server → Bool
-is_ignored transport packet server = has_response server && not (is_silent (session_of transport server.sessions) packet)
-
-abbrev pub hears_packet : Transport → List ℕ → Server → Gift → Reacted
-hears_packet transport packet server gift =
-    if is_ignored transport packet server then after_parted server (lets_go transport server.sessions gift)
-    else after_heard transport server (hears transport packet server.sessions gift)
+abbrev pub parts_by : Transport → Server → Gift → Reacted
+parts_by transport server gift = reacted_by server (parts transport server.service gift)
 
 -- ---- the stream over RFCOMM
 
@@ -100,7 +73,7 @@ has_bad_length (Ok packet) = false
 has_bad_length (Err refusal) = is_length refusal
 
 abbrev pub breaks_at : Server → List ℕ → Bool
-breaks_at server packet = has_bad_length (packet_in Request server.sessions.carried.maximum packet)
+breaks_at server packet = has_bad_length (packet_in Request server.service.sessions.carried.maximum packet)
 
 -- the multiplexer is to be closed: nothing more is read
 abbrev pub breaking : Reacted → Reacted
@@ -113,20 +86,20 @@ ending reacted = record { server = record (reacted.server) { held = [] }; gift =
 abbrev pub hears_on_from : (Server → Gift → Reacted) → Bool → Reacted → Reacted
 hears_on_from more breaks reacted =
     if breaks then breaking reacted
-    else if reacted.server.failed then ending reacted
+    else if reacted.server.service.failed then ending reacted
     else more reacted.server reacted.gift
 
 -- what stands at the front; octets that begin no packet are heard by their first three
 abbrev pub hears_front : (List ℕ → Server → Gift → Reacted) → List ℕ → Front → Server → Gift → Reacted
-hears_front more stream (Whole packet rest) server gift = hears_on_from (λ next after. more rest next after) (breaks_at server packet) (hears_packet Rfcomm packet (record server { held = [] }) gift)
+hears_front more stream (Whole packet rest) server gift = hears_on_from (λ next after. more rest next after) (breaks_at server packet) (hears_by Rfcomm packet (record server { held = [] }) gift)
 hears_front more stream Partial server gift = record { server = record server { held = stream }; gift = gift }
-hears_front more stream (Broken refusal) server gift = breaking (hears_packet Rfcomm (take 3 stream) server gift)
+hears_front more stream (Broken refusal) server gift = breaking (hears_by Rfcomm (take 3 stream) server gift)
 
 -- packet by packet, in so many steps at most
 unfoldable pub hears_stream : ℕ → List ℕ → Server → Gift → Reacted
 hears_stream zero stream server gift = record { server = record server { held = stream }; gift = gift }
 hears_stream (suc steps) stream server gift =
-    hears_front (λ rest next after. hears_stream steps rest next after) stream (front_of server.sessions.carried.maximum stream) server gift
+    hears_front (λ rest next after. hears_stream steps rest next after) stream (front_of server.service.sessions.carried.maximum stream) server gift
 
 -- ---- calls
 
@@ -162,11 +135,11 @@ abbrev pub hears_on : ℕ → List ℕ → Server → Gift → Reacted
 hears_on psm sdu server gift =
     if psm == search_psm then record { server = hears_search sdu server; gift = gift }
     else if psm == rfcomm_psm then hears_up (up sdu server.mux) (record server { mux = hearing.hears sdu server.mux }) gift
-    else if psm == object_psm then hears_packet L2cap sdu server gift
+    else if psm == object_psm then hears_by L2cap sdu server gift
     else record { server = server; gift = gift }
 
 abbrev pub unless_failed : Server → Gift → Reacted → Reacted
-unless_failed server gift reacted = if server.failed then record { server = server; gift = gift } else reacted
+unless_failed server gift reacted = if server.service.failed then record { server = server; gift = gift } else reacted
 
 abbrev pub on_sdu : ℕ → List ℕ → Server → Gift → Reacted
 on_sdu psm sdu server gift = unless_failed server gift (hears_on psm sdu server gift)
@@ -189,8 +162,8 @@ unlent Muxed (Some Muxed) = None
 -- the multiplexer takes of the response what it may
 abbrev pub filled : Server → Server
 filled server =
-    if is_ready server.mux && not (is_empty server.answer)
-    then record server { mux = sends server.answer server.mux; answer = drop (taken_count (length server.answer) server.mux) server.answer }
+    if is_ready server.mux && not (is_empty server.service.answer)
+    then record server { mux = sends server.service.answer server.mux; service = record (server.service) { answer = drop (taken_count (length server.service.answer) server.mux) server.service.answer } }
     else server
 
 abbrev pub said_on : Option Said → Server → Server
@@ -199,7 +172,7 @@ said_on (Some said) server = record server { mux = said.after; frame = Some said
 
 -- once the response is out, the multiplexer is closed where it is to be
 abbrev pub leaves_with : Option Said → Server → Server
-leaves_with None server = if server.breaks && is_empty server.answer then said_on (next (leaves server.mux)) (record server { mux = leaves server.mux }) else server
+leaves_with None server = if server.breaks && is_empty server.service.answer then said_on (next (leaves server.mux)) (record server { mux = leaves server.mux }) else server
 leaves_with (Some said) server = said_on (Some said) server
 
 abbrev pub framed_by : Option PlainFrame → Server → Server
@@ -213,14 +186,14 @@ framed server = framed_by server.frame server
 abbrev pub outlet_of : Server → Option Outlet
 outlet_of server =
     if not (is_empty server.reply) then Some Records
-    else if not (is_empty server.response) then Some Direct
+    else if not (is_empty server.service.response) then Some Direct
     else if is_some server.frame then Some Muxed
     else None
 
 -- replies go first, then responses over L2CAP, then frames
 abbrev pub lends_new : Server → Server
 lends_new server =
-    if is_empty server.reply && is_empty server.response then (let full = framed server in record full { lent = outlet_of full })
+    if is_empty server.reply && is_empty server.service.response then (let full = framed server in record full { lent = outlet_of full })
     else record server { lent = outlet_of server }
 
 abbrev pub lends_by : Option Outlet → Server → Server
@@ -234,7 +207,7 @@ lends server = lends_by server.lent server
 abbrev pub taken_by : Option Outlet → Server → Server
 taken_by None server = server
 taken_by (Some Records) server = record server { reply = []; lent = None }
-taken_by (Some Direct) server = record server { response = []; lent = None }
+taken_by (Some Direct) server = record server { service = record (server.service) { response = [] }; lent = None }
 taken_by (Some Muxed) server = record server { frame = None; lent = None }
 
 -- its channel took what was lent
@@ -245,10 +218,10 @@ stepped server = taken_by server.lent server
 
 -- what is kept for the multiplexer's channel is as at the start
 abbrev pub remuxed : Server → Server
-remuxed server = record server { mux = machine.reset server.mux.own server.mux; held = []; answer = []; breaks = false; frame = None; lent = unlent Muxed server.lent }
+remuxed server = record server { service = record (server.service) { answer = [] }; mux = machine.reset server.mux.own server.mux; held = []; breaks = false; frame = None; lent = unlent Muxed server.lent }
 
 abbrev pub unanswered : Server → Server
-unanswered server = record server { response = []; lent = unlent Direct server.lent }
+unanswered server = record server { service = record (server.service) { response = [] }; lent = unlent Direct server.lent }
 
 abbrev pub unreplied : Server → Server
 unreplied server = record server { reply = []; lent = unlent Records server.lent }
@@ -256,8 +229,8 @@ unreplied server = record server { reply = []; lent = unlent Records server.lent
 abbrev pub closed_on : ℕ → Server → Gift → Reacted
 closed_on psm server gift =
     if psm == search_psm then record { server = unreplied server; gift = gift }
-    else if psm == rfcomm_psm then after_parted (remuxed server) (lets_go Rfcomm server.sessions gift)
-    else if psm == object_psm then after_parted (unanswered server) (lets_go L2cap server.sessions gift)
+    else if psm == rfcomm_psm then parts_by Rfcomm (remuxed server) gift
+    else if psm == object_psm then parts_by L2cap (unanswered server) gift
     else record { server = server; gift = gift }
 
 abbrev pub channel_down : ℕ → Server → Gift → Reacted
@@ -265,9 +238,9 @@ channel_down psm server gift = unless_failed server gift (closed_on psm server g
 
 abbrev pub parted_twice : Reacted → Reacted
 parted_twice reacted =
-    if reacted.server.failed then reacted
-    else after_parted (remuxed (unreplied reacted.server)) (lets_go Rfcomm reacted.server.sessions reacted.gift)
+    if reacted.server.service.failed then reacted
+    else parts_by Rfcomm (remuxed (unreplied reacted.server)) reacted.gift
 
 -- all is as at the start
 abbrev pub link_down : Server → Gift → Reacted
-link_down server gift = unless_failed server gift (parted_twice (after_parted (unanswered server) (lets_go L2cap server.sessions gift)))
+link_down server gift = unless_failed server gift (parted_twice (parts_by L2cap (unanswered server) gift))

@@ -5,6 +5,7 @@
 
 mod closing;
 mod course;
+pub mod laws;
 
 pub use closing::CloseCause;
 pub use course::{Contact, Point, Stage};

@@ -1,0 +1,8 @@
+//! The course of a push over machines in memory (Object Push Profile 1.2, 4 and 5): the server that answers searches and
+//! stores objects over two transports, and the client that pushes.
+#![tactic(auto)]
+
+mod service;
+mod sessions;
+
+pub use push_model::CloseCause;
