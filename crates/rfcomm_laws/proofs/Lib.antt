@@ -6,3 +6,4 @@ pub mod Covering
 pub mod Falling
 pub mod Resting
 pub mod Splitting
+pub mod Spelling

@@ -3,3 +3,4 @@ pub mod Covers
 pub mod Happenings
 pub mod Rests
 pub mod Assembling
+pub mod Links
