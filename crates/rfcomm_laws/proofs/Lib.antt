@@ -7,3 +7,6 @@ pub mod Falling
 pub mod Resting
 pub mod Splitting
 pub mod Spelling
+pub mod Harm
+pub mod Harmless
+pub mod Telling
