@@ -6,3 +6,7 @@ pub mod Covering
 pub mod Falling
 pub mod Resting
 pub mod Splitting
+pub mod Spelling
+pub mod Harm
+pub mod Harmless
+pub mod Telling

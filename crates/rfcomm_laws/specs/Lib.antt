@@ -3,3 +3,5 @@ pub mod Covers
 pub mod Happenings
 pub mod Rests
 pub mod Assembling
+pub mod Links
+pub mod Closings

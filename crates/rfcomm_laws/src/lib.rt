@@ -4,6 +4,7 @@
 ghost use Rattle.rfcomm_laws.specs.Assembling.{PiecesAreOfOneStream};
 ghost use Rattle.rfcomm_laws.specs.Covers.{CreditsCover};
 ghost use Rattle.rfcomm_laws.specs.Happenings.{FramesAreFew};
+ghost use Rattle.rfcomm_laws.specs.Links.{SdusAreFrames, LinksArePipes, StillLinksAreDone};
 ghost use Rattle.rfcomm_laws.specs.Pairs.{PairsArePipes};
 ghost use Rattle.rfcomm_laws.specs.Rests.{StillIsDone};
 
@@ -33,4 +34,16 @@ pub fn still_is_done()
 /// Octets given to an assembler in any pieces give the packets into which the whole stream falls by its lengths.
 pub fn pieces_are_of_one_stream()
     ensures { PiecesAreOfOneStream }
+{}
+
+/// What two sides do with SDUs is what they do with the frames that these spell.
+pub fn sdus_are_frames()
+    ensures { SdusAreFrames }
+{}
+
+/// Over SDUs, in whatever spelling a side sends its frames: the two sides are a pipe of octets each way, and neither
+/// closes while none is told to.
+pub fn links_are_pipes()
+    ensures pipes { LinksArePipes }
+    ensures still { StillLinksAreDone }
 {}
