@@ -14,6 +14,7 @@ mod request;
 mod response;
 mod setup;
 mod stage;
+mod timing;
 mod writing;
 
 pub use answers::SendAnswer;
