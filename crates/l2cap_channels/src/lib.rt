@@ -19,3 +19,6 @@ mod writing;
 
 pub use answers::SendAnswer;
 pub use channels::Channels;
+
+#[cfg(test)]
+mod tests;

@@ -25,7 +25,7 @@ invariant_of-self c =
       events_room = s.events_room;
       given = s.given;
       queue = subst (IsQueue (owns i.places.items)) (sym c.ask.ensures)
-        (queue_ask (owns i.places.items) i.queue c.args.errand s.queue
-        (subst (λ (m : Machine). is_known (owns m.channels.held) c.args.errand ≡ true) (sym c.self.view_is) c.requires.known)
-        (subst (λ (m : Machine). is_due c.args.errand m.channels ≡ false) (sym c.self.view_is) c.requires.none));
+          (queue_ask (owns i.places.items) i.queue c.args.errand s.queue
+          (subst (λ (m : Machine). is_known (owns m.channels.held) c.args.errand ≡ true) (sym c.self.view_is) c.requires.known)
+          (subst (λ (m : Machine). is_due c.args.errand m.channels ≡ false) (sym c.self.view_is) c.requires.none));
     }
