@@ -12,3 +12,4 @@ pub mod Finding
 pub mod Sending
 pub mod Given
 pub mod Timers
+pub mod Repeating

@@ -5,6 +5,7 @@
 
 mod answers;
 mod channels;
+mod hearing;
 mod identifier;
 mod line;
 mod memory;

@@ -4,7 +4,7 @@ ghost use Rattle.std.specs.Prelude.{◌≡◌, ◌≤◌, ◌+◌, ◌++◌, dro
 ghost use Rattle.std.specs.Option.{option_to_list};
 ghost use Rattle.channel_model.specs.declared.event.ChannelEvent.TheVariants.{Closed};
 ghost use Rattle.channel_model.specs.Value as value;
-ghost use Rattle.channel_model.specs.Changing.{setup_of, stage_with, is_open};
+ghost use Rattle.channel_model.specs.Changing.{is_peer, setup_of, stage_with, is_open};
 ghost use Rattle.l2cap_signal.specs.Commands.{configuration_request, spelling};
 ghost use Rattle.l2cap_config.specs.Writing.{written};
 ghost use Rattle.channel_model.specs.Calls as calls;
@@ -371,5 +371,18 @@ impl Place {
         let reason = self.line.fire()?;
         self.stage = shut;
         Some(reason)
+    }
+
+    /// Whether this is the peer's endpoint of it.
+    pub(crate) fn is_peer(&self, endpoint: u16) -> bool
+        ensures { result ≡ is_peer endpoint self.now.stage }
+    {
+        match self.stage {
+            Stage::Connected(peer) => endpoint == peer.get(),
+            Stage::Leaving(peer, _) => endpoint == peer.get(),
+            Stage::Closing(peer, _) => endpoint == peer.get(),
+            Stage::Crossed(peer, _) => endpoint == peer.get(),
+            Stage::Requested(_) => false,
+        }
     }
 }
