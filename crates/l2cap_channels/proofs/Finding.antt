@@ -4,7 +4,6 @@ use Rattle.std.specs.List.{find, fold}
 use Rattle.std.specs.Prelude.{max, slice_get, Option, Some, None, cond}
 use Rattle.std.proofs.lemmas.Bool.{both_ways}
 
-
 found : {X : Type 0} (test : X → Bool) (x : X) (rest : Option X) (b : Bool) → test x ≡ b → b ≡ true → cond (test x) (Some x) rest ≡ Some x
 found test x rest b is holds = rw (is ∙ holds) refl
 

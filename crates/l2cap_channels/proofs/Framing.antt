@@ -13,8 +13,7 @@ frame_written (Some frame) peer old new result written few room same =
     let count : ℕ = written.0 in
     let is : result ≡ Some count = written.1 in
     let short : count ≤ 1020 = subst (λ (r : Option ℕ). IfSome r (λ n. n ≤ 1020)) is few in
-    let size : length (take count new) ≡ count = length-take-le count new (omega arith) in
-    (
+    let size : length (take count new) ≡ count = length-take-le count new (omega arith) in (
       take count new,
       written.2.spelling,
       is ∙ ap Some (sym size),

@@ -59,11 +59,10 @@ gives_same c m at h after old new None view within is change written =
     let none = nothing (stage_gives h.stage) old new written in
     let within' : at < length c.places.items = subst (λ (x : Machine). at < length x.channels.held) (sym view) within in
     let read : slice_get c.places.items at ≡ Some h = slice_get_read c.places.items (length c.places.items) at h refl within' is in
-    let same : after ≡ h = change ∙ ap (λ (stage : Stage). record h { stage = stage }) (spent_same h.stage none.0) in
-    (
+    let same : after ≡ h = change ∙ ap (λ (stage : Stage). record h { stage = stage }) (spent_same h.stage none.0) in (
       ap (λ (k : Held). machine_of (record c { places = with_item c.places at k })) same
-      ∙ ap (λ (xs : List Held). record (machine_of c) { channels = record (channels_of c) { held = xs } }) (set_get c.places.items at h read)
-      ∙ view,
+          ∙ ap (λ (xs : List Held). record (machine_of c) { channels = record (channels_of c) { held = xs } }) (set_get c.places.items at h read)
+          ∙ view,
       none.1,
     )
 
@@ -121,3 +120,7 @@ command_same (Connection own) v q = refl
 command_same (Configuration own) v q = refl
 command_same (Disconnection own) v q = refl
 command_same Features v q = refl
+
+pub no_events : {X : Type 0} (events : List X) → slice_get events 0 ≡ None → drop 1 events ≡ []
+no_events [] none = refl
+no_events (x ∷ events) none = cc

@@ -9,3 +9,4 @@ pub mod Changed
 pub mod Sizes
 pub mod Framing
 pub mod Giving
+pub mod Firing

@@ -1,7 +1,7 @@
 -- Where a channel is kept.
 use Rattle.std.specs.Prelude.{ℕ, List, [], ◌++◌, Bool, true, false, slice_get, option_map, Option, Some, None}
 use Rattle.channel_model.specs.declared.event.ChannelEvent.{ChannelEvent}
-use Rattle.channel_model.specs.Value.{Stage, Held, Channels}
+use Rattle.channel_model.specs.Value.{Setup, Stage, Held, Channels}
 use Rattle.l2cap_channels.specs.declared.stage.Stage.{Stage as Kept}
 use Rattle.l2cap_channels.specs.Places.{IsStage}
 use Rattle.channel_model.specs.Calls.{carrier_mtu, open_carrier, setup_on, some_waits, lost_at}
@@ -42,3 +42,7 @@ place_lost (Some held) = lost_at held.stage held
 
 abbrev pub loses : Option Held → Channels → Channels
 loses held v = record v { events = v.events ++ place_lost held }
+
+-- how far the options are of the channel at a place
+abbrev pub place_setup : Option Held → Option Setup
+place_setup held = setup_on held

@@ -11,3 +11,5 @@ pub mod Whole
 pub mod Finding
 pub mod Sending
 pub mod Given
+pub mod Timers
+pub mod Repeating

@@ -48,16 +48,16 @@ const EVENTS: usize = 168;
 /// settings of the host, whether it is a server, and its channels as `channel_model` has them.
 #[derive(Drop)]
 pub struct Channels {
-    settings: Settings,
-    server: bool,
-    places: Vec<Place>,
+    pub(crate) settings: Settings,
+    pub(crate) server: bool,
+    pub(crate) places: Vec<Place>,
     free: Vec<Line>,
     next: u32,
-    identifier: Identifier,
-    queue: Queue,
-    features: Option<Request>,
-    memory: Memory,
-    events: HeapCircularBuffer<ChannelEvent>,
+    pub(crate) identifier: Identifier,
+    pub(crate) queue: Queue,
+    pub(crate) features: Option<Request>,
+    pub(crate) memory: Memory,
+    pub(crate) events: HeapCircularBuffer<ChannelEvent>,
 }
 
 impl Model for Channels {
@@ -127,7 +127,7 @@ impl Channels {
     }
 
     /// An event arose.
-    fn tell(&mut self, event: ChannelEvent)
+    pub(crate) fn tell(&mut self, event: ChannelEvent)
         requires { length self.old.channels.events < 168 }
         ensures { self.new ≡ with_channels self.old (tells event self.old.channels) }
     {
@@ -151,7 +151,7 @@ impl Channels {
     }
 
     /// The place of the channel of an own endpoint.
-    fn place_of(&self, own: u16) -> Option<usize>
+    pub(crate) fn place_of(&self, own: u16) -> Option<usize>
         ensures place { place_at result self.now.channels ≡ held_at own self.now.channels }
         ensures within { IfSome result (λ at. at < length self.now.channels.held) }
     {
@@ -228,7 +228,7 @@ impl Channels {
     }
 
     /// A new own request waits to be given, in place of any before it.
-    fn ask(&mut self, errand: Errand)
+    pub(crate) fn ask(&mut self, errand: Errand)
         requires { is_known (owns self.old.channels.held) errand ≡ true }
         ensures { self.new ≡ with_channels self.old (asks errand self.old.channels) }
     {
@@ -261,14 +261,14 @@ impl Channels {
     }
 
     /// A copy that waits of an own request is not given.
-    fn forget(&mut self, errand: Errand)
+    pub(crate) fn forget(&mut self, errand: Errand)
         ensures { self.new ≡ with_channels self.old (forgets errand self.old.channels) }
     {
         self.queue.forget(errand);
     }
 
     /// The channel at a place counts no more, and nothing is asked of it.
-    fn remove(&mut self, at: usize)
+    pub(crate) fn remove(&mut self, at: usize)
         requires { at < length self.old.channels.held }
         ensures { self.new ≡ with_channels self.old (on_place gone (slice_get self.old.channels.held at) self.old.channels) }
     {
@@ -278,7 +278,7 @@ impl Channels {
     }
 
     /// The channel at a place goes on to a stage at which its options do not matter.
-    fn hide(&mut self, at: usize, stage: Stage)
+    pub(crate) fn hide(&mut self, at: usize, stage: Stage)
         requires place { at < length self.old.channels.held }
         requires stage { hides_setup stage ≡ true }
         ensures { self.new ≡ with_channels self.old (on_place (λ held. to_stage held (stage_value stage no_setup)) (slice_get self.old.channels.held at) self.old.channels) }
@@ -308,7 +308,7 @@ impl Channels {
     }
 
     /// How far the channel at a place is.
-    fn stage(&self, at: usize) -> Stage
+    pub(crate) fn stage(&self, at: usize) -> Stage
         requires { at < length self.now.channels.held }
         ensures { IsStageAt (slice_get self.now.channels.held at) result }
     {
@@ -316,7 +316,7 @@ impl Channels {
     }
 
     /// The own endpoint of the channel at a place.
-    fn endpoint(&self, at: usize) -> u16
+    pub(crate) fn endpoint(&self, at: usize) -> u16
         requires { at < length self.now.channels.held }
         ensures own { option_map (λ held. held.own) (slice_get self.now.channels.held at) ≡ Some result }
         ensures known { list_any (λ own. own == result) (owns self.now.channels.held) ≡ true }
@@ -325,7 +325,7 @@ impl Channels {
     }
 
     /// That the channel at a place is closed.
-    fn closed(&self, at: usize, reason: CloseReason) -> ChannelEvent
+    pub(crate) fn closed(&self, at: usize, reason: CloseReason) -> ChannelEvent
         requires { at < length self.now.channels.held }
         ensures { option_map (λ held. Closed held.own held.psm reason) (slice_get self.now.channels.held at) ≡ Some result }
     {
@@ -333,7 +333,7 @@ impl Channels {
     }
 
     /// The host asks for the end of the channel at a place.
-    fn leave(&mut self, at: usize, request: Request)
+    pub(crate) fn leave(&mut self, at: usize, request: Request)
         requires { at < length self.old.channels.held }
         ensures { self.new ≡ with_channels self.old (on_place (λ held. to_stage held (left (request_value request) held.stage)) (slice_get self.old.channels.held at) self.old.channels) }
     {
@@ -343,7 +343,7 @@ impl Channels {
 
     /// The channel at a place closes. One that is only asked for is no more; for any other a request for
     /// its end goes out, unless one waits.
-    fn close(&mut self, at: usize, reason: CloseReason)
+    pub(crate) fn close(&mut self, at: usize, reason: CloseReason)
         requires place { at < length self.old.channels.held }
         requires room { length self.old.channels.events < 168 }
         ensures closes { self.new ≡ with_channels self.old (on_place (closes reason) (slice_get self.old.channels.held at) self.old.channels) }

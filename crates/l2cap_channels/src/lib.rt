@@ -5,6 +5,7 @@
 
 mod answers;
 mod channels;
+mod hearing;
 mod identifier;
 mod line;
 mod memory;
@@ -14,7 +15,11 @@ mod request;
 mod response;
 mod setup;
 mod stage;
+mod timing;
 mod writing;
 
 pub use answers::SendAnswer;
 pub use channels::Channels;
+
+#[cfg(test)]
+mod tests;

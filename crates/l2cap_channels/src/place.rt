@@ -4,7 +4,7 @@ ghost use Rattle.std.specs.Prelude.{◌≡◌, ◌≤◌, ◌+◌, ◌++◌, dro
 ghost use Rattle.std.specs.Option.{option_to_list};
 ghost use Rattle.channel_model.specs.declared.event.ChannelEvent.TheVariants.{Closed};
 ghost use Rattle.channel_model.specs.Value as value;
-ghost use Rattle.channel_model.specs.Changing.{setup_of, stage_with, is_open};
+ghost use Rattle.channel_model.specs.Changing.{is_peer, setup_of, stage_with, is_open};
 ghost use Rattle.l2cap_signal.specs.Commands.{configuration_request, spelling};
 ghost use Rattle.l2cap_config.specs.Writing.{written};
 ghost use Rattle.channel_model.specs.Calls as calls;
@@ -18,6 +18,7 @@ use crate::stage::Stage;
 use crate::writing::put_command;
 use bt_base::{Cid, Psm};
 use channel_model::{ChannelEvent, CloseReason, Errand};
+use ertm_model::ErtmReason;
 use l2cap_config::{Options, put_options};
 use l2cap_signal::SignalKind;
 use std::marker::Model;
@@ -63,6 +64,7 @@ fn put_options_request(peer: Cid, request: &Request, options: &Options, into: &m
 
 impl Place {
     ghost use Rattle.l2cap_channels.specs.Parts.{request_value};
+    ghost use Rattle.l2cap_channels.specs.Timers.{asked_on, reason_on, timed_stage};
     ghost use Rattle.l2cap_channels.specs.Places.{stage_value, IsOpenLine, IsLineOf, IsStage, hides_setup, left, sent};
 
     /// A channel of which nothing is agreed on.
@@ -341,6 +343,46 @@ impl Place {
                 self.stage = Stage::Crossed(peer, request.once_more());
             }
             Stage::Requested(_) | Stage::Connected(_) => {}
+        }
+    }
+
+    /// The own request for options that waits.
+    pub(crate) fn asked(&self) -> Option<Request>
+        ensures { option_map request_value result ≡ asked_on (setup_of self.now.stage) }
+    {
+        match (self.stage, &self.setup.own) {
+            (Stage::Connected(_) | Stage::Leaving(_, _), Own::Asking(request, _)) => Some(*request),
+            _ => None,
+        }
+    }
+
+    /// The timer of its machine fires, where it has one. Where the machine closes the channel closes with
+    /// it, by this request for its end unless one waits, and the answer is why.
+    pub(crate) fn fire(&mut self, request: Request) -> Option<ErtmReason>
+        ensures reason { result ≡ reason_on (setup_of self.old.stage) }
+        ensures after { self.new ≡ record self.old { stage = timed_stage (request_value request) self.old.stage } }
+    {
+        let stage = self.stage;
+        let shut = match stage {
+            Stage::Connected(peer) => Stage::Closing(peer, request),
+            Stage::Leaving(peer, before) => Stage::Closing(peer, before),
+            Stage::Requested(_) | Stage::Closing(_, _) | Stage::Crossed(_, _) => return None,
+        };
+        let reason = self.line.fire()?;
+        self.stage = shut;
+        Some(reason)
+    }
+
+    /// Whether this is the peer's endpoint of it.
+    pub(crate) fn is_peer(&self, endpoint: u16) -> bool
+        ensures { result ≡ is_peer endpoint self.now.stage }
+    {
+        match self.stage {
+            Stage::Connected(peer) => endpoint == peer.get(),
+            Stage::Leaving(peer, _) => endpoint == peer.get(),
+            Stage::Closing(peer, _) => endpoint == peer.get(),
+            Stage::Crossed(peer, _) => endpoint == peer.get(),
+            Stage::Requested(_) => false,
         }
     }
 }

@@ -127,7 +127,11 @@ impl Queue {
     pub(crate) fn has_room(&self) -> bool
         ensures { result ≡ nat_lt (length (filter is_answer self.now)) 16 }
     {
-        self.items.iter().filter(|waiting| waiting.is_answer()).count() < ANSWERS
+        self.items
+            .iter()
+            .filter(|waiting| waiting.is_answer())
+            .count()
+            < ANSWERS
     }
 
     /// An answer waits behind the others.

@@ -12,7 +12,7 @@ invariant_of-self c =
     let own : c.new.result.own ≡ c.self.inside.next = search rules in
     let next : c.self.inside.next ≤ 0xFFFF = search rules in
     let owned : owns c.push-room_was_reserved.new.self.items ≡ owns c.self.inside.places.items ++ c.self.inside.next ∷ [] =
-        ap owns items ∙ owns_append c.self.inside.places.items c.new.result ∙ ap (λ (n : ℕ). owns c.self.inside.places.items ++ n ∷ []) own in
+    ap owns items ∙ owns_append c.self.inside.places.items c.new.result ∙ ap (λ (n : ℕ). owns c.self.inside.places.items ++ n ∷ []) own in
     record {
       four = search rules;
       places_room = search rules;

@@ -41,8 +41,7 @@ pub loop-at-preserved : goal.loop-at-preserved
 loop-at-preserved c =
     let m = c.args.self.now in
     let inv = c.loop-at.invariant in
-    let w = since c.loop-at.self m c.loop-at.at c.loop-at.into c.args.into.now None c.give_at.new.into inv.0 inv.1 c.in_default.ensures.pdu in
-    (
+    let w = since c.loop-at.self m c.loop-at.at c.loop-at.into c.args.into.now None c.give_at.new.into inv.0 inv.1 c.in_default.ensures.pdu in (
       c.in_default.ensures.same.0 ∙ inv.0,
       c.in_default.ensures.same.1 ∙ inv.1,
       subst (λ (n : ℕ). find gives (take n m.channels.held) ≡ None) (sym (add-one c.loop-at.at)) (none_next m.channels.held c.loop-at.at c.args.into.now c.give_at.new.into inv.2 w),

@@ -25,8 +25,8 @@ invariant_of-self c =
       events_room = s.events_room;
       given = subst (λ (os : List ℕ). AreGiven os i.next) (sym owned) (given_kept (owns i.places.items) (λ o. not (o == h.own)) i.next s.given);
       queue =
-        subst (λ (os : List ℕ). IsQueue os c.forget_channel.new.self) (sym owned)
-        (subst (IsQueue (filter (λ (o : ℕ). not (o == h.own)) (owns i.places.items))) (sym forgotten) (queue_gone h.own (owns i.places.items) i.queue s.queue));
+          subst (λ (os : List ℕ). IsQueue os c.forget_channel.new.self) (sym owned)
+          (subst (IsQueue (filter (λ (o : ℕ). not (o == h.own)) (owns i.places.items))) (sym forgotten) (queue_gone h.own (owns i.places.items) i.queue s.queue));
     }
 
 pub returns : goal.returns
