@@ -19,12 +19,13 @@ mod samples;
 mod sayings;
 mod sdus;
 mod sensing;
+mod windows;
 #[cfg(test)]
 mod tests;
 
 pub use answering::{answers_in, channel_answers};
 use capture::Flow;
-pub use carrying::{mode_of, stretch};
+pub use carrying::{mode_of, passages, stretch};
 pub use entries::{Entry, Setup};
 pub use exchanging::{Exchange, Pending, exchanges};
 use l2cap_signal::{Signal, SignalRefusal};
@@ -34,6 +35,7 @@ pub use packing::{packets, packets_heard, packets_spoken};
 pub use reading::{Reading, reading_of};
 pub use sayings::sayings_of;
 pub use sdus::{sdus_of, sdus_spoken};
+pub use windows::window_used;
 
 /// A request that a host waits for no longer, without a word to its peer.
 #[derive(Clone, Copy, Debug)]
