@@ -19,9 +19,9 @@ mod samples;
 mod sayings;
 mod sdus;
 mod sensing;
-mod windows;
 #[cfg(test)]
 mod tests;
+mod windows;
 
 pub use answering::{answers_in, channel_answers};
 use capture::Flow;

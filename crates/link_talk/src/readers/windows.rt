@@ -67,11 +67,7 @@ fn awaited(most: u16, passed: &[Carriage<'_>]) -> u8
 }
 
 /// How many of the frames that went out are not acknowledged.
-fn waiting_frames(
-    alloc: Global,
-    most: u16,
-    passed: &[Carriage<'_>],
-) -> Result<usize, NoMemory>
+fn waiting_frames(alloc: Global, most: u16, passed: &[Carriage<'_>]) -> Result<usize, NoMemory>
     ensures { IfOk result (λ count. count ≡ unacknowledged (frames_in 65535 (pdus_of Flow.Out (plain_carriages passed.now))) (frames_in most (pdus_of Flow.Into (plain_carriages passed.now)))) }
 {
     let given = picked(alloc, u16::MAX, Flow::Out, passed)?.len();
