@@ -8,6 +8,8 @@ mod entries;
 mod exchanging;
 mod joining;
 mod meaning;
+#[cfg(test)]
+mod mixed_samples;
 mod multiplexing;
 mod objects;
 mod packing;
