@@ -1,5 +1,5 @@
 -- How a reader joins the parts of answers.
-use Rattle.std.proofs.Common.{◌≡◌, ℕ, ◌+◌, ◌<◌, List, [], ◌∷◌, ◌++◌, length, drop, get_or, map, suc, Option, sym, ap, ◌∙◌, add-one, drop-cons}
+use Rattle.std.proofs.Common.{◌≡◌, ℕ, ◌+◌, ◌<◌, List, ◌∷◌, ◌++◌, length, drop, get_or, map, Option, sym, ap, ◌∙◌, add-one, drop-cons}
 use Rattle.sdp_client.specs.Replies.{PlainPart}
 use Rattle.link_talk.specs.declared.readers.Spoken.{Spoken as LentSpoken}
 use Rattle.link_talk.specs.ServiceAnswers.{waiting_after, part_with, parts_from, joined_from}

@@ -1,22 +1,19 @@
 -- One saying more, and the runs of requests.
-use Rattle.std.proofs.Common.{◌≡◌, ℕ, List, [], ◌∷◌, ◌++◌, fold, map, Bool, true, false, cond, ◌||◌, ◌&&◌, eqb, not, Option, Some, None, refl, sym, ap, subst, ◌∙◌}
+use Rattle.std.proofs.Common.{◌≡◌, List, [], ◌∷◌, ◌++◌, fold, map, Bool, true, false, cond, Option, Some, None, refl, sym, ap, ◌∙◌}
 use Rattle.std.specs.Prelude.{find, option_to_list, option_map}
 use Rattle.std.specs.List.{list_any, AllByRecursion}
 use Rattle.capture.specs.Histories.{each_after, given_by}
 use Rattle.capture.proofs.HistoryLaws.{each_after-append, given_by-more}
 use Rattle.link_talk.specs.declared.channel.Channel.{Channel}
-use Rattle.link_talk.specs.declared.party.Party.{Party}
-use Rattle.l2cap_config.specs.declared.wish.Mode.{Mode}
-use Rattle.link_talk.specs.Sayings.{Saying}
 use Rattle.link_talk.specs.Senses.{sense}
 use Rattle.link_talk.specs.Requests.{first_of_run, last_run, is_call, has_identifier}
 use Rattle.link_talk.specs.Meanings.{Meaning, meant}
 use Rattle.link_talk.specs.Setups.{Setup, Term, is_set, with_term, setup_after, term, agreed_mode}
-use Rattle.link_talk.specs.Channels.{Entry, fresh, entry_after, is_there, is_owner, with_fresh, made_by, entries_after, reading, read_on}
-use Rattle.link_talk.specs.Carriages.{Carriage, is_heard, is_passed, carried, stretch, passages, has_own, entry_mode, mode_of}
-use Rattle.link_talk.specs.Sdus.{Spoken, spoken, spoken_with}
-use Rattle.link_talk.specs.Packets.{carrier, packet_with, packets, packets_spoken}
-use Rattle.link_talk.specs.GrowingLaws.{BeginsRun, IsFirst, IsLastRun, ReadingGrows, StretchGrows, PassagesGrow, has_opened, HasOpened, ModeStands, SpokenGrows, PacketsGrow, CallsAreAnswered, QueriesAreAnswered}
+use Rattle.link_talk.specs.Channels.{Entry, fresh, entry_after, is_there, is_owner, with_fresh, made_by, entries_after, reading}
+use Rattle.link_talk.specs.Carriages.{is_heard, is_passed, carried, stretch, has_own, entry_mode, mode_of}
+use Rattle.link_talk.specs.Sdus.{spoken, spoken_with}
+use Rattle.link_talk.specs.Packets.{carrier, packet_with, packets_spoken}
+use Rattle.link_talk.specs.GrowingLaws.{BeginsRun, IsLastRun, ReadingGrows, StretchGrows, PassagesGrow, has_opened, ModeStands, SpokenGrows, PacketsGrow, CallsAreAnswered, QueriesAreAnswered}
 use Rattle.link_talk.proofs.OnePass.{reading-more}
 
 -- ---- runs

@@ -10,3 +10,4 @@ pub mod Growing
 pub mod Worked
 pub mod Waiting
 pub mod Answering
+pub mod Windows

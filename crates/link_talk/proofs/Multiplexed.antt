@@ -1,5 +1,5 @@
 -- How a reader goes over the SDUs of RFCOMM.
-use Rattle.std.proofs.Common.{◌≡◌, ℕ, ◌+◌, ◌<◌, ◌≤◌, List, [], ◌∷◌, ◌++◌, length, suc, take, drop, get_or, map, Bool, false, cond, eqb, true, Option, Some, None, refl, sym, ap, subst, ◌∙◌, append_assoc, append-nil, add-one, drop-cons}
+use Rattle.std.proofs.Common.{◌≡◌, ℕ, ◌+◌, ◌<◌, List, [], ◌∷◌, ◌++◌, length, take, drop, get_or, map, Bool, false, cond, eqb, true, Option, Some, None, refl, sym, ap, subst, ◌∙◌, append_assoc, append-nil, add-one, drop-cons}
 use Rattle.std.proofs.lemmas.Bool.{eqb-true}
 use Rattle.std.proofs.lemmas.List.{take-append-drop}
 use Rattle.std.specs.List.{cons_option, flat_map, AllByRecursion}
@@ -10,8 +10,8 @@ use Rattle.capture.proofs.HistoryLaws.{front-more}
 use Rattle.rfcomm_frames.specs.declared.connection.Role.{Role}
 use Rattle.rfcomm_frames.specs.Answers.{Answer, IsAnswer}
 use Rattle.rfcomm_frames.specs.FrameReading.{frame_answer}
-use Rattle.rfcomm_frames.specs.Multiplexing.{Passed, Framed, framed, frames, Connections, connections_after, carried}
-use Rattle.rfcomm_frames.specs.ObexPackets.{IsPacket, HasNoPacket, AreObexPackets, obex_packets}
+use Rattle.rfcomm_frames.specs.Multiplexing.{Framed, framed, frames, Connections, carried}
+use Rattle.rfcomm_frames.specs.ObexPackets.{IsPacket, HasNoPacket, obex_packets}
 use Rattle.rfcomm_frames.proofs.OneAnswer.{one-answer}
 use Rattle.rfcomm_frames.proofs.FrameReading.{frame_answered}
 use Rattle.rfcomm_frames.proofs.ObexSplits.{obex_packets-one}

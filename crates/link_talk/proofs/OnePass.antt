@@ -1,11 +1,11 @@
 -- One pass over the talk of a link reads its channels.
-use Rattle.std.proofs.Common.{◌≡◌, ℕ, ◌+◌, ◌≤◌, List, [], ◌∷◌, ◌++◌, length, drop, fold, map, reverse, Bool, true, false, cond, ◌||◌, ◌&&◌, eqb, not, Option, Some, None, refl, sym, ap, subst, ◌∙◌, append_assoc, append-nil, arith, length-append}
-use Rattle.std.specs.Prelude.{option_to_list, is_some}
+use Rattle.std.proofs.Common.{◌≡◌, ℕ, ◌≤◌, List, [], ◌∷◌, ◌++◌, length, drop, fold, map, reverse, Bool, true, false, cond, ◌||◌, ◌&&◌, eqb, not, Option, Some, None, refl, sym, ap, subst, ◌∙◌, append_assoc, append-nil, arith, length-append}
+use Rattle.std.specs.Prelude.{option_to_list}
 use Rattle.std.specs.List.{filter_map, list_any, cons_option, AllByRecursion}
 use Rattle.std.proofs.lemmas.List.{map-append, drop-append-le, reverse-append}
 use Rattle.std.proofs.lemmas.List.Elements.{filter_map-append}
 use Rattle.std.proofs.lemmas.List.Sums.{fold-append}
-use Rattle.capture.specs.Histories.{given_by, led_by}
+use Rattle.capture.specs.Histories.{given_by}
 use Rattle.capture.proofs.HistoryLaws.{given_by-more, led_by-append}
 use Rattle.link_talk.specs.declared.channel.Channel.{Channel}
 use Rattle.link_talk.specs.declared.life.Life.{Life}
@@ -16,11 +16,10 @@ use Rattle.link_talk.specs.declared.word.Word.TheVariants.{AsksEnd, AnswersEnd, 
 use Rattle.link_talk.specs.Senses.{Sense, sense}
 use Rattle.link_talk.specs.declared.call.Call.{Call}
 use Rattle.link_talk.specs.declared.call.Failure.{Failure}
-use Rattle.link_talk.specs.Requests.{Requests, Query, call, query, failure, is_own_call, counted, calls_in, failure_behind, no_requests, requests, requests_after}
+use Rattle.link_talk.specs.Requests.{Requests, Query, call, query, failure, is_own_call, counted, calls_in, failure_behind, requests, requests_after}
 use Rattle.link_talk.specs.Meanings.{Meaning, meant, meaning_behind, meanings}
-use Rattle.link_talk.specs.Setups.{Setup, no_setup, setup_after, term}
-use Rattle.link_talk.specs.Channels.{word, closes, answers_end, frees, behind_request, is_freed, is_closed, is_gone, is_left, Birth, since, words, is_taken, made_by, with_birth, births_behind, births, setup_of, life_after, is_alive, is_there, waits_for_end, Entry, fresh, entry_after, is_owner, with_fresh, entries_after, Reading, nothing_read, read_on, reading}
-use Rattle.link_talk.specs.ReadingLaws.{IsRead, AreRead, EntriesAreRead, ReadsTalk, ReadingIsRight}
+use Rattle.link_talk.specs.Channels.{word, answers_end, frees, is_closed, is_gone, is_left, Birth, since, words, is_taken, made_by, with_birth, births_behind, births, life_after, is_alive, is_there, waits_for_end, Entry, fresh, entry_after, is_owner, with_fresh, entries_after, Reading, nothing_read, read_on, reading}
+use Rattle.link_talk.specs.ReadingLaws.{IsRead, AreRead, EntriesAreRead, ReadingIsRight}
 
 -- ---- requests
 

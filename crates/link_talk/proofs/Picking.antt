@@ -1,13 +1,10 @@
 -- How a reader picks frames and joins segments.
-use Rattle.std.proofs.Common.{◌≡◌, ℕ, ◌+◌, ◌<◌, List, [], ◌∷◌, ◌++◌, suc, length, drop, get_or, map, Bool, true, false, cond, Option, Some, None, Result, Ok, Err, refl, sym, ap, ◌∙◌, append_assoc, append-nil, add-zero, add-one, drop-cons, length-append}
-use Rattle.std.specs.Prelude.{option_map}
-use Rattle.std.specs.List.{filter_map, cons_option}
+use Rattle.std.proofs.Common.{◌≡◌, ℕ, ◌+◌, ◌<◌, List, [], ◌∷◌, ◌++◌, suc, length, drop, get_or, map, Bool, true, false, cond, Option, Some, None, refl, sym, ap, ◌∙◌, append_assoc, append-nil, add-zero, add-one, drop-cons, length-append}
+use Rattle.std.specs.List.{cons_option}
 use Rattle.bt_base.specs.Octets.{IsOctets}
-use Rattle.ertm_frames.specs.declared.frame.Frame.{Frame}
-use Rattle.ertm_frames.specs.declared.refusal.FrameRefusal.{FrameRefusal}
-use Rattle.ertm_frames.specs.Frames.{PlainFrame, information, supervisory, plain}
+use Rattle.ertm_frames.specs.Frames.{PlainFrame, information, supervisory}
 use Rattle.ertm_frames.specs.Segments.{Segment}
-use Rattle.ertm_frames.specs.Answers.{Answer, answer, IsAnswer}
+use Rattle.ertm_frames.specs.Answers.{Answer, IsAnswer}
 use Rattle.ertm_frames.specs.Reading.{answer_in, frame_by, frame_in, frames_in}
 use Rattle.ertm_frames.specs.Picking.{has_number, segments_in, picked}
 use Rattle.ertm_frames.proofs.Spelled.{one-answer}
@@ -16,7 +13,7 @@ use Rattle.std.proofs.lemmas.List.{length-map}
 use Rattle.capture.specs.declared.flow.Flow.{Flow}
 use Rattle.capture.specs.declared.flow.Flow.TheVariants.{Out, Into}
 use Rattle.capture.specs.Pdus.{same_flow}
-use Rattle.ertm_frames.specs.Joining.{Begun, Joint, Misplaced, joint, Joining, At, Stopped, joined_by, ended_by, ended}
+use Rattle.ertm_frames.specs.Joining.{Begun, Misplaced, joint, At, joined_by, ended_by, ended}
 use Rattle.ertm_frames.proofs.Longest.{ended-stopped}
 use Rattle.link_talk.specs.declared.readers.Carriage.{Carriage as LentCarriage}
 use Rattle.link_talk.specs.declared.readers.joining.Segment.{Segment as LentSegment}

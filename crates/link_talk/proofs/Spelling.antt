@@ -1,10 +1,9 @@
 -- A packet that is too long is refused, as is one without octets; and how a reader goes on over a talk.
-use Rattle.std.proofs.Common.{◌≡◌, ℕ, ◌+◌, ◌<◌, ◌≤◌, List, [], ◌∷◌, ◌++◌, length, take, get_or, map, Bool, true, false, cond, eqb, not, Option, Some, None, Result, Ok, Err, ltb, suc, refl, sym, ap, ◌∙◌, append_assoc, add-one, drop-cons, arith}
+use Rattle.std.proofs.Common.{◌≡◌, ℕ, ◌+◌, ◌<◌, ◌≤◌, List, [], ◌∷◌, ◌++◌, length, take, get_or, map, Bool, true, false, cond, eqb, not, Option, None, Result, Ok, Err, ltb, refl, sym, ap, ◌∙◌, append_assoc, add-one, drop-cons, arith}
 use Rattle.std.specs.Prelude.{slice_index, drop}
 use Rattle.std.proofs.lemmas.Bool.{ltb-true, ltb-false}
 use Rattle.std.specs.List.{flat_map}
 use Rattle.byteorder.specs.Endian.{big_number}
-use Rattle.capture.specs.declared.flow.Flow.{Flow}
 use Rattle.capture.proofs.HistoryLaws.{front-more}
 use Rattle.bt_base.specs.Objects.{Object}
 use Rattle.obex_headers.specs.declared.fault.ObexRefusal.{ObexRefusal}

@@ -1,13 +1,13 @@
 -- Requests that wait, as a reader holds them.
-use Rattle.std.proofs.Common.{◌≡◌, ℕ, ◌+◌, ◌<◌, ◌≤◌, List, [], ◌∷◌, ◌++◌, length, drop, get_or, map, suc, Bool, true, false, cond, Option, Some, None, refl, sym, ap, ◌∙◌, append_assoc, add-one, drop-cons}
-use Rattle.std.specs.Prelude.{option_to_list, option_map}
+use Rattle.std.proofs.Common.{◌≡◌, ℕ, ◌+◌, ◌<◌, ◌≤◌, List, [], ◌∷◌, ◌++◌, length, drop, get_or, map, Some, refl, sym, ap, ◌∙◌, append_assoc, add-one, drop-cons}
+use Rattle.std.specs.Prelude.{option_to_list}
 use Rattle.std.specs.Global.{Vec}
 use Rattle.std.proofs.lemmas.List.{map-append, drop_all}
 use Rattle.obex_headers.specs.Reader.{octets_of_all}
 use Rattle.capture.specs.declared.flow.Flow.{Flow}
 use Rattle.link_talk.specs.declared.readers.Spoken.{Spoken as LentSpoken}
 use Rattle.link_talk.specs.declared.readers.exchanging.Pending.{Pending as LentPending}
-use Rattle.link_talk.specs.Exchanges.{Pending, fresh, code_of, last_packet, with_last, with_request, without_first, answered_first, Exchange, pending_after, exchanges_from, exchanges}
+use Rattle.link_talk.specs.Exchanges.{Pending, code_of, last_packet, with_last, with_request, Exchange, pending_after, exchanges_from}
 use Rattle.link_talk.specs.Exchanging.{plain_pending, plain_waiting, exchanged}
 use Rattle.link_talk.specs.Lent.{plain_spoken}
 

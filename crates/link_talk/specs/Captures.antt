@@ -1,6 +1,6 @@
 -- What a finished capture says of the talk of each side (Core 5.1, Volume 2 Part E, 7.7.3 and 7.7.5, and Volume 3 Part A,
 -- 3.1): its links, the PDUs of each, and what is read off them.
-use Rattle.std.specs.Prelude.{ℕ, ℤ, pos, ◌∷◌, ◌++◌, List, [], map, fold, max, Option, Some, None}
+use Rattle.std.specs.Prelude.{ℕ, ℤ, pos, ◌∷◌, ◌++◌, List, [], map, fold, max}
 use Rattle.std.specs.List.{flat_map}
 use Rattle.bt_base.specs.Objects.{Object}
 use Rattle.push_terms.specs.declared.word.Side.{Side}

@@ -1,7 +1,7 @@
 -- The channels of a link, read off its talk: how each comes to be, opens and ends (Core 5.1, Volume 3 Part A, 4.2 to 4.7).
 -- A channel is closed by its host's own words: its request for the end, or its answer to the peer's.
-use Rattle.std.specs.Prelude.{ℕ, ◌+◌, ◌≡◌, ◌==◌, ◌&&◌, ◌||◌, not, is_some, Bool, true, false, List, [], ◌∷◌, ◌++◌, length, drop, map, fold, Option, Some, None, option_to_list, if◌then◌else◌}
-use Rattle.std.specs.List.{filter_map, list_any, AllZip}
+use Rattle.std.specs.Prelude.{ℕ, ◌==◌, ◌&&◌, ◌||◌, not, is_some, Bool, true, false, List, [], ◌∷◌, ◌++◌, length, drop, map, fold, Option, Some, None, option_to_list, if◌then◌else◌}
+use Rattle.std.specs.List.{filter_map, list_any}
 use Rattle.capture.specs.Histories.{led_by}
 use Rattle.link_talk.specs.declared.channel.Channel.{Channel}
 use Rattle.link_talk.specs.declared.life.Life.{Life}
@@ -11,7 +11,7 @@ use Rattle.link_talk.specs.declared.word.Word.{Word}
 use Rattle.link_talk.specs.declared.word.Word.TheVariants.{AsksEnd, AnswersEnd, EndAnswered, EndForgone}
 use Rattle.link_talk.specs.Senses.{sense}
 use Rattle.link_talk.specs.Requests.{Requests, no_requests, requests_after}
-use Rattle.link_talk.specs.Meanings.{Part, Meaning, Makes, Answers, Wishes, Settles, Parts, Nothing, meant, meanings}
+use Rattle.link_talk.specs.Meanings.{Meaning, Makes, Answers, Wishes, Settles, Parts, Nothing, meant}
 use Rattle.link_talk.specs.Setups.{Setup, no_setup, setup_after, term}
 
 -- ---- words on the end of a channel

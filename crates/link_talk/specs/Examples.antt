@@ -1,12 +1,10 @@
 -- Small talks, worked out by hand, and what is read off them.
-use Rattle.std.specs.Prelude.{ℕ, ◌≡◌, Bool, true, false, List, [], ◌∷◌, ◌++◌, map, Some, Ok, Err}
-use Rattle.l2cap_signal.specs.Commands.{Content, connection_request, connection_response, configuration_request, disconnection_request, disconnection_response, information_request, information_response, reject}
-use Rattle.capture.specs.declared.flow.Flow.{Flow}
+use Rattle.std.specs.Prelude.{ℕ, ◌≡◌, Bool, true, false, List, [], ◌∷◌, ◌++◌, map, Ok}
+use Rattle.l2cap_signal.specs.Commands.{Content, connection_request, connection_response, configuration_request, disconnection_request, disconnection_response, information_request, reject}
 use Rattle.capture.specs.declared.flow.Flow.TheVariants.{Out, Into}
 use Rattle.rfcomm_frames.specs.declared.connection.Role.TheVariants.{Initiator}
-use Rattle.link_talk.specs.declared.channel.Channel.{Channel}
 use Rattle.link_talk.specs.declared.party.Party.{Party}
-use Rattle.link_talk.specs.Sayings.{Saying, Command, GaveUp, Connection, Information}
+use Rattle.link_talk.specs.Sayings.{Saying, Command, GaveUp, Connection}
 use Rattle.link_talk.specs.Sdus.{Spoken}
 use Rattle.link_talk.specs.Exchanges.{exchanges, is_final}
 use Rattle.link_talk.specs.Silences.{channel_exchanges}

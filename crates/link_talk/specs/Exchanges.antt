@@ -1,7 +1,6 @@
 -- Requests and responses of OBEX on a channel (IrOBEX 1.5, 3.1, 3.2 and 3.4.3.7): the requests are answered one after the
 -- other.
-use Rattle.std.specs.Prelude.{ℕ, ◌==◌, ◌||◌, ◌&&◌, Bool, false, List, [], ◌∷◌, ◌++◌, slice_index, Option, Some, None, if◌then◌else◌}
-use Rattle.std.specs.List.{filter_map}
+use Rattle.std.specs.Prelude.{ℕ, ◌==◌, ◌||◌, ◌&&◌, Bool, List, [], ◌∷◌, ◌++◌, slice_index, if◌then◌else◌}
 use Rattle.capture.specs.declared.flow.Flow.{Flow}
 use Rattle.capture.specs.Pdus.{same_flow}
 use Rattle.link_talk.specs.Sdus.{Spoken}

@@ -1,5 +1,5 @@
 -- What the reader of exchanges holds.
-use Rattle.std.specs.Prelude.{ℕ, List, [], map, if◌then◌else◌}
+use Rattle.std.specs.Prelude.{List, [], map, if◌then◌else◌}
 use Rattle.capture.specs.declared.flow.Flow.{Flow}
 use Rattle.capture.specs.Pdus.{same_flow}
 use Rattle.obex_headers.specs.Reader.{octets_of_all}

@@ -1,5 +1,5 @@
 -- What a reader of RFCOMM makes of one SDU.
-use Rattle.std.specs.Prelude.{ℕ, List, [], Option, Some, None, Ok, Err, if◌then◌else◌}
+use Rattle.std.specs.Prelude.{ℕ, List, [], Option, Some, None, if◌then◌else◌}
 use Rattle.rfcomm_frames.specs.declared.connection.Role.{Role}
 use Rattle.rfcomm_frames.specs.Frames.{plain}
 use Rattle.rfcomm_frames.specs.FrameReading.{frame_answer}

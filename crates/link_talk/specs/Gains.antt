@@ -1,5 +1,5 @@
 -- What a list has more than its front.
-use Rattle.std.specs.Prelude.{ℕ, List, [], ◌∷◌, ◌++◌, length, drop}
+use Rattle.std.specs.Prelude.{List, [], ◌∷◌, ◌++◌, length, drop}
 
 -- what stands behind as many members as another list has
 abbrev pub beyond : {X : Type 0} → List X → List X → List X

@@ -1,5 +1,5 @@
 -- What one saying more does to the readings of a channel: each only gains behind what it had, and no mode changes.
-use Rattle.std.specs.Prelude.{ℕ, ◌≡◌, ◌⊎◌, not, Bool, true, false, List, [], ◌∷◌, ◌++◌, find, Option, Some, None}
+use Rattle.std.specs.Prelude.{ℕ, ◌≡◌, Bool, true, false, List, [], ◌∷◌, ◌++◌, find, Option, Some, None}
 use Rattle.std.specs.List.{AllByRecursion}
 use Rattle.capture.specs.Histories.{each_after}
 use Rattle.link_talk.specs.declared.channel.Channel.{Channel}
@@ -11,7 +11,7 @@ use Rattle.link_talk.specs.Setups.{is_set}
 use Rattle.link_talk.specs.Channels.{Entry, reading, read_on}
 use Rattle.link_talk.specs.Carriages.{is_heard, is_passed, carried, stretch, passages, has_own, mode_of}
 use Rattle.link_talk.specs.Sdus.{spoken, spoken_with}
-use Rattle.link_talk.specs.Packets.{carrier, packet_with, packets, packets_spoken}
+use Rattle.link_talk.specs.Packets.{carrier, packet_with, packets}
 
 -- ---- runs
 

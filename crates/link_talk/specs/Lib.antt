@@ -19,6 +19,7 @@ pub mod Waits
 pub mod Captures
 pub mod Picks
 pub mod Lent
+pub mod Spans
 pub mod Frames
 pub mod Shortening
 pub mod GrowingLaws

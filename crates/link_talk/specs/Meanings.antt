@@ -1,18 +1,18 @@
 -- What a saying means for the channels of its link, once the request that it answers is known (Core 5.1, Volume 3 Part A,
 -- 4.3 to 4.7).
-use Rattle.std.specs.Prelude.{ℕ, ◌==◌, ◌%◌, ◌&&◌, not, nat_le, Bool, true, false, List, [], ◌∷◌, ◌++◌, map, Option, Some, None, Result, Ok, Err, if◌then◌else◌}
+use Rattle.std.specs.Prelude.{ℕ, ◌==◌, ◌%◌, ◌&&◌, not, nat_le, Bool, true, false, List, [], ◌∷◌, map, Option, Some, None, Result, Ok, Err, if◌then◌else◌}
 use Rattle.capture.specs.declared.flow.Flow.{Flow}
 use Rattle.capture.specs.declared.flow.Flow.TheVariants.{Out, Into}
-use Rattle.capture.specs.Histories.{given_by, each_after}
+use Rattle.capture.specs.Histories.{given_by}
 use Rattle.l2cap_config.specs.declared.options.Options.{Options}
 use Rattle.l2cap_config.specs.declared.options.ConfigRefusal.{ConfigRefusal}
 use Rattle.l2cap_config.specs.Reading.{options_read}
 use Rattle.link_talk.specs.declared.channel.Channel.{Channel}
 use Rattle.link_talk.specs.Sayings.{Saying}
 use Rattle.link_talk.specs.declared.word.Word.{Word}
-use Rattle.link_talk.specs.Senses.{Sense, Asks, Opens, Ends, Quiet, Question, ForChannel, ForOptions, Unread, Reply, OnChannel, OnOptions, Forgone, sense}
+use Rattle.link_talk.specs.Senses.{Sense, Asks, Opens, Ends, Quiet, Question, ForOptions, Reply, OnChannel, OnOptions, Forgone, sense}
 use Rattle.link_talk.specs.declared.call.Wanted.{Wanted}
-use Rattle.link_talk.specs.Requests.{Terms, Requests, no_requests, requests, requests_after, answered_call, answered_query, has_failed}
+use Rattle.link_talk.specs.Requests.{Terms, Requests, requests, answered_call, answered_query, has_failed}
 
 -- a request of the peer for options of a channel, as the host answered it: whether with success, and whether with the
 -- flag that says that more options follow

@@ -1,5 +1,5 @@
 -- The OBEX packets on a channel, over L2CAP and over RFCOMM (IrOBEX 1.5, 2.2; RFCOMM 1.2, 5; Object Push Profile 1.2, 4).
-use Rattle.std.specs.Prelude.{ℕ, ◌==◌, List, [], ◌∷◌, ◌++◌, map, Option, Some, None, if◌then◌else◌}
+use Rattle.std.specs.Prelude.{ℕ, ◌==◌, List, [], ◌∷◌, map, if◌then◌else◌}
 use Rattle.capture.specs.declared.flow.Flow.{Flow}
 use Rattle.capture.specs.declared.flow.Flow.TheVariants.{Out, Into}
 use Rattle.capture.specs.Histories.{given_by}

@@ -1,5 +1,5 @@
 -- Requests for channels and for options, and which of them a response answers (Core 5.1, Volume 3 Part A, 4.1 to 4.5).
-use Rattle.std.specs.Prelude.{ℕ, ◌==◌, ◌&&◌, nat_lt, Bool, false, List, [], ◌∷◌, ◌++◌, filter, fold, reverse, map, Option, Some, None, option_to_list, if◌then◌else◌}
+use Rattle.std.specs.Prelude.{ℕ, ◌==◌, ◌&&◌, nat_lt, Bool, false, List, [], ◌∷◌, ◌++◌, filter, reverse, Option, Some, None, option_to_list, if◌then◌else◌}
 use Rattle.std.specs.List.{filter_map, list_any}
 use Rattle.capture.specs.declared.flow.Flow.{Flow}
 use Rattle.capture.specs.declared.flow.Flow.TheVariants.{Out, Into}

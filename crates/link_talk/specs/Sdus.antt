@@ -1,6 +1,6 @@
 -- The SDUs on a channel (Core 5.1, Volume 3 Part A, 3.1, 3.3, 7.3 and 8.4). In basic mode each PDU carries one. In enhanced
 -- retransmission mode the frames are picked by their numbers, and their segments joined.
-use Rattle.std.specs.Prelude.{ℕ, ◌==◌, List, [], ◌∷◌, ◌++◌, map, drop, Option, Some, None, if◌then◌else◌}
+use Rattle.std.specs.Prelude.{ℕ, List, map, drop, Option, Some, None, if◌then◌else◌}
 use Rattle.std.specs.List.{filter_map}
 use Rattle.capture.specs.declared.flow.Flow.{Flow}
 use Rattle.capture.specs.declared.flow.Flow.TheVariants.{Out, Into}

@@ -1,6 +1,6 @@
 -- What a command is for a channel: it asks, it opens, it ends, or it is quiet (Core 5.1, Volume 3 Part A, 4). An endpoint
 -- is called own or the peer's as the host sees it.
-use Rattle.std.specs.Prelude.{ℕ, ◌==◌, ◌||◌, List, Option, Some, None, Ok, Err, if◌then◌else◌}
+use Rattle.std.specs.Prelude.{ℕ, ◌==◌, List, Some, None, Ok, Err, if◌then◌else◌}
 use Rattle.l2cap_signal.specs.Commands.{Content, reject, connection_request, connection_response, configuration_request, configuration_response, disconnection_request, disconnection_response, echo_request, echo_response, information_request, information_response}
 use Rattle.l2cap_signal.specs.Reading.{Answer}
 use Rattle.l2cap_signal.specs.declared.refusal.SignalRefusal.{SignalRefusal}

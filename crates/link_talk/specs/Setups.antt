@@ -1,6 +1,6 @@
 -- How the mode of a channel is agreed on (Core 5.1, Volume 3 Part A, 4.4, 4.5, 5.4 and 7.1). It is that at the opening of
 -- the channel, and nothing later changes it.
-use Rattle.std.specs.Prelude.{ℕ, ◌==◌, ◌&&◌, Bool, true, false, List, [], ◌∷◌, ◌++◌, fold, Option, Some, None, is_some, unwrap_or, option_map, Result, Ok, Err, if◌then◌else◌}
+use Rattle.std.specs.Prelude.{ℕ, ◌==◌, ◌&&◌, Bool, true, false, List, [], ◌++◌, Option, Some, None, is_some, unwrap_or, option_map, Result, Ok, Err, if◌then◌else◌}
 use Rattle.l2cap_config.specs.declared.options.Options.{Options}
 use Rattle.l2cap_config.specs.declared.options.ConfigRefusal.{ConfigRefusal}
 use Rattle.l2cap_config.specs.declared.wish.Mode.{Mode}

@@ -1,9 +1,9 @@
 -- What a host waits for on a link: what a timer finds (Core 5.1, Volume 3 Part A, 4.1, 6.2 and 8.6; Part B, 4.2). A request
 -- that is repeated is one wait.
-use Rattle.std.specs.Prelude.{ℕ, ◌==◌, ◌||◌, ◌&&◌, not, nat_lt, Bool, true, false, List, [], ◌∷◌, ◌++◌, fold, find, Option, Some, None, is_some, Ok, Err, if◌then◌else◌}
+use Rattle.std.specs.Prelude.{ℕ, ◌==◌, ◌||◌, ◌&&◌, not, nat_lt, Bool, false, List, [], ◌∷◌, fold, find, Option, Some, None, is_some, Ok, Err, if◌then◌else◌}
 use Rattle.std.specs.List.{list_any, filter_map}
 use Rattle.acl_fragments.specs.Pieces.{channel_of}
-use Rattle.l2cap_signal.specs.Commands.{Content, Command as Signalled, reject, connection_request, connection_response, configuration_request, configuration_response, disconnection_request, disconnection_response, echo_request, echo_response, information_request, information_response}
+use Rattle.l2cap_signal.specs.Commands.{Content, reject, information_request, information_response}
 use Rattle.l2cap_signal.specs.Reading.{Answer}
 use Rattle.capture.specs.declared.flow.Flow.{Flow}
 use Rattle.capture.specs.declared.flow.Flow.TheVariants.{Out, Into}
@@ -14,12 +14,11 @@ use Rattle.l2cap_config.specs.declared.wish.Mode.{Mode}
 use Rattle.l2cap_config.specs.declared.wish.Mode.TheVariants.{Basic, Enhanced}
 use Rattle.link_talk.specs.declared.channel.Channel.{Channel}
 use Rattle.link_talk.specs.Sayings.{Saying, Command, Carried, GaveUp, Forgone, Connection, Disconnection, Information}
-use Rattle.link_talk.specs.declared.word.Word.{Word}
 use Rattle.link_talk.specs.Senses.{sense}
 use Rattle.link_talk.specs.declared.call.Wanted.{Wanted}
 use Rattle.link_talk.specs.declared.call.Call.{Call}
 use Rattle.link_talk.specs.Requests.{has_failed, went}
-use Rattle.link_talk.specs.Meanings.{Part, Meaning, Makes, Answers, Wishes, Settles, Parts, Nothing, meant}
+use Rattle.link_talk.specs.Meanings.{Meaning, Makes, Answers, Wishes, Settles, Parts, Nothing, meant}
 use Rattle.link_talk.specs.Setups.{is_enhanced}
 use Rattle.link_talk.specs.Channels.{Entry, is_there, waits_for_end, Reading, reading}
 use Rattle.link_talk.specs.Carriages.{has_own, mode_of}

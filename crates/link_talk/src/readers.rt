@@ -8,6 +8,8 @@ mod entries;
 mod exchanging;
 mod joining;
 mod meaning;
+#[cfg(test)]
+mod mixed_samples;
 mod multiplexing;
 mod objects;
 mod packing;
@@ -21,10 +23,11 @@ mod sdus;
 mod sensing;
 #[cfg(test)]
 mod tests;
+mod windows;
 
 pub use answering::{answers_in, channel_answers};
 use capture::Flow;
-pub use carrying::{mode_of, stretch};
+pub use carrying::{mode_of, passages, stretch};
 pub use entries::{Entry, Setup};
 pub use exchanging::{Exchange, Pending, exchanges};
 use l2cap_signal::{Signal, SignalRefusal};
@@ -34,6 +37,7 @@ pub use packing::{packets, packets_heard, packets_spoken};
 pub use reading::{Reading, reading_of};
 pub use sayings::sayings_of;
 pub use sdus::{sdus_of, sdus_spoken};
+pub use windows::window_used;
 
 /// A request that a host waits for no longer, without a word to its peer.
 #[derive(Clone, Copy, Debug)]

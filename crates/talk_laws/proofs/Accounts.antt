@@ -1,14 +1,14 @@
 -- Frames that are not acknowledged, and credits, in one pass.
-use Rattle.std.proofs.Common.{◌≡◌, ℕ, ◌+◌, ◌-◌, ◌%◌, List, [], ◌∷◌, ◌++◌, length, fold, Bool, true, false, cond, refl, sym, ap, ◌∙◌, append-nil, arith, length-append}
-use Rattle.std.specs.Prelude.{ℤ, pos, ◌-ℤ◌}
+use Rattle.std.proofs.Common.{◌≡◌, ℕ, ◌+◌, List, [], ◌∷◌, ◌++◌, length, fold, refl, sym, ap, ◌∙◌, arith, length-append}
+use Rattle.std.specs.Prelude.{pos, ◌-ℤ◌}
 use Rattle.std.proofs.lemmas.List.Sums.{fold-append}
 use Rattle.ertm_frames.specs.Frames.{PlainFrame}
-use Rattle.ertm_frames.specs.Picking.{Passage, Out, In, outs, ins, picked, req_of, last_req, unacknowledged}
+use Rattle.ertm_frames.specs.Picking.{Passage, Out, In, outs, ins, picked, last_req}
 use Rattle.ertm_frames.proofs.Telling.{picked-more, req-more, outs-more, outs-same}
 use Rattle.rfcomm_frames.specs.declared.connection.Role.{Role}
-use Rattle.rfcomm_frames.specs.Multiplexing.{Passed, Framed, frames, Connections, no_connections, connections_after, granted_by, granted, spent_by, spent, credits_held}
+use Rattle.rfcomm_frames.specs.Multiplexing.{Framed, frames, Connections, no_connections, connections_after, granted_by, granted, spent_by, spent}
 use Rattle.link_talk.specs.Picks.{pick}
-use Rattle.talk_laws.specs.Accounts.{Window, nothing_given, window_after, window_of, used, Credits, no_credits, credits_after, credits_of, left, AccountsLookBack, AccountsGrow}
+use Rattle.talk_laws.specs.Accounts.{Window, nothing_given, window_after, window_of, used, no_credits, credits_after, credits_of, left, AccountsLookBack, AccountsGrow}
 use Rattle.talk_laws.proofs.Passes.{from_end}
 
 -- ---- I-frames

@@ -1,6 +1,6 @@
 -- Requests and responses, looking back and in one pass.
-use Rattle.std.proofs.Common.{◌≡◌, ℕ, List, [], ◌∷◌, ◌++◌, fold, map, Bool, true, false, cond, ◌||◌, Option, Some, None, refl, sym, ap, ◌∙◌, append_assoc, append-nil}
-use Rattle.std.specs.List.{flat_map, filter_map, list_any, cons_option}
+use Rattle.std.proofs.Common.{◌≡◌, ℕ, List, [], ◌∷◌, ◌++◌, map, Bool, true, false, cond, ◌||◌, Some, None, refl, sym, ap, ◌∙◌, append_assoc, append-nil}
+use Rattle.std.specs.List.{flat_map, list_any, cons_option}
 use Rattle.std.proofs.lemmas.List.{map-append}
 use Rattle.std.proofs.lemmas.List.Elements.{filter_map-append}
 use Rattle.std.proofs.lemmas.List.Folds.{list_any-append}
@@ -11,7 +11,7 @@ use Rattle.capture.specs.Histories.{each_after, given_by}
 use Rattle.capture.specs.Pdus.{same_flow}
 use Rattle.capture.proofs.HistoryLaws.{given_by-more}
 use Rattle.link_talk.specs.Sdus.{Spoken, spoken_way, spoken_one_way}
-use Rattle.link_talk.specs.Exchanges.{Pending, fresh, is_abort, joins, with_last, with_request, Exchange, without_first, answered_first, pending_after, exchanges_from, exchanges}
+use Rattle.link_talk.specs.Exchanges.{Pending, fresh, is_abort, joins, with_request, Exchange, without_first, answered_first, pending_after, exchanges_from, exchanges}
 use Rattle.talk_laws.specs.Exchanges.{pending, answered_behind, packets_of, requests_made, ExchangesLookBack, ExchangesGrow}
 use Rattle.talk_laws.proofs.Passes.{from_end}
 

@@ -1,6 +1,6 @@
 -- Packets and objects with more of them.
 use Rattle.std.proofs.Common.{◌≡◌, ℕ, List, [], ◌∷◌, ◌++◌, length, drop, map, Bool, true, false, cond, ◌||◌, ◌&&◌, Option, Some, None, Ok, Err, inl, arith, refl, sym, ap, ◌∙◌, append_assoc, append-nil}
-use Rattle.std.specs.List.{flat_map, filter_map, cons_option, AllByRecursion}
+use Rattle.std.specs.List.{flat_map, cons_option, AllByRecursion}
 use Rattle.std.proofs.lemmas.List.{map-append}
 use Rattle.std.proofs.lemmas.List.Elements.{filter_map-append}
 use Rattle.std.proofs.lemmas.Grind.{flat_map-append}
@@ -27,7 +27,7 @@ use Rattle.link_talk.specs.Sayings.{Saying}
 use Rattle.link_talk.specs.Gains.{beyond, gained}
 use Rattle.link_talk.specs.Sdus.{Spoken, spoken, spoken_as, spoken_way, spoken_one_way}
 use Rattle.link_talk.specs.Packets.{OverRfcomm, carrier, role_of, passed, packets_over_rfcomm, packet_with, packets, packets_heard}
-use Rattle.link_talk.specs.ObjectsHeard.{put_within, spelled_within, channel_objects}
+use Rattle.link_talk.specs.ObjectsHeard.{put_within, channel_objects}
 use Rattle.link_talk.specs.Carriages.{is_heard, carried as heard, stretch, mode_of}
 use Rattle.talk_laws.specs.Sdus.{ears_so_far, spoken_from}
 use Rattle.talk_laws.specs.Objects.{GrowsTo, ObjectsGrow}

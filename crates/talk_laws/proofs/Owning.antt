@@ -1,5 +1,5 @@
 -- Each endpoint of the host is that of one channel.
-use Rattle.std.proofs.Common.{◌≡◌, ℕ, List, [], ◌∷◌, ◌++◌, fold, map, Bool, true, false, cond, ◌||◌, ◌&&◌, eqb, Option, Some, None, refl, sym, ap, subst, ◌∙◌, append-nil}
+use Rattle.std.proofs.Common.{◌≡◌, ℕ, List, [], ◌∷◌, ◌++◌, fold, map, Bool, true, false, cond, ◌||◌, ◌&&◌, eqb, Option, Some, None, refl, sym, ap, subst, ◌∙◌}
 use Rattle.std.specs.Prelude.{find, option_to_list, unwrap_or}
 use Rattle.std.specs.List.{list_any}
 use Rattle.std.proofs.lemmas.Bool.{eqb-true, eq-eqb}
@@ -12,7 +12,7 @@ use Rattle.link_talk.specs.Sayings.{Saying, Command, Carried, GaveUp}
 use Rattle.link_talk.specs.Senses.{sense}
 use Rattle.link_talk.specs.Meanings.{Meaning, meant}
 use Rattle.link_talk.specs.Setups.{is_set}
-use Rattle.link_talk.specs.Channels.{Entry, fresh, entry_after, is_there, is_alive, is_owner, with_fresh, made_by, entries_after, reading, read_on}
+use Rattle.link_talk.specs.Channels.{Entry, fresh, entry_after, is_there, is_alive, is_owner, with_fresh, made_by, reading}
 use Rattle.link_talk.specs.Carriages.{Carriage, is_heard, is_held, is_open, takes, taker, is_on, carried_by, has_own}
 use Rattle.link_talk.specs.GrowingLaws.{has_opened}
 use Rattle.link_talk.proofs.OnePass.{reading-more}
@@ -57,8 +57,7 @@ alone_with : (new : Channel) (entries : List Entry) → list_any (is_owner new) 
 alone_with new [] none all = (refl, tt)
 alone_with new (entry ∷ entries) none (now, all) =
     let apart = either_false (is_owner new entry) (list_any (is_owner new) entries) none in
-    let other = either_false (eqb entry.channel.own new.own) (eqb entry.channel.peer new.peer && is_there entry.life) apart.0 in
-    (
+    let other = either_false (eqb entry.channel.own new.own) (eqb entry.channel.peer new.peer && is_there entry.life) apart.0 in (
       list_any-append (has_own entry.channel) entries (fresh new ∷ [])
           ∙ (ap (λ b. b || (eqb new.own entry.channel.own || false)) now ∙ ap (λ b. b || false) (eqb_other entry.channel.own new.own other.0)),
       alone_with new entries apart.1 all,

@@ -1,7 +1,7 @@
 -- The SDUs on a channel with one PDU more.
-use Rattle.std.proofs.Common.{◌≡◌, ℕ, ◌+◌, List, [], ◌∷◌, ◌++◌, length, drop, fold, map, Bool, true, false, cond, Option, Some, None, refl, sym, ap, ◌∙◌, append-nil, arith, length-append, suc}
-use Rattle.std.specs.List.{filter_map, cons_option}
-use Rattle.std.proofs.lemmas.List.{map-append, append_assoc}
+use Rattle.std.proofs.Common.{◌≡◌, ℕ, ◌+◌, List, [], ◌∷◌, ◌++◌, length, drop, map, Option, Some, None, refl, sym, ap, ◌∙◌, append-nil, arith, length-append}
+use Rattle.std.specs.List.{cons_option}
+use Rattle.std.proofs.lemmas.List.{map-append}
 use Rattle.std.proofs.lemmas.List.Elements.{filter_map-append}
 use Rattle.std.proofs.lemmas.List.Sums.{fold-append}
 use Rattle.capture.specs.declared.flow.Flow.{Flow}
@@ -12,17 +12,17 @@ use Rattle.ertm_frames.specs.Frames.{PlainFrame}
 use Rattle.ertm_frames.specs.Reading.{frame_in, frames_in}
 use Rattle.ertm_frames.specs.Segments.{Segment}
 use Rattle.ertm_frames.specs.Picking.{picked}
-use Rattle.ertm_frames.specs.Joining.{Joining, At, joined, ended}
+use Rattle.ertm_frames.specs.Joining.{At, joined, ended}
 use Rattle.ertm_frames.proofs.Longest.{joined-append, ended-append}
 use Rattle.ertm_frames.proofs.Telling.{picked-more, frames-more}
 use Rattle.l2cap_config.specs.declared.wish.Mode.{Mode}
 use Rattle.l2cap_config.specs.declared.wish.Mode.TheVariants.{Basic, Enhanced}
 use Rattle.link_talk.specs.declared.party.Party.{Party}
 use Rattle.link_talk.specs.Carriages.{Carriage, one_way, pdus_of}
-use Rattle.link_talk.specs.Gains.{beyond, gained}
+use Rattle.link_talk.specs.Gains.{beyond}
 use Rattle.link_talk.specs.Picks.{pick, pick_in}
-use Rattle.link_talk.specs.Sdus.{longest, sdus_by, sdus_of, Spoken, spoken_as, spoken_with}
-use Rattle.talk_laws.specs.Sdus.{Ear, nothing_heard, segment_of, ear_after, heard_so_far, sdus_with, Ears, no_ears, ear_of, with_ear, ears_after, ears_so_far, spoken_now, spoken_from, SdusLookBack, SdusGrow}
+use Rattle.link_talk.specs.Sdus.{longest, sdus_by, spoken_as, spoken_with}
+use Rattle.talk_laws.specs.Sdus.{Ear, nothing_heard, ear_after, heard_so_far, sdus_with, Ears, no_ears, ear_of, ears_after, ears_so_far, spoken_now, spoken_from, SdusLookBack, SdusGrow}
 use Rattle.talk_laws.proofs.Passes.{from_end}
 
 -- ---- one way

@@ -16,7 +16,7 @@ use Rattle.link_talk.specs.Sdus.{Spoken}
 use Rattle.link_talk.specs.ServiceAnswers.{transaction_of, waiting_with, waiting_after, part_with, parts_from, is_last, joined_from, answers_in}
 use Rattle.link_talk.specs.ServiceAnswers as link
 use Rattle.talk_laws.specs.Lists.{behind_last}
-use Rattle.talk_laws.specs.ServiceAnswers.{asked_by, asked, asks, replies, unless_replied, unanswered, part_behind, parts, AreJoined, ServiceAnswersLookBack}
+use Rattle.talk_laws.specs.ServiceAnswers.{asked, asks, replies, unless_replied, unanswered, part_behind, parts, AreJoined, ServiceAnswersLookBack}
 use Rattle.talk_laws.proofs.Passes.{from_end, last_picked, behind_last-more}
 
 -- ---- which request waits

@@ -1,5 +1,5 @@
 -- What is agreed on, looking back and in one pass.
-use Rattle.std.proofs.Common.{◌≡◌, ℕ, List, [], ◌∷◌, ◌++◌, fold, Bool, true, false, cond, ◌||◌, ◌&&◌, not, Option, Some, None, refl, sym, ap, subst, ◌∙◌, append_assoc, append-nil}
+use Rattle.std.proofs.Common.{◌≡◌, ℕ, List, [], ◌∷◌, ◌++◌, Bool, true, false, cond, ◌&&◌, not, Option, Some, None, refl, sym, ap, ◌∙◌, append-nil}
 use Rattle.std.specs.Prelude.{is_some, unwrap_or, option_map, option_to_list}
 use Rattle.std.specs.List.{filter_map, flat_map}
 use Rattle.std.specs.Option.{option_or}
@@ -7,14 +7,13 @@ use Rattle.std.proofs.lemmas.List.Elements.{filter_map-append}
 use Rattle.std.proofs.lemmas.List.Sums.{fold-append}
 use Rattle.std.proofs.lemmas.Grind.{flat_map-append}
 use Rattle.capture.specs.Channels.{last_of}
-use Rattle.capture.specs.Histories.{given_by}
 use Rattle.capture.proofs.HistoryLaws.{given_by-more}
 use Rattle.l2cap_config.specs.declared.wish.Mode.{Mode}
 use Rattle.l2cap_config.specs.declared.wish.Mode.TheVariants.{Basic}
 use Rattle.link_talk.specs.declared.channel.Channel.{Channel}
 use Rattle.link_talk.specs.Meanings.{Part, Meaning}
-use Rattle.link_talk.specs.Setups.{Setup, no_setup, Term, Wished, Answered, term, mode_in, is_set, with_wish, with_success, with_answer, with_term, setup_after}
-use Rattle.link_talk.specs.Channels.{Birth, since, word, is_gone, is_there, Entry, fresh, entry_after, setup_of}
+use Rattle.link_talk.specs.Setups.{Setup, Term, Wished, Answered, term, mode_in, is_set, with_wish, with_answer, with_term, setup_after}
+use Rattle.link_talk.specs.Channels.{Birth, since, word, is_gone, Entry, fresh, entry_after, setup_of}
 use Rattle.link_talk.proofs.OnePass.{entry_of, is_read}
 use Rattle.talk_laws.specs.Setups.{term_while_there, terms, wish, answer, mode_asked, goes_on, ends_run, is_last, parts_so_far, request_with, requests_accepted, mode_accepted, setup_by, term_before_opening, until_opening, setup_agreed, SetupsLookBack}
 use Rattle.talk_laws.specs.Lists.{behind_last}

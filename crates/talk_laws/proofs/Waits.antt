@@ -1,10 +1,10 @@
 -- What a host waits for, looking back and in one pass.
-use Rattle.std.proofs.Common.{◌≡◌, ℕ, List, [], ◌∷◌, ◌++◌, fold, Bool, true, false, cond, ◌||◌, ◌&&◌, eqb, Option, Some, None, refl, sym, ap, subst, ◌∙◌, append-nil}
+use Rattle.std.proofs.Common.{◌≡◌, ℕ, List, [], ◌∷◌, ◌++◌, fold, Bool, true, false, ◌||◌, ◌&&◌, Option, Some, None, refl, sym, ap, ◌∙◌, append-nil}
 use Rattle.std.specs.Prelude.{find, option_to_list, is_some, nat_lt}
 use Rattle.std.specs.List.{list_any, filter_map, cons_option}
 use Rattle.std.proofs.lemmas.List.Elements.{filter_map-append}
 use Rattle.std.proofs.lemmas.List.Sums.{fold-append}
-use Rattle.capture.specs.Histories.{each_after, given_by}
+use Rattle.capture.specs.Histories.{given_by}
 use Rattle.capture.proofs.HistoryLaws.{given_by-more}
 use Rattle.ertm_frames.specs.Picking.{Passage, waits_after, poll_waits}
 use Rattle.l2cap_config.specs.declared.wish.Mode.{Mode}
@@ -12,12 +12,12 @@ use Rattle.l2cap_config.specs.declared.wish.Mode.TheVariants.{Basic, Enhanced}
 use Rattle.link_talk.specs.declared.channel.Channel.{Channel}
 use Rattle.link_talk.specs.declared.party.Party.{Party}
 use Rattle.link_talk.specs.Sayings.{Saying}
-use Rattle.link_talk.specs.Channels.{Entry, is_there, waits_for_end, Reading, read_on, nothing_read, reading}
-use Rattle.link_talk.specs.Carriages.{Carriage, is_heard, is_passed, carried, carried_by, stretch, passages, has_own, mode_of}
+use Rattle.link_talk.specs.Channels.{Entry, is_there, waits_for_end, reading}
+use Rattle.link_talk.specs.Carriages.{is_heard, is_passed, carried, carried_by, stretch, passages, has_own, mode_of}
 use Rattle.link_talk.specs.Sdus.{Spoken, spoken, spoken_with}
 use Rattle.link_talk.specs.ServiceAnswers.{waiting_after}
-use Rattle.link_talk.specs.Accounts.{passage_in, frames_passed, waiting_frames, window_used}
-use Rattle.link_talk.specs.Waits.{call_waits, notice, noticed, information_waits, demand, demand_at, demand_by, demanded, options_wait, frames_wait_in, frames_wait, query_waits, channel_waits, entry_waits, waits}
+use Rattle.link_talk.specs.Accounts.{passage_in, frames_passed, waiting_frames}
+use Rattle.link_talk.specs.Waits.{call_waits, notice, noticed, demand, demand_at, demand_by, demanded, options_wait, frames_wait_in, query_waits, entry_waits, waits}
 use Rattle.link_talk.specs.GrowingLaws.{has_opened}
 use Rattle.link_talk.proofs.OnePass.{reading-more}
 use Rattle.link_talk.proofs.Growing.{mode-stands, stretch-grows, passages-grow, spoken-grows}

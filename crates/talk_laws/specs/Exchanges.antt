@@ -1,5 +1,5 @@
 -- Requests and responses of OBEX on a channel, looking back from each response (IrOBEX 1.5, 3.1, 3.2 and 3.4.3.7).
-use Rattle.std.specs.Prelude.{ℕ, ◌≡◌, Bool, false, List, [], ◌∷◌, ◌++◌, map, fold, if◌then◌else◌}
+use Rattle.std.specs.Prelude.{ℕ, ◌≡◌, false, List, [], ◌∷◌, ◌++◌, map, fold, if◌then◌else◌}
 use Rattle.std.specs.List.{flat_map, list_any}
 use Rattle.capture.specs.declared.flow.Flow.{Flow}
 use Rattle.capture.specs.Histories.{given_by}

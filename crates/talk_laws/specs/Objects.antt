@@ -1,15 +1,13 @@
 -- The packets and objects on a channel with more of them (IrOBEX 1.5, 2.2 and 3.4.3).
-use Rattle.std.specs.Prelude.{ℕ, ◌≡◌, List, [], ◌∷◌, ◌++◌, map}
-use Rattle.bt_base.specs.Objects.{Object}
+use Rattle.std.specs.Prelude.{ℕ, ◌≡◌, List, [], ◌∷◌, ◌++◌}
 use Rattle.capture.specs.declared.flow.Flow.{Flow}
-use Rattle.capture.specs.declared.flow.Flow.TheVariants.{Into}
-use Rattle.capture.specs.Histories.{given_by, each_after}
+use Rattle.capture.specs.Histories.{given_by}
 use Rattle.rfcomm_frames.specs.ObexPackets.{obex_packets}
 use Rattle.link_talk.specs.declared.channel.Channel.{Channel}
 use Rattle.link_talk.specs.declared.party.Party.{Party}
 use Rattle.link_talk.specs.Sayings.{Saying}
 use Rattle.link_talk.specs.Sdus.{Spoken, spoken, spoken_one_way}
-use Rattle.link_talk.specs.Packets.{OverRfcomm, carrier, packet_with, packets_over_rfcomm, packets, packets_heard}
+use Rattle.link_talk.specs.Packets.{OverRfcomm, packet_with, packets_over_rfcomm, packets}
 use Rattle.link_talk.specs.ObjectsHeard.{channel_objects}
 
 -- a list with more behind it

@@ -8,7 +8,7 @@ use Rattle.capture.specs.Histories.{given_by}
 use Rattle.sdp_elements.specs.Pdus.{pdu_in}
 use Rattle.sdp_client.specs.Replies.{PlainPart, is_of_another}
 use Rattle.link_talk.specs.Sdus.{Spoken}
-use Rattle.link_talk.specs.ServiceAnswers.{transaction_of, waiting_after, part_with, parts_from, is_last, joined_from, answers_in}
+use Rattle.link_talk.specs.ServiceAnswers.{transaction_of, waiting_after, part_with, is_last, answers_in}
 use Rattle.talk_laws.specs.Lists.{behind_last}
 
 -- ---- which request waits

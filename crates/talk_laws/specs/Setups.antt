@@ -1,6 +1,6 @@
 -- How the mode of a channel is agreed on, looking back over all that both sides said of it (Core 5.1, Volume 3 Part A, 4.4,
 -- 4.5, 5.4 and 7.1).
-use Rattle.std.specs.Prelude.{ℕ, ◌≡◌, ◌&&◌, not, Bool, true, false, List, [], ◌∷◌, ◌++◌, Option, Some, None, option_map, option_to_list, unwrap_or, if◌then◌else◌}
+use Rattle.std.specs.Prelude.{ℕ, ◌≡◌, ◌&&◌, not, Bool, List, [], ◌∷◌, ◌++◌, Option, Some, None, option_map, option_to_list, unwrap_or, if◌then◌else◌}
 use Rattle.std.specs.List.{filter_map, flat_map}
 use Rattle.capture.specs.Channels.{last_of}
 use Rattle.capture.specs.Histories.{given_by}

@@ -1,5 +1,5 @@
 -- What a host waits for on a link, in one pass: what a timer finds (Core 5.1, Volume 3 Part A, 4.1, 6.2 and 8.6; Part B, 4.2).
-use Rattle.std.specs.Prelude.{ℕ, ◌≡◌, ◌==◌, ◌||◌, ◌&&◌, nat_lt, Bool, false, List, [], ◌∷◌, ◌++◌, fold, find, Option, Some, None, is_some, option_to_list}
+use Rattle.std.specs.Prelude.{ℕ, ◌≡◌, ◌==◌, ◌||◌, ◌&&◌, nat_lt, Bool, false, List, [], ◌∷◌, ◌++◌, fold, find, Option, None, is_some, option_to_list}
 use Rattle.std.specs.List.{list_any, filter_map}
 use Rattle.capture.specs.Histories.{given_by}
 use Rattle.ertm_frames.specs.Picking.{poll_waits}
@@ -51,8 +51,8 @@ with_options counts options = record counts { options = options }
 abbrev pub counts_after : Party → Channel → Reading → Saying → Counts → Counts
 counts_after party channel held saying counts =
     with_options
-        (counts_with party (mode_held channel held) (carried_by is_passed channel held.entries saying) (carried_by is_heard channel held.entries saying) counts)
-        (fold demanded counts.options (demand_by party channel held saying))
+    (counts_with party (mode_held channel held) (carried_by is_passed channel held.entries saying) (carried_by is_heard channel held.entries saying) counts)
+    (fold demanded counts.options (demand_by party channel held saying))
 
 -- what is held of a talk, and of one channel
 pub record Tracked : Type 0 where

@@ -80,7 +80,7 @@ fn push_next<'a>(found: &mut Vec<Segment<'a>>, pdu: &'a [u8], most: u16) -> Resu
 }
 
 /// The segments that are picked of the frames that went one way.
-fn picked<'a>(
+pub(crate) fn picked<'a>(
     alloc: Global,
     most: u16,
     flow: Flow,

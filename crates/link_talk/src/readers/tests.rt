@@ -1,4 +1,5 @@
 use super::enhanced_samples::{DAMAGED, DUPLICATE, ENHANCED, MISSING, SEGMENTS};
+use super::mixed_samples::{ENHANCED_CUT, LOST_COPY, RFCOMM_CUT, TWO_TRANSPORTS};
 use super::rfcomm_samples::{RFCOMM, RFCOMM_CLOSED, RFCOMM_UNOPENED};
 use super::samples::{
     BASIC, CUT_OFF, IN_PARTS, LEFT, NOT_ANSWERED, OLD_ANSWER, PAST_END, REPEATED, Said, TOO_LONG,
@@ -62,7 +63,7 @@ fn octets_of(alloc: Global, said: Said) -> Result<Vec<u8>, Fail> {
 }
 
 /// Captures, and the names of the objects that host b heard in each, all of the octets `hi`.
-const CAPTURES: [(Said, &[u16]); 18] = [
+const CAPTURES: [(Said, &[u16]); 22] = [
     (BASIC, &[0x61]),
     (CUT_OFF, &[]),
     (PAST_END, &[0x62]),
@@ -81,6 +82,10 @@ const CAPTURES: [(Said, &[u16]); 18] = [
     (RFCOMM_CLOSED, &[]),
     (RFCOMM_UNOPENED, &[]),
     (TOO_LONG, &[]),
+    (TWO_TRANSPORTS, &[0x61, 0x62]),
+    (LOST_COPY, &[0x61]),
+    (ENHANCED_CUT, &[]),
+    (RFCOMM_CUT, &[]),
 ];
 
 #[test]
@@ -202,5 +207,145 @@ fn what_is_given_up_counts_no_more(rt: HostRuntime) -> Result<(), Fail> {
     held.hear(rt.alloc(), &asked)?;
     held.hear(rt.alloc(), &heard)?;
     assert_eq!(rt; held.entries.len(), 1);
+    Ok(())
+}
+
+/// Packets both ways as a client has them.
+fn spoken(alloc: Global, said: Said) -> Result<Vec<Spoken>, Fail> {
+    let mut packets = Vec::new(alloc);
+    for (flow, octets) in said {
+        packets.push(Spoken {
+            flow: *flow,
+            octets: Vec::from_slice(alloc, octets)?,
+        })?;
+    }
+    Ok(packets)
+}
+
+/// Packets of a client, how many requests are answered, and how many answers end an object with
+/// success.
+const ANSWERED: [(Said, usize, usize); 5] = [
+    (
+        &[
+            (Flow::Out, b"\x02\x00\x03"),
+            (Flow::Into, b"\x90\x00\x03"),
+            (Flow::Out, b"\x82\x00\x03"),
+            (Flow::Into, b"\xA0\x00\x03"),
+        ],
+        2,
+        1,
+    ),
+    (
+        &[
+            (Flow::Out, b"\x02\x00\x03"),
+            (Flow::Out, b"\x82\x00\x03"),
+            (Flow::Into, b"\xA0\x00\x03"),
+        ],
+        1,
+        1,
+    ),
+    (
+        &[
+            (Flow::Out, b"\x82\x00\x03"),
+            (Flow::Into, b"\xD0\x00\x03"),
+            (Flow::Out, b"\x81\x00\x03"),
+            (Flow::Into, b"\xA0\x00\x03"),
+        ],
+        2,
+        0,
+    ),
+    (
+        &[
+            (Flow::Out, b"\x82\x00\x03"),
+            (Flow::Out, b"\xFF\x00\x03"),
+            (Flow::Into, b"\xA0\x00\x03"),
+        ],
+        1,
+        0,
+    ),
+    (
+        &[(Flow::Into, b"\xA0\x00\x03"), (Flow::Out, b"\x82\x00\x03")],
+        0,
+        0,
+    ),
+];
+
+#[test]
+fn responses_answer_requests_in_order(rt: HostRuntime) -> Result<(), Fail> {
+    for (said, count, whole) in ANSWERED {
+        let packets = spoken(rt.alloc(), said)?;
+        let found = exchanges(rt.alloc(), Flow::Out, &packets)?;
+        let mut ended = 0_usize;
+        for one in &found {
+            if one.ends_object_with(0xA0) {
+                ended = ended.checked_add(1).ok_or("few exchanges")?;
+            }
+        }
+        assert_eq!(rt; found.len(), count);
+        assert_eq!(rt; ended, whole);
+    }
+    Ok(())
+}
+
+/// A request for the attributes of Object Push, with its transaction.
+const FIRST: &[u8] =
+    b"\x06\x00\x01\x00\x10\x35\x03\x19\x11\x05\x01\x00\x35\x06\x09\x00\x04\x09\x02\x00\x00";
+
+const SECOND: &[u8] =
+    b"\x06\x00\x02\x00\x12\x35\x03\x19\x11\x05\x01\x00\x35\x06\x09\x00\x04\x09\x02\x00\x02\x00\x02";
+
+/// Its answer in two parts, `35 00`, and an error.
+const FRONT: &[u8] = b"\x07\x00\x01\x00\x06\x00\x01\x35\x02\x00\x01";
+
+const LAST: &[u8] = b"\x07\x00\x02\x00\x04\x00\x01\x00\x00";
+
+const ERROR: &[u8] = b"\x01\x00\x01\x00\x02\x00\x03";
+
+/// SDUs of a client, and how many whole answers they bring.
+const DISCOVERED: [(Said, usize); 5] = [
+    (
+        &[
+            (Flow::Out, FIRST),
+            (Flow::Into, FRONT),
+            (Flow::Out, SECOND),
+            (Flow::Into, LAST),
+        ],
+        1,
+    ),
+    (
+        &[
+            (Flow::Out, FIRST),
+            (Flow::Into, FRONT),
+            (Flow::Into, FRONT),
+            (Flow::Out, SECOND),
+            (Flow::Into, FRONT),
+            (Flow::Into, LAST),
+        ],
+        1,
+    ),
+    (&[(Flow::Out, FIRST), (Flow::Into, FRONT)], 0),
+    (&[(Flow::Out, FIRST), (Flow::Into, LAST)], 0),
+    (
+        &[
+            (Flow::Out, SECOND),
+            (Flow::Into, ERROR),
+            (Flow::Into, LAST),
+            (Flow::Into, LAST),
+        ],
+        1,
+    ),
+];
+
+#[test]
+fn answers_are_those_of_first_replies(rt: HostRuntime) -> Result<(), Fail> {
+    for (said, count) in DISCOVERED {
+        let sdus = spoken(rt.alloc(), said)?;
+        let found = answers_in(rt.alloc(), &sdus)?;
+        assert_eq!(rt; found.len(), count);
+    }
+    let sdus = spoken(rt.alloc(), DISCOVERED[1].0)?;
+    let found = answers_in(rt.alloc(), &sdus)?;
+    let answer = found.first().ok_or("an answer")?;
+    assert!(rt; answer.as_slice() == b"\x35\x00".as_slice());
     Ok(())
 }

@@ -1,7 +1,6 @@
 use Rattle.std.proofs.Common.{sym, ap, ◌∙◌}
 use Rattle.std.specs.Prelude.{option_map}
 use Rattle.obex_headers.specs.Reader.{octets_of_all}
-use Rattle.ertm_frames.specs.Joining.{sdus_of}
 use Rattle.link_talk.specs.Lent.{plain_begun, plain_joint}
 use Rattle.link_talk.proofs.Picking.{stops}
 use Rattle.link_talk.proofs.readers.joining.joined.Goals as goal

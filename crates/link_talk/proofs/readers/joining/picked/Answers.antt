@@ -1,4 +1,4 @@
-use Rattle.std.proofs.Common.{ℕ, List, map, sym, ap, ◌∙◌}
+use Rattle.std.proofs.Common.{map, sym, ap, ◌∙◌}
 use Rattle.std.specs.Global.{Vec}
 use Rattle.link_talk.specs.declared.readers.joining.Segment.{Segment}
 use Rattle.link_talk.specs.Lent.{plain_segment}

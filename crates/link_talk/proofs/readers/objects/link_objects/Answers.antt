@@ -1,4 +1,4 @@
-use Rattle.std.proofs.Common.{ap, ◌∙◌}
+use Rattle.std.proofs.Common.{ap}
 use Rattle.link_talk.specs.declared.readers.Saying.TheVariants.{GaveUp}
 use Rattle.link_talk.specs.declared.readers.Forgone.TheVariants.{Information}
 use Rattle.link_talk.specs.ObjectsHeard.{objects_with}
