@@ -15,3 +15,5 @@ pub mod Accounting
 pub mod Booking
 pub mod Balancing
 pub mod Exampling
+pub mod Posting
+pub mod Addressing

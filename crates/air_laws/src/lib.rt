@@ -2,7 +2,7 @@
 //! the air did, and how pushes follow one another.
 #![tactic(auto)]
 
-ghost use Rattle.air_laws.specs.Accounts.{BuffersAreKept, CompletionsAreHonest};
+ghost use Rattle.air_laws.specs.Accounts.{BuffersAreKept, CapturesAreHonest};
 ghost use Rattle.air_laws.specs.AirLaws.{AirIsKept, AirIsObeyed, PushesAreMarked};
 ghost use Rattle.air_laws.specs.Example.{ExampleRuns};
 ghost use Rattle.world_model.specs.Machines.{Upper};
@@ -28,9 +28,10 @@ pub fn buffers_are_kept<S, T, G, H>()
     ensures { (U : Upper S G) (V : Upper T H) → BuffersAreKept U V }
 {}
 
-/// A controller says of no handle that more packets were completed than went out on it.
-pub fn completions_are_honest<S, T, G, H>()
-    ensures { (U : Upper S G) (V : Upper T H) → CompletionsAreHonest U V }
+/// A controller says of no handle that more packets were completed than went out on it, and each
+/// packet out of a host has the handle of the last link that it was told of.
+pub fn captures_are_honest<S, T, G, H>()
+    ensures { (U : Upper S G) (V : Upper T H) → CapturesAreHonest U V }
 {}
 
 /// The laws say something: two machines that they hold of, and a whole run of them.
