@@ -17,3 +17,5 @@ pub mod Balancing
 pub mod Exampling
 pub mod Posting
 pub mod Addressing
+pub mod Hearkening
+pub mod Linking
