@@ -112,7 +112,7 @@ account_backs limit side past one out outstanding total account = record {
 
 -- ---- a piece moves out
 
-word_is : (handle : ℕ) (boundary : Boundary) → handle ≤ 0x0EFF → (handle + 0x1000 * flag_of boundary) % 0x1000 ≡ handle
+pub word_is : (handle : ℕ) (boundary : Boundary) → handle ≤ 0x0EFF → (handle + 0x1000 * flag_of boundary) % 0x1000 ≡ handle
 word_is handle First low = omega arith
 word_is handle Continuing low = omega arith
 word_is handle FirstFromController low = omega arith

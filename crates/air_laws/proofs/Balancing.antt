@@ -33,7 +33,7 @@ use Rattle.turn_laws.proofs.Hearing.{with_coming, with_owed}
 use Rattle.turn_laws.proofs.Coming.{handed_piece, handed_answer}
 use Rattle.turn_laws.proofs.Keeping.{calling}
 use Rattle.turn_laws.proofs.Recording.{NoData}
-use Rattle.air_laws.specs.Accounts.{BuffersAreKept, CompletionsAreHonest}
+use Rattle.air_laws.specs.Accounts.{BuffersAreKept}
 use Rattle.air_laws.proofs.Knowing.{Known}
 use Rattle.air_laws.proofs.Following.{known_a, known_b, next_link, Keeps, reached_first, along}
 use Rattle.air_laws.proofs.Counting.{other_sent, other_completed, other_held}
@@ -118,7 +118,7 @@ piece_fields : (flies : Bool) (piece : Option Piece) (one : Controller) → ((wi
 piece_fields flies None one = (refl, refl, refl, refl)
 piece_fields flies (Some piece) one = (refl, refl, refl, refl)
 
-least_one : (side : Side) (past : List Entry) (one : Controller) → Known side past one → one.up ≡ true → 1 ≤ one.told
+pub least_one : (side : Side) (past : List Entry) (one : Controller) → Known side past one → one.up ≡ true → 1 ≤ one.told
 least_one side past one known up =
     let count = known.count in
     let on = known.on up in
@@ -379,5 +379,7 @@ booked_all U V size count names happenings w fits runs =
 pub buffers_are_kept : {S T G H : Type 0} (U : Upper S G) (V : Upper T H) → BuffersAreKept U V
 buffers_are_kept U V size count names happenings w fits runs = let all = booked_all U V size count names happenings w fits runs in (all.kept_a, all.kept_b)
 
-pub completions_are_honest : {S T G H : Type 0} (U : Upper S G) (V : Upper T H) → CompletionsAreHonest U V
-completions_are_honest U V size count names happenings w fits runs = let all = booked_all U V size count names happenings w fits runs in (all.honest_a, all.honest_b)
+pub completions_are_honest : {S T G H : Type 0} (U : Upper S G) (V : Upper T H) (size count : ℕ) (names : List (List ℕ)) (happenings : List Happening) (w : World S T) → Fits U V size → Runs U V happenings (first_world U V size count names) w
+    → IsHonest A (all_entries happenings) × IsHonest B (all_entries happenings)
+completions_are_honest U V size count names happenings w fits runs =
+    let all = booked_all U V size count names happenings w fits runs in (all.honest_a, all.honest_b)

@@ -15,3 +15,7 @@ pub mod Accounting
 pub mod Booking
 pub mod Balancing
 pub mod Exampling
+pub mod Posting
+pub mod Addressing
+pub mod Hearkening
+pub mod Linking

@@ -337,6 +337,9 @@ data_landed flies handle piece one =
 pub data_told : (flies : Bool) (handle : ℕ) (piece : Piece) (one : Controller) → (data_after flies handle piece one).told ≡ one.told
 data_told flies handle piece one = (data_landed flies handle piece one).told
 
+pub data_up : (flies : Bool) (handle : ℕ) (piece : Piece) (one : Controller) → (data_after flies handle piece one).up ≡ one.up
+data_up flies handle piece one = (data_landed flies handle piece one).up
+
 data_ends : (known : Option Link) (word : ℕ) (octets : List ℕ) → is_disconnect known (Acl word octets) ≡ false
 data_ends None word octets = refl
 data_ends (Some link) word octets = refl

@@ -2,7 +2,7 @@
 use Rattle.std.specs.Prelude.{ℕ, List}
 use Rattle.push_terms.specs.declared.word.Side.TheVariants.{A, B}
 use Rattle.capture.specs.Buffers.{KeepsWithin}
-use Rattle.radio_air.specs.Honest.{IsHonest}
+use Rattle.radio_air.specs.Honest.{AreHonest}
 use Rattle.world_model.specs.Machines.{Upper}
 use Rattle.world_model.specs.Worlds.{World, Happening, Runs, all_entries, first_world}
 use Rattle.turn_laws.specs.WorldLaws.{Fits}
@@ -13,8 +13,8 @@ BuffersAreKept {S} {T} U V =
     (size count : ℕ) (names : List (List ℕ)) (happenings : List Happening) (w : World S T) → Fits U V size → Runs U V happenings (first_world U V size count names) w
     → KeepsWithin A count (all_entries happenings) × KeepsWithin B count (all_entries happenings)
 
--- at each moment a controller has said of no handle that more packets were completed than went out on it
-abbrev pub CompletionsAreHonest : {S T G H : Type 0} → Upper S G → Upper T H → Type 0
-CompletionsAreHonest {S} {T} U V =
+-- controllers are honest, and what goes out of a host is of the last link that it was told of
+abbrev pub CapturesAreHonest : {S T G H : Type 0} → Upper S G → Upper T H → Type 0
+CapturesAreHonest {S} {T} U V =
     (size count : ℕ) (names : List (List ℕ)) (happenings : List Happening) (w : World S T) → Fits U V size → Runs U V happenings (first_world U V size count names) w
-    → IsHonest A (all_entries happenings) × IsHonest B (all_entries happenings)
+    → AreHonest (all_entries happenings)

@@ -1,3 +1,4 @@
 pub mod Accounts
 pub mod AirLaws
 pub mod Example
+pub mod Heard

@@ -2,9 +2,10 @@
 //! the air did, and how pushes follow one another.
 #![tactic(auto)]
 
-ghost use Rattle.air_laws.specs.Accounts.{BuffersAreKept, CompletionsAreHonest};
+ghost use Rattle.air_laws.specs.Accounts.{BuffersAreKept, CapturesAreHonest};
 ghost use Rattle.air_laws.specs.AirLaws.{AirIsKept, AirIsObeyed, PushesAreMarked};
 ghost use Rattle.air_laws.specs.Example.{ExampleRuns};
+ghost use Rattle.air_laws.specs.Heard.{LinksAreHeard};
 ghost use Rattle.world_model.specs.Machines.{Upper};
 
 /// What comes into the hosts is what the words hand over, in each run, wherever it broke off.
@@ -28,9 +29,16 @@ pub fn buffers_are_kept<S, T, G, H>()
     ensures { (U : Upper S G) (V : Upper T H) → BuffersAreKept U V }
 {}
 
-/// A controller says of no handle that more packets were completed than went out on it.
-pub fn completions_are_honest<S, T, G, H>()
-    ensures { (U : Upper S G) (V : Upper T H) → CompletionsAreHonest U V }
+/// A controller says of no handle that more packets were completed than went out on it, and each
+/// packet out of a host has the handle of the last link that it was told of.
+pub fn captures_are_honest<S, T, G, H>()
+    ensures { (U : Upper S G) (V : Upper T H) → CapturesAreHonest U V }
+{}
+
+/// The n-th link of one host is the n-th of the other, and what came into each on it is what comes of
+/// what went out of the other, by fates that it met in order.
+pub fn links_are_heard<S, T, G, H>()
+    ensures { (U : Upper S G) (V : Upper T H) → LinksAreHeard U V }
 {}
 
 /// The laws say something: two machines that they hold of, and a whole run of them.

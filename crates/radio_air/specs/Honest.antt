@@ -1,5 +1,5 @@
 -- Honest controllers, over the finished capture (Core 5.1, Volume 2 Part E, 4.1.1 and 7.7.19).
-use Rattle.std.specs.Prelude.{ℕ, ◌%◌, ◌≡◌, ◌≤◌, ◌==◌, List, [], sum_by, Option, Some, None, if◌then◌else◌}
+use Rattle.std.specs.Prelude.{ℕ, ◌%◌, ◌≡◌, ◌≤◌, ◌==◌, List, [], length, sum_by, Some, if◌then◌else◌}
 use Rattle.std.specs.List.{flat_map}
 use Rattle.h4_framing.specs.Packets.{Packet, Acl}
 use Rattle.acl_credits.specs.Histories.{BufferEvent, Sent, Completed}
@@ -9,8 +9,7 @@ use Rattle.capture.specs.declared.flow.Flow.TheVariants.{Out}
 use Rattle.capture.specs.Histories.{AtEach, EachAfter}
 use Rattle.capture.specs.Entries.{Entry, Moved}
 use Rattle.capture.specs.Moves.{moves}
-use Rattle.capture.specs.Links.{Link, links}
-use Rattle.capture.specs.Channels.{last_of}
+use Rattle.capture.specs.Links.{Link, links, link_up}
 use Rattle.capture.specs.Buffers.{buffer_events}
 
 -- the packets that went out on a handle, and those that were said to be completed on it
@@ -33,17 +32,19 @@ all_completed side handle past = sum_by (completed_on handle) (flat_map buffer_e
 abbrev pub IsHonest : Side → List Entry → Type 0
 IsHonest side entries = AtEach (λ past. (handle : ℕ) → all_completed side handle past ≤ all_sent side handle past) entries
 
--- a packet out of a host has the handle of the last link that it was told of: it may have put the packet out before it was told
--- that the link is gone
-abbrev pub IsOnLink : ℕ → Option Link → Type 0
-IsOnLink word None = ⊥
-IsOnLink word (Some link) = word % 0x1000 ≡ link.handle
+-- the n-th link of a host has handle n
+abbrev pub IsNumbered : Side → List Entry → Type 0
+IsNumbered side past = (link : Link) → link_up side past ≡ Some link → link.handle ≡ length (links side past)
 
+-- A packet out of a host has the handle of the last link that it was told of: it may have put the packet out before it was told that
+-- the link is gone.
 abbrev pub IsOnItsLink : List Entry → Entry → Type 0
-IsOnItsLink past (Moved side Out (Acl word octets)) = IsOnLink word (last_of (links side past))
+IsOnItsLink past (Moved side Out (Acl word octets)) = (1 ≤ length (links side past)) × (word % 0x1000 ≡ length (links side past))
 IsOnItsLink past entry = Unit {0}
 
 pub record AreHonest (entries : List Entry) : Type 0 where
   pub a : IsHonest sides.A entries
   pub b : IsHonest sides.B entries
+  pub numbered_a : AtEach (IsNumbered sides.A) entries
+  pub numbered_b : AtEach (IsNumbered sides.B) entries
   pub handles : EachAfter IsOnItsLink [] entries
