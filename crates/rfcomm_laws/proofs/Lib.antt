@@ -7,3 +7,9 @@ pub mod Falling
 pub mod Resting
 pub mod Splitting
 pub mod Spelling
+pub mod Harm
+pub mod Harmless
+pub mod Telling
+pub mod Passing
+pub mod Ways
+pub mod Crossings

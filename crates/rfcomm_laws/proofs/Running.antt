@@ -222,7 +222,7 @@ if_speaks : (role : Role) (d : ℕ) (is_open : Bool) (b : Body) (t : Bool) (said
 if_speaks role d is_open b true said s = s refl
 if_speaks role d is_open b false said s = tt
 
-grant_if : (cap peer : ℕ) (low : Bool) → nat_le (2 * peer) cap ≡ low → peer ≤ 40 → cap ≤ 40 → peer + cond low (cap - peer) 0 ≤ 40
+pub grant_if : (cap peer : ℕ) (low : Bool) → nat_le (2 * peer) cap ≡ low → peer ≤ 40 → cap ≤ 40 → peer + cond low (cap - peer) 0 ≤ 40
 grant_if cap peer true is few most = let h = leb-true (2 * peer) cap is in omega arith
 grant_if cap peer false is few most = omega arith
 
@@ -245,7 +245,7 @@ grant_speaks role d is_open b =
     })
     (λ e. refl))
 
-both_true : (a b : Bool) → (a && b) ≡ true → (a ≡ true) × (b ≡ true)
+pub both_true : (a b : Bool) → (a && b) ≡ true → (a ≡ true) × (b ≡ true)
 both_true true b is = (refl, is)
 both_true false b is = let never : false ≡ true = is in cc
 

@@ -4,3 +4,4 @@ pub mod Happenings
 pub mod Rests
 pub mod Assembling
 pub mod Links
+pub mod Closings

@@ -10,8 +10,8 @@ use Rattle.rfcomm_model.specs.Machine.{Mux, new_mux, may_pass, is_ready, taken_c
 use Rattle.rfcomm_model.specs.Hearing.{hears, up}
 use Rattle.rfcomm_model.specs.Saying.{Said, next, after_next}
 use Rattle.rfcomm_model.specs.Sides.{handed}
-use Rattle.rfcomm_laws.specs.Pairs.{End, Pair, Turn, ByInitiator, ByResponder, Move, Speak, Give, Deliver, Terms, new_pair, without_first, IsFront}
-use Rattle.rfcomm_laws.specs.Happenings.{Happening, Moves, Closes, happens, all_happen}
+use Rattle.rfcomm_laws.specs.Pairs.{End, Pair, Turn, ByInitiator, ByResponder, Move, Speak, Give, Deliver, Terms, new_pair, IsFront}
+use Rattle.rfcomm_laws.specs.Happenings.{Happening, Moves, Closes, all_happen}
 
 -- a side, the SDUs that it sent and that are on their way, the octets that it took to be sent, and those that it handed up
 pub record LinkEnd : Type 0 where

@@ -2,6 +2,7 @@
 #![tactic(auto)]
 
 ghost use Rattle.rfcomm_laws.specs.Assembling.{PiecesAreOfOneStream};
+ghost use Rattle.rfcomm_laws.specs.Closings.{ClosingsAreOrderly};
 ghost use Rattle.rfcomm_laws.specs.Covers.{CreditsCover};
 ghost use Rattle.rfcomm_laws.specs.Happenings.{FramesAreFew};
 ghost use Rattle.rfcomm_laws.specs.Links.{SdusAreFrames, LinksArePipes, StillLinksAreDone};
@@ -46,4 +47,10 @@ pub fn sdus_are_frames()
 pub fn links_are_pipes()
     ensures pipes { LinksArePipes }
     ensures still { StillLinksAreDone }
+{}
+
+/// Either side, or both, may be told to close at any moment, also while the channel opens: neither refuses what the other
+/// sent, so each is closed by DISC or DM if at all, and what came is a front of what went, both ways.
+pub fn closings_are_orderly()
+    ensures { ClosingsAreOrderly }
 {}
