@@ -23,8 +23,10 @@ use Rattle.rfcomm_laws.specs.Pairs.{End, Speak, Give, Deliver, spoken, taking, w
 use Rattle.rfcomm_laws.specs.Happenings.{Happening, Moves, Closes, happens, all_happen}
 use Rattle.rfcomm_laws.specs.Closings.{ClosingsAreOrderly}
 use Rattle.rfcomm_laws.proofs.Running.{both_true}
-use Rattle.rfcomm_laws.proofs.Harm.{bonus_of, bonuses_of, cost_of, costs_of, rank, is_over, is_far, AllWait, SoundAsks, Step, not_before}
-use Rattle.rfcomm_laws.proofs.Harmless.{Fit, still_fit, SoundIn, asks_in, opens_in, word_to, heard_step}
+use Rattle.rfcomm_laws.specs.Totals.{bonus_of, cost_of}
+use Rattle.rfcomm_laws.proofs.Harm.{bonuses_of, costs_of, rank, is_over, is_far, AllWait, SoundAsks, Step, not_before}
+use Rattle.rfcomm_laws.proofs.Turning.{Fit, still_fit}
+use Rattle.rfcomm_laws.proofs.Harmless.{SoundIn, asks_in, opens_in, word_to, heard_step}
 use Rattle.rfcomm_laws.proofs.Telling.{SaysWell, says_well}
 use Rattle.rfcomm_laws.proofs.Passing.{hands, ua_opens}
 use Rattle.rfcomm_laws.proofs.Ways.{AllSound, all_sound_later, flows_of, opens_any, any_more, far_rises, asks_later, or_cases, own_says, other_says, away, heard_end, front_over, stream_comes, Way, way_front}
@@ -32,7 +34,7 @@ use Rattle.rfcomm_laws.proofs.Ways.{AllSound, all_sound_later, flows_of, opens_a
 -- ---- a frame comes
 
 -- what hearing makes of the hearer, of frames that keep the rules
-step_of : (from : Role) (d : ℕ) (s h : End) (f : PlainFrame) (fs : List PlainFrame) → s.queue ≡ f ∷ fs → Way from d s h → Fit d h.mux → Step (word_to s.mux.agreed h.mux f) (bonus_of d f) (cost_of f) h.mux (hears_answer (Ok f) h.mux)
+pub step_of : (from : Role) (d : ℕ) (s h : End) (f : PlainFrame) (fs : List PlainFrame) → s.queue ≡ f ∷ fs → Way from d s h → Fit d h.mux → Step (word_to s.mux.agreed h.mux f) (bonus_of d f) (cost_of f) h.mux (hears_answer (Ok f) h.mux)
 step_of from d s h f fs is w fit =
     let sound = subst (AllSound s.mux.agreed h.mux.agreed d) is w.sound in
     heard_step s.mux.agreed d f h.mux fit (subst (λ (n : ℕ). SoundIn s.mux.agreed h.mux.agreed n f.kind f) (sym fit.dlci) sound.0)
@@ -188,11 +190,11 @@ asks_any d [] = false
 asks_any d (f ∷ fs) = asks_in d f.kind f || asks_any d fs
 
 -- the initiator asked for the user channel before anyone else knows of it, and the responder agreed before its UA goes
-record Knows (d : ℕ) (i r : End) : Type 0 where
+pub record Knows (d : ℕ) (i r : End) : Type 0 where
   pub idle : i.mux.user ≡ Idle → (r.mux.user ≡ Idle) × (asks_any d i.queue ≡ false)
   pub opened : opens_any Responder d r.queue ≡ true → is_far r.mux.user ≡ true
 
-record Crossing (d : ℕ) (p : Pair) : Type 0 where
+pub record Crossing (d : ℕ) (p : Pair) : Type 0 where
   pub forth : Way Initiator d p.initiator p.responder
   pub back : Way Responder d p.responder p.initiator
   pub knows : Knows d p.initiator p.responder
@@ -350,7 +352,7 @@ leaves_user m = user_if (is_none m.closed && not (is_leaving m.asks))
     user_if true = refl
     user_if false = refl
 
-step : (d : ℕ) (h : Happening) (p : Pair) → Crossing d p → Crossing d (happens h p)
+pub step : (d : ℕ) (h : Happening) (p : Pair) → Crossing d p → Crossing d (happens h p)
 step d (Moves (ByInitiator Speak)) p c =
     initiator_says d p.initiator p.responder c (next p.initiator.mux) (says_well p.responder.mux.agreed d p.initiator.mux c.forth.fit c.forth.waits c.forth.asks)
 step d (Moves (ByResponder Speak)) p c =
@@ -387,7 +389,7 @@ few_first cap most = few_if (nat_le cap 7)
     few_if true = most
     few_if false = omega arith
 
-first : (t : Terms) → Crossing t.dlci (new_pair t)
+pub first : (t : Terms) → Crossing t.dlci (new_pair t)
 first t = record {
   forth = record {
     fit = record { some = t.some; dlci = refl; least = t.least; most = t.most };

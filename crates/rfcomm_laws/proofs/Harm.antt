@@ -7,9 +7,8 @@ use Rattle.rfcomm_frames.specs.declared.connection.Dlc.{Dlc}
 use Rattle.rfcomm_frames.specs.declared.connection.Dlc.TheVariants.{Idle, Asked, Open, Ended}
 use Rattle.rfcomm_frames.specs.Frames.{PlainFrame}
 use Rattle.rfcomm_frames.specs.Controls.{pn, msc, test, rpn, rls, nsc, other}
-use Rattle.rfcomm_frames.specs.FrameReading.{MessageAnswer, messages, is_empty}
+use Rattle.rfcomm_frames.specs.FrameReading.{MessageAnswer, messages}
 use Rattle.rfcomm_frames.specs.Connections.{is_ended}
-use Rattle.rfcomm_frames.specs.Multiplexing.{stated_by, credit_octet}
 use Rattle.rfcomm_model.specs.declared.state.MuxReason.{MuxReason}
 use Rattle.rfcomm_model.specs.declared.state.Command.TheVariants.{OpenControl, Agree, OpenUser, Signal, LeaveUser, LeaveControl}
 use Rattle.rfcomm_model.specs.declared.state.Asks.{Asks}
@@ -17,37 +16,13 @@ use Rattle.rfcomm_model.specs.declared.state.Asks.TheVariants.{Nothing, Due, Awa
 use Rattle.rfcomm_model.specs.Machine.{Mux, closes}
 use Rattle.rfcomm_model.specs.Hearing.{answering, own_credits}
 use Rattle.rfcomm_laws.specs.Closings.{IsOrderly}
+use Rattle.rfcomm_laws.specs.Totals.{bonus_of, cost_of}
 
 -- ---- what frames bring and cost
-
-abbrev pub stated_sum : ℕ → List MessageAnswer → ℕ
-stated_sum d [] = 0
-stated_sum d (message ∷ rest) = stated_by d message + stated_sum d rest
-
--- the credits that a frame brings at most, and what it costs
-abbrev pub bonus_in : ℕ → MuxKind → PlainFrame → ℕ
-bonus_in d Sabm f = 0
-bonus_in d Ua f = 0
-bonus_in d Dm f = 0
-bonus_in d Disc f = 0
-bonus_in d Uih f = cond (f.dlci == 0) (stated_sum d (messages f.octets)) (credit_octet f.credits)
-
-abbrev pub bonus_of : ℕ → PlainFrame → ℕ
-bonus_of d f = bonus_in d f.kind f
 
 abbrev pub bonuses_of : ℕ → List PlainFrame → ℕ
 bonuses_of d [] = 0
 bonuses_of d (f ∷ fs) = bonus_of d f + bonuses_of d fs
-
-abbrev pub cost_in : MuxKind → PlainFrame → ℕ
-cost_in Sabm f = 0
-cost_in Ua f = 0
-cost_in Dm f = 0
-cost_in Disc f = 0
-cost_in Uih f = cond (f.dlci == 0) 0 (cond (is_empty f.octets) 0 1)
-
-abbrev pub cost_of : PlainFrame → ℕ
-cost_of f = cost_in f.kind f
 
 abbrev pub costs_of : List PlainFrame → ℕ
 costs_of [] = 0

@@ -13,3 +13,5 @@ pub mod Telling
 pub mod Passing
 pub mod Ways
 pub mod Crossings
+pub mod Summing
+pub mod Turning

@@ -20,8 +20,10 @@ use Rattle.rfcomm_model.specs.Sides.{handed}
 use Rattle.rfcomm_model.proofs.Stepping.{and_false}
 use Rattle.rfcomm_laws.specs.Pairs.{handed_by}
 use Rattle.rfcomm_laws.proofs.Running.{both_true}
-use Rattle.rfcomm_laws.proofs.Harm.{bonus_in, bonus_of, cost_in, cost_of, is_over, is_far, stated_sum}
-use Rattle.rfcomm_laws.proofs.Harmless.{Fit, opens_in}
+use Rattle.rfcomm_laws.specs.Totals.{bonus_in, bonus_of, cost_in, cost_of, stated_sum}
+use Rattle.rfcomm_laws.proofs.Harm.{is_over, is_far}
+use Rattle.rfcomm_laws.proofs.Turning.{Fit}
+use Rattle.rfcomm_laws.proofs.Harmless.{opens_in}
 use Rattle.rfcomm_laws.proofs.Telling.{flow_in, flow_of}
 
 -- ---- whether octets pass

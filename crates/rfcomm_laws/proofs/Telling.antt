@@ -26,8 +26,10 @@ use Rattle.rfcomm_model.specs.Saying.{Said, passed_on, passes, frame_of_command,
 use Rattle.rfcomm_model.proofs.Stepping.{cond_same}
 use Rattle.rfcomm_laws.proofs.Opening.{msc_read, pn_read}
 use Rattle.rfcomm_laws.proofs.Running.{grant_if, both_true}
-use Rattle.rfcomm_laws.proofs.Harm.{stated_sum, bonus_of, bonuses_of, cost_in, cost_of, rank, is_over, SoundMessages, WaitsIn, AllWait, SoundAsks, all_later, is_far}
-use Rattle.rfcomm_laws.proofs.Harmless.{Fit, over_more, none_of, SoundIn, is_responder, asks_in, opens_in}
+use Rattle.rfcomm_laws.specs.Totals.{stated_sum, bonus_of, cost_in, cost_of}
+use Rattle.rfcomm_laws.proofs.Harm.{bonuses_of, rank, is_over, SoundMessages, WaitsIn, AllWait, SoundAsks, all_later, is_far}
+use Rattle.rfcomm_laws.proofs.Turning.{Fit, over_more, none_of}
+use Rattle.rfcomm_laws.proofs.Harmless.{SoundIn, is_responder, asks_in, opens_in}
 
 -- what a UIH frame costs, on the control channel or not, empty or not
 abbrev cond_cost : Bool → Bool → ℕ

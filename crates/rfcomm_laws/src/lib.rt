@@ -8,6 +8,7 @@ ghost use Rattle.rfcomm_laws.specs.Happenings.{FramesAreFew};
 ghost use Rattle.rfcomm_laws.specs.Links.{SdusAreFrames, LinksArePipes, StillLinksAreDone, LinksCloseInOrder};
 ghost use Rattle.rfcomm_laws.specs.Pairs.{PairsArePipes};
 ghost use Rattle.rfcomm_laws.specs.Rests.{StillIsDone};
+ghost use Rattle.rfcomm_laws.specs.Totals.{NoneIsOverdrawn};
 
 /// The two sides are a pipe of octets each way, and neither closes, whatever frames are under way.
 pub fn pairs_are_pipes()
@@ -55,4 +56,10 @@ pub fn links_are_pipes()
 /// sent, so each is closed by DISC or DM if at all, and what came is a front of what went, both ways.
 pub fn closings_are_orderly()
     ensures { ClosingsAreOrderly }
+{}
+
+/// At every moment, through openings and closings: a side sent no more frames with information than the other one granted
+/// credits, by PN and in credit octets.
+pub fn none_is_overdrawn()
+    ensures { NoneIsOverdrawn }
 {}
