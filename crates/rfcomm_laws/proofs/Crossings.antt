@@ -150,7 +150,7 @@ other_asked from d s h asks waiting put w = record {
 }
 
 -- both directions after octets were given
-record Asked2 (from to : Role) (d : ℕ) (s h : End) : Type 0 where
+record BothWays (from to : Role) (d : ℕ) (s h : End) : Type 0 where
   pub own : Way from d s h
   pub peer : Way to d h s
 
@@ -159,7 +159,7 @@ empty_is [] is = refl
 empty_is (x ∷ xs) is = let never : false ≡ true = is in cc
 
 takes_if : (from to : Role) (d : ℕ) (s h : End) (octets : List ℕ) (k : ℕ) (test : Bool) → (test ≡ true → s.mux.waiting ≡ []) → Way from d s h → Way to d h s
-    → Asked2 from to d (record { mux = cond test (record s.mux { waiting = take (cond test k 0) octets }) s.mux; queue = s.queue; put = s.put ++ take (cond test k 0) octets; got = s.got }) h
+    → BothWays from to d (record { mux = cond test (record s.mux { waiting = take (cond test k 0) octets }) s.mux; queue = s.queue; put = s.put ++ take (cond test k 0) octets; got = s.got }) h
 takes_if from to d s h octets k true free w v = record {
   own = own_asked from d s h s.mux.asks (take k octets) (take k octets) w.asks (λ e. ap (λ (xs : List ℕ). xs ++ take k octets) (sym (free refl))) w;
   peer = other_asked to d h s s.mux.asks (take k octets) (s.put ++ take k octets) v;
@@ -169,13 +169,13 @@ takes_if from to d s h octets k false free w v = record {
   peer = other_asked to d h s s.mux.asks s.mux.waiting (s.put ++ []) v;
 }
 
-gives_if : (from to : Role) (d : ℕ) (s h : End) (octets : List ℕ) (may : Bool) → Way from d s h → Way to d h s → Asked2 from to d (cond may (taking octets s) s) h
+gives_if : (from to : Role) (d : ℕ) (s h : End) (octets : List ℕ) (may : Bool) → Way from d s h → Way to d h s → BothWays from to d (cond may (taking octets s) s) h
 gives_if from to d s h octets true w v =
     takes_if from to d s h octets (cond (nat_le (length octets) s.mux.frame) (length octets) s.mux.frame) (is_empty s.mux.waiting && nat_lt 0 s.mux.account.held)
     (λ is. empty_is s.mux.waiting (both_true (is_empty s.mux.waiting) (nat_lt 0 s.mux.account.held) is).0) w v
 gives_if from to d s h octets false w v = record { own = w; peer = v }
 
-closes_if : (from to : Role) (d : ℕ) (s h : End) (test : Bool) → Way from d s h → Way to d h s → Asked2 from to d (record { mux = cond test (record s.mux { asks = Due LeaveUser }) s.mux; queue = s.queue; put = s.put; got = s.got }) h
+closes_if : (from to : Role) (d : ℕ) (s h : End) (test : Bool) → Way from d s h → Way to d h s → BothWays from to d (record { mux = cond test (record s.mux { asks = Due LeaveUser }) s.mux; queue = s.queue; put = s.put; got = s.got }) h
 closes_if from to d s h true w v = record {
   own = subst (λ (put : List ℕ). Way from d (record { mux = record s.mux { asks = Due LeaveUser }; queue = s.queue; put = put; got = s.got }) h) (append-nil s.put)
       (own_asked from d s h (Due LeaveUser) s.mux.waiting [] tt (λ e. sym (append-nil s.mux.waiting)) w);
