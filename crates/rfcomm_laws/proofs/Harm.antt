@@ -1,58 +1,28 @@
 -- What a side hears of a peer that keeps the rules does no harm: a step of a multiplexer, with what it owes.
-use Rattle.std.proofs.Common.{arith, ◌≡◌, ◌⊎◌, inl, inr, ◌<◌, ◌≤◌, ℕ, zero, suc, ◌==◌, ◌+◌, ◌-◌, ◌*◌, ◌/◌, ◌%◌, Bool, true, false, ◌&&◌, ◌||◌, cond, List, [], ◌∷◌, ◌++◌, length, Option, Some, None, Ok, Err, refl, sym, ap, subst, ◌∙◌}
-use Rattle.std.specs.Prelude.{not, nat_lt, nat_le, is_some}
-use Rattle.std.proofs.lemmas.Bool.{lt-ltb, le-ltb, ltb-true, eqb-true, ne_eqb}
+use Rattle.std.proofs.Common.{arith, ◌≡◌, ◌⊎◌, inl, inr, ◌≤◌, ℕ, ◌==◌, ◌+◌, ◌/◌, Bool, true, false, ◌||◌, cond, List, [], ◌∷◌, ◌++◌, Some, None, Ok, Err, refl, sym, subst, ◌∙◌}
+use Rattle.std.specs.Prelude.{nat_lt, is_some}
 use Rattle.rfcomm_frames.specs.declared.frame.MuxKind.{MuxKind}
 use Rattle.rfcomm_frames.specs.declared.frame.MuxKind.TheVariants.{Sabm, Ua, Dm, Disc, Uih}
-use Rattle.rfcomm_frames.specs.declared.connection.Role.{Role}
-use Rattle.rfcomm_frames.specs.declared.connection.Role.TheVariants.{Initiator, Responder}
 use Rattle.rfcomm_frames.specs.declared.connection.Dlc.{Dlc}
 use Rattle.rfcomm_frames.specs.declared.connection.Dlc.TheVariants.{Idle, Asked, Open, Ended}
 use Rattle.rfcomm_frames.specs.Frames.{PlainFrame}
-use Rattle.rfcomm_frames.specs.Controls.{PlainControl, pn, msc, test, rpn, rls, nsc, other, written}
-use Rattle.rfcomm_frames.specs.FrameReading.{MessageAnswer, messages, is_empty}
-use Rattle.rfcomm_frames.specs.Connections.{other_role, turned, asked, agreed, is_ended}
-use Rattle.rfcomm_frames.specs.Multiplexing.{stated_by, credit_octet}
+use Rattle.rfcomm_frames.specs.Controls.{pn, msc, test, rpn, rls, nsc, other}
+use Rattle.rfcomm_frames.specs.FrameReading.{MessageAnswer, messages}
+use Rattle.rfcomm_frames.specs.Connections.{is_ended}
 use Rattle.rfcomm_model.specs.declared.state.MuxReason.{MuxReason}
-use Rattle.rfcomm_model.specs.declared.state.MuxReason.TheVariants as reasons
 use Rattle.rfcomm_model.specs.declared.state.Command.TheVariants.{OpenControl, Agree, OpenUser, Signal, LeaveUser, LeaveControl}
 use Rattle.rfcomm_model.specs.declared.state.Asks.{Asks}
 use Rattle.rfcomm_model.specs.declared.state.Asks.TheVariants.{Nothing, Due, Awaited}
 use Rattle.rfcomm_model.specs.Machine.{Mux, closes}
-use Rattle.rfcomm_model.specs.Written.{response_frame, control_frame}
-use Rattle.rfcomm_model.specs.Hearing.{has_room, answering, own_credits}
+use Rattle.rfcomm_model.specs.Hearing.{answering, own_credits}
 use Rattle.rfcomm_laws.specs.Closings.{IsOrderly}
+use Rattle.rfcomm_laws.specs.Totals.{bonus_of, cost_of}
 
 -- ---- what frames bring and cost
-
-abbrev pub stated_sum : ℕ → List MessageAnswer → ℕ
-stated_sum d [] = 0
-stated_sum d (message ∷ rest) = stated_by d message + stated_sum d rest
-
--- the credits that a frame brings at most, and what it costs
-abbrev pub bonus_in : ℕ → MuxKind → PlainFrame → ℕ
-bonus_in d Sabm f = 0
-bonus_in d Ua f = 0
-bonus_in d Dm f = 0
-bonus_in d Disc f = 0
-bonus_in d Uih f = cond (f.dlci == 0) (stated_sum d (messages f.octets)) (credit_octet f.credits)
-
-abbrev pub bonus_of : ℕ → PlainFrame → ℕ
-bonus_of d f = bonus_in d f.kind f
 
 abbrev pub bonuses_of : ℕ → List PlainFrame → ℕ
 bonuses_of d [] = 0
 bonuses_of d (f ∷ fs) = bonus_of d f + bonuses_of d fs
-
-abbrev pub cost_in : MuxKind → PlainFrame → ℕ
-cost_in Sabm f = 0
-cost_in Ua f = 0
-cost_in Dm f = 0
-cost_in Disc f = 0
-cost_in Uih f = cond (f.dlci == 0) 0 (cond (is_empty f.octets) 0 1)
-
-abbrev pub cost_of : PlainFrame → ℕ
-cost_of f = cost_in f.kind f
 
 abbrev pub costs_of : List PlainFrame → ℕ
 costs_of [] = 0
@@ -180,6 +150,7 @@ pub record Step (w : Word) (b c : ℕ) (m m' : Mux) : Type 0 where
   pub over : is_over m ≡ true → is_over m' ≡ true
   pub idle : m.user ≡ Idle → (m'.user ≡ Idle) ⊎ (w.asks ≡ true)
   pub far : is_over m' ≡ false → is_far m'.user ≡ true → (is_far m.user ≡ true) ⊎ (w.opens ≡ true)
+  pub kept : m'.closed ≡ None → (m.closed ≡ None) × (m'.waiting ≡ m.waiting)
   pub agrees : m.agreed ≡ true → m'.agreed ≡ true
   pub waits : AllWait m.agreed (rank m.user) m.dlci m.answers → AllWait m'.agreed (rank m'.user) m.dlci m'.answers
   pub asks : SoundAsks w.terms m.asks → SoundAsks w.terms m'.asks
@@ -199,6 +170,7 @@ step_same w b c m = record {
   over = λ o. o;
   idle = λ e. inl e;
   far = λ o f. inl f;
+  kept = λ e. (e, refl);
   agrees = λ a. a;
   waits = λ all. all;
   asks = λ a. a;
@@ -226,6 +198,7 @@ step_then w b c b' c' m x y s t =
       over = λ o. t.over (s.over o);
       idle = λ e. elim (s.idle e) [ inl still ↦ t.idle still | inr asks ↦ inr asks ];
       far = λ o f. elim (t.far o f) [ inl before ↦ s.far (not_before (is_over x) (is_over y) t.over o) before | inr opens ↦ inr opens ];
+      kept = λ e. let later = t.kept e in let first = s.kept later.0 in (first.0, later.1 ∙ first.1);
       agrees = λ a. t.agrees (s.agrees a);
       waits = λ all. subst (λ (d : ℕ). AllWait y.agreed (rank y.user) d y.answers) same (t.waits (subst (λ (d : ℕ). AllWait x.agreed (rank x.user) d x.answers) (sym same) (s.waits all)));
       asks = λ a. t.asks (s.asks a);
@@ -247,6 +220,7 @@ step_more w b c b' c' m x more most s = record {
   over = s.over;
   idle = s.idle;
   far = s.far;
+  kept = s.kept;
   agrees = s.agrees;
   waits = s.waits;
   asks = s.asks;
@@ -272,6 +246,7 @@ step_closes w b c reason m fine = record {
   over = λ o. refl;
   idle = λ e. inl e;
   far = λ o f. inl f;
+  kept = λ e. let never : Some reason ≡ None = e in cc;
   agrees = λ a. a;
   waits = λ all. all;
   asks = λ a. tt;
@@ -296,6 +271,7 @@ step_answers w b c m x f s owed waiting =
       over = s.over;
       idle = s.idle;
       far = s.far;
+      kept = s.kept;
       agrees = s.agrees;
       waits = λ all. all_wait_more x.agreed (rank x.user) m.dlci x.answers f (s.waits all) waiting;
       asks = s.asks;

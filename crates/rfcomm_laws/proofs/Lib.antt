@@ -10,3 +10,8 @@ pub mod Spelling
 pub mod Harm
 pub mod Harmless
 pub mod Telling
+pub mod Passing
+pub mod Ways
+pub mod Crossings
+pub mod Summing
+pub mod Turning

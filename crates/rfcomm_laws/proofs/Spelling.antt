@@ -1,5 +1,5 @@
 -- Sides that send SDUs do what sides that send frames do.
-use Rattle.std.proofs.Common.{◌≡◌, ℕ, Bool, true, false, cond, List, [], ◌∷◌, ◌++◌, map, length, take, Option, Some, None, Ok, refl, sym, ap, subst, ◌∙◌}
+use Rattle.std.proofs.Common.{◌≡◌, ℕ, Bool, true, false, cond, List, [], ◌∷◌, ◌++◌, map, Option, Some, None, Ok, refl, sym, ap, subst, ◌∙◌}
 use Rattle.std.specs.Prelude.{not, ◌&&◌}
 use Rattle.rfcomm_frames.specs.declared.connection.Role.{Role}
 use Rattle.rfcomm_frames.specs.declared.connection.Role.TheVariants.{Initiator, Responder}
@@ -7,14 +7,16 @@ use Rattle.rfcomm_frames.specs.Frames.{PlainFrame}
 use Rattle.rfcomm_frames.specs.Answers.{Answer}
 use Rattle.rfcomm_frames.specs.FrameReading.{frame_answer}
 use Rattle.rfcomm_frames.proofs.FrameReading.{spelled_answered}
-use Rattle.rfcomm_model.specs.Machine.{Mux, may_pass, is_ready, taken_count, sends, leaves}
-use Rattle.rfcomm_model.specs.Hearing.{hears, hears_answer, news, read_data, up}
+use Rattle.rfcomm_model.specs.Machine.{Mux, may_pass, is_ready}
+use Rattle.rfcomm_model.specs.Hearing.{hears_answer, news, read_data}
 use Rattle.rfcomm_model.specs.Saying.{Said, next, after_said}
 use Rattle.rfcomm_model.specs.Sides.{handed}
-use Rattle.rfcomm_laws.specs.Pairs.{End, Move, Speak, Give, Deliver, spoken, taking, without_first, near, far, hearing, Pair, Turn, ByInitiator, ByResponder, turn, all_turns, Terms, new_pair, Pipes}
-use Rattle.rfcomm_laws.specs.Happenings.{Happening, Moves, Closes, closing, happens, all_happen}
+use Rattle.rfcomm_laws.specs.Pairs.{End, Move, Speak, Give, Deliver, spoken, taking, without_first, near, far, hearing, Pair, Turn, turn, all_turns, Terms, new_pair, Pipes}
+use Rattle.rfcomm_laws.specs.Happenings.{closing, happens, all_happen}
 use Rattle.rfcomm_laws.specs.Rests.{IsStill, IsDone}
-use Rattle.rfcomm_laws.specs.Links.{LinkEnd, Link, Act, Sends, Gives, Delivers, Leaves, LinkDeed, first_away, gives, own_end, hears_first, other_end, done_by, all_done, IsOf, IsSent, side_of, IsRun, new_link, IsStaying, AllStay, move_of, by_role, happening_of, AreFrames, MirrorsEnd, Mirrors, SdusAreFrames, LinkPipes, LinksArePipes, LinkIsStill, LinkIsDone, StillLinksAreDone}
+use Rattle.rfcomm_laws.specs.Links.{LinkEnd, Link, Act, Sends, Gives, Delivers, Leaves, LinkDeed, first_away, gives, own_end, hears_first, other_end, done_by, all_done, IsOf, IsSent, side_of, IsRun, new_link, IsStaying, AllStay, move_of, by_role, happening_of, AreFrames, MirrorsEnd, Mirrors, SdusAreFrames, LinkPipes, LinksArePipes, LinkIsStill, LinkIsDone, StillLinksAreDone, LinkClosesInOrder, LinksCloseInOrder}
+use Rattle.rfcomm_laws.specs.Closings.{IsOrderly, ClosesInOrder}
+use Rattle.rfcomm_laws.proofs.Crossings.{closings-are_orderly}
 use Rattle.rfcomm_laws.proofs.Stages.{pairs-are_pipes}
 use Rattle.rfcomm_laws.proofs.Resting.{still-is_done}
 
@@ -184,3 +186,20 @@ link_done l p m done still =
 pub still-links_are_done : StillLinksAreDone
 still-links_are_done t deeds stay run still =
     link_done (all_done deeds (new_link t)) (all_turns (turns_of deeds) (new_pair t)) (turned t deeds stay run) (still-is_done t (turns_of deeds)) still
+
+-- ---- whoever is told to close
+
+link_closes : (l : Link) (p : Pair) → Mirrors l p → ClosesInOrder p → LinkClosesInOrder l
+link_closes l p m c =
+    let i = m.initiator in
+    let r = m.responder in
+    record {
+      initiator_orderly = subst (λ (x : Mux). IsOrderly x.closed) (sym i.mux) c.initiator_orderly;
+      responder_orderly = subst (λ (x : Mux). IsOrderly x.closed) (sym r.mux) c.responder_orderly;
+      forth = (c.forth.0, i.put ∙ c.forth.1 ∙ ap (λ (xs : List ℕ). xs ++ c.forth.0) (sym r.got));
+      back = (c.back.0, r.put ∙ c.back.1 ∙ ap (λ (xs : List ℕ). xs ++ c.back.0) (sym i.got));
+    }
+
+pub links-close_in_order : LinksCloseInOrder
+links-close_in_order t deeds run =
+    link_closes (all_done deeds (new_link t)) (all_happen (map happening_of deeds) (new_pair t)) (sdus-are_frames t deeds run) (closings-are_orderly t (map happening_of deeds))

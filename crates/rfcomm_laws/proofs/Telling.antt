@@ -1,5 +1,5 @@
 -- What a side says keeps the rules.
-use Rattle.std.proofs.Common.{arith, ◌≡◌, ◌⊎◌, inl, inr, ◌<◌, ◌≤◌, ℕ, ◌==◌, ◌+◌, ◌-◌, ◌*◌, ◌/◌, ◌%◌, ◌^◌, Bool, true, false, ◌&&◌, ◌||◌, cond, List, [], ◌∷◌, ◌++◌, Option, Some, None, Ok, Err, refl, sym, ap, subst, ◌∙◌}
+use Rattle.std.proofs.Common.{arith, ◌≡◌, ◌⊎◌, inl, inr, ◌<◌, ◌≤◌, ℕ, ◌==◌, ◌+◌, ◌-◌, ◌*◌, ◌%◌, Bool, true, false, ◌&&◌, ◌||◌, cond, List, [], ◌∷◌, ◌++◌, Option, Some, None, Ok, refl, sym, ap, subst, ◌∙◌}
 use Rattle.std.specs.Prelude.{not, nat_lt, nat_le, is_some}
 use Rattle.std.proofs.lemmas.Bool.{le-ltb, ltb-true, eqb-true, ne_eqb, eq-eqb}
 use Rattle.std.proofs.lemmas.List.{append-nil}
@@ -11,23 +11,25 @@ use Rattle.rfcomm_frames.specs.declared.connection.Dlc.{Dlc}
 use Rattle.rfcomm_frames.specs.declared.connection.Dlc.TheVariants.{Idle, Asked, Open, Ended}
 use Rattle.rfcomm_frames.specs.Frames.{PlainFrame}
 use Rattle.rfcomm_frames.specs.Controls.{PlainControl, pn, msc, written}
-use Rattle.rfcomm_frames.specs.FrameReading.{MessageAnswer, messages, is_empty}
+use Rattle.rfcomm_frames.specs.FrameReading.{messages, is_empty}
 use Rattle.rfcomm_frames.specs.Connections.{turned, asked, agreed, left, is_ended}
-use Rattle.rfcomm_frames.specs.Multiplexing.{stated_by, credit_octet}
+use Rattle.rfcomm_frames.specs.Multiplexing.{stated_by}
 use Rattle.rfcomm_credits.specs.Accounts.{grant_of}
 use Rattle.rfcomm_model.specs.declared.state.Command.{Command}
 use Rattle.rfcomm_model.specs.declared.state.Command.TheVariants.{OpenControl, Agree, OpenUser, Signal, LeaveUser, LeaveControl}
 use Rattle.rfcomm_model.specs.declared.state.Asks.{Asks}
 use Rattle.rfcomm_model.specs.declared.state.Asks.TheVariants.{Nothing, Due, Awaited}
 use Rattle.rfcomm_model.specs.Machine.{Mux, may_pass, is_ready, is_both}
-use Rattle.rfcomm_model.specs.Written.{command_frame, control_frame, grant_frame, data_frame}
+use Rattle.rfcomm_model.specs.Written.{grant_frame, data_frame}
 use Rattle.rfcomm_model.specs.Hearing.{own_credits}
-use Rattle.rfcomm_model.specs.Saying.{Said, passed_on, passes, says, frame_of_command, commanded, says_data, says_grant, first_of, says_command, says_answer, next}
+use Rattle.rfcomm_model.specs.Saying.{Said, passed_on, passes, frame_of_command, commanded, says_data, says_grant, first_of, says_command, says_answer, next}
 use Rattle.rfcomm_model.proofs.Stepping.{cond_same}
 use Rattle.rfcomm_laws.proofs.Opening.{msc_read, pn_read}
 use Rattle.rfcomm_laws.proofs.Running.{grant_if, both_true}
-use Rattle.rfcomm_laws.proofs.Harm.{stated_sum, bonus_of, bonuses_of, cost_in, cost_of, rank, is_over, SoundMessages, WaitsIn, AllWait, SoundAsks, all_later, is_far}
-use Rattle.rfcomm_laws.proofs.Harmless.{Fit, over_more, none_of, SoundIn, is_responder, asks_in, opens_in}
+use Rattle.rfcomm_laws.specs.Totals.{stated_sum, bonus_of, cost_in, cost_of}
+use Rattle.rfcomm_laws.proofs.Harm.{bonuses_of, rank, is_over, SoundMessages, WaitsIn, AllWait, SoundAsks, all_later, is_far}
+use Rattle.rfcomm_laws.proofs.Turning.{Fit, over_more, none_of}
+use Rattle.rfcomm_laws.proofs.Harmless.{SoundIn, is_responder, asks_in, opens_in}
 
 -- what a UIH frame costs, on the control channel or not, empty or not
 abbrev cond_cost : Bool → Bool → ℕ
@@ -421,8 +423,11 @@ data_leaves terms d m fit all asks t =
       asks = asks;
       sound = λ here. absurd (let never : true ≡ false = sym here ∙ off in cc);
       fits = tt;
-      flow = inr (pass.1, sym (append-nil _
-          ∙ ap (λ (b : Bool). cond (not b && (m.dlci == d)) m.waiting []) off ∙ ap (λ (b : Bool). cond b m.waiting []) (eq-eqb m.dlci d fit.dlci)));
+      flow = inr (
+        pass.1,
+        sym (append-nil _
+            ∙ ap (λ (b : Bool). cond (not b && (m.dlci == d)) m.waiting []) off ∙ ap (λ (b : Bool). cond b m.waiting []) (eq-eqb m.dlci d fit.dlci)),
+      );
     }
   where
     full_costs : (b : Bool) → not b ≡ true → cond_cost false b ≡ 1

@@ -5,3 +5,4 @@ pub mod Rests
 pub mod Assembling
 pub mod Links
 pub mod Closings
+pub mod Totals

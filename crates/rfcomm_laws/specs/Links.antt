@@ -10,8 +10,9 @@ use Rattle.rfcomm_model.specs.Machine.{Mux, new_mux, may_pass, is_ready, taken_c
 use Rattle.rfcomm_model.specs.Hearing.{hears, up}
 use Rattle.rfcomm_model.specs.Saying.{Said, next, after_next}
 use Rattle.rfcomm_model.specs.Sides.{handed}
-use Rattle.rfcomm_laws.specs.Pairs.{End, Pair, Turn, ByInitiator, ByResponder, Move, Speak, Give, Deliver, Terms, new_pair, without_first, IsFront}
-use Rattle.rfcomm_laws.specs.Happenings.{Happening, Moves, Closes, happens, all_happen}
+use Rattle.rfcomm_laws.specs.Pairs.{End, Pair, Turn, ByInitiator, ByResponder, Move, Speak, Give, Deliver, Terms, new_pair, IsFront}
+use Rattle.rfcomm_laws.specs.Closings.{IsOrderly}
+use Rattle.rfcomm_laws.specs.Happenings.{Happening, Moves, Closes, all_happen}
 
 -- a side, the SDUs that it sent and that are on their way, the octets that it took to be sent, and those that it handed up
 pub record LinkEnd : Type 0 where
@@ -173,3 +174,13 @@ pub record LinkIsDone (l : Link) : Type 0 where
 
 abbrev pub StillLinksAreDone : Type 0
 StillLinksAreDone = (t : Terms) (deeds : List LinkDeed) → AllStay deeds → IsRun deeds (new_link t) → LinkIsStill (all_done deeds (new_link t)) → LinkIsDone (all_done deeds (new_link t))
+
+-- whoever is told to close, and whenever: neither side refused the other, and what came is a front of what went
+pub record LinkClosesInOrder (l : Link) : Type 0 where
+  pub initiator_orderly : IsOrderly l.initiator.mux.closed
+  pub responder_orderly : IsOrderly l.responder.mux.closed
+  pub forth : IsFront l.responder.got l.initiator.put
+  pub back : IsFront l.initiator.got l.responder.put
+
+abbrev pub LinksCloseInOrder : Type 0
+LinksCloseInOrder = (t : Terms) (deeds : List LinkDeed) → IsRun deeds (new_link t) → LinkClosesInOrder (all_done deeds (new_link t))

@@ -2,11 +2,13 @@
 #![tactic(auto)]
 
 ghost use Rattle.rfcomm_laws.specs.Assembling.{PiecesAreOfOneStream};
+ghost use Rattle.rfcomm_laws.specs.Closings.{ClosingsAreOrderly};
 ghost use Rattle.rfcomm_laws.specs.Covers.{CreditsCover};
 ghost use Rattle.rfcomm_laws.specs.Happenings.{FramesAreFew};
-ghost use Rattle.rfcomm_laws.specs.Links.{SdusAreFrames, LinksArePipes, StillLinksAreDone};
+ghost use Rattle.rfcomm_laws.specs.Links.{SdusAreFrames, LinksArePipes, StillLinksAreDone, LinksCloseInOrder};
 ghost use Rattle.rfcomm_laws.specs.Pairs.{PairsArePipes};
 ghost use Rattle.rfcomm_laws.specs.Rests.{StillIsDone};
+ghost use Rattle.rfcomm_laws.specs.Totals.{NoneIsOverdrawn};
 
 /// The two sides are a pipe of octets each way, and neither closes, whatever frames are under way.
 pub fn pairs_are_pipes()
@@ -41,9 +43,23 @@ pub fn sdus_are_frames()
     ensures { SdusAreFrames }
 {}
 
-/// Over SDUs, in whatever spelling a side sends its frames: the two sides are a pipe of octets each way, and neither
-/// closes while none is told to.
+/// Over SDUs, in whatever spelling a side sends its frames: the two sides are a pipe of octets each way. Neither closes
+/// while none is told to, and where nothing is on the way and nobody has anything to send, all octets have come. Where
+/// one is told to close, or both, neither refuses the other.
 pub fn links_are_pipes()
     ensures pipes { LinksArePipes }
     ensures still { StillLinksAreDone }
+    ensures closings { LinksCloseInOrder }
+{}
+
+/// Either side, or both, may be told to close at any moment, also while the channel opens: neither refuses what the other
+/// sent, so each is closed by DISC or DM if at all, and what came is a front of what went, both ways.
+pub fn closings_are_orderly()
+    ensures { ClosingsAreOrderly }
+{}
+
+/// At every moment, through openings and closings: a side sent no more frames with information than the other one granted
+/// credits, by PN and in credit octets.
+pub fn none_is_overdrawn()
+    ensures { NoneIsOverdrawn }
 {}

@@ -6,3 +6,4 @@ pub mod Giving
 pub mod Reading
 pub mod Loading
 pub mod Unloading
+pub mod Flooding

@@ -1,5 +1,5 @@
 -- One side of a multiplexer over time: what is done to it, and what it hears and sends.
-use Rattle.std.specs.Prelude.{ℕ, ◌+◌, ◌<◌, ◌≡◌, true, List, [], ◌∷◌, ◌++◌, Option, Some, None, if◌then◌else◌, Ok, Err}
+use Rattle.std.specs.Prelude.{ℕ, ◌+◌, ◌-◌, ◌≤◌, ◌<◌, ◌≡◌, true, List, [], length, ◌∷◌, ◌++◌, Option, Some, None, if◌then◌else◌, Ok, Err}
 use Rattle.rfcomm_frames.specs.declared.frame.MuxKind.{MuxKind}
 use Rattle.rfcomm_frames.specs.declared.frame.MuxKind.TheVariants.{Sabm, Ua, Dm, Disc, Uih}
 use Rattle.rfcomm_frames.specs.declared.connection.Role.{Role}
@@ -91,6 +91,27 @@ abbrev pub AlwaysRoom : List Deed → Side → Type 0
 AlwaysRoom [] side = Unit {0}
 AlwaysRoom (deed ∷ deeds) side = DeedFindsRoom deed side.mux × AlwaysRoom deeds (done deed side)
 
+-- the same over the input alone: so many answers may wait at most, if each frame that may need one gets one, and each SDU
+-- that is sent is an answer
+abbrev pub asks_of : MuxKind → PlainFrame → ℕ
+asks_of Sabm frame = 1
+asks_of Ua frame = 0
+asks_of Dm frame = 0
+asks_of Disc frame = 1
+asks_of Uih frame = length (messages frame.octets)
+
+abbrev pub asked_by : Answer → ℕ
+asked_by (Ok frame) = asks_of frame.kind frame
+asked_by (Err refusal) = 0
+
+-- no flood: at no moment more than 16 answers may wait
+abbrev pub NoFlood : ℕ → List Deed → Type 0
+NoFlood n [] = Unit {0}
+NoFlood n (Hears sdu ∷ deeds) = (n + asked_by (frame_answer sdu) ≤ 16) × NoFlood (n + asked_by (frame_answer sdu)) deeds
+NoFlood n (Says ∷ deeds) = NoFlood (n - 1) deeds
+NoFlood n (Sends octets ∷ deeds) = NoFlood n deeds
+NoFlood n (Leaves ∷ deeds) = NoFlood n deeds
+
 -- ---- the law
 
 abbrev pub connections_of : ℕ → Connections → List Framed → Connections
@@ -109,6 +130,12 @@ abbrev pub SidesRead : Type 0
 SidesRead = (role : Role) (dlci largest own cap : ℕ) (deeds : List Deed) → 0 < dlci →
     let side = all_done deeds (new_side role dlci largest own cap) in
     side.mux.closed ≡ None → AlwaysRoom deeds (new_side role dlci largest own cap) → Reads dlci role side
+
+-- A flood is what a side may ignore; of an input that is none, what it holds is what the frames say.
+abbrev pub UnfloodedSidesRead : Type 0
+UnfloodedSidesRead = (role : Role) (dlci largest own cap : ℕ) (deeds : List Deed) → 0 < dlci →
+    let side = all_done deeds (new_side role dlci largest own cap) in
+    side.mux.closed ≡ None → NoFlood 0 deeds → Reads dlci role side
 
 -- Once it is closed it stays closed, and hands nothing up.
 pub record StaysClosed (m : Mux) (reason : MuxReason) : Type 0 where

@@ -1,12 +1,13 @@
 //! Laws of the multiplexer, for every list of what may be done.
 
 ghost use Rattle.rfcomm_model.specs.Loads.{LoadFalls};
-ghost use Rattle.rfcomm_model.specs.Sides.{SidesRead, ClosedForGood, NumbersStay};
+ghost use Rattle.rfcomm_model.specs.Sides.{SidesRead, UnfloodedSidesRead, ClosedForGood, NumbersStay};
 
 /// What a multiplexer hands up, the credits that it holds and how far its channels are is what the
 /// frames say, whatever comes, while it is not closed and has room for the answers.
 pub fn sides_read()
-    ensures { SidesRead }
+    ensures room { SidesRead }
+    ensures unflooded { UnfloodedSidesRead }
 {}
 
 /// A multiplexer that was closed stays so, and hands nothing up.

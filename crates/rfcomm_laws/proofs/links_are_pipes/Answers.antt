@@ -1,4 +1,4 @@
-use Rattle.rfcomm_laws.proofs.Spelling.{links-are_pipes, still-links_are_done}
+use Rattle.rfcomm_laws.proofs.Spelling.{links-are_pipes, still-links_are_done, links-close_in_order}
 use Rattle.rfcomm_laws.proofs.links_are_pipes.Goals as goal
 
 pub returns-clause-pipes : goal.returns-clause-pipes
@@ -6,3 +6,6 @@ returns-clause-pipes c = links-are_pipes
 
 pub returns-clause-still : goal.returns-clause-still
 returns-clause-still c = still-links_are_done
+
+pub returns-clause-closings : goal.returns-clause-closings
+returns-clause-closings c = links-close_in_order
