@@ -91,7 +91,7 @@ abbrev pub arrived : Option Crossing → List Packet
 arrived None = []
 arrived (Some c) = option_to_list (came_to_second c.way c.lost c.packet)
 
-record Next (p : Pair) (took got : List Unit) (ps : List Packet) (e : Event) : Type 0 where
+pub record Next (p : Pair) (took got : List Unit) (ps : List Packet) (e : Event) : Type 0 where
   pub stands : Stands p.first p.second (took ++ tk e) (got ++ gt e) (ps ++ arrived (crossing_of e))
 
 crossed_one : (way : Way) (p q : Pair) (took got : List Unit) (ps : List Packet) (lost : Bool) (packet : Packet) (g : Option Unit) → Stands p.first p.second took got ps → CrossesBy way p lost packet g q
@@ -108,7 +108,7 @@ crossed_one Back p q took got ps lost packet g s c =
     (subst (λ (qs : List Packet). Stands q.first q.second took got qs) (sym (append-nil ps))
     (subst (λ (a : Wire). Stands a q.second took got ps) (sym c.hears) f)))
 
-happened : (p q : Pair) (took got : List Unit) (ps : List Packet) (e : Event) → Stands p.first p.second took got ps → Happens p e q → Next q took got ps e
+pub happened : (p q : Pair) (took got : List Unit) (ps : List Packet) (e : Event) → Stands p.first p.second took got ps → Happens p e q → Next q took got ps e
 happened p q took got ps (Took u) s h = record {
   stands =
       subst (λ (x : Pair). Stands x.first x.second (took ++ u ∷ []) (got ++ []) (ps ++ [])) (sym h.becomes)
@@ -152,7 +152,7 @@ stands_run p q took got ps (e ∷ events) s r =
 pub stands_from : (number : Option ℕ) (events : List Event) (last : Pair) → Runs (new_pair number) events last → Stands last.first last.second (taken events) (accepted events) (came (crossings_of events))
 stands_from number events last r = stands_run (new_pair number) last [] [] [] events stands_first r
 
-open_not : (s : Stage) → IsOpen s → is_reset s ≡ false
+pub open_not : (s : Stage) → IsOpen s → is_reset s ≡ false
 open_not Uninitialized o = refl
 open_not Initialized o = refl
 open_not Active o = refl

@@ -44,7 +44,7 @@ no_response seq ack u is = rw (ne_eqb u.kind 15 (λ e. omega (arith, is.below)))
 same_unit : (seq ack : ℕ) (u : Unit) → unit_in (unit_packet seq ack u) ≡ u
 same_unit seq ack u = refl
 
-unit_at : (a : Wire) (i : ℕ) (u : Unit) → All IsUnit a.unacked → slice_get a.unacked i ≡ Some u → IsUnit u
+pub unit_at : (a : Wire) (i : ℕ) (u : Unit) → All IsUnit a.unacked → slice_get a.unacked i ≡ Some u → IsUnit u
 unit_at a i u all is = subst IsUnit (get_or_from_slice_get a.unacked i u u is) (all i u (slice_get_within a.unacked i u is))
 
 -- the fields of the sending end behind a unit

@@ -80,7 +80,7 @@ link_heard SyncResponse w = refl
 link_heard (Config x) w = refl
 link_heard (ConfigResponse x) w = refl
 
-read_tame : (own other : Stage) (m : LinkMessage) (rest : List LinkMessage) → Tame own other (m ∷ rest) → Tame own other (read m ∷ rest)
+pub read_tame : (own other : Stage) (m : LinkMessage) (rest : List LinkMessage) → Tame own other (m ∷ rest) → Tame own other (read m ∷ rest)
 read_tame own other Sync rest t = t
 read_tame own other SyncResponse rest t = t
 read_tame own other (Config w) rest t = tame_window own other (Config w) (Config (w % 8)) rest (λ e. e) (λ r. r) (λ n. n) t
@@ -90,7 +90,7 @@ working : (s : Stage) → s ≡ Active → IsWorking s
 working s e = subst IsWorking (sym e) tt
 
 -- SYNC is not heard by an active end
-safe_by : (m : LinkMessage) (own other : Stage) (rest : List LinkMessage) → Tame own other (m ∷ rest) → m ≡ Sync → other ≢ Active
+pub safe_by : (m : LinkMessage) (own other : Stage) (rest : List LinkMessage) → Tame own other (m ∷ rest) → m ≡ Sync → other ≢ Active
 safe_by m own other rest t is at = subst NotSync is (t.silent (working other at)).0
 
 -- whether an end is active behind a message

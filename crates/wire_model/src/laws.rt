@@ -1,6 +1,6 @@
 //! Laws of the two ends. Each is the contract of a function that does nothing.
 
-ghost use Rattle.wire_model.specs.Laws.{TagsObey, NeverReset, CarriedInOrder, WithinWindow, AllCarried};
+ghost use Rattle.wire_model.specs.Laws.{TagsObey, NeverReset, CarriedInOrder, WithinWindow, AllCarried, RoundsAreFew};
 
 /// The tags of a run obey the draws.
 pub fn tags_obey()
@@ -25,4 +25,10 @@ pub fn within_window()
 /// Where none is unacknowledged all was carried.
 pub fn all_carried()
     ensures { AllCarried }
+{}
+
+/// There are at most 17 rounds, one for each unit that was taken, and two for each packet that was
+/// lost.
+pub fn rounds_are_few()
+    ensures { RoundsAreFew }
 {}
