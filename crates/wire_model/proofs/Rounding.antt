@@ -385,7 +385,7 @@ idle p q n units x s k cause mid =
         let silent = silent_active p.first s.stands.there.stays on e in
         absurd (cause (ap is_active on) (nil_from_length p.first.unacked (omega (arith, silent.all, zero'))))
 
-losses_then : (a b : List Event) → losses (a ++ b) ≡ losses a + losses b
+pub losses_then : (a b : List Event) → losses (a ++ b) ≡ losses a + losses b
 losses_then [] b = omega arith
 losses_then (e ∷ a) b = let rest = losses_then a b in omega (arith, rest)
 
