@@ -38,11 +38,15 @@ use Rattle.three_wire.proofs.Going.{went_none, went_then, broke_trace, broke_sin
 
 -- ---- units
 
-pub spelled : (p : Packet) → unit_octets (as_unit p) ≡ spelling p
+spelled : (p : Packet) → unit_octets (as_unit p) ≡ spelling p
 spelled (Command opcode params) = refl
 spelled (Acl word octets) = refl
 spelled (Sync word octets) = refl
 spelled (H4Event code params) = refl
+
+pub units_spelled : (packets : List Packet) → units_octets (as_units packets) ≡ spellings packets
+units_spelled [] = refl
+units_spelled (p ∷ packets) = ap (λ (o : List ℕ). o ++ units_octets (as_units packets)) (spelled p) ∙ ap (λ (o : List ℕ). spelling p ++ o) (units_spelled packets)
 
 pub is_unit : (p : Packet) → IsPacket acl_limit p → IsUnit (as_unit p)
 is_unit (Command opcode params) is = record { above = omega arith; below = omega arith; fits = omega (arith, is.1) }

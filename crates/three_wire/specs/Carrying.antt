@@ -2,7 +2,7 @@
 use Rattle.std.specs.Prelude.{ℕ, ◌≡◌, ◌≢◌, ◌<◌, ◌≤◌, ◌+◌, ◌*◌, ◌-◌, ◌⊎◌, Bool, true, false, not, List, [], ◌++◌, map, length, drop, get_or, Option, Some, None, IfSome, Result, Ok, Err}
 use Rattle.bt_base.specs.Counts.{HasRisen}
 use Rattle.bt_base.specs.Streams.{gained, GainedFront}
-use Rattle.h4_framing.specs.Packets.{Packet, spelling}
+use Rattle.h4_framing.specs.Packets.{Packet, spelling, spellings}
 use Rattle.wire_model.specs.Machine as machine
 use Rattle.wire_model.specs.Draws.{draws_from}
 use Rattle.wire_model.specs.Trace.{Obeys, entries, carried, units_octets, IsCut}
@@ -23,6 +23,10 @@ as_unit packet = record { kind = get_or (spelling packet) 0 0; octets = drop 1 (
 
 abbrev pub as_units : List Packet → List machine.Unit
 as_units packets = map as_unit packets
+
+-- the octets of such units are those of the packets on a UART
+abbrev pub UnitsAreSpelled : Type 0
+UnitsAreSpelled = (packets : List Packet) → units_octets (as_units packets) ≡ spellings packets
 
 -- what a run is given: the number of its draws, and what the source, the sink and the trace have
 pub record Given : Type 0 where

@@ -1,7 +1,7 @@
 -- Whole runs from their start.
-use Rattle.std.proofs.Common.{◌≡◌, ℕ, ◌+◌, ◌%◌, ◌<◌, ◌≤◌, Bool, true, false, List, [], ◌∷◌, ◌++◌, length, Option, Some, None, slice_get, refl, sym, ap, subst, ◌∙◌, append_assoc, arith, length-append, inl, inr}
+use Rattle.std.proofs.Common.{◌≡◌, ℕ, Bool, true, false, List, [], ◌∷◌, ◌++◌, length, Option, Some, None, slice_get, refl, sym, ap, subst, ◌∙◌, append_assoc, arith, length-append, inl, inr}
 use Rattle.std.specs.Option.{option_to_list}
-use Rattle.std.specs.List.{cons_option, filter_map}
+use Rattle.std.specs.List.{cons_option}
 use Rattle.std.proofs.lemmas.List.{append-nil}
 use Rattle.std.proofs.lemmas.List.Elements.{All-nil}
 use Rattle.wire_packets.specs.Packets.{Packet}
@@ -9,13 +9,13 @@ use Rattle.wire_model.specs.declared.link.Stage.{Stage}
 use Rattle.wire_model.specs.declared.link.Stage.TheVariants.{Uninitialized, Initialized, Active, Reset}
 use Rattle.wire_model.specs.declared.link.Way.{Way}
 use Rattle.wire_model.specs.declared.link.Way.TheVariants.{Forth, Back}
-use Rattle.wire_model.specs.Machine.{Unit, Wire, Heard, Said, says, hears, is_active, is_reset, quiet, ticked, submitted, new_wire, ack_packet}
-use Rattle.wire_model.specs.Trace.{Crossing, came, came_to_second, carried, behind_response, picked}
-use Rattle.wire_model.specs.Pair.{Pair, new_pair, IsUnit, Event, Took, Crossed, Rang, Takes, Happens, Runs, Crosses, CrossesBy, hears_over, crossing_of, crossings_of, taken_of, taken, got_of, got_by, accepted}
-use Rattle.wire_model.proofs.Saying.{Saying, message, unit, answer, saying_of, says_message_of, says_unit_of, says_ack_of}
+use Rattle.wire_model.specs.Machine.{Unit, Wire, Heard, Said, hears, is_reset, ticked, submitted, new_wire, ack_packet}
+use Rattle.wire_model.specs.Trace.{Crossing, came, came_to_second}
+use Rattle.wire_model.specs.Pair.{Pair, new_pair, IsUnit, Event, Took, Crossed, Rang, Happens, Runs, CrossesBy, hears_over, crossing_of, crossings_of, taken_of, taken, got_of, got_by, accepted}
+use Rattle.wire_model.proofs.Saying.{Saying, message, unit, answer, saying_of, says_message_of, says_ack_of}
 use Rattle.wire_model.proofs.Handshake.{Tame, IsOpen}
 use Rattle.wire_model.proofs.Hearing.{stage_cases, ack_heard, ack_ignored}
-use Rattle.wire_model.proofs.Standing.{Sending, Stands, message_forth, message_back, said_first, said_second, link_heard}
+use Rattle.wire_model.proofs.Standing.{Stands, message_forth, message_back, said_first, said_second, link_heard}
 use Rattle.wire_model.proofs.Delivering.{unit_forth_active, unit_forth_idle, ack_forth, ack_back, took_one, rang}
 
 -- the start

@@ -1,22 +1,21 @@
 -- Where no packet is lost between two active ends, each unit is acknowledged by the end of a round.
-use Rattle.std.proofs.Common.{◌≡◌, ◌≢◌, ◌⊎◌, ◌||◌, ℕ, ◌+◌, ◌-◌, ◌%◌, ◌<◌, ◌≤◌, max, Bool, true, false, cond, List, [], ◌∷◌, ◌++◌, length, drop, slice_get, eqb, Option, Some, None, inl, inr, refl, sym, ap, subst, ◌∙◌, arith, length-append}
+use Rattle.std.proofs.Common.{◌≡◌, ◌⊎◌, ℕ, ◌+◌, ◌-◌, ◌%◌, ◌≤◌, Bool, true, false, cond, List, [], ◌∷◌, ◌++◌, length, drop, slice_get, eqb, Option, Some, inl, inr, refl, sym, ap, subst, ◌∙◌, arith, length-append}
 use Rattle.std.specs.Prelude.{⊤}
 use Rattle.std.specs.List.{list_any}
 use Rattle.std.specs.Option.{option_to_list}
-use Rattle.std.proofs.lemmas.Bool.{cases_Bool, or_parts, eqb-false}
+use Rattle.std.proofs.lemmas.Bool.{or_parts, eqb-false}
 use Rattle.std.proofs.lemmas.List.{append-nil, length-drop, nil_from_length}
 use Rattle.wire_packets.specs.Packets.{Packet}
 use Rattle.wire_model.specs.declared.link.LinkMessage.{LinkMessage}
-use Rattle.wire_model.specs.declared.link.LinkMessage.TheVariants.{Sync}
 use Rattle.wire_model.specs.declared.link.Stage.{Stage}
 use Rattle.wire_model.specs.declared.link.Stage.TheVariants.{Active}
 use Rattle.wire_model.specs.declared.link.Way.{Way}
 use Rattle.wire_model.specs.declared.link.Way.TheVariants.{Forth, Back}
-use Rattle.wire_model.specs.Machine.{Unit, Wire, Heard, Said, says, hears, hears_message, hears_ack, takes_number, acknowledged, past, quiet, is_active, unit_packet, ack_packet, link_packet}
-use Rattle.wire_model.specs.Pair.{Pair, Event, Took, Crossed, Rang, Happens, Runs, Crosses, CrossesBy, AllGoBy, is_lost, hears_over, got_by}
-use Rattle.wire_model.proofs.Saying.{Saying, message, unit, answer, saying_of, says_message_of, says_unit_of, says_ack_of}
-use Rattle.wire_model.proofs.Handshake.{Tame, IsWorking}
-use Rattle.wire_model.proofs.Hearing.{Keeps, message_keeps, unit_heard, ack_heard, stage_cases, acks_nothing}
+use Rattle.wire_model.specs.Machine.{Unit, Wire, Heard, Said, hears, hears_message, hears_ack, takes_number, acknowledged, past, quiet, is_active, ack_packet}
+use Rattle.wire_model.specs.Pair.{Pair, Event, Took, Crossed, Rang, Happens, Runs, CrossesBy, AllGoBy, is_lost}
+use Rattle.wire_model.proofs.Saying.{Saying, message, unit, answer, saying_of, says_unit_of, says_ack_of}
+use Rattle.wire_model.proofs.Handshake.{Tame}
+use Rattle.wire_model.proofs.Hearing.{message_keeps, unit_heard, ack_heard, stage_cases, acks_nothing}
 use Rattle.wire_model.proofs.Standing.{Stands, read, read_tame, link_heard, safe_by}
 use Rattle.wire_model.proofs.Delivering.{unit_at, acked_all}
 use Rattle.wire_model.proofs.Numbering.{Stood, stood_on, Silent, message_numbers, ack_answers}

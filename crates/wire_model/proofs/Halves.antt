@@ -1,19 +1,16 @@
 -- An end says all that it may, and the other one hears what is not lost.
-use Rattle.std.proofs.Common.{◌≡◌, ◌≢◌, ◌⊎◌, ℕ, ◌+◌, ◌<◌, ◌≤◌, All, ◌%◌, eqb, Bool, true, false, cond, List, [], ◌∷◌, ◌++◌, map, length, leb, Option, Some, None, inl, inr, refl, sym, ap, subst, ◌∙◌, arith}
+use Rattle.std.proofs.Common.{◌≡◌, ◌⊎◌, ℕ, ◌+◌, ◌≤◌, All, ◌%◌, eqb, Bool, true, false, cond, List, [], ◌∷◌, ◌++◌, length, leb, Some, inl, inr, refl, sym, ap, subst, ◌∙◌, arith}
 use Rattle.std.specs.Prelude.{⊤}
-use Rattle.std.specs.List.{AllByRecursion, list_any}
 use Rattle.wire_model.specs.declared.link.LinkMessage.{LinkMessage}
 use Rattle.wire_model.specs.declared.link.LinkMessage.TheVariants.{Sync, SyncResponse, Config, ConfigResponse}
-use Rattle.wire_model.specs.declared.link.Stage.{Stage}
-use Rattle.wire_model.specs.declared.link.Stage.TheVariants.{Uninitialized, Initialized, Active, Reset}
-use Rattle.wire_model.specs.Machine.{Unit, Wire, Heard, Said, says, hears, hears_message, hears_ack, takes_number, acknowledged, past, quiet, unit_packet, ack_packet}
+use Rattle.wire_model.specs.Machine.{Unit, Wire, Heard, Said, says, hears, hears_message, hears_ack, takes_number, acknowledged, past, unit_packet, ack_packet}
 use Rattle.wire_model.specs.Pair.{IsUnit, hears_over}
 use Rattle.wire_model.proofs.Saying.{Saying, message, unit, answer, saying_of, says_message_of}
-use Rattle.wire_model.proofs.Handshake.{Tame, IsFresh, IsOpened, IsWorking, IsResponse}
+use Rattle.wire_model.proofs.Handshake.{Tame}
 use Rattle.wire_model.proofs.Hearing.{unit_heard, unit_ignored, ack_heard, ack_ignored, stage_cases}
 use Rattle.wire_model.proofs.Standing.{read, read_tame, link_heard}
 use Rattle.wire_model.proofs.Delivering.{unit_at}
-use Rattle.wire_model.proofs.Telling.{IsSync, IsSyncResponse, IsConfig, is_fresh, asks, asking, asking_then, some_ask, Outcome, passes, replies, rises, opens, outcome, load, burden, load_step, burden_step, rank, Goes, up, stays, goes_step}
+use Rattle.wire_model.proofs.Telling.{is_fresh, asks, asking, Outcome, passes, replies, rises, opens, outcome, load, burden, load_step, burden_step, rank, Goes, up, stays, goes_step}
 
 -- ---- one packet
 

@@ -14,3 +14,4 @@ pub mod Establishing
 pub mod Numbering
 pub mod Emptying
 pub mod Rounding
+pub mod Causing

@@ -1,11 +1,9 @@
 -- What a round in which no packet is lost does to the units of two ends that are active.
-use Rattle.std.proofs.Common.{◌≡◌, ◌≢◌, ◌⊎◌, ◌&&◌, ◌||◌, ℕ, zero, suc, ◌+◌, ◌-◌, ◌%◌, ◌<◌, ◌≤◌, max, All, Bool, true, false, cond, List, [], ◌∷◌, ◌++◌, map, length, drop, slice_get, eqb, leb, ltb, Option, Some, None, inl, inr, refl, sym, ap, subst, ◌∙◌, arith, length-append}
+use Rattle.std.proofs.Common.{◌≡◌, ℕ, zero, suc, ◌<◌, ◌≤◌, All, Bool, true, false, cond, List, [], ◌∷◌, ◌++◌, map, length, slice_get, leb, ltb, Option, Some, None, inl, inr, refl, sym, ap, subst, ◌∙◌, arith}
 use Rattle.std.specs.List.{list_any}
-use Rattle.std.specs.Option.{option_to_list}
-use Rattle.std.proofs.lemmas.Bool.{cases_Bool, cases_lt, or_parts, eqb-false, eq-eqb}
-use Rattle.std.proofs.lemmas.List.{length-drop, nil_from_length}
+use Rattle.std.proofs.lemmas.Bool.{cases_lt, or_parts}
 use Rattle.std.proofs.lemmas.List.Elements.{All-nil}
-use Rattle.std.proofs.lemmas.Option.{slice_get_past, slice_get_within}
+use Rattle.std.proofs.lemmas.Option.{slice_get_past}
 use Rattle.wire_packets.specs.Packets.{Packet}
 use Rattle.wire_model.specs.declared.link.LinkMessage.{LinkMessage}
 use Rattle.wire_model.specs.declared.link.LinkMessage.TheVariants.{Sync, SyncResponse, Config, ConfigResponse}
@@ -13,13 +11,11 @@ use Rattle.wire_model.specs.declared.link.Stage.{Stage}
 use Rattle.wire_model.specs.declared.link.Stage.TheVariants.{Uninitialized, Initialized, Active, Reset}
 use Rattle.wire_model.specs.declared.link.Way.{Way}
 use Rattle.wire_model.specs.declared.link.Way.TheVariants.{Forth, Back}
-use Rattle.wire_model.specs.Machine.{Unit, Wire, Heard, Said, says, says_link, says_active, says_unit, says_ack, hears, hears_message, hears_sync, hears_sync_response, hears_config, hears_config_response, hears_ack, takes_number, acknowledged, past, quiet, waits, is_active, is_reset, unit_packet, ack_packet, link_packet, lesser, most_waiting}
-use Rattle.wire_model.specs.Pair.{Pair, IsUnit, Event, Took, Crossed, Rang, Happens, Runs, Crosses, CrossesBy, AllGoBy, SaysAll, is_lost, hears_over, crossing_of, got_of}
-use Rattle.wire_model.proofs.Saying.{Saying, message, unit, answer, saying_of, says_message_of, says_unit_of, says_ack_of}
-use Rattle.wire_model.proofs.Handshake.{Tame, IsOpen}
-use Rattle.wire_model.proofs.Hearing.{unit_heard, ack_heard, stage_cases, acks_nothing}
-use Rattle.wire_model.proofs.Standing.{Stands, read, link_heard}
-use Rattle.wire_model.proofs.Delivering.{unit_at}
+use Rattle.wire_model.specs.Machine.{Unit, Wire, says, says_link, says_active, says_unit, says_ack, hears_message, hears_sync, hears_sync_response, hears_config, hears_config_response, hears_ack, acknowledged, past, waits, is_active, lesser, most_waiting}
+use Rattle.wire_model.specs.Pair.{Pair, IsUnit, Event, Took, Crossed, Rang, Happens, Runs, Crosses, CrossesBy, AllGoBy, is_lost, crossing_of}
+use Rattle.wire_model.proofs.Saying.{says_message_of, says_unit_of, says_ack_of}
+use Rattle.wire_model.proofs.Handshake.{IsOpen}
+use Rattle.wire_model.proofs.Standing.{Stands}
 use Rattle.wire_model.proofs.Carrying.{happened, tk, gt, arrived, open_not}
 use Rattle.wire_model.proofs.Halves.{Fine, Speaks, NoneLost}
 

@@ -1,29 +1,28 @@
 -- How many rounds there are.
-use Rattle.std.proofs.Common.{◌≡◌, ◌≢◌, ◌⊎◌, ◌&&◌, ◌||◌, not, ℕ, ◌+◌, ◌*◌, ◌-◌, ◌<◌, ◌≤◌, Bool, true, false, cond, List, [], ◌∷◌, ◌++◌, map, length, ltb, Option, Some, None, inl, inr, refl, sym, ap, subst, ◌∙◌, arith, length-append}
-use Rattle.std.specs.List.{list_any, count_by}
+use Rattle.std.proofs.Common.{◌≡◌, ◌≢◌, ◌⊎◌, ◌||◌, not, ℕ, ◌+◌, ◌*◌, ◌<◌, ◌≤◌, Bool, true, false, cond, List, [], ◌∷◌, ◌++◌, map, length, ltb, Option, Some, None, inl, inr, refl, sym, ap, subst, ◌∙◌, arith, length-append}
+use Rattle.std.specs.List.{list_any}
 use Rattle.std.proofs.lemmas.Bool.{cases_Bool, cases_lt, or_parts, and_cases, and_parts}
 use Rattle.std.proofs.lemmas.List.{nil_from_length}
 use Rattle.std.proofs.lemmas.List.Folds.{list_any-append}
 use Rattle.std.proofs.lemmas.List.Elements.{filter_map-append}
 use Rattle.wire_model.specs.declared.link.LinkMessage.{LinkMessage}
-use Rattle.wire_model.specs.declared.link.LinkMessage.TheVariants.{Sync, SyncResponse, Config, ConfigResponse}
+use Rattle.wire_model.specs.declared.link.LinkMessage.TheVariants.{Sync, Config}
 use Rattle.wire_model.specs.declared.link.Stage.{Stage}
 use Rattle.wire_model.specs.declared.link.Stage.TheVariants.{Uninitialized, Initialized, Active, Reset}
 use Rattle.wire_model.specs.declared.link.Way.{Way}
 use Rattle.wire_model.specs.declared.link.Way.TheVariants.{Forth, Back}
-use Rattle.wire_model.specs.Machine.{Unit, Wire, Said, says, waits, ticked, ticked_at, is_active, most_waiting, submitted, flag}
-use Rattle.wire_model.specs.Pair.{Pair, new_pair, Event, Took, Crossed, Rang, Runs, CrossesBy, AllGoBy, SaysAll, Passes, is_lost, is_some_event, is_calm, rings, ringing, taken_of, taken}
+use Rattle.wire_model.specs.Machine.{Unit, Wire, Said, says, waits, ticked, ticked_at, is_active, most_waiting, flag}
+use Rattle.wire_model.specs.Pair.{Pair, new_pair, Event, Took, Crossed, Rang, Runs, CrossesBy, AllGoBy, SaysAll, is_lost, is_some_event, is_calm, rings, ringing, taken_of, taken}
 use Rattle.wire_model.specs.Rounds.{takings, IsRound, Rounds, joined, losses}
-use Rattle.wire_model.proofs.Handshake.{Tame, IsFresh, IsOpened, IsWorking, IsOpen, tick_stage}
+use Rattle.wire_model.proofs.Handshake.{IsFresh, IsOpen, tick_stage}
 use Rattle.wire_model.proofs.Hearing.{stage_cases}
 use Rattle.wire_model.proofs.Carrying.{stands_first}
 use Rattle.wire_model.proofs.Telling.{asking, asking_then, load, burden, is_fresh, rank, asks}
-use Rattle.wire_model.proofs.Halves.{Has, has_not, Speaks, Bounded, bounded, NoneLost}
-use Rattle.wire_model.proofs.Shaking.{Half}
+use Rattle.wire_model.proofs.Halves.{Has, has_not, bounded}
 use Rattle.wire_model.proofs.Establishing.{Ripe, Asked, Clear, ranks, ripe_on, asked_on, mild_on, ring_on}
 use Rattle.wire_model.proofs.Establishing as est
-use Rattle.wire_model.proofs.Numbering.{Stood, stood_on, stood_runs, speaks_forth, speaks_back, none_lost, silent_waiting, Silent, silent_active, active_silent, idle_silent}
-use Rattle.wire_model.proofs.Emptying.{Ahead, ahead_all, Behind, behind_all}
+use Rattle.wire_model.proofs.Numbering.{Stood, stood_on, stood_runs, speaks_forth, speaks_back, none_lost, silent_waiting, silent_active, active_silent, idle_silent}
+use Rattle.wire_model.proofs.Emptying.{ahead_all, Behind, behind_all}
 
 -- ---- how many messages wait between rounds
 

@@ -1,14 +1,14 @@
 -- What a half of a round does to the establishment of the link, where no packet is lost.
-use Rattle.std.proofs.Common.{◌≡◌, ◌≢◌, ◌⊎◌, ℕ, ◌+◌, ◌<◌, ◌≤◌, Bool, true, false, List, [], ◌∷◌, ◌++◌, length, inl, inr, refl, sym, ap, subst, ◌∙◌, arith}
+use Rattle.std.proofs.Common.{◌≡◌, ◌⊎◌, ℕ, ◌+◌, ◌<◌, ◌≤◌, Bool, List, [], ◌∷◌, ◌++◌, inl, inr, refl, sym, ap, subst, ◌∙◌, arith}
 use Rattle.wire_model.specs.declared.link.LinkMessage.{LinkMessage}
 use Rattle.wire_model.specs.declared.link.LinkMessage.TheVariants.{Sync, SyncResponse, Config, ConfigResponse}
 use Rattle.wire_model.specs.declared.link.Stage.{Stage}
 use Rattle.wire_model.specs.declared.link.Stage.TheVariants.{Uninitialized, Initialized, Active, Reset}
-use Rattle.wire_model.specs.Machine.{Wire, ticked, ticked_at}
-use Rattle.wire_model.proofs.Handshake.{Tame, IsFresh, IsOpened, IsWorking, IsOpen, IsResponse}
+use Rattle.wire_model.specs.Machine.{Wire}
+use Rattle.wire_model.proofs.Handshake.{IsFresh, IsOpened, IsWorking, IsResponse}
 use Rattle.wire_model.proofs.Standing.{read}
-use Rattle.wire_model.proofs.Telling.{IsSync, IsSyncResponse, IsConfig, asks, asking, asking_then, Outcome, passes, replies, rises, opens, waits_room, load, rank, Goes, up, stays, goes_step}
-use Rattle.wire_model.proofs.Halves.{Speaks, Has, has_last, has_on, has_at, NoneLost, Keeping, follow, bounded, asks_read}
+use Rattle.wire_model.proofs.Telling.{IsSync, IsSyncResponse, IsConfig, asks, asking, asking_then, Outcome, passes, replies, rises, opens, load, rank, Goes, up, stays, goes_step}
+use Rattle.wire_model.proofs.Halves.{Speaks, Has, has_last, has_on, has_at, NoneLost, Keeping, follow, asks_read}
 
 sync_asks : (m : LinkMessage) → IsSync m → asks m ≡ 1
 sync_asks Sync is = refl

@@ -1,14 +1,13 @@
 -- What an end makes of a message of the other one, and how many messages wait.
-use Rattle.std.proofs.Common.{◌≡◌, ◌≢◌, ◌⊎◌, ℕ, ◌+◌, ◌<◌, ◌≤◌, Bool, true, false, cond, List, [], ◌∷◌, ◌++◌, length, ltb, Some, inl, inr, refl, sym, ap, subst, ◌∙◌, arith, length-append}
+use Rattle.std.proofs.Common.{◌≡◌, ◌⊎◌, ℕ, ◌+◌, ◌<◌, ◌≤◌, Bool, cond, List, [], ◌∷◌, ◌++◌, length, Some, inl, inr, refl, sym, ap, subst, arith, length-append}
 use Rattle.std.specs.Prelude.{⊤}
-use Rattle.std.specs.List.{AllByRecursion}
 use Rattle.std.proofs.lemmas.Bool.{lt-ltb}
 use Rattle.wire_model.specs.declared.link.LinkMessage.{LinkMessage}
 use Rattle.wire_model.specs.declared.link.LinkMessage.TheVariants.{Sync, SyncResponse, Config, ConfigResponse}
 use Rattle.wire_model.specs.declared.link.Stage.{Stage}
 use Rattle.wire_model.specs.declared.link.Stage.TheVariants.{Uninitialized, Initialized, Active, Reset}
-use Rattle.wire_model.specs.Machine.{Wire, waits, hears_message, hears_sync, hears_sync_response, hears_config, hears_config_response, ticked, ticked_at, lesser, most_waiting}
-use Rattle.wire_model.proofs.Handshake.{Tame, IsFresh, IsOpened, IsWorking, IsOpen, IsResponse, NotSync}
+use Rattle.wire_model.specs.Machine.{Wire, waits, hears_message, hears_sync, hears_sync_response, hears_config, hears_config_response, lesser}
+use Rattle.wire_model.proofs.Handshake.{Tame, IsFresh, IsOpened, IsWorking, IsOpen, IsResponse}
 
 abbrev pub IsSync : LinkMessage → Type 0
 IsSync Sync = ⊤

@@ -1,5 +1,5 @@
 -- Rounds of two ends, one after the other (this project's own).
-use Rattle.std.specs.Prelude.{ℕ, ◌≡◌, ◌≢◌, ◌+◌, Bool, true, List, [], ◌∷◌, ◌++◌, map, length}
+use Rattle.std.specs.Prelude.{ℕ, ◌≡◌, ◌≢◌, ◌+◌, true, List, [], ◌∷◌, ◌++◌, map}
 use Rattle.wire_model.specs.Machine.{Unit, is_active, flag}
 use Rattle.wire_model.specs.Pair.{Pair, Event, Took, Runs, Passes, is_lost}
 
