@@ -1,5 +1,5 @@
 -- How a run over the line goes on, and what it did where it ends.
-use Rattle.std.proofs.Common.{◌≡◌, ◌≢◌, ℕ, zero, suc, slice_index_or, ◌+◌, ◌*◌, ◌-◌, ◌<◌, ◌≤◌, ◌⊎◌, Bool, true, false, ltb, ◌&&◌, not, List, [], ◌∷◌, ◌++◌, map, length, take, drop, get_or, Option, Some, None, IfSome, Result, Ok, Err, inl, inr, refl, sym, ap, subst, ◌∙◌, append_assoc, arith, length-append}
+use Rattle.std.proofs.Common.{◌≡◌, ◌≢◌, ℕ, zero, suc, slice_index_or, ◌+◌, ◌*◌, ◌-◌, ◌<◌, ◌≤◌, ◌⊎◌, Bool, true, false, ltb, ◌&&◌, not, List, [], ◌∷◌, ◌++◌, map, length, take, drop, get_or, Option, Some, None, IfSome, Result, Ok, Err, IsErrOf, inl, inr, refl, sym, ap, subst, ◌∙◌, append_assoc, arith, length-append}
 use Rattle.std.proofs.lemmas.List.{append-nil, length-take}
 use Rattle.std.proofs.lemmas.Bool.{ltb-true, lt-ltb, and_parts, and_from, cases_Bool}
 use Rattle.bt_base.specs.Counts.{HasRisen}
@@ -8,11 +8,16 @@ use Rattle.bt_base.proofs.PortLaws.{gained-nil, front_whole, front_none}
 use Rattle.h4_framing.specs.Packets.{Packet, Command, Acl, Sync, Event as H4Event, spelling, spellings, IsPacket}
 use Rattle.wire_model.specs.declared.link.Way.TheVariants.{Forth}
 use Rattle.wire_model.specs.Machine as machine
-use Rattle.wire_model.specs.Trace.{entries, carried, came, unit_octets, units_octets, IsCut}
-use Rattle.wire_model.specs.Pair.{Pair, new_pair, IsUnit, Event, Took, Takes, Runs, Passes, crossings_of, taken, accepted}
-use Rattle.wire_model.specs.Rounds.{takings, IsRound, Rounds, joined}
+use Rattle.wire_model.specs.Trace.{Obeys, entries, carried, came, unit_octets, units_octets, IsCut}
+use Rattle.wire_model.specs.Pair.{Pair, new_pair, IsUnit, Event, Took, Crossed, Rang, Takes, Runs, Passes, crossings_of, taken, accepted}
+use Rattle.wire_model.specs.Rounds.{takings, IsRound, Rounds, joined, losses}
 use Rattle.wire_model.proofs.Running.{runs_then, rounds_then, joined_then}
 use Rattle.wire_model.proofs.Obeying.{obeys}
+use Rattle.wire_model.proofs.Rounding.{losses_then, rounds_few}
+use Rattle.wire_model.specs.Draws.{draws_from}
+use Rattle.h4_framing.specs.declared.refusal.H4Refusal.TheVariants.{Truncated, BadIndicator, AclTooLong}
+use Rattle.h4_framing.specs.Stream.{Whole, Cut, Fault, Reads}
+use Rattle.h4_framing.proofs.ReadingLemmas.{one_reading}
 use Rattle.wire_model.proofs.Carrying.{stands_from, all_got}
 use Rattle.three_wire.specs.declared.carriage.Carriage.{Carriage}
 use Rattle.three_wire.specs.declared.ends.Ends.{Ends}
@@ -25,19 +30,23 @@ use Rattle.three_wire.specs.declared.wire.WireSubmit.{WireSubmit}
 use Rattle.three_wire.specs.declared.wire.WireSubmit.TheVariants.{NotActive, Busy, Taken}
 use Rattle.three_wire.specs.Crossing.{Steady, BlamesBoth}
 use Rattle.three_wire.specs.Wire.{is_ready, Submits}
-use Rattle.three_wire.specs.Feeding.{BlamesSource, input_limit, acl_limit, HasShape, IsFeeding, IsFront, IsAll, StopsAt}
+use Rattle.three_wire.specs.Feeding.{IsRefusal, BlamesSource, input_limit, acl_limit, HasShape, IsFeeding, IsFront, IsAll, StopsAt}
 use Rattle.three_wire.specs.Going.{pair_of, IsSound, Went, Broke, WentRound}
-use Rattle.three_wire.specs.Carrying.{Given, given, as_unit, as_units, GoesRound, most_rounds, EndsBy, IsWritten, Carries, AnyRose, ReadsOn, IsCarrying, HasCause, EndsHere}
+use Rattle.three_wire.specs.Carrying.{Given, given, as_unit, as_units, GoesRound, most_rounds, EndsBy, IsWritten, Carries, AnyRose, IsBounded, IsWholeInput, EndsWell, ReadsOn, IsCarrying, HasCause, EndsHere}
 use Rattle.three_wire.proofs.Feeding.{some_octet, few_fed, front_fed}
 use Rattle.three_wire.proofs.Going.{went_none, went_then, broke_trace, broke_sink, taken_then, round_takes_none, no_cut}
 
 -- ---- units
 
-pub spelled : (p : Packet) → unit_octets (as_unit p) ≡ spelling p
+spelled : (p : Packet) → unit_octets (as_unit p) ≡ spelling p
 spelled (Command opcode params) = refl
 spelled (Acl word octets) = refl
 spelled (Sync word octets) = refl
 spelled (H4Event code params) = refl
+
+pub units_spelled : (packets : List Packet) → units_octets (as_units packets) ≡ spellings packets
+units_spelled [] = refl
+units_spelled (p ∷ packets) = ap (λ (o : List ℕ). o ++ units_octets (as_units packets)) (spelled p) ∙ ap (λ (o : List ℕ). spelling p ++ o) (units_spelled packets)
 
 pub is_unit : (p : Packet) → IsPacket acl_limit p → IsUnit (as_unit p)
 is_unit (Command opcode params) is = record { above = omega arith; below = omega arith; fits = omega (arith, is.1) }
@@ -301,6 +310,23 @@ shorts_since why a a' a'' b b' b'' c c' c'' d d' d'' s blame is = elim (subst (�
   | inr r ↦ inr (subst (λ x. HasRisen x d'') s.trace_shortages r)
 ]
 
+-- ---- the rounds
+
+no_losses : (units : List machine.Unit) → losses (takings units) ≡ 0
+no_losses [] = refl
+no_losses (u ∷ units) = let rest = no_losses units in omega (arith, rest)
+
+units_length : (packets : List Packet) → length (as_units packets) ≡ length packets
+units_length [] = refl
+units_length (p ∷ packets) = let rest = units_length packets in omega (arith, rest)
+
+bound_of : (number : Option ℕ) (events : List Event) (last : Pair) (packets : List Packet) → (g : GoesRound number events last) → taken events ≡ as_units packets → IsBounded (length g.rounds) packets events
+bound_of number events last packets g takes =
+    let bound = rounds_few number g.rounds g.between g.whole in
+    let lost = ap losses g.all ∙ losses_then (joined g.rounds) (takings g.units) in
+    let took = ap (λ (es : List Event). length (taken es)) g.all ∙ ap length (taken_then (joined g.rounds) (takings g.units)) ∙ length-append (taken (joined g.rounds)) (taken (takings g.units)) in
+    omega (arith, bound, lost, no_losses g.units, took, ap length takes, units_length packets)
+
 -- how a run ends before packets go
 pub ends_here : (g : Given) (left sink trace : Option (List ℕ)) (c : Carriage) (end : CarryEnd) → (k : IsCarrying g left sink trace c) → EndsHere c (Some end) → EndsBy g k.packets k.events (pair_of c.ends) (Ok end)
 ends_here g left sink trace c All k e =
@@ -308,9 +334,12 @@ ends_here g left sink trace c All k e =
       subst (λ (b : Bool). ReadsOn b g.input left c.feed k.packets) e.0 k.read,
       s.picks ∙ all_got c.ends.first c.ends.second (taken k.events) (accepted k.events) (came (crossings_of k.events)) s e.1 ∙ k.takes,
       e.1,
-      k.round,
+      (k.round, bound_of g.number k.events (pair_of c.ends) k.packets k.round k.takes),
     )
-ends_here g left sink trace c Spent k e = (k.round, omega (arith, e, k.in_time, k.rounds_count, k.units_count))
+ends_here g left sink trace c Spent k e =
+    let all : length k.round.rounds ≡ most_rounds (length k.packets) = omega (arith, e, k.in_time, k.rounds_count, k.units_count) in
+    let bound = bound_of g.number k.events (pair_of c.ends) k.packets k.round k.takes in
+    (k.round, all, omega (arith, all, bound))
 
 -- packets go where something is to be carried
 pub cause_of : (g : Given) (left sink trace : Option (List ℕ)) (c : Carriage) → IsCarrying g left sink trace c → (c.ended ≡ false → is_ready c.ends.first ≡ false) → EndsHere c None → HasCause c
@@ -346,3 +375,34 @@ carries_nothing number input sink trace Rose = record {
     all_front : (input : Option (List ℕ)) → IfSome input (λ all. IsFront [] all)
     all_front None = tt
     all_front (Some all) = (all, refl)
+
+-- ---- a run over a line that loses nothing, without a fault
+
+obeys_none : (events : List Event) → Obeys None (crossings_of events) → losses events ≡ 0
+obeys_none [] o = refl
+obeys_none (Took u ∷ events) o = let rest = obeys_none events o in omega (arith, rest)
+obeys_none (Crossed c got ∷ events) o = let rest = obeys_none events o.1 in omega (arith, ap machine.flag o.0, rest)
+obeys_none (Rang ∷ events) o = let rest = obeys_none events o in omega (arith, rest)
+
+stops_not : (all : List ℕ) (ps qs : List Packet) (why : CarryFault) → IsAll all ps → IsRefusal why → StopsAt all qs why → ⊥
+stops_not all ps qs (Refused Truncated place) is r s = let same = (one_reading acl_limit all ps qs Whole Cut is.reads s.0).1 in absurd cc
+stops_not all ps qs (Refused BadIndicator place) is r s = let same = (one_reading acl_limit all ps qs Whole (Fault BadIndicator place) is.reads s.0).1 in absurd cc
+stops_not all ps qs (Refused AclTooLong place) is r s = let same = (one_reading acl_limit all ps qs Whole (Fault AclTooLong place) is.reads s.0).1 in absurd cc
+stops_not all ps qs (TooLong place) is r (_, inl long) = omega (arith, long, is.within)
+stops_not all ps qs (TooLong place) is r (_, inr cut) = let same = (one_reading acl_limit all ps qs Whole Cut is.reads cut).1 in absurd cc
+stops_not all ps qs ReadFault is r s = r
+stops_not all ps qs WriteFault is r s = r
+stops_not all ps qs NoMemory is r s = r
+
+pub ends_well : (input sink sink' trace trace' : Option (List ℕ)) (number : Option ℕ) (Rose Read Write : Type 0) (result : Result CarryEnd CarryFault) → Carries (given number input sink trace) sink' trace' Rose result → (IsErrOf result ReadFault → Read) → (IsErrOf result WriteFault → Write)
+    → number ≡ None → IsWholeInput input → (Read → ⊥) → (Write → ⊥) → EndsWell result
+ends_well input sink sink' trace trace' number Rose Read Write (Ok All) k read write none whole no_read' no_write' = inl refl
+ends_well input sink sink' trace trace' number Rose Read Write (Ok Spent) k read write none whole no_read' no_write' =
+    let lost = obeys_none k.events (subst (λ (n : Option ℕ). Obeys (draws_from n) (crossings_of k.events)) none k.obeys) in absurd (omega (arith, lost, k.ends.2))
+ends_well input sink sink' trace trace' number Rose Read Write (Err ReadFault) k read write none whole no_read' no_write' = absurd (no_read' (read refl))
+ends_well input sink sink' trace trace' number Rose Read Write (Err WriteFault) k read write none whole no_read' no_write' = absurd (no_write' (write refl))
+ends_well input sink sink' trace trace' number Rose Read Write (Err NoMemory) k read write none whole no_read' no_write' = inr refl
+ends_well None sink sink' trace trace' number Rose Read Write (Err (Refused refusal place)) k read write none whole no_read' no_write' = absurd whole
+ends_well (Some all) sink sink' trace trace' number Rose Read Write (Err (Refused refusal place)) k read write none whole no_read' no_write' = absurd (stops_not all whole.0 k.packets (Refused refusal place) whole.1 tt k.ends)
+ends_well None sink sink' trace trace' number Rose Read Write (Err (TooLong place)) k read write none whole no_read' no_write' = absurd whole
+ends_well (Some all) sink sink' trace trace' number Rose Read Write (Err (TooLong place)) k read write none whole no_read' no_write' = absurd (stops_not all whole.0 k.packets (TooLong place) whole.1 tt k.ends)

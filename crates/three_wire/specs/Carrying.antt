@@ -2,12 +2,12 @@
 use Rattle.std.specs.Prelude.{ℕ, ◌≡◌, ◌≢◌, ◌<◌, ◌≤◌, ◌+◌, ◌*◌, ◌-◌, ◌⊎◌, Bool, true, false, not, List, [], ◌++◌, map, length, drop, get_or, Option, Some, None, IfSome, Result, Ok, Err}
 use Rattle.bt_base.specs.Counts.{HasRisen}
 use Rattle.bt_base.specs.Streams.{gained, GainedFront}
-use Rattle.h4_framing.specs.Packets.{Packet, spelling}
+use Rattle.h4_framing.specs.Packets.{Packet, spelling, spellings}
 use Rattle.wire_model.specs.Machine as machine
 use Rattle.wire_model.specs.Draws.{draws_from}
 use Rattle.wire_model.specs.Trace.{Obeys, entries, carried, units_octets, IsCut}
 use Rattle.wire_model.specs.Pair.{Pair, Event, Runs, new_pair, crossings_of, taken}
-use Rattle.wire_model.specs.Rounds.{takings, Rounds, joined}
+use Rattle.wire_model.specs.Rounds.{takings, Rounds, joined, losses}
 use Rattle.three_wire.specs.Feeding.{input_limit, HasShape, IsFeeding, IsFront, IsAll, StopsAt}
 use Rattle.three_wire.specs.Going.{pair_of, IsSound, Went}
 use Rattle.three_wire.specs.declared.carriage.Carriage.{Carriage}
@@ -15,6 +15,7 @@ use Rattle.three_wire.specs.declared.feed.Feed.{Feed}
 use Rattle.three_wire.specs.declared.fault.CarryEnd.{CarryEnd}
 use Rattle.three_wire.specs.declared.fault.CarryEnd.TheVariants.{All, Spent}
 use Rattle.three_wire.specs.declared.fault.CarryFault.{CarryFault}
+use Rattle.three_wire.specs.declared.fault.CarryFault.TheVariants.{NoMemory}
 
 -- a packet of the source as the line carries it: its indicator is the packet type
 abbrev pub as_unit : Packet → machine.Unit
@@ -22,6 +23,10 @@ as_unit packet = record { kind = get_or (spelling packet) 0 0; octets = drop 1 (
 
 abbrev pub as_units : List Packet → List machine.Unit
 as_units packets = map as_unit packets
+
+-- the octets of such units are those of the packets on a UART
+abbrev pub UnitsAreSpelled : Type 0
+UnitsAreSpelled = (packets : List Packet) → units_octets (as_units packets) ≡ spellings packets
 
 -- what a run is given: the number of its draws, and what the source, the sink and the trace have
 pub record Given : Type 0 where
@@ -46,11 +51,15 @@ pub record GoesRound (number : Option ℕ) (events : List Event) (last : Pair) :
 abbrev pub most_rounds : ℕ → ℕ
 most_rounds units = 1000 + 100 * units
 
+-- there are no more rounds than 17, one for each unit, and two for each packet that was lost
+abbrev pub IsBounded : ℕ → List Packet → List Event → Type 0
+IsBounded rounds packets events = rounds ≤ 17 + length packets + 2 * losses events
+
 -- how a run ends behind these units: all were carried, and the source has no more; or the rounds are spent; or, where
--- it broke off, as the source says
+-- it broke off, as the source says. The rounds are spent only where more than 100 packets were lost.
 abbrev pub EndsBy : Given → List Packet → List Event → Pair → Result CarryEnd CarryFault → Type 0
-EndsBy given packets events last (Ok All) = IfSome given.input (λ all. IsAll all packets) × (carried (crossings_of events) ≡ as_units packets) × (last.first.unacked ≡ []) × GoesRound given.number events last
-EndsBy given packets events last (Ok Spent) = (round : GoesRound given.number events last) × (length round.rounds ≡ most_rounds (length packets))
+EndsBy given packets events last (Ok All) = IfSome given.input (λ all. IsAll all packets) × (carried (crossings_of events) ≡ as_units packets) × (last.first.unacked ≡ []) × ((round : GoesRound given.number events last) × IsBounded (length round.rounds) packets events)
+EndsBy given packets events last (Ok Spent) = (round : GoesRound given.number events last) × (length round.rounds ≡ most_rounds (length packets)) × (100 < losses events)
 EndsBy given packets events last (Err why) = IfSome given.input (λ all. StopsAt all packets why)
 
 -- all of the trace and of what was carried is written
@@ -90,6 +99,15 @@ WriteRose kf kf' tf tf' = HasRisen kf kf' ⊎ HasRisen tf tf'
 
 abbrev pub ShortageRose : ℕ → ℕ → ℕ → ℕ → ℕ → ℕ → Type 0
 ShortageRose ss ss' ks ks' ts ts' = HasRisen ss ss' ⊎ HasRisen ks ks' ⊎ HasRisen ts ts'
+
+-- the input is whole units within the limits
+abbrev pub IsWholeInput : Option (List ℕ) → Type 0
+IsWholeInput None = ⊥
+IsWholeInput (Some all) = (packets : List Packet) × IsAll all packets
+
+-- all was carried, or memory was wanting
+abbrev pub EndsWell : Result CarryEnd CarryFault → Type 0
+EndsWell result = (result ≡ Ok All) ⊎ (result ≡ Err NoMemory)
 
 -- nothing was read or written
 abbrev pub IsUntouched : Option (List ℕ) → Option (List ℕ) → Option (List ℕ) → Option (List ℕ) → Option (List ℕ) → Option (List ℕ) → Type 0

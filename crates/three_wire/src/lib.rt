@@ -8,6 +8,7 @@ mod ends;
 mod fault;
 mod feed;
 mod held;
+pub mod laws;
 mod line;
 mod loss;
 mod rounds;

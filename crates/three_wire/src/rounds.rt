@@ -1,8 +1,8 @@
 //! The units of a source, carried over a line to a sink.
 
-ghost use Rattle.std.specs.Prelude.{◌≡◌, ◌⊎◌, List, ℕ, Option, IsErrOf};
+ghost use Rattle.std.specs.Prelude.{◌≡◌, ◌⊎◌, List, ℕ, Option, None, IsErrOf};
 ghost use Rattle.bt_base.specs.Counts.{HasRisen};
-ghost use Rattle.three_wire.specs.Carrying.{Given, given, AnyRose, WriteRose, ShortageRose, IsUntouched, Carries, IsCarrying};
+ghost use Rattle.three_wire.specs.Carrying.{Given, given, AnyRose, WriteRose, ShortageRose, IsUntouched, IsWholeInput, EndsWell, Carries, IsCarrying};
 
 use crate::carriage::Carriage;
 use crate::fault::{CarryEnd, CarryFault};
@@ -52,6 +52,7 @@ pub fn carry<S: Source, K: Sink, T: Sink>(
     ensures read_fault { IsErrOf result CarryFault.ReadFault → HasRisen (S.faults source.old) (S.faults source.new) }
     ensures write_fault { IsErrOf result CarryFault.WriteFault → WriteRose (K.faults sink.old) (K.faults sink.new) (T.faults trace.old) (T.faults trace.new) }
     ensures no_memory { IsErrOf result CarryFault.NoMemory → IsUntouched (S.content source.old) (S.content source.new) (K.content sink.old) (K.content sink.new) (T.content trace.old) (T.content trace.new) ⊎ ShortageRose (S.shortages source.old) (S.shortages source.new) (K.shortages sink.old) (K.shortages sink.new) (T.shortages trace.old) (T.shortages trace.new) }
+    ensures clean { number ≡ None → IsWholeInput (S.content source.old) → (HasRisen (S.faults source.old) (S.faults source.new) → ⊥) → (WriteRose (K.faults sink.old) (K.faults sink.new) (T.faults trace.old) (T.faults trace.new) → ⊥) → EndsWell result }
 {
     let Ok(mut carriage) = Carriage::new(alloc, number) else {
         return Err(CarryFault::NoMemory);

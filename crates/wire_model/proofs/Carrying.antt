@@ -1,7 +1,7 @@
 -- Whole runs from their start.
-use Rattle.std.proofs.Common.{◌≡◌, ℕ, ◌+◌, ◌%◌, ◌<◌, ◌≤◌, Bool, true, false, List, [], ◌∷◌, ◌++◌, length, Option, Some, None, slice_get, refl, sym, ap, subst, ◌∙◌, append_assoc, arith, length-append, inl, inr}
+use Rattle.std.proofs.Common.{◌≡◌, ℕ, Bool, true, false, List, [], ◌∷◌, ◌++◌, length, Option, Some, None, slice_get, refl, sym, ap, subst, ◌∙◌, append_assoc, arith, length-append, inl, inr}
 use Rattle.std.specs.Option.{option_to_list}
-use Rattle.std.specs.List.{cons_option, filter_map}
+use Rattle.std.specs.List.{cons_option}
 use Rattle.std.proofs.lemmas.List.{append-nil}
 use Rattle.std.proofs.lemmas.List.Elements.{All-nil}
 use Rattle.wire_packets.specs.Packets.{Packet}
@@ -9,13 +9,13 @@ use Rattle.wire_model.specs.declared.link.Stage.{Stage}
 use Rattle.wire_model.specs.declared.link.Stage.TheVariants.{Uninitialized, Initialized, Active, Reset}
 use Rattle.wire_model.specs.declared.link.Way.{Way}
 use Rattle.wire_model.specs.declared.link.Way.TheVariants.{Forth, Back}
-use Rattle.wire_model.specs.Machine.{Unit, Wire, Heard, Said, says, hears, is_active, is_reset, quiet, ticked, submitted, new_wire, ack_packet}
-use Rattle.wire_model.specs.Trace.{Crossing, came, came_to_second, carried, behind_response, picked}
-use Rattle.wire_model.specs.Pair.{Pair, new_pair, IsUnit, Event, Took, Crossed, Rang, Takes, Happens, Runs, Crosses, CrossesBy, hears_over, crossing_of, crossings_of, taken_of, taken, got_of, got_by, accepted}
-use Rattle.wire_model.proofs.Saying.{Saying, message, unit, answer, saying_of, says_message_of, says_unit_of, says_ack_of}
+use Rattle.wire_model.specs.Machine.{Unit, Wire, Heard, Said, hears, is_reset, ticked, submitted, new_wire, ack_packet}
+use Rattle.wire_model.specs.Trace.{Crossing, came, came_to_second}
+use Rattle.wire_model.specs.Pair.{Pair, new_pair, IsUnit, Event, Took, Crossed, Rang, Happens, Runs, CrossesBy, hears_over, crossing_of, crossings_of, taken_of, taken, got_of, got_by, accepted}
+use Rattle.wire_model.proofs.Saying.{Saying, message, unit, answer, saying_of, says_message_of, says_ack_of}
 use Rattle.wire_model.proofs.Handshake.{Tame, IsOpen}
 use Rattle.wire_model.proofs.Hearing.{stage_cases, ack_heard, ack_ignored}
-use Rattle.wire_model.proofs.Standing.{Sending, Stands, message_forth, message_back, said_first, said_second, link_heard}
+use Rattle.wire_model.proofs.Standing.{Stands, message_forth, message_back, said_first, said_second, link_heard}
 use Rattle.wire_model.proofs.Delivering.{unit_forth_active, unit_forth_idle, ack_forth, ack_back, took_one, rang}
 
 -- the start
@@ -91,7 +91,7 @@ abbrev pub arrived : Option Crossing → List Packet
 arrived None = []
 arrived (Some c) = option_to_list (came_to_second c.way c.lost c.packet)
 
-record Next (p : Pair) (took got : List Unit) (ps : List Packet) (e : Event) : Type 0 where
+pub record Next (p : Pair) (took got : List Unit) (ps : List Packet) (e : Event) : Type 0 where
   pub stands : Stands p.first p.second (took ++ tk e) (got ++ gt e) (ps ++ arrived (crossing_of e))
 
 crossed_one : (way : Way) (p q : Pair) (took got : List Unit) (ps : List Packet) (lost : Bool) (packet : Packet) (g : Option Unit) → Stands p.first p.second took got ps → CrossesBy way p lost packet g q
@@ -108,7 +108,7 @@ crossed_one Back p q took got ps lost packet g s c =
     (subst (λ (qs : List Packet). Stands q.first q.second took got qs) (sym (append-nil ps))
     (subst (λ (a : Wire). Stands a q.second took got ps) (sym c.hears) f)))
 
-happened : (p q : Pair) (took got : List Unit) (ps : List Packet) (e : Event) → Stands p.first p.second took got ps → Happens p e q → Next q took got ps e
+pub happened : (p q : Pair) (took got : List Unit) (ps : List Packet) (e : Event) → Stands p.first p.second took got ps → Happens p e q → Next q took got ps e
 happened p q took got ps (Took u) s h = record {
   stands =
       subst (λ (x : Pair). Stands x.first x.second (took ++ u ∷ []) (got ++ []) (ps ++ [])) (sym h.becomes)
@@ -152,7 +152,7 @@ stands_run p q took got ps (e ∷ events) s r =
 pub stands_from : (number : Option ℕ) (events : List Event) (last : Pair) → Runs (new_pair number) events last → Stands last.first last.second (taken events) (accepted events) (came (crossings_of events))
 stands_from number events last r = stands_run (new_pair number) last [] [] [] events stands_first r
 
-open_not : (s : Stage) → IsOpen s → is_reset s ≡ false
+pub open_not : (s : Stage) → IsOpen s → is_reset s ≡ false
 open_not Uninitialized o = refl
 open_not Initialized o = refl
 open_not Active o = refl

@@ -1,25 +1,22 @@
 -- A unit or an acknowledgement is heard, a unit is taken, the timers fire; and whole runs.
-use Rattle.std.proofs.Common.{◌≡◌, ◌≢◌, ◌⊎◌, ℕ, zero, suc, ◌+◌, ◌-◌, ◌%◌, ◌<◌, ◌≤◌, max, All, Bool, true, false, cond, ◌||◌, ◌&&◌, List, [], ◌∷◌, ◌++◌, length, take, drop, Option, Some, None, slice_get, eqb, leb, inl, inr, refl, sym, ap, subst, ◌∙◌, append_assoc, arith, length-append}
+use Rattle.std.proofs.Common.{◌≡◌, ℕ, zero, suc, ◌+◌, ◌-◌, ◌%◌, ◌<◌, ◌≤◌, All, Bool, true, false, cond, ◌||◌, List, [], ◌∷◌, ◌++◌, length, take, drop, Some, slice_get, eqb, leb, inl, inr, refl, sym, ap, subst, ◌∙◌, append_assoc, arith, length-append}
 use Rattle.std.specs.Option.{option_to_list}
-use Rattle.std.specs.List.{cons_option, filter_map}
-use Rattle.std.proofs.lemmas.Bool.{cases_Bool, eqb-true, eqb-false, eq-eqb, ne_eqb, le-leb}
+use Rattle.std.proofs.lemmas.Bool.{cases_Bool, eqb-true, ne_eqb, le-leb}
 use Rattle.std.proofs.lemmas.List.{append-nil, take-append-drop, length-take, length-drop}
-use Rattle.std.proofs.lemmas.List.Elements.{All-push, All-drop, All-nil}
+use Rattle.std.proofs.lemmas.List.Elements.{All-push, All-drop}
 use Rattle.std.proofs.lemmas.Option.{slice_get_within, get_or_from_slice_get}
 use Rattle.wire_packets.specs.Packets.{Packet}
 use Rattle.wire_model.specs.declared.link.LinkMessage.{LinkMessage}
 use Rattle.wire_model.specs.declared.link.Stage.{Stage}
-use Rattle.wire_model.specs.declared.link.Stage.TheVariants.{Uninitialized, Initialized, Active, Reset}
-use Rattle.wire_model.specs.declared.link.Way.{Way}
-use Rattle.wire_model.specs.declared.link.Way.TheVariants.{Forth, Back}
-use Rattle.wire_model.specs.Machine.{Unit, Wire, Heard, Said, says, hears, hears_ack, takes_number, acknowledged, past, quiet, is_active, is_reset, link_packet, unit_packet, ack_packet, ticked, submitted, new_wire}
-use Rattle.wire_model.specs.Trace.{Crossing, came, came_to_second, is_config_response, behind_response, has_number, picked}
-use Rattle.wire_model.specs.Pair.{Pair, new_pair, IsUnit, Event, Took, Crossed, Rang, Takes, Happens, Runs, Crosses, CrossesBy, hears_over, crossing_of, crossings_of, taken_of, taken, got_of, got_by, accepted}
-use Rattle.wire_model.proofs.Saying.{Saying, message, unit, answer, saying_of, says_message_of, says_unit_of, says_ack_of}
+use Rattle.wire_model.specs.declared.link.Stage.TheVariants.{Active}
+use Rattle.wire_model.specs.Machine.{Unit, Wire, Heard, hears, hears_ack, takes_number, acknowledged, past, quiet, is_active, unit_packet, ack_packet, ticked, submitted}
+use Rattle.wire_model.specs.Trace.{is_config_response, behind_response, has_number, picked}
+use Rattle.wire_model.specs.Pair.{IsUnit}
+use Rattle.wire_model.proofs.Saying.{unit, says_unit_of}
 use Rattle.wire_model.proofs.Handshake.{Tame, tick_tame, tick_stage}
-use Rattle.wire_model.proofs.Hearing.{Keeps, tick_keeps, AcksNothing, acks_nothing, unit_heard, unit_ignored, ack_heard, ack_ignored, stage_cases}
-use Rattle.wire_model.proofs.Picking.{has_come, unit_in, picked_at, has_come-push, behind_push, behind_none, behind_first, picked-push, picks_none, came-append}
-use Rattle.wire_model.proofs.Standing.{Sending, Stands, sending_keeps, message_forth, message_back, said_first, said_second, link_heard, picks_same}
+use Rattle.wire_model.proofs.Hearing.{tick_keeps, AcksNothing, acks_nothing, unit_heard, unit_ignored, ack_heard, ack_ignored, stage_cases}
+use Rattle.wire_model.proofs.Picking.{has_come, unit_in, picked_at, has_come-push, behind_push, behind_none, behind_first, picked-push}
+use Rattle.wire_model.proofs.Standing.{Sending, Stands, sending_keeps, said_first, picks_same}
 
 -- ---- a unit is heard
 
@@ -44,7 +41,7 @@ no_response seq ack u is = rw (ne_eqb u.kind 15 (λ e. omega (arith, is.below)))
 same_unit : (seq ack : ℕ) (u : Unit) → unit_in (unit_packet seq ack u) ≡ u
 same_unit seq ack u = refl
 
-unit_at : (a : Wire) (i : ℕ) (u : Unit) → All IsUnit a.unacked → slice_get a.unacked i ≡ Some u → IsUnit u
+pub unit_at : (a : Wire) (i : ℕ) (u : Unit) → All IsUnit a.unacked → slice_get a.unacked i ≡ Some u → IsUnit u
 unit_at a i u all is = subst IsUnit (get_or_from_slice_get a.unacked i u u is) (all i u (slice_get_within a.unacked i u is))
 
 -- the fields of the sending end behind a unit

@@ -1,13 +1,13 @@
 -- How the link is established: an end never hears SYNC when it is active, and CONFIG RESPONSE comes to an end that
 -- waits for it.
-use Rattle.std.proofs.Common.{◌≡◌, ◌≢◌, ◌⊎◌, ℕ, ◌+◌, ◌<◌, Bool, true, false, cond, List, [], ◌∷◌, ◌++◌, length, Option, Some, None, ltb, inl, inr, refl, sym, ap, subst, ◌∙◌, arith}
+use Rattle.std.proofs.Common.{◌≡◌, ◌⊎◌, ℕ, true, false, cond, List, [], ◌∷◌, ◌++◌, length, Some, ltb, inl, inr, refl, sym, subst, ◌∙◌}
 use Rattle.std.specs.Prelude.{⊤}
 use Rattle.std.specs.List.{AllByRecursion}
 use Rattle.wire_model.specs.declared.link.LinkMessage.{LinkMessage}
 use Rattle.wire_model.specs.declared.link.LinkMessage.TheVariants.{Sync, SyncResponse, Config, ConfigResponse}
 use Rattle.wire_model.specs.declared.link.Stage.{Stage}
 use Rattle.wire_model.specs.declared.link.Stage.TheVariants.{Uninitialized, Initialized, Active, Reset}
-use Rattle.wire_model.specs.Machine.{Wire, waits, ticked, ticked_at, hears_message, hears_sync, hears_sync_response, hears_config, hears_config_response, is_reset, most_waiting, lesser}
+use Rattle.wire_model.specs.Machine.{Wire, waits, ticked, ticked_at, hears_message, hears_sync, hears_sync_response, hears_config, hears_config_response, most_waiting, lesser}
 
 -- ---- what a message and a stage are
 

@@ -1,11 +1,11 @@
 -- What hearing and timers leave unchanged, and what a unit and an acknowledgement do.
-use Rattle.std.proofs.Common.{◌≡◌, ◌≢◌, ◌⊎◌, ℕ, ◌+◌, ◌-◌, ◌%◌, ◌<◌, ◌≤◌, min, max, Bool, true, false, cond, ◌&&◌, List, [], ◌∷◌, ◌++◌, length, drop, zero, suc, Option, Some, None, eqb, ltb, leb, inl, inr, refl, sym, ap, subst, ◌∙◌, arith}
-use Rattle.std.proofs.lemmas.Bool.{ne_eqb, le-leb, lt-leb, cases_Bool}
+use Rattle.std.proofs.Common.{◌≡◌, ◌≢◌, ◌⊎◌, ℕ, ◌≤◌, Bool, true, false, cond, List, [], ◌∷◌, ◌++◌, length, drop, zero, suc, Some, eqb, ltb, leb, inl, inr, refl, sym, ap, subst, ◌∙◌, arith}
+use Rattle.std.proofs.lemmas.Bool.{ne_eqb, le-leb}
 use Rattle.wire_model.specs.declared.link.LinkMessage.{LinkMessage}
 use Rattle.wire_model.specs.declared.link.LinkMessage.TheVariants.{Sync, SyncResponse, Config, ConfigResponse}
 use Rattle.wire_model.specs.declared.link.Stage.{Stage}
 use Rattle.wire_model.specs.declared.link.Stage.TheVariants.{Uninitialized, Initialized, Active, Reset}
-use Rattle.wire_model.specs.Machine.{Unit, Wire, Heard, waits, ticked, ticked_at, hears, hears_message, message_of, hears_sync, hears_sync_response, hears_config, hears_config_response, hears_ack, hears_numbers, takes_unit, takes_number, acknowledged, past, quiet, is_active, is_unit_kind, link_packet, unit_packet, ack_packet, most_waiting, lesser}
+use Rattle.wire_model.specs.Machine.{Unit, Wire, Heard, waits, ticked, ticked_at, hears, hears_message, message_of, hears_sync, hears_sync_response, hears_config, hears_config_response, hears_ack, hears_numbers, takes_unit, takes_number, acknowledged, past, quiet, is_active, is_unit_kind, unit_packet, ack_packet, most_waiting, lesser}
 use Rattle.wire_model.specs.Pair.{IsUnit}
 
 -- the numbers of an end and its units stay; the timer may begin again with the first

@@ -7,3 +7,11 @@ pub mod Picking
 pub mod Standing
 pub mod Delivering
 pub mod Carrying
+pub mod Telling
+pub mod Halves
+pub mod Shaking
+pub mod Establishing
+pub mod Numbering
+pub mod Emptying
+pub mod Rounding
+pub mod Causing

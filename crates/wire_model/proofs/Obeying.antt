@@ -1,11 +1,11 @@
 -- The tags of a run obey the draws.
-use Rattle.std.proofs.Common.{◌≡◌, ℕ, Bool, List, [], ◌∷◌, Option, sym, ap, subst, ◌∙◌}
+use Rattle.std.proofs.Common.{◌≡◌, ℕ, Bool, List, [], ◌∷◌, Option, ap, subst}
 use Rattle.wire_packets.specs.Packets.{Packet}
 use Rattle.wire_model.specs.declared.link.Way.{Way}
 use Rattle.wire_model.specs.declared.link.Way.TheVariants.{Forth, Back}
 use Rattle.wire_model.specs.Machine.{Unit}
 use Rattle.wire_model.specs.Draws.{loses, drawn_on}
-use Rattle.wire_model.specs.Trace.{Crossing, Obeys}
+use Rattle.wire_model.specs.Trace.{Obeys}
 use Rattle.wire_model.specs.Pair.{Pair, Event, Took, Crossed, Rang, Runs, CrossesBy, crossings_of}
 
 drew : (way : Way) (p q : Pair) (lost : Bool) (packet : Packet) (got : Option Unit) → CrossesBy way p lost packet got q → (lost ≡ loses p.draws) × (q.draws ≡ drawn_on p.draws)

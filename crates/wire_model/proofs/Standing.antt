@@ -1,23 +1,19 @@
 -- What every run of two ends keeps.
-use Rattle.std.proofs.Common.{◌≡◌, ◌≢◌, ◌⊎◌, ℕ, zero, suc, ◌+◌, ◌-◌, ◌%◌, ◌<◌, ◌≤◌, max, All, Bool, true, false, cond, ◌||◌, ◌&&◌, List, [], ◌∷◌, ◌++◌, length, take, drop, Option, Some, None, slice_get, eqb, leb, inl, inr, refl, sym, ap, subst, ◌∙◌, append_assoc, arith, length-append}
-use Rattle.std.specs.Option.{option_to_list}
-use Rattle.std.specs.List.{cons_option, filter_map}
-use Rattle.std.proofs.lemmas.Bool.{cases_Bool, eqb-true, eqb-false, eq-eqb, ne_eqb, le-leb}
-use Rattle.std.proofs.lemmas.List.{append-nil, take-append-drop, length-take, length-drop}
-use Rattle.std.proofs.lemmas.List.Elements.{All-push, All-drop}
-use Rattle.std.proofs.lemmas.Option.{slice_get_within, get_or_from_slice_get}
+use Rattle.std.proofs.Common.{◌≡◌, ◌≢◌, ◌+◌, ◌%◌, ◌≤◌, All, false, ◌||◌, List, [], ◌∷◌, ◌++◌, length, Some, slice_get, inl, inr, refl, sym, ap, subst, ◌∙◌, arith}
+use Rattle.std.proofs.lemmas.Bool.{cases_Bool}
+use Rattle.std.proofs.lemmas.Option.{slice_get_within}
 use Rattle.wire_packets.specs.Packets.{Packet}
 use Rattle.wire_model.specs.declared.link.LinkMessage.{LinkMessage}
 use Rattle.wire_model.specs.declared.link.LinkMessage.TheVariants.{Sync, SyncResponse, Config, ConfigResponse}
 use Rattle.wire_model.specs.declared.link.Stage.{Stage}
 use Rattle.wire_model.specs.declared.link.Stage.TheVariants.{Uninitialized, Initialized, Active, Reset}
-use Rattle.wire_model.specs.Machine.{Unit, Wire, Heard, Said, says, hears, hears_message, hears_ack, hears_sync, hears_sync_response, hears_config, hears_config_response, takes_number, acknowledged, past, quiet, is_active, message_of, message_octets, link_packet, unit_packet, ack_packet, ticked, submitted, waits, lesser}
-use Rattle.wire_model.specs.Trace.{Crossing, came, came_to_second, is_config_response, is_response, behind_response, has_number, picked}
+use Rattle.wire_model.specs.Machine.{Unit, Wire, Heard, Said, hears, hears_message, hears_sync, hears_sync_response, hears_config, hears_config_response, quiet, is_active, link_packet, lesser}
+use Rattle.wire_model.specs.Trace.{is_config_response, is_response, behind_response, picked}
 use Rattle.wire_model.specs.Pair.{IsUnit}
-use Rattle.wire_model.proofs.Saying.{Saying, message, unit, answer, saying_of, says_message_of, says_unit_of, says_ack_of}
-use Rattle.wire_model.proofs.Handshake.{Tame, Both, IsWorking, IsOpened, IsResponse, IsEarly, NotSync, message_heard, tame_tail, tame_window, tick_tame, tick_stage, waits_stage}
-use Rattle.wire_model.proofs.Hearing.{Keeps, message_keeps, tick_keeps, AcksNothing, acks_nothing, unit_heard, unit_ignored, ack_heard, ack_ignored, stage_cases}
-use Rattle.wire_model.proofs.Picking.{has_come, unit_in, picked_at, has_come-push, behind_push, behind_none, behind_first, picked-push, picks_none}
+use Rattle.wire_model.proofs.Saying.{Saying, message, unit, answer}
+use Rattle.wire_model.proofs.Handshake.{Tame, IsWorking, IsOpened, IsResponse, NotSync, message_heard, tame_tail, tame_window, waits_stage}
+use Rattle.wire_model.proofs.Hearing.{Keeps, message_keeps}
+use Rattle.wire_model.proofs.Picking.{has_come, has_come-push, behind_push, behind_none, behind_first, picks_none}
 
 -- the end that sends units, of which those in `done` are acknowledged
 pub record Sending (w : Wire) (done : List Unit) : Type 0 where
@@ -80,7 +76,7 @@ link_heard SyncResponse w = refl
 link_heard (Config x) w = refl
 link_heard (ConfigResponse x) w = refl
 
-read_tame : (own other : Stage) (m : LinkMessage) (rest : List LinkMessage) → Tame own other (m ∷ rest) → Tame own other (read m ∷ rest)
+pub read_tame : (own other : Stage) (m : LinkMessage) (rest : List LinkMessage) → Tame own other (m ∷ rest) → Tame own other (read m ∷ rest)
 read_tame own other Sync rest t = t
 read_tame own other SyncResponse rest t = t
 read_tame own other (Config w) rest t = tame_window own other (Config w) (Config (w % 8)) rest (λ e. e) (λ r. r) (λ n. n) t
@@ -90,7 +86,7 @@ working : (s : Stage) → s ≡ Active → IsWorking s
 working s e = subst IsWorking (sym e) tt
 
 -- SYNC is not heard by an active end
-safe_by : (m : LinkMessage) (own other : Stage) (rest : List LinkMessage) → Tame own other (m ∷ rest) → m ≡ Sync → other ≢ Active
+pub safe_by : (m : LinkMessage) (own other : Stage) (rest : List LinkMessage) → Tame own other (m ∷ rest) → m ≡ Sync → other ≢ Active
 safe_by m own other rest t is at = subst NotSync is (t.silent (working other at)).0
 
 -- whether an end is active behind a message

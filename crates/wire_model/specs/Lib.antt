@@ -4,4 +4,5 @@ pub mod Draws
 pub mod Trace
 pub mod Pair
 pub mod Rounds
+pub mod Causes
 pub mod Laws

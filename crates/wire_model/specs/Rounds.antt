@@ -1,7 +1,6 @@
 -- Rounds of two ends, one after the other (this project's own).
-use Rattle.std.specs.Prelude.{ℕ, ◌≡◌, ◌≢◌, Bool, true, List, [], ◌∷◌, ◌++◌, map, length}
-use Rattle.std.specs.List.{count_by}
-use Rattle.wire_model.specs.Machine.{Unit, is_active}
+use Rattle.std.specs.Prelude.{ℕ, ◌≡◌, ◌≢◌, ◌+◌, true, List, [], ◌∷◌, ◌++◌, map}
+use Rattle.wire_model.specs.Machine.{Unit, is_active, flag}
 use Rattle.wire_model.specs.Pair.{Pair, Event, Took, Runs, Passes, is_lost}
 
 -- the first end takes these units, one after the other
@@ -30,4 +29,5 @@ joined (round ∷ rounds) = round ++ joined rounds
 
 -- how many packets were lost
 abbrev pub losses : List Event → ℕ
-losses events = count_by is_lost events
+losses [] = 0
+losses (event ∷ events) = flag (is_lost event) + losses events

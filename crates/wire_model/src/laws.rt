@@ -1,6 +1,6 @@
 //! Laws of the two ends. Each is the contract of a function that does nothing.
 
-ghost use Rattle.wire_model.specs.Laws.{TagsObey, NeverReset, CarriedInOrder, WithinWindow, AllCarried};
+ghost use Rattle.wire_model.specs.Laws.{TagsObey, NeverReset, CarriedInOrder, WithinWindow, AllCarried, RoundsAreFew, OncePerCause};
 
 /// The tags of a run obey the draws.
 pub fn tags_obey()
@@ -25,4 +25,16 @@ pub fn within_window()
 /// Where none is unacknowledged all was carried.
 pub fn all_carried()
     ensures { AllCarried }
+{}
+
+/// There are at most 17 rounds, one for each unit that was taken, and two for each packet that was
+/// lost.
+pub fn rounds_are_few()
+    ensures { RoundsAreFew }
+{}
+
+/// Each packet of an end has a cause of its own: the start, a unit taken, a packet heard, or what a
+/// timer asks for.
+pub fn once_per_cause()
+    ensures { OncePerCause }
 {}

@@ -1,6 +1,6 @@
 use Rattle.std.proofs.Common.{inl, inr, refl}
 use Rattle.three_wire.specs.Carrying.{given}
-use Rattle.three_wire.proofs.Carrying.{carries_nothing}
+use Rattle.three_wire.proofs.Carrying.{carries_nothing, ends_well}
 use Rattle.three_wire.proofs.rounds.carry.Goals as goal
 
 pub returns-in_default-clause-carries : goal.returns-in_default-clause-carries
@@ -19,3 +19,10 @@ returns-clause-carries g c =
     let k = g.K.Sink.content c.args.sink.now in
     let t = g.T.Sink.content c.args.trace.now in
     c.run.ensures.carries (given c.args.number s k t) (c.in-Ok.ensures s k t)
+
+pub returns-clause-clean : goal.returns-clause-clean
+returns-clause-clean g c =
+    let s = g.S.Source.content c.args.source.now in
+    let k = g.K.Sink.content c.args.sink.now in
+    let t = g.T.Sink.content c.args.trace.now in
+    ends_well s k _ t _ c.args.number _ _ _ c.run.result (c.run.ensures.carries (given c.args.number s k t) (c.in-Ok.ensures s k t)) c.run.ensures.read_fault c.run.ensures.write_fault

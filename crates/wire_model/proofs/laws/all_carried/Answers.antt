@@ -1,5 +1,5 @@
-use Rattle.std.proofs.Common.{◌≡◌, ◌∙◌}
-use Rattle.wire_model.proofs.Carrying.{stands_from, never, all_got}
+use Rattle.std.proofs.Common.{◌∙◌}
+use Rattle.wire_model.proofs.Carrying.{stands_from, all_got}
 use Rattle.wire_model.proofs.laws.all_carried.Goals as goal
 
 pub returns : goal.returns

@@ -1,5 +1,5 @@
-use Rattle.std.proofs.Common.{◌≡◌, ◌++◌, ◌∙◌, sym, ap}
-use Rattle.wire_model.proofs.Carrying.{stands_from, never, all_got}
+use Rattle.std.proofs.Common.{◌++◌, ◌∙◌, sym, ap}
+use Rattle.wire_model.proofs.Carrying.{stands_from}
 use Rattle.wire_model.proofs.laws.carried_in_order.Goals as goal
 
 pub returns : goal.returns

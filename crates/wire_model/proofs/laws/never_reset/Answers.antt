@@ -1,4 +1,4 @@
-use Rattle.wire_model.proofs.Carrying.{stands_from, never, all_got}
+use Rattle.wire_model.proofs.Carrying.{stands_from, never}
 use Rattle.wire_model.proofs.laws.never_reset.Goals as goal
 
 pub returns : goal.returns

@@ -1,5 +1,5 @@
-use Rattle.std.proofs.Common.{◌≤◌, arith}
-use Rattle.wire_model.proofs.Carrying.{stands_from, never, all_got}
+use Rattle.std.proofs.Common.{arith}
+use Rattle.wire_model.proofs.Carrying.{stands_from}
 use Rattle.wire_model.proofs.laws.within_window.Goals as goal
 
 pub returns : goal.returns
