@@ -1,0 +1,5 @@
+pub mod Hosts
+pub mod Leaving
+pub mod Halves
+pub mod Scenes
+pub mod Both

@@ -1,0 +1,16 @@
+//! The simulated world: two hosts, their controllers and the air between them.
+#![tactic(auto)]
+
+mod exchange;
+mod fault;
+mod feeding;
+mod host;
+mod medium;
+mod ordering;
+mod recording;
+mod scene;
+mod world;
+
+pub use fault::WorldFault;
+pub use host::{Client, Host};
+pub use world::World;
