@@ -141,10 +141,11 @@ goes_in {S} {G} U side Answers coming p medium medium' host host' port port' tra
   used = reaction.used;
   answered = reaction.answered;
   makes = λ rest.
-      let heard : Station S = hears_coming U side coming (reaction.used ++ rest) (answering (reaction.used ++ rest) host) in
-      (record { medium = medium'; station = heard },
-      (comes, reaction.used ++ rest, ap (λ (m : Medium). record { medium = m; station = heard }) after),
-      tries U side reaction.efforts medium' heard (answering rest host') (reaction.reacts rest));
+      let heard : Station S = hears_coming U side coming (reaction.used ++ rest) (answering (reaction.used ++ rest) host) in (
+        record { medium = medium'; station = heard },
+        (comes, reaction.used ++ rest, ap (λ (m : Medium). record { medium = m; station = heard }) after),
+        tries U side reaction.efforts medium' heard (answering rest host') (reaction.reacts rest),
+      );
   written = written ∙ ap (λ q. gained trace (entry_octets (Moved side Into q))) same
       ∙ ap (gained trace) (sym (append-nil (entry_octets (Moved side Into (coming_packet side coming)))))
       ∙ ap (λ es. gained trace (capture_octets es)) (sym (entered side coming reaction.efforts));

@@ -5,3 +5,4 @@ mod Entering
 mod Lifting
 mod Advancing
 mod Settling
+mod Reacting

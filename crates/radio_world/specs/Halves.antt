@@ -1,16 +1,17 @@
 -- One host and the radio: what happens between them while the other host stays as it is (this project's own).
-use Rattle.std.specs.Prelude.{ℕ, ◌≡◌, ◌+◌, List, [], ◌∷◌, ◌++◌, length, map, Option}
+use Rattle.std.specs.Prelude.{ℕ, ◌≡◌, ◌+◌, ◌⊎◌, List, [], ◌∷◌, ◌++◌, length, map, Option}
 use Rattle.bt_base.specs.Streams.{gained}
 use Rattle.acl_fragments.specs.Pieces.{Piece}
 use Rattle.push_terms.specs.declared.word.Side.{Side}
-use Rattle.capture.specs.Entries.{capture_octets}
+use Rattle.capture.specs.declared.flow.Flow.TheVariants.{Into}
+use Rattle.capture.specs.Entries.{Moved, entry_octets, capture_octets}
 use Rattle.radio_air.specs.Controllers.{Answer, other_side}
 use Rattle.radio_air.specs.Radio.{Radio, controller, after_offer, after_answer}
 use Rattle.world_model.specs.Machines.{Upper}
 use Rattle.world_model.specs.Stations.{Order, Station, Effort, MakesEffort}
 use Rattle.world_model.specs.Worlds.{Happening, Tries, Departure, GivingBack, Piecemeal, Answering, all_entries}
 use Rattle.radio_world.specs.Leaving.{Medium, in_radio, after_leaving}
-use Rattle.radio_world.specs.Hosts.{Asking, answering, Coming, Part, Told, hears_coming}
+use Rattle.radio_world.specs.Hosts.{Asking, answering, Coming, Part, Told, coming_packet, hears_coming}
 
 -- what lies between the hosts, and one of them
 pub record Half (S : Type 0) : Type 0 where
@@ -82,3 +83,10 @@ pub record StaysPut {S G : Type 0} (side : Side) (medium medium' : Medium) (old 
   pub returned : (controller side medium'.radio).taken ≡ 0
   pub station_is : new ≡ old
   pub other_is : controller (other_side side) medium'.radio ≡ controller (other_side side) medium.radio
+
+-- What came into a host stands in the trace before: where a call broke off, the host and its port are as they were, or the trace has
+-- all of what came.
+abbrev pub IsSaidFirst : {S G P : Type 0} → Side → Radio → (old new : Asking S G) → (port port' : P) → (trace trace' : Option (List ℕ)) → Type 0
+IsSaidFirst side radio old new port port' trace trace' =
+    ((new ≡ old) × (port' ≡ port))
+    ⊎ ((coming : Coming) × ComesFirst side coming radio × (trace' ≡ gained trace (entry_octets (Moved side Into (coming_packet side coming)))))

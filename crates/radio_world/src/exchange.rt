@@ -1,9 +1,9 @@
 //! All that moves between a host and its controller.
 
-ghost use Rattle.std.specs.Prelude.{◌≡◌, ◌<◌, [], false, true, Ok, OnOk};
+ghost use Rattle.std.specs.Prelude.{◌≡◌, ◌<◌, [], false, true, Ok, OnOk, OnErr};
 ghost use Rattle.radio_air.specs.Radio.{after_offer};
 ghost use Rattle.radio_world.specs.Leaving.{in_radio};
-ghost use Rattle.radio_world.specs.Halves.{Goes, IsStillIn, StaysPut, comes_count};
+ghost use Rattle.radio_world.specs.Halves.{Goes, IsStillIn, IsSaidFirst, StaysPut, comes_count};
 
 use crate::fault::WorldFault;
 use crate::feeding::hand_over;
@@ -55,6 +55,7 @@ impl Medium {
         requires sound { H.is_sound host.old port.old }
         ensures goes { OnOk result (Goes H.machine side H.answers self.old self.new (H.station host.old) (H.station host.new) port.old port.new (T.content trace.old) (T.content trace.new)) }
         ensures still { result ≡ Ok false → IsStillIn side self.old × (self.new ≡ self.old) × (H.station host.new ≡ H.station host.old) }
+        ensures said { OnErr result (IsSaidFirst side self.old.radio (H.station host.old) (H.station host.new) port.old port.new (T.content trace.old) (T.content trace.new)) }
         ensures shorter { result ≡ Ok true → comes_count side self.new < comes_count side self.old }
         ensures none_held { OnOk result (H.held host.new ≡ []) }
         ensures sound { OnOk result (H.is_sound host.new port.new) }

@@ -9,6 +9,7 @@ mod medium;
 mod ordering;
 mod recording;
 mod scene;
+mod turning;
 mod world;
 
 pub use fault::WorldFault;

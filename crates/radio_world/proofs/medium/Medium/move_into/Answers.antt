@@ -1,4 +1,8 @@
-use Rattle.std.proofs.Common.{◌≡◌, ℕ, List, take, refl, sym, ap, subst, ◌∙◌}
+use Rattle.std.proofs.Common.{◌≡◌, ℕ, List, take, refl, sym, ap, subst, ◌∙◌, Result, Ok, Err, inl, inr}
+use Rattle.std.specs.Result.{OnErr}
+use Rattle.bt_base.specs.Streams.{gained}
+use Rattle.capture.specs.declared.flow.Flow.TheVariants.{Into}
+use Rattle.capture.specs.Entries.{Moved, entry_octets}
 use Rattle.h4_framing.specs.Packets.{packet, spelling, IsPacket}
 use Rattle.push_terms.specs.declared.word.Side.{Side}
 use Rattle.radio_air.specs.Radio.{Radio, after_answer}
@@ -25,7 +29,7 @@ pub returns-in_default-clause-goes : goal.returns-in_default-clause-goes
 returns-in_default-clause-goes g c =
     let host = g.H.Host in
     let still : IsStillIn c.args.side c.args.self.now = subst (λ (m : Medium). IsStillIn c.args.side m) c.self.view_is
-        (none_comes c.args.side (mk c.self.inside.radio c.self.inside.peak_a c.self.inside.peak_b) c.hand.result _ c.hand.new.into c.hand.ensures.handed c.in_default.is) in
+    (none_comes c.args.side (mk c.self.inside.radio c.self.inside.peak_a c.self.inside.peak_b) c.hand.result _ c.hand.new.into c.hand.ensures.handed c.in_default.is) in
     let same = with_radio c.args.side c.self.inside.radio c.hand.new.self c.self.inside.peak_a c.self.inside.peak_b c.args.self.now c.hand.ensures.radio c.self.view_is ∙ stays_as_it_is c.args.side c.args.self.now still in
     subst (λ (m : Medium). Goes host.machine c.args.side host.answers c.args.self.now m (host.station c.args.host.now) (host.station c.args.host.now) c.args.port.now c.args.port.now (g.T.Sink.content c.args.trace.now) (g.T.Sink.content c.args.trace.now)) (sym same)
     (goes_none host.machine c.args.side host.answers c.args.self.now (host.station c.args.host.now) c.args.port.now (g.T.Sink.content c.args.trace.now) g.met.H.Host.joins)
@@ -33,7 +37,7 @@ returns-in_default-clause-goes g c =
 pub returns-in_default-clause-still : goal.returns-in_default-clause-still
 returns-in_default-clause-still g c = λ none.
     let still : IsStillIn c.args.side c.args.self.now = subst (λ (m : Medium). IsStillIn c.args.side m) c.self.view_is
-        (none_comes c.args.side (mk c.self.inside.radio c.self.inside.peak_a c.self.inside.peak_b) c.hand.result _ c.hand.new.into c.hand.ensures.handed c.in_default.is) in
+    (none_comes c.args.side (mk c.self.inside.radio c.self.inside.peak_a c.self.inside.peak_b) c.hand.result _ c.hand.new.into c.hand.ensures.handed c.in_default.is) in
     let same = with_radio c.args.side c.self.inside.radio c.hand.new.self c.self.inside.peak_a c.self.inside.peak_b c.args.self.now c.hand.ensures.radio c.self.view_is ∙ stays_as_it_is c.args.side c.args.self.now still in
     (still, same, refl)
 
@@ -72,3 +76,19 @@ returns-clause-shorter g c = λ moved.
     let comes : ComesFirst c.args.side handed.coming c.args.self.now.radio = subst (λ (m : Medium). ComesFirst c.args.side handed.coming m.radio) c.self.view_is handed.comes in
     let after = with_radio c.args.side c.self.inside.radio c.hand.new.self c.self.inside.peak_a c.self.inside.peak_b c.args.self.now c.hand.ensures.radio c.self.view_is in
     comes_less c.args.side handed.coming c.args.self.now _ comes after
+
+any_err : {X E Y : Type 0} (result : Result X E) → Y → OnErr result Y
+any_err (Ok x) y = tt
+any_err (Err e) y = y
+
+pub returns-in_err-record-clause-said : goal.returns-in_err-record-clause-said
+returns-in_err-record-clause-said g c = any_err c.from_residual.result (inl (refl, refl))
+
+pub returns-in_err-hand_over-clause-said : goal.returns-in_err-hand_over-clause-said
+returns-in_err-hand_over-clause-said g c =
+    let medium = mk c.self.inside.radio c.self.inside.peak_a c.self.inside.peak_b in
+    let handed : IsHanded c.args.side c.self.inside.radio c.in-Some.n c.hand.new.into = handed_first c.args.side medium c.hand.result c.in-Some.n _ c.hand.new.into c.hand.ensures.handed c.in-Some.is in
+    let read = reads_same c.args.side c.self.inside.radio c.in-Some.n c.hand.new.into (take c.in-Some.n c.hand.new.into) c.in-Whole.unit c.in-Whole.field-1 handed refl c.in-Whole.ensures in
+    let comes : ComesFirst c.args.side handed.coming c.args.self.now.radio = subst (λ (m : Medium). ComesFirst c.args.side handed.coming m.radio) c.self.view_is handed.comes in
+    any_err c.from_residual-in_err-hand_over.result
+    (inr (handed.coming, comes, c.in_ok-record.ensures.ok ∙ ap (λ p. gained (g.T.Sink.content c.args.trace.now) (entry_octets (Moved c.args.side Into p))) read))

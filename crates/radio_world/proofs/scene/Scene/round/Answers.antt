@@ -15,17 +15,17 @@ returns-clause-advances g c =
     let joins_b = g.met.B.Host.joins in
     let content = g.T.Sink.content in
     let began = begun_or_not one.machine two.machine one.answers two.answers c.in_ok-began.began c.args.self.now c.begin.new.self (one.station c.args.a.now) (one.station c.begin.new.a) (two.station c.args.b.now)
-        c.args.shelf.now c.begin.new.shelf c.args.inbox.now (content c.args.trace.now) (content c.begin.new.trace) joins_a joins_b
-        (λ is. subst (λ (side : Side). Begins one.machine side one.answers c.args.self.now c.begin.new.self (one.station c.args.a.now) (one.station c.begin.new.a) c.args.shelf.now c.begin.new.shelf (content c.args.trace.now) (content c.begin.new.trace))
-        c.requires.sides.0 (c.in_ok-began.ensures.begins (ap Ok is)))
-        (λ is. let same = c.in_ok-began.ensures.none (ap Ok is) in (same.0, ap one.station same.1, same.2, same.3)) in
+    c.args.shelf.now c.begin.new.shelf c.args.inbox.now (content c.args.trace.now) (content c.begin.new.trace) joins_a joins_b
+    (λ is. subst (λ (side : Side). Begins one.machine side one.answers c.args.self.now c.begin.new.self (one.station c.args.a.now) (one.station c.begin.new.a) c.args.shelf.now c.begin.new.shelf (content c.args.trace.now) (content c.begin.new.trace))
+    c.requires.sides.0 (c.in_ok-began.ensures.begins (ap Ok is)))
+    (λ is. let same = c.in_ok-began.ensures.none (ap Ok is) in (same.0, ap one.station same.1, same.2, same.3)) in
     let moved_a = exchanged_a one.machine two.machine one.answers two.answers c.begin.new.self c.exchange.new.self (one.station c.begin.new.a) (one.station c.exchange.new.host) (two.station c.args.b.now)
-        c.begin.new.shelf c.exchange.new.port c.args.inbox.now (content c.begin.new.trace) (content c.exchange.new.trace) joins_b c.in_ok-moved_a.ensures.scene c.in_ok-moved_a.ensures.goes in
+    c.begin.new.shelf c.exchange.new.port c.args.inbox.now (content c.begin.new.trace) (content c.exchange.new.trace) joins_b c.in_ok-moved_a.ensures.scene c.in_ok-moved_a.ensures.goes in
     let moved_b = exchanged_b one.machine two.machine one.answers two.answers c.exchange.new.self c.exchange-2.new.self (one.station c.exchange.new.host) (two.station c.args.b.now) (two.station c.exchange-2.new.host)
-        c.exchange.new.port c.args.inbox.now c.exchange-2.new.port (content c.exchange.new.trace) (content c.exchange-2.new.trace) joins_a c.in_ok-moved_b.ensures.scene c.in_ok-moved_b.ensures.goes in
+    c.exchange.new.port c.args.inbox.now c.exchange-2.new.port (content c.exchange.new.trace) (content c.exchange-2.new.trace) joins_a c.in_ok-moved_b.ensures.scene c.in_ok-moved_b.ensures.goes in
     let ended = ended_or_not one.machine two.machine one.answers two.answers c.in_ok-ended.ended c.exchange-2.new.self c.end_idle.new.self (one.station c.exchange.new.host) (two.station c.exchange-2.new.host)
-        c.exchange.new.port c.exchange-2.new.port (content c.exchange-2.new.trace) (content c.end_idle.new.trace) joins_a joins_b
-        (λ is. c.in_ok-ended.ensures.ends (ap Ok is)) (λ is. c.in_ok-ended.ensures.none (ap Ok is)) in
+    c.exchange.new.port c.exchange-2.new.port (content c.exchange-2.new.trace) (content c.end_idle.new.trace) joins_a joins_b
+    (λ is. c.in_ok-ended.ensures.ends (ap Ok is)) (λ is. c.in_ok-ended.ensures.none (ap Ok is)) in
     advances_then one.machine two.machine one.answers two.answers [] [] _ _ _ joins_a joins_b
     (advances_then one.machine two.machine one.answers two.answers [] [] _ _ _ joins_a joins_b (advances_then one.machine two.machine one.answers two.answers [] [] _ _ _ joins_a joins_b began moved_a) moved_b) ended
 
