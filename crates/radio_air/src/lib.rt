@@ -19,3 +19,6 @@ mod step;
 pub use deed::Deed;
 pub use fate::Fate;
 pub use radio::Radio;
+
+#[cfg(test)]
+mod tests;

@@ -6,7 +6,7 @@ ghost use Rattle.push_terms.specs.declared.word.Way.{Way};
 ghost use Rattle.radio_air.specs.Controllers.{first_packet};
 ghost use Rattle.radio_air.specs.Queues.{IsSize, IsHandedOver, longest_packet};
 ghost use Rattle.radio_air.specs.Owed.{plain_answer, told_first, forgot_begun, answers_reserved, owes_many, wants_memory, outstanding_at};
-ghost use Rattle.radio_air.specs.Radio.{new_radio, controller, with_controller, owes, channel, found, after_packet, after_offer, after_answer, after_deed, next_packet, is_quiet, is_together};
+ghost use Rattle.radio_air.specs.Radio.{new_radio, controller, with_controller, owes, channel, found, after_packet, after_offer, after_answer, after_deed, next_packet, is_quiet, is_apart, is_together};
 
 use crate::answer::Answer;
 use crate::deed::Deed;
@@ -167,6 +167,13 @@ impl Radio {
         ensures { result ≡ is_together self.now.phase }
     {
         self.phase.is_together()
+    }
+
+    /// Whether the two devices have no link, and none is asked for.
+    pub fn is_apart(&self) -> bool
+        ensures { result ≡ is_apart self.now.phase }
+    {
+        self.phase.is_apart()
     }
 
     /// The controller of a side owes its host an answer more.

@@ -1,0 +1,8 @@
+mod Fed
+mod Leaving
+mod Moving
+mod Entering
+mod Lifting
+mod Advancing
+mod Settling
+mod Reacting

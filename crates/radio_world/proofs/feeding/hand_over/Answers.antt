@@ -1,0 +1,31 @@
+use Rattle.std.proofs.Common.{◌≡◌, ◌≢◌, ℕ, List, [], ◌∷◌, length, refl, sym, ap, ◌∙◌, arith, Bool, false, true}
+use Rattle.std.specs.Bool.{◌==◌}
+use Rattle.std.proofs.lemmas.Bool.{eqb-true}
+use Rattle.radio_world.proofs.Fed.{fed_first, fed_more}
+use Rattle.radio_world.proofs.feeding.hand_over.Goals as goal
+
+some_left : (xs : List ℕ) (empty : Bool) → empty ≡ (length xs == 0) → empty ≡ false → xs ≢ []
+some_left xs empty is not none = let there : (length xs == 0) ≡ true = ap (λ ys. length ys == 0) none in absurd cc
+
+all_gone : (xs : List ℕ) (empty : Bool) → empty ≡ (length xs == 0) → empty ≡ true → xs ≡ []
+all_gone [] empty is all = refl
+all_gone (x ∷ xs) empty is all = let none = eqb-true (length (x ∷ xs)) 0 (sym is ∙ all) in absurd (omega arith)
+
+pub loop-rest-init : goal.loop-rest-init
+loop-rest-init g c =
+    let host = g.H.Host in
+    (λ coming is spelled. fed_first host.machine host.side host.answers coming c.args.octets.now (host.held c.args.host.now) (host.station c.args.host.now) c.args.port.now g.met.H.Host.joins spelled c.requires.none_held, c.requires.sound)
+
+pub loop-rest-preserved : goal.loop-rest-preserved
+loop-rest-preserved g c =
+    let host = g.H.Host in (
+      λ coming is spelled.
+          fed_more host.machine host.side host.answers coming c.args.octets.now c.loop-rest.rest.now c.split_at.result.0.now c.split_at.result.1.now (host.held c.loop-rest.host) (host.held c.feed.new.self)
+          (host.station c.args.host.now) (host.station c.loop-rest.host) (host.station c.feed.new.self) c.args.port.now c.loop-rest.port c.feed.new.port g.met.H.Host.joins is spelled
+          (some_left c.loop-rest.rest.now c.is_empty.result c.is_empty.ensures c.loop-rest-test.true) c.split_at.ensures.by_index.0
+          (c.loop-rest.invariant.0 coming is spelled) c.in_ok-feed.ensures.hears,
+      c.in_ok-feed.ensures.sound,
+    )
+
+pub returns-clause-hears : goal.returns-clause-hears
+returns-clause-hears g c = λ coming is spelled. (c.loop-rest.invariant.0 coming is spelled).done (all_gone c.loop-rest.rest.now c.is_empty.result c.is_empty.ensures c.loop-rest-test.false)

@@ -1,0 +1,56 @@
+use Rattle.std.proofs.Common.{◌≡◌, ◌||◌, [], Bool, true, false, Result, Ok, refl, sym, ap, subst, ◌∙◌}
+use Rattle.push_terms.specs.declared.word.Side.{Side}
+use Rattle.radio_world.specs.Hosts.{Asking, answering, IsStopped}
+use Rattle.radio_world.specs.Scenes.{Scene, moment, Begins, IsSettled}
+use Rattle.world_model.specs.Pushes.{next_name}
+use Rattle.radio_world.proofs.Advancing.{advances_then, begun_or_not, exchanged_a, exchanged_b, ended_or_not}
+use Rattle.radio_world.proofs.Settling.{settles}
+use Rattle.radio_world.proofs.scene.Scene.round.Goals as goal
+
+pub returns-clause-advances : goal.returns-clause-advances
+returns-clause-advances g c =
+    let one = g.A.Host in
+    let two = g.B.Host in
+    let joins_a = g.met.A.Host.joins in
+    let joins_b = g.met.B.Host.joins in
+    let content = g.T.Sink.content in
+    let began = begun_or_not one.machine two.machine one.answers two.answers c.in_ok-began.began c.args.self.now c.begin.new.self (one.station c.args.a.now) (one.station c.begin.new.a) (two.station c.args.b.now)
+    c.args.shelf.now c.begin.new.shelf c.args.inbox.now (content c.args.trace.now) (content c.begin.new.trace) joins_a joins_b
+    (λ is. subst (λ (side : Side). Begins one.machine side one.answers c.args.self.now c.begin.new.self (one.station c.args.a.now) (one.station c.begin.new.a) c.args.shelf.now c.begin.new.shelf (content c.args.trace.now) (content c.begin.new.trace))
+    c.requires.sides.0 (c.in_ok-began.ensures.begins (ap Ok is)))
+    (λ is. let same = c.in_ok-began.ensures.none (ap Ok is) in (same.0, ap one.station same.1, same.2, same.3)) in
+    let moved_a = exchanged_a one.machine two.machine one.answers two.answers c.begin.new.self c.exchange.new.self (one.station c.begin.new.a) (one.station c.exchange.new.host) (two.station c.args.b.now)
+    c.begin.new.shelf c.exchange.new.port c.args.inbox.now (content c.begin.new.trace) (content c.exchange.new.trace) joins_b c.in_ok-moved_a.ensures.scene c.in_ok-moved_a.ensures.goes in
+    let moved_b = exchanged_b one.machine two.machine one.answers two.answers c.exchange.new.self c.exchange-2.new.self (one.station c.exchange.new.host) (two.station c.args.b.now) (two.station c.exchange-2.new.host)
+    c.exchange.new.port c.args.inbox.now c.exchange-2.new.port (content c.exchange.new.trace) (content c.exchange-2.new.trace) joins_a c.in_ok-moved_b.ensures.scene c.in_ok-moved_b.ensures.goes in
+    let ended = ended_or_not one.machine two.machine one.answers two.answers c.in_ok-ended.ended c.exchange-2.new.self c.end_idle.new.self (one.station c.exchange.new.host) (two.station c.exchange-2.new.host)
+    c.exchange.new.port c.exchange-2.new.port (content c.exchange-2.new.trace) (content c.end_idle.new.trace) joins_a joins_b
+    (λ is. c.in_ok-ended.ensures.ends (ap Ok is)) (λ is. c.in_ok-ended.ensures.none (ap Ok is)) in
+    advances_then one.machine two.machine one.answers two.answers [] [] _ _ _ joins_a joins_b
+    (advances_then one.machine two.machine one.answers two.answers [] [] _ _ _ joins_a joins_b (advances_then one.machine two.machine one.answers two.answers [] [] _ _ _ joins_a joins_b began moved_a) moved_b) ended
+
+none_of : {E : Type 0} (x y z w : Bool) (r : Result Bool E) → r ≡ Ok (x || y || z || w) → r ≡ Ok false → (x ≡ false) × (y ≡ false) × (z ≡ false) × (w ≡ false)
+none_of false false false false r one other = (refl, refl, refl, refl)
+none_of false false false true r one other = absurd cc
+none_of false false true w r one other = absurd cc
+none_of false true z w r one other = absurd cc
+none_of true y z w r one other = absurd cc
+
+pub returns-clause-settled : goal.returns-clause-settled
+returns-clause-settled g c = λ is rest_a rest_b.
+    let one = g.A.Host in
+    let two = g.B.Host in
+    let none = none_of c.in_ok-began.began c.in_ok-moved_a.moved_a c.in_ok-moved_b.moved_b c.in_ok-ended.ended _ refl is in
+    let began = c.in_ok-began.ensures.none (ap Ok none.0) in
+    let put_a = c.in_ok-moved_a.ensures.none (ap Ok none.1) in
+    let put_b = c.in_ok-moved_b.ensures.none (ap Ok none.2) in
+    let ended = c.in_ok-ended.ensures.none (ap Ok none.3) in
+    subst (λ (s : Scene). IsSettled one.machine two.machine (moment s (answering rest_a (one.station c.exchange.new.host)) (answering rest_b (two.station c.exchange-2.new.host)))) (sym ended.0)
+    (settles one.machine two.machine c.begin.new.self c.exchange.new.self c.exchange-2.new.self (one.station c.begin.new.a) (one.station c.exchange.new.host) (two.station c.args.b.now) (two.station c.exchange-2.new.host)
+    (λ rest idle. ap (λ (s : Scene). next_name s.pushes) began.0 ∙ began.4 rest (ap (λ (h : Asking one.State one.Answer). one.machine.is_idle (h.upper rest)) (sym (ap one.station began.1)) ∙ idle))
+    c.in_ok-moved_a.ensures.still put_a c.in_ok-moved_a.ensures.scene.0
+    c.in_ok-moved_b.ensures.still put_b c.in_ok-moved_b.ensures.scene.0
+    (c.in_ok-ended.ensures.early (ap Ok none.3))
+    (λ rest. subst (λ (side : Side). IsStopped one.machine side (answering rest (one.station c.exchange.new.host))) c.requires.sides.0 (g.met.A.Host.stops c.exchange.new.host c.exchange.new.port c.in_ok-moved_a.ensures.sound put_a.none_out rest))
+    (λ rest. subst (λ (side : Side). IsStopped two.machine side (answering rest (two.station c.exchange-2.new.host))) c.requires.sides.1 (g.met.B.Host.stops c.exchange-2.new.host c.exchange-2.new.port c.in_ok-moved_b.ensures.sound put_b.none_out rest))
+    rest_a rest_b)

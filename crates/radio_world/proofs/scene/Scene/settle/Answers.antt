@@ -1,0 +1,24 @@
+use Rattle.std.proofs.Common.{[], Ok, ap}
+use Rattle.radio_world.proofs.Advancing.{advances_none, advances_then}
+use Rattle.radio_world.proofs.scene.Scene.settle.Goals as goal
+
+pub loop-init : goal.loop-init
+loop-init g c =
+    let one = g.A.Host in
+    let two = g.B.Host in
+    (advances_none one.machine two.machine one.answers two.answers _ g.met.A.Host.joins g.met.B.Host.joins, c.requires.none_held, c.requires.sound)
+
+pub loop-preserved : goal.loop-preserved
+loop-preserved g c =
+    let one = g.A.Host in
+    let two = g.B.Host in
+    (advances_then one.machine two.machine one.answers two.answers [] [] _ _ _ g.met.A.Host.joins g.met.B.Host.joins c.loop.invariant.0 c.in_ok-round.ensures.advances, c.in_ok-round.ensures.none_held, c.in_ok-round.ensures.sound)
+
+pub returns-then-not-branch-clause-advances : goal.returns-then-not-branch-clause-advances
+returns-then-not-branch-clause-advances g c =
+    let one = g.A.Host in
+    let two = g.B.Host in
+    advances_then one.machine two.machine one.answers two.answers [] [] _ _ _ g.met.A.Host.joins g.met.B.Host.joins c.loop.invariant.0 c.in_ok-round.ensures.advances
+
+pub returns-then-not-branch-clause-settled : goal.returns-then-not-branch-clause-settled
+returns-then-not-branch-clause-settled g c = c.in_ok-round.ensures.settled (ap Ok c.if-not-branch.true)

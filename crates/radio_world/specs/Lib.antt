@@ -1,0 +1,6 @@
+pub mod Hosts
+pub mod Leaving
+pub mod Halves
+pub mod Scenes
+pub mod Turning
+pub mod Both

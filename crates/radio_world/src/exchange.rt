@@ -1,0 +1,136 @@
+//! All that moves between a host and its controller.
+
+ghost use Rattle.std.specs.Prelude.{◌≡◌, ◌<◌, [], false, true, Ok, OnOk, OnErr};
+ghost use Rattle.radio_air.specs.Radio.{after_offer};
+ghost use Rattle.radio_world.specs.Leaving.{in_radio};
+ghost use Rattle.radio_world.specs.Halves.{Goes, IsStillIn, IsSaidFirst, StaysPut, comes_count};
+
+use crate::fault::WorldFault;
+use crate::feeding::hand_over;
+use crate::host::Host;
+use crate::medium::{ACL_LIMIT, Medium};
+use crate::recording::record;
+use bt_base::Sink;
+use capture::{Entry, Flow};
+use h4_framing::{Leading, first};
+use push_terms::Side;
+
+/// The longest packet that moves: an ACL packet with its header.
+const LONGEST_UNIT: usize = 1026;
+
+impl Medium {
+    /// All packets that a host offers move to its controller. False where it offers none.
+    pub(crate) fn move_out<P, H: Host<P>, T: Sink>(
+        &mut self,
+        side: Side,
+        host: &mut H,
+        port: &P,
+        trace: &mut T,
+    ) -> Result<bool, WorldFault>
+        requires side { H.side ≡ side }
+        requires sound { H.is_sound host.old port.now }
+        ensures goes { OnOk result (Goes H.machine side H.answers self.old self.new (H.station host.old) (H.station host.new) port.now port.now (T.content trace.old) (T.content trace.new)) }
+        ensures all { OnOk result ((H.station host.new).out ≡ []) }
+        ensures none { result ≡ Ok false → (H.station host.old).out ≡ [] × (self.new ≡ self.old) × (H.station host.new ≡ H.station host.old) }
+        ensures held { OnOk result (H.held host.new ≡ H.held host.old) }
+        ensures sound { OnOk result (H.is_sound host.new port.now) }
+    {
+        let offered = host.out();
+        let count = offered.len();
+        self.take_all(side, offered, trace)?;
+        host.taken(count, port);
+        Ok(count > 0)
+    }
+
+    /// Moves the first packet that a controller has for its host into it. False where it has none.
+    pub(crate) fn move_into<P, H: Host<P>, T: Sink>(
+        &mut self,
+        side: Side,
+        host: &mut H,
+        port: &mut P,
+        trace: &mut T,
+    ) -> Result<bool, WorldFault>
+        requires side { H.side ≡ side }
+        requires none_held { H.held host.old ≡ [] }
+        requires sound { H.is_sound host.old port.old }
+        ensures goes { OnOk result (Goes H.machine side H.answers self.old self.new (H.station host.old) (H.station host.new) port.old port.new (T.content trace.old) (T.content trace.new)) }
+        ensures still { result ≡ Ok false → IsStillIn side self.old × (self.new ≡ self.old) × (H.station host.new ≡ H.station host.old) }
+        ensures said { OnErr result (IsSaidFirst side self.old.radio (H.station host.old) (H.station host.new) port.old port.new (T.content trace.old) (T.content trace.new)) }
+        ensures shorter { result ≡ Ok true → comes_count side self.new < comes_count side self.old }
+        ensures none_held { OnOk result (H.held host.new ≡ []) }
+        ensures sound { OnOk result (H.is_sound host.new port.new) }
+    {
+        let mut room = [0; LONGEST_UNIT];
+        let Some(n) = self.radio.hand(side, &mut room) else {
+            return Ok(false);
+        };
+        let octets = &room[..n];
+        let Leading::Whole(unit, _) = first(octets, ACL_LIMIT) else {
+            unreachable!()
+        };
+        let entry = Entry::Moved {
+            side,
+            flow: Flow::Into,
+            unit,
+        };
+        record(&entry, trace)?;
+        hand_over(host, octets, self.chunk, port)?;
+        Ok(true)
+    }
+
+    /// Moves all that a controller has for its host into it. False where it has nothing.
+    fn move_all_into<P, H: Host<P>, T: Sink>(
+        &mut self,
+        side: Side,
+        host: &mut H,
+        port: &mut P,
+        trace: &mut T,
+    ) -> Result<bool, WorldFault>
+        requires side { H.side ≡ side }
+        requires none_held { H.held host.old ≡ [] }
+        requires sound { H.is_sound host.old port.old }
+        ensures goes { OnOk result (Goes H.machine side H.answers self.old self.new (H.station host.old) (H.station host.new) port.old port.new (T.content trace.old) (T.content trace.new)) }
+        ensures still { OnOk result (IsStillIn side self.new) }
+        ensures none { result ≡ Ok false → (self.new ≡ self.old) × (H.station host.new ≡ H.station host.old) }
+        ensures none_held { OnOk result (H.held host.new ≡ []) }
+        ensures sound { OnOk result (H.is_sound host.new port.new) }
+    {
+        let mut moved = false;
+        while self.move_into(side, host, port, trace)? {
+            moved = true;
+        }
+        Ok(moved)
+    }
+
+    /// A controller gives back the packets of its host that it took.
+    fn give_back(&mut self, side: Side) -> Result<(), WorldFault>
+        ensures { OnOk result (self.new ≡ in_radio (after_offer side self.old.radio) self.old) }
+    {
+        self.radio.offered(side)?;
+        Ok(())
+    }
+
+    /// All that a host offers moves to its controller, which gives it back at once, and all that the
+    /// controller has for the host then moves into it. False where nothing moved.
+    pub(crate) fn exchange<P, H: Host<P>, T: Sink>(
+        &mut self,
+        side: Side,
+        host: &mut H,
+        port: &mut P,
+        trace: &mut T,
+    ) -> Result<bool, WorldFault>
+        requires side { H.side ≡ side }
+        requires none_held { H.held host.old ≡ [] }
+        requires sound { H.is_sound host.old port.old }
+        ensures goes { OnOk result (Goes H.machine side H.answers self.old self.new (H.station host.old) (H.station host.new) port.old port.new (T.content trace.old) (T.content trace.new)) }
+        ensures still { OnOk result (IsStillIn side self.new) }
+        ensures none { result ≡ Ok false → StaysPut side self.old self.new (H.station host.old) (H.station host.new) }
+        ensures none_held { OnOk result (H.held host.new ≡ []) }
+        ensures sound { OnOk result (H.is_sound host.new port.new) }
+    {
+        let left = self.move_out(side, host, port, trace)?;
+        self.give_back(side)?;
+        let came = self.move_all_into(side, host, port, trace)?;
+        Ok(left | came)
+    }
+}

@@ -1,0 +1,17 @@
+//! The simulated world: two hosts, their controllers and the air between them.
+#![tactic(auto)]
+
+mod exchange;
+mod fault;
+mod feeding;
+mod host;
+mod medium;
+mod ordering;
+mod recording;
+mod scene;
+mod turning;
+mod world;
+
+pub use fault::WorldFault;
+pub use host::{Client, Host};
+pub use world::World;
