@@ -95,5 +95,5 @@ answered session session' packet content content' f f' s s' room room' answer he
       written = written packet session.maximum hears.saying room room' answer hears.says;
       none = λ lacks. none_is packet session.maximum hears.saying (is_none (count_in answer)) short lacks;
       short = λ lacks. hears.cause.short (short_of session.offered session.course (kind_heard session packet) (ruling_on session packet).verdict (come_of calls hears.used)
-        (ap (λ (a : List Answer). is_shortage (said_after session.offered session.course (kind_heard session packet) (outcome_on session packet a))) (sym (append-nil hears.used)) ∙ said ∙ lacks));
+          (ap (λ (a : List Answer). is_shortage (said_after session.offered session.course (kind_heard session packet) (outcome_on session packet a))) (sym (append-nil hears.used)) ∙ said ∙ lacks));
     }
