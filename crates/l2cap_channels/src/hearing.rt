@@ -47,7 +47,10 @@ fn no_such_channel(own: u16, peer: u16) -> Response
 {
     let [own_low, own_high] = own.to_le_bytes();
     let [low, high] = peer.to_le_bytes();
-    Response::with_octets(Head::Reject { reason: 0x0002 }, &[own_low, own_high, low, high])
+    Response::with_octets(
+        Head::Reject { reason: 0x0002 },
+        &[own_low, own_high, low, high],
+    )
 }
 
 impl Channels {
@@ -82,14 +85,25 @@ impl Channels {
 
     /// A request is the last of its kind, and its response waits, where there is room for it; and whether
     /// there is.
-    fn admits(&mut self, kind: RequestKind, identifier: Identifier, response: Option<Response>) -> bool
+    fn admits(
+        &mut self,
+        kind: RequestKind,
+        identifier: Identifier,
+        response: Option<Response>,
+    ) -> bool
         ensures room { result ≡ following.can_say (option_map response_value response) self.old.channels }
         ensures after { self.new ≡ with_channels self.old (admitted (following.can_say (option_map response_value response) self.old.channels) kind identifier (option_map response_value response) self.old.channels) }
     {
         if response.is_some() && !self.queue.has_room() {
             return false;
         }
-        self.memory.note(kind, &Remembered { identifier, response });
+        self.memory.note(
+            kind,
+            &Remembered {
+                identifier,
+                response,
+            },
+        );
         if let Some(response) = &response {
             self.say(identifier, response);
         }
@@ -280,7 +294,10 @@ impl Channels {
         ensures { self.new ≡ with_channels self.old (following.hears_again identifier (Some table.not_understood) self.old.channels) }
     {
         if self.queue.has_room() {
-            self.say(identifier, &Response::plain(Head::Reject { reason: 0x0000 }));
+            self.say(
+                identifier,
+                &Response::plain(Head::Reject { reason: 0x0000 }),
+            );
         }
     }
 
@@ -290,7 +307,10 @@ impl Channels {
     {
         if self.queue.has_room() {
             let [low, high] = 672u16.to_le_bytes();
-            self.say(identifier, &Response::with_octets(Head::Reject { reason: 0x0001 }, &[low, high]));
+            self.say(
+                identifier,
+                &Response::with_octets(Head::Reject { reason: 0x0001 }, &[low, high]),
+            );
         }
     }
 }

@@ -6,7 +6,9 @@ use std::test::Fail;
 
 /// The channels of a client, with a channel for service discovery asked for.
 fn asking(alloc: Global) -> Result<Channels, &'static str> {
-    let mut channels = Channels::new(alloc, &Settings::plain(), false).ok().ok_or("memory")?;
+    let mut channels = Channels::new(alloc, &Settings::plain(), false)
+        .ok()
+        .ok_or("memory")?;
     let psm = Psm::of(0x0001).ok_or("a multiplexer")?;
     match channels.connect(psm) {
         Some(own) if own.get() == 0x0040 => Ok(channels),
@@ -43,7 +45,12 @@ fn a_channel_is_asked_for_as_often_as_may_be(rt: HostRuntime) -> Result<(), Fail
         assert!(rt; channels.armed());
         assert!(rt; fire(&mut channels).is_none());
     }
-    assert!(rt; matches!(fire(&mut channels), Some(ChannelEvent::Closed(_, _, CloseReason::RetryLimit))));
+    assert!(rt;
+        matches!(
+            fire(&mut channels),
+            Some(ChannelEvent::Closed(_, _, CloseReason::RetryLimit))
+        )
+    );
     assert!(rt; !channels.armed());
     Ok(())
 }

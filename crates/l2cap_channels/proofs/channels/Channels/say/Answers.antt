@@ -24,7 +24,7 @@ invariant_of-self c =
       events_room = s.events_room;
       given = s.given;
       queue =
-        subst (IsQueue (owns i.places.items)) (sym c.say.ensures)
-        (queue_say (owns i.places.items) i.queue (record { identifier = c.args.identifier; content = response_value c.args.response.now }) s.queue
-        (subst (λ (m : Machine). has_room m.channels ≡ true) (sym c.self.view_is) c.requires));
+          subst (IsQueue (owns i.places.items)) (sym c.say.ensures)
+          (queue_say (owns i.places.items) i.queue (record { identifier = c.args.identifier; content = response_value c.args.response.now }) s.queue
+          (subst (λ (m : Machine). has_room m.channels ≡ true) (sym c.self.view_is) c.requires));
     }
