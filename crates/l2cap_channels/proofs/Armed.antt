@@ -1,8 +1,7 @@
 -- What an own request, or a machine, waits for.
-use Rattle.std.proofs.Common.{◌≡◌, ◌∙◌, Bool, true, false, List, sym, ap, refl}
+use Rattle.std.proofs.Common.{◌≡◌, ◌∙◌, Bool, true, false, sym, refl}
 use Rattle.std.specs.Prelude.{◌||◌, Option, Some, None, is_some, option_map}
 use Rattle.std.specs.List.{list_any}
-use Rattle.channel_model.specs.Value.{Held}
 use Rattle.channel_model.specs.Calls.{armed, is_armed}
 use Rattle.l2cap_channels.specs.Parts.{request_value}
 use Rattle.l2cap_channels.specs.Whole.{channels_of}

@@ -1,6 +1,6 @@
 -- A channel that is changed at its place.
-use Rattle.std.proofs.Common.{◌≡◌, ◌∙◌, ℕ, ◌+◌, ◌≤◌, ◌<◌, Bool, true, false, List, [], ◌∷◌, ◌++◌, map, length, refl, sym, ap, subst, arith, length-set}
-use Rattle.std.specs.Prelude.{filter, not, ◌==◌, slice_get, slice_set, slice_index_or, Option, Some, None}
+use Rattle.std.proofs.Common.{◌≡◌, ◌∙◌, ℕ, ◌+◌, ◌<◌, List, map, length, refl, sym, ap, subst, length-set}
+use Rattle.std.specs.Prelude.{filter, not, ◌==◌, slice_get, slice_set, slice_index_or, Option, Some}
 use Rattle.std.specs.List.{remove}
 use Rattle.std.specs.Vec.{with_item}
 use Rattle.std.proofs.lemmas.Option.{slice_get_read}

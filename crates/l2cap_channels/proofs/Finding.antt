@@ -1,8 +1,7 @@
 -- The first item of which a test holds.
-use Rattle.std.proofs.Common.{◌≡◌, ◌∙◌, ℕ, zero, suc, ◌+◌, ◌≤◌, Bool, true, false, List, [], ◌∷◌, ◌++◌, map, length, take, refl, sym, ap, subst, arith}
+use Rattle.std.proofs.Common.{◌≡◌, ◌∙◌, ℕ, zero, suc, Bool, true, false, List, [], ◌∷◌, map, take, refl, sym, ap}
 use Rattle.std.specs.List.{find, fold}
 use Rattle.std.specs.Prelude.{max, slice_get, Option, Some, None, cond}
-use Rattle.std.proofs.lemmas.Bool.{both_ways}
 
 found : {X : Type 0} (test : X → Bool) (x : X) (rest : Option X) (b : Bool) → test x ≡ b → b ≡ true → cond (test x) (Some x) rest ≡ Some x
 found test x rest b is holds = rw (is ∙ holds) refl

@@ -1,16 +1,14 @@
 -- What the timer makes of the channel at a place.
-use Rattle.std.proofs.Common.{◌≡◌, ◌∙◌, ℕ, zero, suc, ◌+◌, ◌≤◌, List, [], ◌∷◌, length, take, drop, map, refl, sym, ap, subst, arith, ◌++◌}
+use Rattle.std.proofs.Common.{◌≡◌, ◌∙◌, ℕ, zero, suc, List, [], ◌∷◌, drop, sym, ap}
 use Rattle.std.specs.Prelude.{Option, Some, None, option_map, slice_get}
 use Rattle.std.specs.List.{fold}
 use Rattle.channel_model.specs.declared.errand.Errand.TheVariants.{Connection, Configuration, Disconnection}
 use Rattle.channel_model.specs.declared.event.CloseReason.TheVariants.{RetryLimit}
-use Rattle.channel_model.specs.Value as value
 use Rattle.channel_model.specs.Value.{Request, Own, Unasked, Asking, Granted, Setup, Stage, Held, Channels}
 use Rattle.channel_model.specs.Closing.{closes}
-use Rattle.channel_model.specs.Timing.{times, times_setup, times_stage, times_held, times_end_at, times_end, times_channel}
+use Rattle.channel_model.specs.Timing.{times, times_setup, times_stage, times_held, times_end_at, times_end}
 use Rattle.l2cap_channels.specs.Finding.{on_place, place_setup, IsStageAt}
 use Rattle.l2cap_channels.specs.Parts.{request_value}
-use Rattle.l2cap_channels.specs.Sound.{owns}
 use Rattle.l2cap_channels.specs.Timers.{asked_by, asked_on, options_on, times_options, ends_lost, ends_lost_at}
 use Rattle.l2cap_channels.specs.declared.request.Request.{Request as Kept}
 use Rattle.l2cap_channels.specs.declared.stage.Stage.TheVariants.{Requested, Leaving, Closing, Crossed}

@@ -1,9 +1,9 @@
 -- Frames that are given.
-use Rattle.std.proofs.Common.{◌≡◌, ◌∙◌, ℕ, ◌+◌, ◌≤◌, List, ◌++◌, length, take, drop, refl, sym, ap, subst, arith, length-take-le, take-append-drop}
+use Rattle.std.proofs.Common.{◌≡◌, ◌∙◌, ℕ, ◌≤◌, List, ◌++◌, length, take, drop, sym, ap, subst, arith, length-take-le, take-append-drop}
 use Rattle.std.specs.Prelude.{Option, Some, None, option_map, IfSome}
 use Rattle.ertm_frames.specs.Frames.{PlainFrame}
 use Rattle.ertm_machine.specs.Machines as machines
-use Rattle.channel_model.specs.Giving.{Framed, headed}
+use Rattle.channel_model.specs.Giving.{Framed}
 use Rattle.l2cap_channels.specs.Given.{WritesNext}
 
 pub frame_written : (frame : Option PlainFrame) (peer : ℕ) (old new : List ℕ) (result : Option ℕ) → machines.WritesNext frame peer old result new → IfSome result (λ count. count ≤ 1020) → 1020 ≤ length old

@@ -1,22 +1,22 @@
 -- What is given next.
-use Rattle.std.proofs.Common.{◌≡◌, ◌∙◌, ℕ, zero, suc, ◌+◌, ◌≤◌, ◌<◌, Bool, true, false, List, [], ◌∷◌, ◌++◌, length, take, drop, refl, sym, ap, subst, arith}
+use Rattle.std.proofs.Common.{◌≡◌, ◌∙◌, ℕ, zero, suc, ◌<◌, true, List, [], ◌∷◌, length, take, drop, refl, sym, ap, subst}
 use Rattle.std.specs.Prelude.{Option, Some, None, is_some, option_map, IfNone, slice_get, slice_set, slice_index_or}
 use Rattle.std.specs.List.{find}
 use Rattle.std.specs.Vec.{with_item}
 use Rattle.std.proofs.lemmas.Option.{slice_get_read}
 use Rattle.ertm_frames.specs.Frames.{PlainFrame}
 use Rattle.ertm_model.specs.Value.{Ertm}
-use Rattle.ertm_model.specs.Giving.{Giving, giving, frame_by, after_by, next_frame, after_frame}
+use Rattle.ertm_model.specs.Giving.{Giving, giving, frame_by, after_by}
 use Rattle.channel_model.specs.declared.errand.Errand.{Errand}
 use Rattle.channel_model.specs.declared.errand.Errand.TheVariants.{Connection, Configuration, Disconnection, Features}
-use Rattle.channel_model.specs.Value.{Carrier, Plain, Retransmitting, Setup, Stage, Requested, Connected, Leaving, Closing, Crossed, Held, Queued, Answer, Ask, Channels}
+use Rattle.channel_model.specs.Value.{Carrier, Plain, Retransmitting, Stage, Requested, Connected, Leaving, Closing, Crossed, Held, Queued, Channels}
 use Rattle.channel_model.specs.Changing.{to_stage}
 use Rattle.channel_model.specs.Giving as model
 use Rattle.channel_model.specs.Giving.{gives, stage_gives, some_carrier_gives, carrier_given, held_gives, held_given, command_of, counted}
 use Rattle.l2cap_channels.specs.Machine.{Machine}
 use Rattle.l2cap_channels.specs.Finding.{on_place}
 use Rattle.l2cap_channels.specs.Given.{WritesNext, spent, place_gives}
-use Rattle.l2cap_channels.specs.Whole.{machine_of, channels_of, IsSound}
+use Rattle.l2cap_channels.specs.Whole.{machine_of, channels_of}
 use Rattle.l2cap_channels.specs.declared.channels.Channels.TheInside.{Inside}
 use Rattle.l2cap_channels.proofs.Finding.{found_at, passed, fails_at}
 

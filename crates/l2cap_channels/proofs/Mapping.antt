@@ -1,5 +1,5 @@
 -- Tests of the entries of a list, and of their values.
-use Rattle.std.proofs.Common.{◌≡◌, Bool, true, false, List, [], ◌∷◌, map, refl, ap, ◌∙◌}
+use Rattle.std.proofs.Common.{◌≡◌, Bool, true, false, List, [], ◌∷◌, map, refl, ap}
 use Rattle.std.specs.Prelude.{filter, ◌||◌}
 use Rattle.std.specs.List.{list_any}
 

@@ -1,6 +1,6 @@
 -- What always holds of what waits is kept.
-use Rattle.std.proofs.Common.{◌≡◌, ◌∙◌, ℕ, zero, suc, ◌+◌, ◌*◌, ◌≤◌, ◌<◌, Bool, true, false, List, [], ◌∷◌, ◌++◌, map, length, refl, sym, ap, subst, arith, inl, inr, drop}
-use Rattle.std.specs.Prelude.{filter, not, nat_lt, nat_eq, ◌==◌, ◌&&◌, ◌||◌, if◌then◌else◌}
+use Rattle.std.proofs.Common.{◌≡◌, ◌∙◌, ℕ, suc, ◌+◌, ◌≤◌, Bool, true, false, List, [], ◌∷◌, ◌++◌, length, refl, sym, ap, arith, inl, inr, drop}
+use Rattle.std.specs.Prelude.{filter, not, nat_lt, ◌==◌, ◌||◌, if◌then◌else◌}
 use Rattle.std.specs.List.{list_any}
 use Rattle.std.proofs.lemmas.Bool.{ltb-true, eq-eqb, eqb-true, ne_eqb, or_parts, or_from, or_left, or_right, both_ways, cases_Bool}
 use Rattle.channel_model.specs.declared.errand.Errand.{Errand}

@@ -1,14 +1,14 @@
 -- How much waits at most.
-use Rattle.std.proofs.Common.{◌≡◌, ◌∙◌, ℕ, zero, suc, ◌+◌, ◌*◌, ◌≤◌, ◌<◌, Bool, true, false, List, [], ◌∷◌, ◌++◌, length, refl, sym, ap, subst, arith, inl, inr, length-append}
-use Rattle.std.specs.Prelude.{filter, not, nat_lt, ◌==◌, ◌||◌, if◌then◌else◌}
+use Rattle.std.proofs.Common.{◌≡◌, ℕ, ◌+◌, ◌*◌, ◌≤◌, ◌<◌, Bool, true, false, List, [], ◌∷◌, ◌++◌, length, refl, sym, subst, arith, length-append}
+use Rattle.std.specs.Prelude.{filter, nat_lt, ◌==◌, ◌||◌, if◌then◌else◌}
 use Rattle.std.specs.List.{list_any}
-use Rattle.std.proofs.lemmas.Bool.{ltb-true, eq-eqb, eqb-true, or_parts, or_from, or_left, or_right, cases_Bool}
+use Rattle.std.proofs.lemmas.Bool.{ltb-true, or_parts}
 use Rattle.channel_model.specs.declared.errand.Errand.{Errand}
 use Rattle.channel_model.specs.declared.errand.Errand.TheVariants.{Connection, Configuration, Disconnection, Features}
 use Rattle.channel_model.specs.Value.{Queued, Answer, Ask}
 use Rattle.channel_model.specs.Changing.{is_copy, is_answer, same_errand}
 use Rattle.l2cap_channels.specs.Sound.{is_known, AreAsked, IsQueue}
-use Rattle.l2cap_channels.proofs.Queuing.{same_is, same_refl, queue_ask}
+use Rattle.l2cap_channels.proofs.Queuing.{same_is, queue_ask}
 
 -- the own requests that there can be
 possible : List ℕ → List Errand

@@ -1,11 +1,10 @@
 -- How many octets commands and options have.
-use Rattle.std.proofs.Common.{◌≡◌, ◌∙◌, ℕ, ◌+◌, ◌≤◌, ◌<◌, List, [], ◌∷◌, ◌++◌, length, refl, arith}
+use Rattle.std.proofs.Common.{ℕ, ◌≤◌, List, length, arith}
 use Rattle.std.specs.Prelude.{Option, Some, None}
 use Rattle.l2cap_signal.specs.Commands.{Content, reject, connection_request, connection_response, configuration_request, configuration_response, disconnection_request, disconnection_response, echo_request, echo_response, information_request, information_response, payload_of, rest_of}
 use Rattle.l2cap_config.specs.declared.options.ModeOption.{ModeOption}
 use Rattle.l2cap_config.specs.declared.options.Options.{Options}
-use Rattle.l2cap_config.specs.Items.{spelled}
-use Rattle.l2cap_config.specs.Writing.{mtu_items, mode_items, fcs_items, written}
+use Rattle.l2cap_config.specs.Writing.{written}
 
 pub short_payload : (what : Content) → length (rest_of what) ≤ 668 → length (payload_of what) ≤ 676
 short_payload (reject reason rest) short = omega arith

@@ -1,10 +1,10 @@
 -- What always holds of endpoints is kept.
-use Rattle.std.proofs.Common.{◌≡◌, ◌∙◌, ℕ, zero, suc, ◌+◌, ◌≤◌, ◌<◌, Bool, true, false, List, [], ◌∷◌, ◌++◌, map, length, refl, sym, ap, subst, arith, inl, inr}
-use Rattle.std.specs.Prelude.{filter, not, nat_lt, ◌==◌, ◌&&◌, slice_get, slice_set, Option, Some, None, if◌then◌else◌}
+use Rattle.std.proofs.Common.{◌≡◌, ◌∙◌, ℕ, zero, suc, ◌+◌, ◌≤◌, ◌<◌, Bool, true, false, List, [], ◌∷◌, ◌++◌, map, refl, sym, ap, subst, arith}
+use Rattle.std.specs.Prelude.{filter, not, nat_lt, ◌==◌, slice_get, slice_set, Some, if◌then◌else◌}
 use Rattle.std.specs.List.{list_any, list_all, remove}
 use Rattle.std.proofs.lemmas.Bool.{lt-ltb, ltb-true, eq-eqb, ne_eqb, and_parts, and_from, or_left, or_right}
 use Rattle.channel_model.specs.Value.{Held}
-use Rattle.channel_model.specs.Changing.{in_place_of, has_own}
+use Rattle.channel_model.specs.Changing.{in_place_of}
 use Rattle.l2cap_channels.specs.Sound.{owns, rises_above, AreGiven}
 
 -- ---- endpoints

@@ -1,5 +1,5 @@
 -- What is remembered of the last requests, as it is kept.
-use Rattle.std.specs.Prelude.{ℕ, option_map}
+use Rattle.std.specs.Prelude.{option_map}
 use Rattle.channel_model.specs.Value as value
 use Rattle.l2cap_channels.specs.declared.memory.Remembered.{Remembered}
 use Rattle.l2cap_channels.specs.declared.memory.Memory.{Memory}

@@ -1,5 +1,5 @@
 -- What waits to be given, as it is kept.
-use Rattle.std.specs.Prelude.{ℕ, List, map}
+use Rattle.std.specs.Prelude.{List, map}
 use Rattle.channel_model.specs.Value as value
 use Rattle.l2cap_channels.specs.declared.queue.Queued.{Queued}
 use Rattle.l2cap_channels.specs.declared.queue.Queued.TheVariants.{Answer, Ask}

@@ -1,5 +1,5 @@
 -- What the timer makes of a channel.
-use Rattle.std.specs.Prelude.{ℕ, ◌≡◌, Bool, true, false, List, Option, Some, None}
+use Rattle.std.specs.Prelude.{ℕ, Option, Some, None}
 use Rattle.ertm_model.specs.declared.reason.ErtmReason.{ErtmReason}
 use Rattle.ertm_model.specs.Value.{Ertm}
 use Rattle.ertm_model.specs.Giving.{timed}

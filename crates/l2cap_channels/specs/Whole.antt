@@ -1,5 +1,5 @@
 -- The channels of a link with their parts.
-use Rattle.std.specs.Prelude.{ℕ, ◌≡◌, ◌+◌, ◌≤◌, length, vec_capacity, option_map}
+use Rattle.std.specs.Prelude.{◌≡◌, ◌+◌, ◌≤◌, length, vec_capacity, option_map}
 use Rattle.channel_model.specs.Value as value
 use Rattle.l2cap_channels.specs.Machine.{Machine}
 use Rattle.l2cap_channels.specs.Parts.{request_value}

@@ -1,5 +1,4 @@
-use Rattle.std.proofs.Common.{◌≡◌, ◌∙◌, ◌+◌, ◌≤◌, ◌<◌, ◌++◌, ◌∷◌, [], List, ℕ, length, true, sym, ap, subst, arith, rules, length-append}
-use Rattle.channel_model.specs.Value.{Held}
+use Rattle.std.proofs.Common.{◌≡◌, ◌∙◌, ◌+◌, ◌≤◌, ◌++◌, ◌∷◌, [], List, ℕ, sym, ap, subst, rules}
 use Rattle.l2cap_channels.specs.Sound.{owns, IsQueue, AreGiven}
 use Rattle.l2cap_channels.proofs.Sounding.{owns_append, given_more}
 use Rattle.l2cap_channels.proofs.Queuing.{queue_more}

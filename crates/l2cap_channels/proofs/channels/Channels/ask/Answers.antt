@@ -1,8 +1,7 @@
-use Rattle.std.proofs.Common.{◌≡◌, ◌∙◌, ◌≤◌, ◌++◌, ◌∷◌, [], length, true, sym, ap, subst, arith}
-use Rattle.channel_model.specs.Value.{Ask}
+use Rattle.std.proofs.Common.{◌≡◌, true, sym, subst}
 use Rattle.l2cap_channels.specs.Machine.{Machine}
-use Rattle.l2cap_channels.specs.Sound.{owns, is_known, IsQueue}
-use Rattle.l2cap_channels.proofs.Keeping.{asked_queue, asked_room, few_owns}
+use Rattle.l2cap_channels.specs.Sound.{owns, is_known}
+use Rattle.l2cap_channels.proofs.Keeping.{asked_queue, asked_room}
 use Rattle.l2cap_channels.proofs.channels.Channels.ask.Goals as goal
 
 pub ask-requires : goal.ask-requires

@@ -1,7 +1,6 @@
 use Rattle.std.proofs.Common.{◌∙◌, ap}
 use Rattle.std.specs.Prelude.{slice_get}
 use Rattle.l2cap_channels.specs.Machine.{with_channels}
-use Rattle.l2cap_channels.specs.Parts.{request_value}
 use Rattle.l2cap_channels.proofs.Firing.{requested_by}
 use Rattle.l2cap_channels.proofs.channels.Channels.fire_channel.Goals as goal
 

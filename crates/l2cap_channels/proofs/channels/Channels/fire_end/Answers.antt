@@ -1,7 +1,6 @@
 use Rattle.std.proofs.Common.{◌∙◌, ap}
 use Rattle.std.specs.Prelude.{slice_get}
 use Rattle.l2cap_channels.specs.Machine.{with_channels}
-use Rattle.l2cap_channels.specs.Parts.{request_value}
 use Rattle.l2cap_channels.proofs.Firing.{leaving_by, closing_by, crossed_by}
 use Rattle.l2cap_channels.proofs.channels.Channels.fire_end.Goals as goal
 

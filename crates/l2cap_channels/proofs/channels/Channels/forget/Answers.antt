@@ -1,6 +1,5 @@
-use Rattle.std.proofs.Common.{List, subst, sym}
+use Rattle.std.proofs.Common.{subst, sym}
 use Rattle.std.specs.Prelude.{not}
-use Rattle.channel_model.specs.Value.{Queued}
 use Rattle.channel_model.specs.Changing.{is_copy}
 use Rattle.l2cap_channels.specs.Sound.{owns, IsQueue}
 use Rattle.l2cap_channels.proofs.Queuing.{queue_kept}

@@ -1,4 +1,4 @@
-use Rattle.std.proofs.Common.{◌<◌, List, ℕ, length, subst, sym, ap}
+use Rattle.std.proofs.Common.{◌<◌, length, subst, sym, ap}
 use Rattle.std.specs.Prelude.{Option}
 use Rattle.channel_model.specs.Value.{Held}
 use Rattle.l2cap_channels.specs.Machine.{Machine}

@@ -1,4 +1,4 @@
-use Rattle.std.proofs.Common.{◌≡◌, ◌∙◌, ◌+◌, List, ℕ, suc, take, subst, sym, ap, refl, add-one}
+use Rattle.std.proofs.Common.{◌≡◌, ◌∙◌, List, ℕ, take, subst, sym, ap, refl, add-one}
 use Rattle.std.specs.Prelude.{Option, Some, None, slice_get}
 use Rattle.std.specs.List.{find}
 use Rattle.channel_model.specs.Value.{Held}

@@ -1,6 +1,5 @@
 use Rattle.std.proofs.Common.{◌≡◌, ◌<◌, ◌∙◌, List, ℕ, length, subst, sym, ap, rules}
 use Rattle.std.specs.Prelude.{filter, not, ◌==◌}
-use Rattle.channel_model.specs.Value.{Held, Queued}
 use Rattle.channel_model.specs.Changing.{is_copy_about}
 use Rattle.l2cap_channels.specs.Machine.{Machine}
 use Rattle.l2cap_channels.specs.Sound.{owns, AreGiven, IsQueue}

@@ -1,9 +1,7 @@
-use Rattle.std.proofs.Common.{rules, ◌≡◌, filter, length, not, nat_lt, sym, ap, ◌∙◌, List, map}
-use Rattle.std.specs.List.{list_any}
-use Rattle.channel_model.specs.Value as value
-use Rattle.channel_model.specs.Changing.{is_copy, is_copy_about, is_answer}
-use Rattle.l2cap_channels.specs.Queues.{queued_value, queue_value}
-use Rattle.l2cap_channels.proofs.Mapping.{map-filter, any-map}
+use Rattle.std.proofs.Common.{rules, filter, length, nat_lt, sym, ap, ◌∙◌}
+use Rattle.channel_model.specs.Changing.{is_answer}
+use Rattle.l2cap_channels.specs.Queues.{queued_value}
+use Rattle.l2cap_channels.proofs.Mapping.{map-filter}
 use Rattle.std.proofs.lemmas.Iterator.{YieldsList-from_slice}
 use Rattle.std.proofs.lemmas.Iterator.Consumers.{YieldsList-from_filter, count_from_yields_List}
 use Rattle.std.proofs.lemmas.List.{length-map}
