@@ -1,0 +1,167 @@
+-- What a meaning does to the channels that were read.
+use Rattle.std.proofs.Common.{◌≡◌, ℕ, List, [], ◌∷◌, ◌++◌, fold, map, Bool, true, false, cond, ◌||◌, eqb, Option, Some, None, refl, sym, ap, subst, ◌∙◌}
+use Rattle.std.specs.Prelude.{option_map, option_to_list}
+use Rattle.std.specs.Option.{option_or}
+use Rattle.std.specs.List.{list_any}
+use Rattle.std.proofs.lemmas.Bool.{eqb-true}
+use Rattle.link_talk.specs.declared.channel.Channel.{Channel}
+use Rattle.link_talk.specs.declared.life.Life.{Life}
+use Rattle.link_talk.specs.declared.life.Life.TheVariants.{Alive, Leaving, Crossed, Over}
+use Rattle.link_talk.specs.declared.word.Word.{Word}
+use Rattle.link_talk.specs.declared.word.Word.TheVariants.{AsksEnd, AnswersEnd, EndAnswered, EndForgone}
+use Rattle.link_talk.specs.Meanings.{Meaning, Makes, Settles, Nothing}
+use Rattle.link_talk.specs.Setups.{Setup, setup_after, term}
+use Rattle.link_talk.specs.Channels.{word, life_after, is_there, Entry, fresh, entry_after, is_owner, with_fresh, made_by, entries_after}
+use Rattle.channel_laws.specs.Views.{is_own, read_at}
+use Rattle.channel_laws.proofs.Lookups.{find-map, find-append, found-has, eqb-same}
+
+abbrev pub own_read : Entry → ℕ
+own_read entry = entry.channel.own
+
+-- ---- one channel
+
+pub either_same : {X : Type 0} (test : Bool) (after before : X) → after ≡ before → cond test after before ≡ before
+either_same true after before same = same
+either_same false after before same = refl
+
+pub entry-is : (entry : Entry) (life : Life) (setup : Setup) → life ≡ entry.life → setup ≡ entry.setup → (let other : Entry = record { channel = entry.channel; life = life; setup = setup } in other ≡ entry)
+entry-is entry life setup same also =
+    ap (λ (l : Life). let e : Entry = record { channel = entry.channel; life = l; setup = setup } in e) same
+    ∙ ap (λ (s : Setup). let e : Entry = record { channel = entry.channel; life = entry.life; setup = s } in e) also
+
+-- what does not name the channel leaves it
+pub entry-same : (more : Meaning) (entry : Entry) → word entry.channel more ≡ None → term entry.channel more ≡ None → entry_after more entry ≡ entry
+entry-same more entry no_word no_term =
+    entry-is entry (life_after entry.life (word entry.channel more)) (cond (is_there entry.life) (setup_after entry.setup (term entry.channel more)) entry.setup)
+    (ap (life_after entry.life) no_word)
+    (either_same (is_there entry.life) (setup_after entry.setup (term entry.channel more)) entry.setup (ap (setup_after entry.setup) no_term))
+
+map_same : (f : Entry → Entry) → ((entry : Entry) → f entry ≡ entry) → (entries : List Entry) → map f entries ≡ entries
+map_same f same [] = refl
+map_same f same (entry ∷ entries) = ap (λ e. e ∷ map f entries) (same entry) ∙ ap (λ es. entry ∷ es) (map_same f same entries)
+
+pub nothing-same : (entries : List Entry) → entries_after entries Nothing ≡ entries
+nothing-same entries = map_same (entry_after Nothing) (λ e. entry-same Nothing e refl refl) entries
+
+pub settles-same : (identifier own : ℕ) (entries : List Entry) → entries_after entries (Settles identifier own) ≡ entries
+settles-same identifier own entries = map_same (entry_after (Settles identifier own)) (λ e. entry-same (Settles identifier own) e refl refl) entries
+
+pub makes-fresh : (channel : Channel) (entries : List Entry) → entries_after entries (Makes channel) ≡ with_fresh entries channel
+makes-fresh channel entries = ap (λ es. with_fresh es channel) (map_same (entry_after (Makes channel)) (λ e. entry-same (Makes channel) e refl refl) entries)
+
+-- ---- at an endpoint
+
+pub read-after : (more : Meaning) (entries : List Entry) (own : ℕ) → made_by more ≡ None → read_at own (entries_after entries more) ≡ option_map (entry_after more) (read_at own entries)
+read-after more entries own none =
+    ap (λ made. read_at own (fold with_fresh (map (entry_after more) entries) (option_to_list made))) none
+    ∙ find-map own_read (entry_after more) (λ e. refl) own entries
+
+pub read-own : (own : ℕ) (entries : List Entry) (found : Entry) → read_at own entries ≡ Some found → found.channel.own ≡ own
+read-own own entries found is = found-has own_read own entries found is
+
+pub read-append : (own : ℕ) (entries : List Entry) (channel : Channel) → read_at own (entries ++ fresh channel ∷ []) ≡ option_or (read_at own entries) (cond (eqb channel.own own) (Some (fresh channel)) None)
+read-append own entries channel = find-append own_read own entries (fresh channel)
+
+-- ---- lives
+
+pub there-before : (life : Life) (said : Option Word) → is_there (life_after life said) ≡ true → is_there life ≡ true
+there-before life None is = is
+there-before Alive (Some said) is = refl
+there-before Leaving (Some said) is = refl
+there-before Crossed (Some AsksEnd) is = is
+there-before Crossed (Some AnswersEnd) is = is
+there-before Crossed (Some EndAnswered) is = is
+there-before Crossed (Some EndForgone) is = is
+there-before Over (Some said) is = is
+
+gone-stays-by : (life : Life) (said : Option Word) (now : Bool) → is_there (life_after life said) ≡ now → is_there life ≡ false → now ≡ false
+gone-stays-by life said false is gone = refl
+gone-stays-by life said true is gone = sym (there-before life said is) ∙ gone
+
+pub gone-stays : (life : Life) (said : Option Word) → is_there life ≡ false → is_there (life_after life said) ≡ false
+gone-stays life said gone = gone-stays-by life said (is_there (life_after life said)) refl gone
+
+-- ---- a new channel
+
+pub or_left : (a b : Bool) → (a || b) ≡ false → a ≡ false
+or_left true b is = is
+or_left false b is = refl
+
+pub or_right : (a b : Bool) → (a || b) ≡ false → b ≡ false
+or_right true b is = cc
+or_right false b is = is
+
+-- a member that is found does not pass where none does
+pub found-fails : (channel : Channel) (own : ℕ) (entries : List Entry) (found : Entry) → list_any (is_owner channel) entries ≡ false → read_at own entries ≡ Some found → is_owner channel found ≡ false
+found-fails channel own [] found none is = cc
+found-fails channel own (entry ∷ entries) found none is =
+    by (is_own own entry) (or_left (is_owner channel entry) (list_any (is_owner channel) entries) none) (λ some. found-fails channel own entries found (or_right (is_owner channel entry) (list_any (is_owner channel) entries) none) some) is
+  where
+    by : (test : Bool) → is_owner channel entry ≡ false → (read_at own entries ≡ Some found → is_owner channel found ≡ false) → cond test (Some entry) (read_at own entries) ≡ Some found → is_owner channel found ≡ false
+    by true now later some = let same : entry ≡ found = cc in ap (is_owner channel) (sym same) ∙ now
+    by false now later some = later some
+
+or_true : (b : Bool) → (b || true) ≡ true
+or_true true = refl
+or_true false = refl
+
+pub found-passes : (channel : Channel) (own : ℕ) (entries : List Entry) (found : Entry) → read_at own entries ≡ Some found → is_owner channel found ≡ true → list_any (is_owner channel) entries ≡ true
+found-passes channel own [] found is passes = cc
+found-passes channel own (entry ∷ entries) found is passes =
+    by (is_own own entry) (λ some. found-passes channel own entries found some passes) is
+  where
+    by : (test : Bool) → (read_at own entries ≡ Some found → list_any (is_owner channel) entries ≡ true) → cond test (Some entry) (read_at own entries) ≡ Some found → (is_owner channel entry || list_any (is_owner channel) entries) ≡ true
+    by true later some = let same : entry ≡ found = cc in ap (λ e. is_owner channel e || list_any (is_owner channel) entries) same ∙ ap (λ t. t || list_any (is_owner channel) entries) passes
+    by false later some = ap (λ t. is_owner channel entry || t) (later some) ∙ or_true (is_owner channel entry)
+
+-- ---- each endpoint is that of one channel
+
+abbrev pub Distinct : List Entry → Type 0
+Distinct [] = Unit {0}
+Distinct (entry ∷ entries) = (read_at entry.channel.own entries ≡ None) × Distinct entries
+
+distinct-map : (more : Meaning) (entries : List Entry) → Distinct entries → Distinct (map (entry_after more) entries)
+distinct-map more [] distinct = tt
+distinct-map more (entry ∷ entries) distinct =
+    (find-map own_read (entry_after more) (λ e. refl) entry.channel.own entries ∙ ap (option_map (entry_after more)) distinct.0, distinct-map more entries distinct.1)
+
+pub distinct-after : (more : Meaning) (entries : List Entry) → made_by more ≡ None → Distinct entries → Distinct (entries_after entries more)
+distinct-after more entries none distinct =
+    subst (λ made. Distinct (fold with_fresh (map (entry_after more) entries) (option_to_list made))) (sym none) (distinct-map more entries distinct)
+
+cond_some : {X : Type 0} (test : Bool) (x : X) (rest : Option X) → cond test (Some x) rest ≡ None → (test ≡ false) × (rest ≡ None)
+cond_some true x rest is = cc
+cond_some false x rest is = (refl, is)
+
+eqb-away : (a b : ℕ) → eqb a b ≡ false → eqb b a ≡ false
+eqb-away a b is = by (eqb b a) refl
+  where
+    by : (t : Bool) → eqb b a ≡ t → t ≡ false
+    by false now = refl
+    by true now = let never : true ≡ false = sym (eqb-same a) ∙ (ap (eqb a) (sym (eqb-true b a now)) ∙ is) in absurd cc
+
+pub distinct-append : (entries : List Entry) (channel : Channel) → read_at channel.own entries ≡ None → Distinct entries → Distinct (entries ++ fresh channel ∷ [])
+distinct-append [] channel none distinct = (refl, tt)
+distinct-append (entry ∷ entries) channel none distinct =
+    let parts = cond_some (is_own channel.own entry) entry (read_at channel.own entries) none in (
+      read-append entry.channel.own entries channel ∙ (ap (λ o. option_or o (cond (eqb channel.own entry.channel.own) (Some (fresh channel)) None)) distinct.0
+          ∙ ap (λ t. cond t (Some (fresh channel)) None) (eqb-away entry.channel.own channel.own parts.0)),
+      distinct-append entries channel parts.1 distinct.1,
+    )
+
+-- a member that passes is found at its endpoint
+pub any-found : (p : Entry → Bool) (entries : List Entry) → Distinct entries → list_any p entries ≡ true → (own : ℕ) × (found : Entry) × (read_at own entries ≡ Some found) × (p found ≡ true)
+any-found p [] distinct is = cc
+any-found p (entry ∷ entries) distinct is = by (p entry) refl (λ any. any-found p entries distinct.1 any) is
+  where
+    further : (own : ℕ) × (found : Entry) × (read_at own entries ≡ Some found) × (p found ≡ true) → (own : ℕ) × (found : Entry) × (read_at own (entry ∷ entries) ≡ Some found) × (p found ≡ true)
+    further (own, found, at, passes) = (own, found, ap (λ t. cond t (Some entry) (read_at own entries)) (flip (is_own own entry) refl) ∙ at, passes)
+      where
+        flip : (t : Bool) → is_own own entry ≡ t → t ≡ false
+        flip false now = refl
+        flip true now = let never : None ≡ Some found = sym distinct.0 ∙ (ap (λ n. read_at n entries) (eqb-true entry.channel.own own now) ∙ at) in absurd cc
+
+    by : (t : Bool) → p entry ≡ t → (list_any p entries ≡ true → (own : ℕ) × (found : Entry) × (read_at own entries ≡ Some found) × (p found ≡ true)) → (t || list_any p entries) ≡ true
+        → (own : ℕ) × (found : Entry) × (read_at own (entry ∷ entries) ≡ Some found) × (p found ≡ true)
+    by true passes later any = (entry.channel.own, entry, ap (λ t. cond t (Some entry) (read_at entry.channel.own entries)) (eqb-same entry.channel.own), passes)
+    by false passes later any = further (later any)

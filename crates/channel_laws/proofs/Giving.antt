@@ -1,0 +1,283 @@
+-- What a host gives, sends, and ends.
+use Rattle.std.proofs.Common.{◌≡◌, ℕ, List, [], ◌∷◌, ◌++◌, fold, Bool, true, false, cond, Option, Some, None, refl, sym, ap, subst, ◌∙◌}
+use Rattle.std.specs.Prelude.{find, option_map}
+use Rattle.l2cap_signal.specs.Commands.{Command, disconnection_request}
+use Rattle.l2cap_config.specs.declared.wish.Wish.{Wish}
+use Rattle.link_talk.specs.declared.word.Word.TheVariants.{AsksEnd}
+use Rattle.link_talk.specs.Meanings.{Part}
+use Rattle.link_talk.specs.Setups as read
+use Rattle.link_talk.specs.Channels.{life_after, Reading, read_on}
+use Rattle.channel_model.specs.declared.errand.Errand.{Errand}
+use Rattle.channel_model.specs.declared.errand.Errand.TheVariants.{Connection, Configuration, Disconnection, Features}
+use Rattle.channel_model.specs.Value.{Own, Unasked, Asking, Granted, Carrier, Plain, Retransmitting, Setup, Stage, Requested, Connected, Leaving, Closing, Crossed, Held, Queued, Answer, Ask, Channels}
+use Rattle.channel_model.specs.Policies.{Policy}
+use Rattle.channel_model.specs.Changing.{has_own, held_at, setup_of, to_stage, to_setup, with_setup, is_open}
+use Rattle.channel_model.specs.Asking.{new_request, asks}
+use Rattle.channel_model.specs.Giving.{own_given, setup_given, connection_given, configuration_given, disconnection_given, stage_given, counted, queue_given, on_held, disconnection_at}
+use Rattle.channel_model.specs.Calls.{disconnected_at, disconnected_held, carrier_with, sends_on, sends_held, sends}
+use Rattle.channel_laws.specs.OwnTalk.{spoken, command_with, asked_between}
+use Rattle.channel_laws.specs.Runs.{forgone_between}
+use Rattle.channel_laws.specs.Laws.{IsGiven}
+use Rattle.channel_laws.specs.Views.{peer_of, life_of, asked_mode, carrier_mode}
+use Rattle.channel_laws.proofs.Lookups.{own_of, found-has, found-placed, find-placed}
+use Rattle.channel_laws.proofs.Sound.{Agrees, AgreesIf, OwnStates, CarrierIs, RepeatsIn, WantsAt, Wants, Sound}
+use Rattle.channel_laws.proofs.Moves.{PartsTo, SetupsTo}
+use Rattle.channel_laws.proofs.Ending.{Leads, leads-said}
+use Rattle.channel_laws.proofs.Silent.{turns-sound}
+use Rattle.channel_laws.proofs.Asking.{asked-one, newest-asks}
+use Rattle.channel_laws.proofs.Questions.{asked-none}
+use Rattle.channel_laws.proofs.Consenting.{Talks}
+use Rattle.channel_laws.proofs.Responses.{turns-to}
+use Rattle.channel_laws.proofs.Settling.{TalksOr, talks-at}
+
+-- ---- a request was given one time more
+
+-- what a change of how a channel is held keeps
+pub record Counts (f : Stage → Stage) : Type 0 where
+  pub peer_is : (stage : Stage) → peer_of (f stage) ≡ peer_of stage
+  pub life_is : (stage : Stage) → life_of (f stage) ≡ life_of stage
+  pub agrees : (wish : Wish) (stage : Stage) (said : read.Setup) → AgreesIf wish (setup_of stage) said → AgreesIf wish (setup_of (f stage)) said
+  pub repeats : (stage : Stage) (said : read.Setup) (part : Part) → RepeatsIn (setup_of stage) said part → RepeatsIn (setup_of (f stage)) said part
+
+states_given : (wish : Wish) (own : Own) → OwnStates wish own → OwnStates wish (own_given own)
+states_given wish Unasked states = tt
+states_given wish (Asking request options) states = states
+states_given wish Granted states = tt
+
+mode_given : (wish : Wish) (own : Own) → asked_mode wish (own_given own) ≡ asked_mode wish own
+mode_given wish Unasked = refl
+mode_given wish (Asking request options) = refl
+mode_given wish Granted = refl
+
+given_agrees : (wish : Wish) (setup : Setup) (said : read.Setup) → Agrees wish setup said → Agrees wish (setup_given setup) said
+given_agrees wish setup said agrees = record {
+  set_up = record { asked_is = agrees.set_up.asked_is ∙ sym (mode_given wish setup.own); accepted_is = agrees.set_up.accepted_is };
+  states = states_given wish setup.own agrees.states;
+  carrier_is = agrees.carrier_is;
+  parts_are = agrees.parts_are;
+}
+
+connection_counts : Counts connection_given
+connection_counts = record { peer_is = peer; life_is = life; agrees = agree; repeats = repeat }
+  where
+    peer : (stage : Stage) → peer_of (connection_given stage) ≡ peer_of stage
+    peer (Requested request) = refl
+    peer (Connected at setup) = refl
+    peer (Leaving at setup request) = refl
+    peer (Closing at request) = refl
+    peer (Crossed at request) = refl
+
+    life : (stage : Stage) → life_of (connection_given stage) ≡ life_of stage
+    life (Requested request) = refl
+    life (Connected at setup) = refl
+    life (Leaving at setup request) = refl
+    life (Closing at request) = refl
+    life (Crossed at request) = refl
+
+    agree : (wish : Wish) (stage : Stage) (said : read.Setup) → AgreesIf wish (setup_of stage) said → AgreesIf wish (setup_of (connection_given stage)) said
+    agree wish (Requested request) said so = tt
+    agree wish (Connected at setup) said so = so
+    agree wish (Leaving at setup request) said so = so
+    agree wish (Closing at request) said so = tt
+    agree wish (Crossed at request) said so = tt
+
+    repeat : (stage : Stage) (said : read.Setup) (part : Part) → RepeatsIn (setup_of stage) said part → RepeatsIn (setup_of (connection_given stage)) said part
+    repeat (Requested request) said part so = tt
+    repeat (Connected at setup) said part so = so
+    repeat (Leaving at setup request) said part so = so
+    repeat (Closing at request) said part so = tt
+    repeat (Crossed at request) said part so = tt
+
+configuration_counts : Counts configuration_given
+configuration_counts = record { peer_is = peer; life_is = life; agrees = agree; repeats = repeat }
+  where
+    peer : (stage : Stage) → peer_of (configuration_given stage) ≡ peer_of stage
+    peer (Requested request) = refl
+    peer (Connected at setup) = refl
+    peer (Leaving at setup request) = refl
+    peer (Closing at request) = refl
+    peer (Crossed at request) = refl
+
+    life : (stage : Stage) → life_of (configuration_given stage) ≡ life_of stage
+    life (Requested request) = refl
+    life (Connected at setup) = refl
+    life (Leaving at setup request) = refl
+    life (Closing at request) = refl
+    life (Crossed at request) = refl
+
+    agree : (wish : Wish) (stage : Stage) (said : read.Setup) → AgreesIf wish (setup_of stage) said → AgreesIf wish (setup_of (configuration_given stage)) said
+    agree wish (Requested request) said so = tt
+    agree wish (Connected at setup) said so = given_agrees wish setup said so
+    agree wish (Leaving at setup request) said so = given_agrees wish setup said so
+    agree wish (Closing at request) said so = tt
+    agree wish (Crossed at request) said so = tt
+
+    repeat : (stage : Stage) (said : read.Setup) (part : Part) → RepeatsIn (setup_of stage) said part → RepeatsIn (setup_of (configuration_given stage)) said part
+    repeat (Requested request) said part so = tt
+    repeat (Connected at setup) said part so = so
+    repeat (Leaving at setup request) said part so = so
+    repeat (Closing at request) said part so = tt
+    repeat (Crossed at request) said part so = tt
+
+disconnection_counts : Counts disconnection_given
+disconnection_counts = record { peer_is = peer; life_is = life; agrees = agree; repeats = repeat }
+  where
+    peer : (stage : Stage) → peer_of (disconnection_given stage) ≡ peer_of stage
+    peer (Requested request) = refl
+    peer (Connected at setup) = refl
+    peer (Leaving at setup request) = refl
+    peer (Closing at request) = refl
+    peer (Crossed at request) = refl
+
+    life : (stage : Stage) → life_of (disconnection_given stage) ≡ life_of stage
+    life (Requested request) = refl
+    life (Connected at setup) = refl
+    life (Leaving at setup request) = refl
+    life (Closing at request) = refl
+    life (Crossed at request) = refl
+
+    agree : (wish : Wish) (stage : Stage) (said : read.Setup) → AgreesIf wish (setup_of stage) said → AgreesIf wish (setup_of (disconnection_given stage)) said
+    agree wish (Requested request) said so = tt
+    agree wish (Connected at setup) said so = so
+    agree wish (Leaving at setup request) said so = so
+    agree wish (Closing at request) said so = tt
+    agree wish (Crossed at request) said so = tt
+
+    repeat : (stage : Stage) (said : read.Setup) (part : Part) → RepeatsIn (setup_of stage) said part → RepeatsIn (setup_of (disconnection_given stage)) said part
+    repeat (Requested request) said part so = tt
+    repeat (Connected at setup) said part so = so
+    repeat (Leaving at setup request) said part so = so
+    repeat (Closing at request) said part so = tt
+    repeat (Crossed at request) said part so = tt
+
+-- every channel that is held has an endpoint of the peer
+peer-there : (policy : Policy) (r : Reading) (v : Channels) (held : Held) → find (has_own held.own) v.held ≡ Some held → Sound policy r v → (peer : ℕ) × (peer_of held.stage ≡ Some peer)
+peer-there policy r v held is sound = by held.stage (subst (Wants r.requests) is (sound.kept.wants held.own))
+  where
+    by : (stage : Stage) → WantsAt r.requests held stage → (peer : ℕ) × (peer_of stage ≡ Some peer)
+    by (Requested request) wants = elim wants [ ]
+    by (Connected peer setup) wants = (peer, refl)
+    by (Leaving peer setup request) wants = (peer, refl)
+    by (Closing peer request) wants = (peer, refl)
+    by (Crossed peer request) wants = (peer, refl)
+
+given-sound : (policy : Policy) (r : Reading) (v : Channels) (f : Stage → Stage) (own : ℕ) (found : Option Held) → Counts f → find (has_own own) v.held ≡ found → Sound policy r v → Sound policy r (stage_given f found v)
+given-sound policy r v f own None counts is sound = sound
+given-sound policy r v f own (Some held) counts is sound =
+    let same : held.own ≡ own = found-has own_of own v.held held is in
+    let at : find (has_own held.own) v.held ≡ Some held = ap (λ n. find (has_own n) v.held) same ∙ is in
+    let after : Held = record held { stage = f held.stage } in
+    let (peer, peer_is) = peer-there policy r v held at sound in
+    turns-sound policy r v (stage_given f (Some held) v) held after peer (record {
+      found = at;
+      found_after = found-placed after held v.held at;
+      others = λ n apart. find-placed after v.held n apart;
+      next_is = refl;
+      memory_is = refl;
+      peer_is = peer_is;
+      peer_after = counts.peer_is held.stage ∙ peer_is;
+      life_after_is = counts.life_is held.stage;
+      psm_after = refl;
+      own_after = refl;
+      agrees = λ said so. counts.agrees (policy.wish held.psm) held.stage said so;
+      repeats = λ said part so. counts.repeats held.stage said part so;
+    }) sound
+
+counted-sound : (policy : Policy) (r : Reading) (v : Channels) (errand : Errand) → Sound policy r v → Sound policy r (counted errand v)
+counted-sound policy r v (Connection own) sound = given-sound policy r v connection_given own (held_at own v) connection_counts refl sound
+counted-sound policy r v (Configuration own) sound = given-sound policy r v configuration_given own (held_at own v) configuration_counts refl sound
+counted-sound policy r v (Disconnection own) sound = given-sound policy r v disconnection_given own (held_at own v) disconnection_counts refl sound
+counted-sound policy r v Features sound = record { core = sound.core; kept = sound.kept }
+
+pub queue-given : (policy : Policy) (r : Reading) (v : Channels) (queue : List Queued) → IsGiven queue → Sound policy r v → Sound policy r (queue_given queue v)
+queue-given policy r v [] is sound = elim is [ ]
+queue-given policy r v (Answer command ∷ behind) is sound = record { core = sound.core; kept = sound.kept }
+queue-given policy r v (Ask errand ∷ behind) is sound = counted-sound policy r (record v { queue = behind }) errand (record { core = sound.core; kept = sound.kept })
+
+-- ---- an SDU is sent
+
+with_mode : (carrier : Option Carrier) (sdu : List ℕ) → option_map carrier_mode (option_map (λ c. carrier_with c sdu) carrier) ≡ option_map carrier_mode carrier
+with_mode None sdu = refl
+with_mode (Some (Plain agreed waiting)) sdu = refl
+with_mode (Some (Retransmitting machine)) sdu = refl
+
+with_carrier : (wish : Wish) (carrier : Option Carrier) (sdu : List ℕ) → CarrierIs wish carrier → CarrierIs wish (option_map (λ c. carrier_with c sdu) carrier)
+with_carrier wish None sdu is = tt
+with_carrier wish (Some (Plain agreed waiting)) sdu is = is
+with_carrier wish (Some (Retransmitting machine)) sdu is = is
+
+sent-by : (policy : Policy) (r : Reading) (v : Channels) (held : Held) (peer : ℕ) (setup : Setup) (sdu : List ℕ) (open' : Bool) → Talks v held peer setup → Sound policy r v
+    → (let after : Setup = cond open' (record setup { carrier = option_map (λ carrier. carrier_with carrier sdu) setup.carrier }) setup in Sound policy r (to_setup held after v))
+sent-by policy r v held peer setup sdu true talks sound =
+    let after : Setup = record setup { carrier = option_map (λ carrier. carrier_with carrier sdu) setup.carrier } in
+    turns-sound policy r v (to_setup held after v) held (with_setup held after) peer (turns-to policy v (to_setup held after v) held peer setup after talks refl refl refl refl
+    (λ said agrees. record {
+      set_up = record { asked_is = agrees.set_up.asked_is; accepted_is = agrees.set_up.accepted_is ∙ sym (with_mode setup.carrier sdu) };
+      states = agrees.states;
+      carrier_is = with_carrier (policy.wish held.psm) setup.carrier sdu agrees.carrier_is;
+      parts_are = agrees.parts_are;
+    })) sound
+sent-by policy r v held peer setup sdu false talks sound =
+    turns-sound policy r v (to_setup held setup v) held (with_setup held setup) peer (turns-to policy v (to_setup held setup v) held peer setup setup talks refl refl refl refl (λ said agrees. agrees)) sound
+
+sent-on : (policy : Policy) (r : Reading) (v : Channels) (held : Held) (sdu : List ℕ) (setup : Option Setup) → TalksOr v held setup → Sound policy r v → Sound policy r (sends_on setup sdu held v)
+sent-on policy r v held sdu None talks sound = sound
+sent-on policy r v held sdu (Some setup) (peer, talks) sound = sent-by policy r v held peer setup sdu (is_open setup) talks sound
+
+sent-of : (policy : Policy) (r : Reading) (v : Channels) (own : ℕ) (sdu : List ℕ) (found : Option Held) → find (has_own own) v.held ≡ found → Sound policy r v → Sound policy r (sends_held found sdu v)
+sent-of policy r v own sdu None is sound = sound
+sent-of policy r v own sdu (Some held) is sound =
+    let same : held.own ≡ own = found-has own_of own v.held held is in
+    sent-on policy r v held sdu (setup_of held.stage) (talks-at v held held.stage refl (ap (λ n. find (has_own n) v.held) same ∙ is)) sound
+
+pub sends-sound : (policy : Policy) (r : Reading) (v : Channels) (own : ℕ) (sdu : List ℕ) → Sound policy r v → Sound policy r (sends own sdu v)
+sends-sound policy r v own sdu sound = sent-of policy r v own sdu (held_at own v) refl sound
+
+-- ---- the end of a channel is asked for
+
+forgone_none : (before : Option Held) (after : Held) → forgone_between before (Some after) ≡ []
+forgone_none None after = refl
+forgone_none (Some held) after = refl
+
+still_held : (found : Option Held) → forgone_between found found ≡ []
+still_held None = refl
+still_held (Some held) = refl
+
+nothing-ends : (policy : Policy) (r : Reading) (v : Channels) (own : ℕ) → Sound policy r v → Sound policy (fold read_on r (asked_between v v ++ forgone_between (held_at own v) (held_at own v))) v
+nothing-ends policy r v own sound =
+    subst (λ rest. Sound policy (fold read_on r (asked_between v v ++ rest)) v) (sym (still_held (held_at own v))) (subst (λ rest. Sound policy (fold read_on r (rest ++ [])) v) (sym (asked-none v v refl)) sound)
+
+end-asked : (policy : Policy) (r : Reading) (v : Channels) (held : Held) (stage : Stage) → held.stage ≡ stage → find (has_own held.own) v.held ≡ Some held → Sound policy r v
+    → (let w : Channels = disconnected_at stage held v in Sound policy (fold read_on r (asked_between v w ++ forgone_between (held_at held.own v) (held_at held.own w))) w)
+end-asked policy r v held (Requested request) is at sound = elim (subst (WantsAt r.requests held) is (subst (Wants r.requests) at (sound.kept.wants held.own))) [ ]
+end-asked policy r v held (Connected peer setup) is at sound =
+    let after : Held = record held { stage = Leaving peer setup (new_request v) } in
+    let before : Channels = to_stage held (Leaving peer setup (new_request v)) v in
+    let w : Channels = asks (Disconnection held.own) before in
+    let here : find (has_own held.own) w.held ≡ Some after = found-placed after held v.held at in
+    let command : Command = command_with v.identifier (disconnection_request peer held.own) in
+    let leads : Leads v w held peer AsksEnd = record {
+      others = λ own apart. find-placed after v.held own apart;
+      to = subst (PartsTo held peer AsksEnd) (sym here) (refl, refl, refl, sym (ap (λ s. life_after (life_of s) (Some AsksEnd)) is), subst (λ s. SetupsTo (setup_of s) (Some setup)) (sym is) refl);
+      next_is = refl;
+      memory_is = refl;
+    } in
+    subst (λ rest. Sound policy (fold read_on r (asked_between v w ++ rest)) w) (sym (ap (forgone_between (held_at held.own v)) here ∙ forgone_none (held_at held.own v) after))
+    (subst (λ said. Sound policy (fold read_on r (said ++ [])) w)
+    (sym (asked-one v w (Disconnection held.own) command refl (newest-asks (Disconnection held.own) before) (ap (on_held (λ h. disconnection_at h.stage h)) here)))
+    (leads-said policy r v w held peer AsksEnd (spoken command) refl at (ap peer_of is) leads sound))
+end-asked policy r v held (Leaving peer setup request) is at sound = nothing-ends policy r v held.own sound
+end-asked policy r v held (Closing peer request) is at sound = nothing-ends policy r v held.own sound
+end-asked policy r v held (Crossed peer request) is at sound = nothing-ends policy r v held.own sound
+
+end-of : (policy : Policy) (r : Reading) (v : Channels) (own : ℕ) (found : Option Held) → find (has_own own) v.held ≡ found → Sound policy r v
+    → (let w : Channels = disconnected_held found v in Sound policy (fold read_on r (asked_between v w ++ forgone_between (held_at own v) (held_at own w))) w)
+end-of policy r v own None is sound = nothing-ends policy r v own sound
+end-of policy r v own (Some held) is sound =
+    let same : held.own ≡ own = found-has own_of own v.held held is in
+    subst (λ n. let w : Channels = disconnected_held (Some held) v in Sound policy (fold read_on r (asked_between v w ++ forgone_between (held_at n v) (held_at n w))) w) same
+    (end-asked policy r v held held.stage refl (ap (λ n. find (has_own n) v.held) same ∙ is) sound)
+
+pub disconnects-sound : (policy : Policy) (r : Reading) (v : Channels) (own : ℕ) → Sound policy r v
+    → (let w : Channels = disconnected_held (held_at own v) v in Sound policy (fold read_on r (asked_between v w ++ forgone_between (held_at own v) (held_at own w))) w)
+disconnects-sound policy r v own sound = end-of policy r v own (held_at own v) refl sound

@@ -1,0 +1,4 @@
+pub mod Views
+pub mod OwnTalk
+pub mod Runs
+pub mod Laws
