@@ -8,6 +8,7 @@ use Rattle.rfcomm_frames.specs.Answers.{Answer}
 use Rattle.rfcomm_frames.specs.FrameReading.{frame_answer}
 use Rattle.rfcomm_frames.proofs.FrameReading.{spelled_answered}
 use Rattle.rfcomm_model.specs.Machine.{Mux, may_pass, is_ready}
+use Rattle.rfcomm_model.specs.Ending.{IsOrderly}
 use Rattle.rfcomm_model.specs.Hearing.{hears_answer, news, read_data}
 use Rattle.rfcomm_model.specs.Saying.{Said, next, after_said}
 use Rattle.rfcomm_model.specs.Sides.{handed}
@@ -15,7 +16,7 @@ use Rattle.rfcomm_laws.specs.Pairs.{End, Move, Speak, Give, Deliver, spoken, tak
 use Rattle.rfcomm_laws.specs.Happenings.{closing, happens, all_happen}
 use Rattle.rfcomm_laws.specs.Rests.{IsStill, IsDone}
 use Rattle.rfcomm_laws.specs.Links.{LinkEnd, Link, Act, Sends, Gives, Delivers, Leaves, LinkDeed, first_away, gives, own_end, hears_first, other_end, done_by, all_done, IsOf, IsSent, side_of, IsRun, new_link, IsStaying, AllStay, move_of, by_role, happening_of, AreFrames, MirrorsEnd, Mirrors, SdusAreFrames, LinkPipes, LinksArePipes, LinkIsStill, LinkIsDone, StillLinksAreDone, LinkClosesInOrder, LinksCloseInOrder}
-use Rattle.rfcomm_laws.specs.Closings.{IsOrderly, ClosesInOrder}
+use Rattle.rfcomm_laws.specs.Closings.{ClosesInOrder}
 use Rattle.rfcomm_laws.proofs.Crossings.{closings-are_orderly}
 use Rattle.rfcomm_laws.proofs.Stages.{pairs-are_pipes}
 use Rattle.rfcomm_laws.proofs.Resting.{still-is_done}

@@ -7,11 +7,11 @@ use Rattle.rfcomm_frames.specs.declared.connection.Role.TheVariants.{Initiator, 
 use Rattle.rfcomm_frames.specs.Frames.{PlainFrame, Spells}
 use Rattle.rfcomm_frames.specs.FrameReading.{frame_answer}
 use Rattle.rfcomm_model.specs.Machine.{Mux, new_mux, may_pass, is_ready, taken_count, sends, leaves}
+use Rattle.rfcomm_model.specs.Ending.{IsOrderly}
 use Rattle.rfcomm_model.specs.Hearing.{hears, up}
 use Rattle.rfcomm_model.specs.Saying.{Said, next, after_next}
 use Rattle.rfcomm_model.specs.Sides.{handed}
 use Rattle.rfcomm_laws.specs.Pairs.{End, Pair, Turn, ByInitiator, ByResponder, Move, Speak, Give, Deliver, Terms, new_pair, IsFront}
-use Rattle.rfcomm_laws.specs.Closings.{IsOrderly}
 use Rattle.rfcomm_laws.specs.Happenings.{Happening, Moves, Closes, all_happen}
 
 -- a side, the SDUs that it sent and that are on their way, the octets that it took to be sent, and those that it handed up

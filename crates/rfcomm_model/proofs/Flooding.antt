@@ -319,7 +319,7 @@ given_waits octets m =
 leaves_waits : (m : Mux) → waiting (leaves m) ≤ waiting m
 leaves_waits m = waits_if (waiting m) (is_none m.closed && not (is_leaving m.asks)) (record m { asks = Due LeaveUser }) m (omega arith) (omega arith)
 
-all_find : (n : ℕ) (deeds : List Deed) (side : Side) → waiting side.mux ≤ n → NoFlood n deeds → AlwaysRoom deeds side
+pub all_find : (n : ℕ) (deeds : List Deed) (side : Side) → waiting side.mux ≤ n → NoFlood n deeds → AlwaysRoom deeds side
 all_find n [] side few none = tt
 all_find n (Hears sdu ∷ deeds) side few none =
     let more = answer_waits (frame_answer sdu) side.mux in

@@ -39,7 +39,7 @@ spent_none d role from frame quiet =
 free : (m : Mux) (frame : PlainFrame) → IsQuiet m.dlci frame → m.account.held ≡ spent_by m.dlci m.role (own m frame) + m.account.held
 free m frame quiet = let none = spent_none m.dlci m.role m.role frame quiet in omega (arith, none)
 
-on_control : (d : ℕ) (b : Bool) → 0 < d → ((0 == d) && b) ≡ false
+pub on_control : (d : ℕ) (b : Bool) → 0 < d → ((0 == d) && b) ≡ false
 on_control d b some = ap (λ (x : Bool). x && b) (ne_eqb 0 d (λ e. omega arith))
 
 -- ---- own commands
@@ -97,7 +97,7 @@ asks_gives m (Due command) some all = command_gives m command some all
 
 answer_gives : (m : Mux) (answers : List PlainFrame) → 0 < m.dlci → AllQuiet m.dlci m.answers → AllQuiet m.dlci answers → SaysGives m (says_answer answers m)
 answer_gives m [] some all these = asks_gives m m.asks some all
-answer_gives m (answer ∷ rest) some all these = record { control_is = refl; user_is = refl; held_is = free m answer these.0; quiet = these.1 }
+answer_gives m (answer ∷ rest) some all these = record { control_is = refl; user_is = refl; held_is = free m answer these.0.0; quiet = these.1 }
 
 pub next_gives : (m : Mux) → 0 < m.dlci → AllQuiet m.dlci m.answers → SaysGives m (next m)
 next_gives m some all = answer_gives m m.answers some all all

@@ -7,3 +7,8 @@ pub mod Reading
 pub mod Loading
 pub mod Unloading
 pub mod Flooding
+pub mod Closed
+pub mod Ending
+pub mod Ended
+pub mod Walking
+pub mod Taking

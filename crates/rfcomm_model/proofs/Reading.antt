@@ -31,45 +31,45 @@ use Rattle.rfcomm_model.proofs.Giving.{Gives, SaysGives, next_gives}
 
 -- ---- one frame more
 
-lines_more : (d : ℕ) (c : Connections) (fs : List Framed) (f : Framed) → connections_of d c (fs ++ f ∷ []) ≡ connections_after d (connections_of d c fs) f
+pub lines_more : (d : ℕ) (c : Connections) (fs : List Framed) (f : Framed) → connections_of d c (fs ++ f ∷ []) ≡ connections_after d (connections_of d c fs) f
 lines_more d c [] f = refl
 lines_more d c (g ∷ fs) f = lines_more d (connections_after d c g) fs f
 
-carried_more : (d : ℕ) (from : Role) (c : Connections) (fs : List Framed) (f : Framed)
+pub carried_more : (d : ℕ) (from : Role) (c : Connections) (fs : List Framed) (f : Framed)
     → carried d from c (fs ++ f ∷ []) ≡ carried d from c fs ++ cond (carries_on (connections_of d c fs)) (information d from f) []
 carried_more d from c [] f = append-nil (cond (carries_on c) (information d from f) [])
 carried_more d from c (g ∷ fs) f =
     ap (λ (xs : List ℕ). cond (carries_on c) (information d from g) [] ++ xs) (carried_more d from (connections_after d c g) fs f)
     ∙ sym (append_assoc (cond (carries_on c) (information d from g) []) (carried d from (connections_after d c g) fs) (cond (carries_on (connections_of d (connections_after d c g) fs)) (information d from f) []))
 
-granted_more : (d : ℕ) (side : Role) (c : Connections) (fs : List Framed) (f : Framed) → granted d side c (fs ++ f ∷ []) ≡ granted d side c fs + granted_by d side (connections_of d c fs) f
+pub granted_more : (d : ℕ) (side : Role) (c : Connections) (fs : List Framed) (f : Framed) → granted d side c (fs ++ f ∷ []) ≡ granted d side c fs + granted_by d side (connections_of d c fs) f
 granted_more d side c [] f = omega arith
 granted_more d side c (g ∷ fs) f = omega (arith, granted_more d side (connections_after d c g) fs f)
 
-spent_more : (d : ℕ) (side : Role) (fs : List Framed) (f : Framed) → spent d side (fs ++ f ∷ []) ≡ spent d side fs + spent_by d side f
+pub spent_more : (d : ℕ) (side : Role) (fs : List Framed) (f : Framed) → spent d side (fs ++ f ∷ []) ≡ spent d side fs + spent_by d side f
 spent_more d side fs f =
     let one : sum_by (spent_by d side) (f ∷ []) ≡ spent_by d side f = sum_by-cons (spent_by d side) f [] ∙ omega arith in
     omega (arith, sum_by-append (spent_by d side) fs (f ∷ []), one)
 
 -- ---- frames of the other side, and own ones
 
-not_other : (role : Role) → is_role role (other_role role) ≡ false
+pub not_other : (role : Role) → is_role role (other_role role) ≡ false
 not_other Initiator = refl
 not_other Responder = refl
 
-not_own : (role : Role) → is_role (other_role role) role ≡ false
+pub not_own : (role : Role) → is_role (other_role role) role ≡ false
 not_own Initiator = refl
 not_own Responder = refl
 
 -- own frames grant nothing to their side, and bring no octets of the peer
-own_grants : (d : ℕ) (role : Role) (c : Connections) (f : PlainFrame) → granted_by d role c (record { from = role; frame = f }) ≡ 0
+pub own_grants : (d : ℕ) (role : Role) (c : Connections) (f : PlainFrame) → granted_by d role c (record { from = role; frame = f }) ≡ 0
 own_grants d role c f =
     ap (λ (b : Bool). cond ((b && ((f.dlci == 0) && carries f.kind)) && not (is_over c)) (sum_by (stated_by d) (messages f.octets)) 0 + cond ((b && ((f.dlci == d) && carries f.kind)) && carries_on c) (credit_octet f.credits) 0) (not_own role)
 
-own_brings : (d : ℕ) (role : Role) (b : Bool) (f : PlainFrame) → cond b (information d (other_role role) (record { from = role; frame = f })) [] ≡ []
+pub own_brings : (d : ℕ) (role : Role) (b : Bool) (f : PlainFrame) → cond b (information d (other_role role) (record { from = role; frame = f })) [] ≡ []
 own_brings d role b f = ap (λ (x : Bool). cond b (cond (x && ((f.dlci == d) && carries f.kind)) f.octets []) []) (not_own role) ∙ cond_same b []
 
-peer_spends : (d : ℕ) (role : Role) (f : PlainFrame) → spent_by d role (record { from = other_role role; frame = f }) ≡ 0
+pub peer_spends : (d : ℕ) (role : Role) (f : PlainFrame) → spent_by d role (record { from = other_role role; frame = f }) ≡ 0
 peer_spends d role f = ap (λ (x : Bool). cond (is_empty (cond (x && ((f.dlci == d) && carries f.kind)) f.octets [])) 0 1) (not_other role)
 
 -- ---- the law, at a side
@@ -112,7 +112,7 @@ no_uih : (from : Role) (dlc : Dlc) → turned from Uih dlc ≡ dlc
 no_uih Initiator dlc = refl
 no_uih Responder dlc = refl
 
-silent_grants : (d : ℕ) (role from : Role) (c : Connections) (f : PlainFrame) → carries f.kind ≡ false → granted_by d role c (record { from = from; frame = f }) ≡ 0
+pub silent_grants : (d : ℕ) (role from : Role) (c : Connections) (f : PlainFrame) → carries f.kind ≡ false → granted_by d role c (record { from = from; frame = f }) ≡ 0
 silent_grants d role from c f none =
     let brought : (n : ℕ) → is_data n (other_role role) (record { from = from; frame = f }) ≡ false = λ n.
     ap (λ (b : Bool). is_role (other_role role) from && ((f.dlci == n) && b)) none ∙ ap (λ (b : Bool). is_role (other_role role) from && b) (and_false (f.dlci == n)) ∙ and_false (is_role (other_role role) from) in
@@ -222,7 +222,7 @@ brings_if false true false octets one = refl
 brings_if false false true octets one = refl
 brings_if false false false octets one = refl
 
-silent_brings : (m : Mux) (f : PlainFrame) → carries f.kind ≡ false → cond (carries_on (lines_of m)) (information m.dlci (other_role m.role) (record { from = other_role m.role; frame = f })) [] ≡ []
+pub silent_brings : (m : Mux) (f : PlainFrame) → carries f.kind ≡ false → cond (carries_on (lines_of m)) (information m.dlci (other_role m.role) (record { from = other_role m.role; frame = f })) [] ≡ []
 silent_brings m f none =
     ap (λ (b : Bool). cond (carries_on (lines_of m)) (cond (is_role (other_role m.role) (other_role m.role) && ((f.dlci == m.dlci) && b)) f.octets []) []) none
     ∙ ap (λ (b : Bool). cond (carries_on (lines_of m)) (cond (is_role (other_role m.role) (other_role m.role) && b) f.octets []) []) (and_false (f.dlci == m.dlci))
@@ -275,16 +275,16 @@ heard_reads side f m' octets same t comes r =
     sums : (g s s' h n h' : ℕ) → g ≡ s + h → s' ≡ s + 0 → h' ≡ h + n → g + n ≡ s' + h'
     sums g s s' h n h' is same' held = omega arith
 
-record Next (side side' : Side) : Type 0 where
-  role_is : side'.mux.role ≡ side.mux.role
-  dlci_is : side'.mux.dlci ≡ side.mux.dlci
-  reads : Reads side.mux.dlci side.mux.role side'
-  quiet : AllQuiet side.mux.dlci side'.mux.answers
+pub record Next (side side' : Side) : Type 0 where
+  pub role_is : side'.mux.role ≡ side.mux.role
+  pub dlci_is : side'.mux.dlci ≡ side.mux.dlci
+  pub reads : Reads side.mux.dlci side.mux.role side'
+  pub quiet : AllQuiet side.mux.dlci side'.mux.answers
 
 hears_is : (m : Mux) (f : PlainFrame) → m.closed ≡ None → hears_answer (Ok f) m ≡ hears_kind f.kind f m
 hears_is m f standing = ap (λ (c : Option MuxReason). hears_frame c f m) standing
 
-heard_next : (side : Side) (a : Answer) → 0 < side.mux.dlci → side.mux.closed ≡ None → AnswerFindsRoom a side.mux → (hears_answer a side.mux).closed ≡ None
+pub heard_next : (side : Side) (a : Answer) → 0 < side.mux.dlci → side.mux.closed ≡ None → AnswerFindsRoom a side.mux → (hears_answer a side.mux).closed ≡ None
     → Reads side.mux.dlci side.mux.role side → AllQuiet side.mux.dlci side.mux.answers
     → (hears_answer a side.mux).role ≡ side.mux.role → (hears_answer a side.mux).dlci ≡ side.mux.dlci
     → Next side (record {
@@ -332,11 +332,11 @@ said_next : (side : Side) (o : Option Said) → SaysGives side.mux o → (said_b
     → Reads side.mux.dlci side.mux.role side → AllQuiet side.mux.dlci side.mux.answers → Next side (said_by o side)
 said_next side o g role_is dlci_is r all = record { role_is = role_is; dlci_is = dlci_is; reads = said_at side o g r; quiet = said_quiet side o g all }
 
-said_keeps : (side : Side) (o : Option Said) → (said_by o side).mux ≡ after_said o side.mux
+pub said_keeps : (side : Side) (o : Option Said) → (said_by o side).mux ≡ after_said o side.mux
 said_keeps side None = refl
 said_keeps side (Some said) = refl
 
-one_deed : (deed : Deed) (side : Side) → 0 < side.mux.dlci → side.mux.closed ≡ None → DeedFindsRoom deed side.mux → (done deed side).mux.closed ≡ None
+pub one_deed : (deed : Deed) (side : Side) → 0 < side.mux.dlci → side.mux.closed ≡ None → DeedFindsRoom deed side.mux → (done deed side).mux.closed ≡ None
     → Reads side.mux.dlci side.mux.role side → AllQuiet side.mux.dlci side.mux.answers → Next side (done deed side)
 one_deed (Hears sdu) side some standing room stands r all =
     let kept = hears_keeps sdu side.mux in

@@ -25,8 +25,19 @@ use Rattle.rfcomm_model.specs.Sides.{FindsRoom}
 abbrev pub IsQuiet : ℕ → PlainFrame → Type 0
 IsQuiet dlci frame = ((frame.dlci == dlci) && carries frame.kind) ≡ false
 
+abbrev pub is_disc : MuxKind → Bool
+is_disc Sabm = false
+is_disc Ua = false
+is_disc Dm = false
+is_disc Disc = true
+is_disc Uih = false
+
+-- an answer: nor is it a DISC
+abbrev pub IsReply : ℕ → PlainFrame → Type 0
+IsReply dlci frame = IsQuiet dlci frame × (is_disc frame.kind ≡ false)
+
 abbrev pub AllQuiet : ℕ → List PlainFrame → Type 0
-AllQuiet dlci frames = AllByRecursion (IsQuiet dlci) frames
+AllQuiet dlci frames = AllByRecursion (IsReply dlci) frames
 
 -- the connections become these, so many credits are held, and no answer carries information
 pub record Turns (m : Mux) (control user : Dlc) (held : ℕ) (m' : Mux) : Type 0 where
@@ -56,8 +67,8 @@ pub unchanged : (m : Mux) → Turns m m.control m.user m.account.held m
 unchanged m = record { control_is = refl; user_is = refl; held_is = refl; quiet = λ all. all }
 
 -- an answer waits in addition
-pub answered : (m x : Mux) (frame : PlainFrame) (control user : Dlc) (held : ℕ) → IsQuiet m.dlci frame → Turns m control user held x → Turns m control user held (answering frame x)
-answered m x frame control user held silent t = record { control_is = t.control_is; user_is = t.user_is; held_is = t.held_is; quiet = λ all. all_more (IsQuiet m.dlci) x.answers frame (t.quiet all) silent }
+pub answered : (m x : Mux) (frame : PlainFrame) (control user : Dlc) (held : ℕ) → IsReply m.dlci frame → Turns m control user held x → Turns m control user held (answering frame x)
+answered m x frame control user held silent t = record { control_is = t.control_is; user_is = t.user_is; held_is = t.held_is; quiet = λ all. all_more (IsReply m.dlci) x.answers frame (t.quiet all) silent }
 
 pub turns_cond : (m : Mux) (control user : Dlc) (held : ℕ) (b : Bool) (x y : Mux) → Turns m control user held x → Turns m control user held y → Turns m control user held (cond b x y)
 turns_cond m control user held true x y s t = s
@@ -66,7 +77,7 @@ turns_cond m control user held false x y s t = t
 pub dm_turns : (m : Mux) (n : ℕ) → Turns m m.control m.user m.account.held (says_dm n m)
 dm_turns m n =
     turns_cond m m.control m.user m.account.held (has_room m) (answering (response_frame m.role Dm n) m) m
-    (answered m m (response_frame m.role Dm n) m.control m.user m.account.held (and_false (n == m.dlci)) (unchanged m)) (unchanged m)
+    (answered m m (response_frame m.role Dm n) m.control m.user m.account.held (and_false (n == m.dlci), refl) (unchanged m)) (unchanged m)
 
 pub apart : (n d : ℕ) → 0 < d → (n == 0) ≡ true → (n == d) ≡ false
 apart n d some is = ne_eqb n d (λ e. omega (arith, eqb-true n 0 is))
@@ -93,7 +104,7 @@ open_control_if : (m : Mux) (room over : Bool) → is_ended m.control ≡ over �
     (cond over (says_dm 0 m) (cond room (answering (response_frame m.role Ua 0) (record m { control = turned Initiator Sabm m.control })) m))
 open_control_if m room true is has = subst (λ (dlc : Dlc). Turns m dlc m.user m.account.held (says_dm 0 m)) (sym (ended_stays m.control is)) (dm_turns m 0)
 open_control_if m true false is has =
-    answered m (record m { control = turned Initiator Sabm m.control }) (response_frame m.role Ua 0) (turned Initiator Sabm m.control) m.user m.account.held (and_false (0 == m.dlci))
+    answered m (record m { control = turned Initiator Sabm m.control }) (response_frame m.role Ua 0) (turned Initiator Sabm m.control) m.user m.account.held (and_false (0 == m.dlci), refl)
     (record { control_is = refl; user_is = refl; held_is = refl; quiet = λ all. all })
 open_control_if m false false is has = let never : false ≡ true = has in cc
 
@@ -102,7 +113,7 @@ open_user_if : (m : Mux) (room over : Bool) → is_ended m.user ≡ over → roo
     (cond over (says_dm m.dlci m) (cond room (answering (response_frame m.role Ua m.dlci) (record m { user = turned Initiator Sabm m.user; asks = signals_next m.user m.asks })) m))
 open_user_if m room true is has = subst (λ (dlc : Dlc). Turns m m.control dlc m.account.held (says_dm m.dlci m)) (sym (ended_stays m.user is)) (dm_turns m m.dlci)
 open_user_if m true false is has =
-    answered m (record m { user = turned Initiator Sabm m.user; asks = signals_next m.user m.asks }) (response_frame m.role Ua m.dlci) m.control (turned Initiator Sabm m.user) m.account.held (and_false (m.dlci == m.dlci))
+    answered m (record m { user = turned Initiator Sabm m.user; asks = signals_next m.user m.asks }) (response_frame m.role Ua m.dlci) m.control (turned Initiator Sabm m.user) m.account.held (and_false (m.dlci == m.dlci), refl)
     (record { control_is = refl; user_is = refl; held_is = refl; quiet = λ all. all })
 open_user_if m false false is has = let never : false ≡ true = has in cc
 

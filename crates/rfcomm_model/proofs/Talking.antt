@@ -21,7 +21,7 @@ use Rattle.rfcomm_model.specs.Written.{control_frame}
 use Rattle.rfcomm_model.specs.Hearing.{has_room, answering, says_dm, tells, counts, lesser, own_credits, terms_agreed, peer_answered, settings_of, credited, charged, with_credits, hears_data, pn_credited, hears_offer, hears_acceptance, hears_other_offer, hears_pn, signals_answered, hears_msc, hears_message, hears_messages, if_stands, hears_uih}
 use Rattle.rfcomm_model.specs.Sides.{FindRoom}
 use Rattle.rfcomm_model.proofs.Keeping.{message_keeps}
-use Rattle.rfcomm_model.proofs.Stepping.{Turns, AllQuiet, IsQuiet, cond_same, unless_closed, unchanged, answered, turns_cond, dm_turns}
+use Rattle.rfcomm_model.proofs.Stepping.{Turns, AllQuiet, IsReply, cond_same, unless_closed, unchanged, answered, turns_cond, dm_turns}
 
 -- ---- small laws
 
@@ -32,8 +32,8 @@ with_room P false x y is p stands = let never : false ≡ true = is in cc
 no_more : (m x : Mux) (h : ℕ) (b : Bool) → Turns m m.control m.user h x → Turns m m.control m.user (h + cond b 0 0) x
 no_more m x h b t = subst (λ (k : ℕ). Turns m m.control m.user k x) (sym (ap (λ (k : ℕ). h + k) (cond_same b 0) ∙ add-zero h)) t
 
-message_quiet : (m : Mux) (control : PlainControl) → 0 < m.dlci → IsQuiet m.dlci (control_frame m.role control)
-message_quiet m control some = ap (λ (b : Bool). b && true) (ne_eqb 0 m.dlci (λ e. omega arith))
+message_quiet : (m : Mux) (control : PlainControl) → 0 < m.dlci → IsReply m.dlci (control_frame m.role control)
+message_quiet m control some = (ap (λ (b : Bool). b && true) (ne_eqb 0 m.dlci (λ e. omega arith)), refl)
 
 tells_turns : (m : Mux) (control : PlainControl) → 0 < m.dlci → Turns m m.control m.user m.account.held (tells control m)
 tells_turns m control some =

@@ -4,3 +4,7 @@ pub mod Hearing
 pub mod Saying
 pub mod Sides
 pub mod Loads
+pub mod Closed
+pub mod Ending
+pub mod ClosedSides
+pub mod Taken

@@ -1,6 +1,9 @@
 //! Laws of the multiplexer, for every list of what may be done.
 
+ghost use Rattle.rfcomm_model.specs.Closed.{EndingsLookBack};
+ghost use Rattle.rfcomm_model.specs.ClosedSides.{ClosedSidesRead, UnfloodedClosedSidesRead};
 ghost use Rattle.rfcomm_model.specs.Loads.{LoadFalls};
+ghost use Rattle.rfcomm_model.specs.Taken.{TakenIsSent};
 ghost use Rattle.rfcomm_model.specs.Sides.{SidesRead, UnfloodedSidesRead, ClosedForGood, NumbersStay};
 
 /// What a multiplexer hands up, the credits that it holds and how far its channels are is what the
@@ -8,6 +11,13 @@ ghost use Rattle.rfcomm_model.specs.Sides.{SidesRead, UnfloodedSidesRead, Closed
 pub fn sides_read()
     ensures room { SidesRead }
     ensures unflooded { UnfloodedSidesRead }
+{}
+
+/// That holds on through a closing in order: the frames say when it was closed, and what it handed up and the credits that
+/// it holds are what the frames up to then say, whatever comes later.
+pub fn closed_sides_read()
+    ensures room { ClosedSidesRead }
+    ensures unflooded { UnfloodedClosedSidesRead }
 {}
 
 /// A multiplexer that was closed stays so, and hands nothing up.
@@ -24,4 +34,16 @@ pub fn numbers_stay()
 /// are given to it and by its closing alone, by 2 and by 4.
 pub fn load_falls()
     ensures { LoadFalls }
+{}
+
+/// A connection is ended, in one pass, exactly where it was closed, looking back over all frames: open and left by DISC of
+/// either side, or asked for and left by DISC of the initiator.
+pub fn endings_look_back()
+    ensures { EndingsLookBack }
+{}
+
+/// The octets that a multiplexer took are, in order, the information of the data frames that it sent, but for those that
+/// wait; where it was closed, those that waited are lost.
+pub fn taken_is_sent()
+    ensures { TakenIsSent }
 {}
