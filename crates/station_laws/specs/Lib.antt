@@ -1,0 +1,4 @@
+pub mod Seen
+pub mod Coming
+pub mod Striving
+pub mod Laws
