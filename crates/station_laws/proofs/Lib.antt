@@ -5,3 +5,7 @@ pub mod Answering
 pub mod Hearing
 pub mod Departing
 pub mod Striving
+pub mod Owing
+pub mod Pending
+pub mod Running
+pub mod Stopping

@@ -1,6 +1,6 @@
 -- A host in code is a station of the pure world: each of its calls is a step of the station, for every machine above it (this
 -- project's own).
-use Rattle.std.specs.Prelude.{ℕ, ◌≡◌, ◌≤◌, true, false, List, [], ◌∷◌, length, replicate, Some, None}
+use Rattle.std.specs.Prelude.{ℕ, ◌≡◌, ◌≤◌, true, false, List, [], ◌∷◌, length, replicate, Some, None, ◌&&◌, is_some, is_none}
 use Rattle.std.specs.List.{list_any}
 use Rattle.bt_base.specs.Numbers.{IsHandle}
 use Rattle.acl_fragments.specs.Pieces.{Piece}
@@ -10,12 +10,12 @@ use Rattle.radio_air.specs.Controllers.{Answer, answer_packet, piece_packet, add
 use Rattle.host_link.specs.declared.host_command.HostCommand.{HostCommand}
 use Rattle.host_link.specs.HostCommands.{command_packet}
 use Rattle.host_link.specs.Lines.{Line, fresh}
-use Rattle.host_link.specs.PuttingOut.{connecting, ending, can_take_pdu, take_pdu, put_pieces, put_command, started}
+use Rattle.host_link.specs.PuttingOut.{has_room, has_buffer, is_waiting, connecting, ending, can_take_pdu, take_pdu, put_pieces, put_command, started}
 use Rattle.host_link.specs.PuttingOut as code
 use Rattle.host_link.specs.Hearing.{fault_of, news_of, heard}
 use Rattle.world_model.specs.Machines.{Upper}
 use Rattle.world_model.specs.Stations.{Order, Data, order_packet, Station, first_station, Taking, Putting, Asking, Leaving, Commanding, asks, is_end, event_in, hears_answer, hears_piece}
-use Rattle.station_laws.specs.Seen.{role_of, order_of, IsCommandOf, Offers, IsStation}
+use Rattle.station_laws.specs.Seen.{role_of, IsHostOf, order_of, IsCommandOf, Offers, IsStation}
 use Rattle.station_laws.specs.Coming.{MayCome, news_of_link, news_of_pdus, pdus_by}
 use Rattle.station_laws.specs.Striving.{Strives, Departs}
 
@@ -84,6 +84,16 @@ abbrev pub CommandsGo : {S G : Type 0} → Upper S G → Type 0
 CommandsGo {S} U =
     (side : Side) (gone : ℕ) (line : Line) (station : Station S) → IsStation side gone line station
     → (count : ℕ) × (count ≤ 1) × Strives U side gone (replicate count Commanding) station station.upper (put_command line)
+
+-- where a piece still waits behind that, there is no buffer for it, or no room
+abbrev pub PiecesStop : Type 0
+PiecesStop = (line : Line) → is_some line.link ≡ true → (has_room (put_pieces line) && has_buffer (put_pieces line) && is_waiting (put_pieces line)) ≡ false
+
+-- where a command still waits behind that, an answer is awaited, or there was no room
+abbrev pub CommandsStop : Type 0
+CommandsStop =
+    (side : Side) (line : Line) → IsHostOf side line → has_room line ≡ true → is_none (put_command line).commands.awaited ≡ true
+    → (put_command line).commands.waiting ≡ []
 
 -- host a asks for its link, where the station may
 abbrev pub LinksAreAsked : {S G : Type 0} → Upper S G → Type 0

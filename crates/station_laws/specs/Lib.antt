@@ -2,3 +2,4 @@ pub mod Seen
 pub mod Coming
 pub mod Striving
 pub mod Laws
+pub mod WorldLaws

@@ -2,7 +2,8 @@
 //! every machine above it. `Seen.IsStation` says how a host is seen as a station.
 #![tactic(auto)]
 
-ghost use Rattle.station_laws.specs.Laws.{AnswersAreHeard, BeginsAsFirst, CommandsAreOrders, CommandsGo, LinksAreAsked, LinksAreEnded, MachinesChange, OctetsDepart, PdusGo, PiecesAreHeard, PiecesAreOrders, PiecesGo, StartsAsFirst};
+ghost use Rattle.station_laws.specs.Laws.{AnswersAreHeard, BeginsAsFirst, CommandsAreOrders, CommandsGo, CommandsStop, LinksAreAsked, LinksAreEnded, MachinesChange, OctetsDepart, PdusGo, PiecesAreHeard, PiecesAreOrders, PiecesGo, PiecesStop, StartsAsFirst};
+ghost use Rattle.station_laws.specs.WorldLaws.{WorldsAnswer};
 ghost use Rattle.world_model.specs.Machines.{Upper};
 
 /// The packets of a host's commands and of the pieces of its PDUs are those of the orders of its station.
@@ -54,8 +55,20 @@ pub fn commands_go<S, G>()
     ensures { (U : Upper S G) → CommandsGo U }
 {}
 
+/// A piece or a command that waits behind that waits for a buffer, an answer, or room.
+#[tactic(auto, using(crate::proofs::Stopping::pieces_stop, crate::proofs::Stopping::commands_stop))]
+pub fn hosts_put_all_out()
+    ensures pieces { PiecesStop }
+    ensures commands { CommandsStop }
+{}
+
 /// Host a that asks for a link asks as its station does, and the end of a link is asked for as the station asks for it.
 pub fn links_are_asked_and_ended<S, G>()
     ensures asked { (U : Upper S G) → LinksAreAsked U }
     ensures ended { (U : Upper S G) → LinksAreEnded U }
+{}
+
+/// What comes into the hosts of the pure world, whatever happens in it, is what `answers_are_heard` and `pieces_are_heard` ask for.
+pub fn worlds_answer<S, T, G, H>()
+    ensures { (U : Upper S G) (V : Upper T H) → WorldsAnswer U V }
 {}
