@@ -1,0 +1,11 @@
+pub mod Packets
+pub mod Waiting
+pub mod Counting
+pub mod Answering
+pub mod Hearing
+pub mod Departing
+pub mod Striving
+pub mod Owing
+pub mod Pending
+pub mod Running
+pub mod Stopping
