@@ -18,7 +18,7 @@ use Rattle.channel_model.specs.Value.{Request, Asking, Setup, Held, Memory, Chan
 use Rattle.channel_model.specs.Policies.{Policy}
 use Rattle.channel_model.specs.Changing.{has_own, setup_of}
 use Rattle.channel_laws.specs.Views.{peer_of, life_of, channel_by, IsThere, read_at}
-use Rattle.channel_laws.proofs.Lookups.{eqb-same}
+use Rattle.channel_laws.proofs.Lookups.{own_of, Distinct, eqb-same}
 use Rattle.channel_laws.proofs.Entries.{entry-same, read-own}
 use Rattle.channel_laws.proofs.Sound.{Agrees, AgreesIf, states_mode, ReadsBy, Reads, Core, RepeatsIn, Repeats, QueriesKept, Wants, Kept, Sound, at_each, moved}
 use Rattle.channel_laws.proofs.Steps.{core-one, kept-one, calls-on, ends-on, lasts-after, away-stays}
@@ -39,6 +39,7 @@ pub record Alters (all all' : List Held) (held after : Held) (peer : ℕ) (setup
   pub life_after_is : life_of after.stage ≡ life_of held.stage
   pub setup_after_is : setup_of after.stage ≡ Some setup'
   pub others : (own : ℕ) → eqb held.own own ≡ false → find (has_own own) all' ≡ find (has_own own) all
+  pub lone : Distinct own_of all → Distinct own_of all'
 
 -- what names the channel by a term
 pub record Names (more : Meaning) (channel : Channel) (one : Term) : Type 0 where
@@ -76,7 +77,7 @@ pub core-alters : (policy : Policy) (entries : List Entry) (all all' : List Held
 core-alters policy entries all all' next held after peer setup setup' more one alters names core read_others agrees =
     let found : Found policy held peer (read_at held.own entries) = found-there policy entries all next held peer core alters.found alters.peer_is in
     let same = altered-is more held peer found.entry one names found.there alters.there in
-    core-one policy entries all all' next more held.own names.made (is-below policy entries all next held core alters.found) core alters.others read_others
+    core-one policy entries all all' next more held.own names.made (is-below policy entries all next held core alters.found) core alters.others read_others (alters.lone core.lone)
     (subst (λ h. Reads policy h (moved more held.own entries)) (sym alters.found_after)
     (subst (λ e. Reads policy (Some after) (option_map (entry_after more) e)) (sym found.found_is)
     (subst (λ e. Reads policy (Some after) (Some e)) (sym same)

@@ -147,7 +147,7 @@ repeats-below policy entries held next part core repeats false is =
 pub repeat-step : (policy : Policy) (asked : Requests) (entries : List Entry) (held : List Held) (next : ℕ) (memory : Memory) (part : Part) → Repeats (find (has_own part.own) held) (read_at part.own entries) part
     → Core policy entries held next → Kept asked entries held memory → Core policy (entries_after entries (Answers part)) held next × Kept asked (entries_after entries (Answers part)) held memory
 repeat-step policy asked entries held next memory part repeats core kept = (
-  core-one policy entries held held next (Answers part) part.own refl (repeats-below policy entries held next part core repeats (nat_lt part.own next) refl) core (λ own apart. refl) (λ own apart. answers-others part entries own apart)
+  core-one policy entries held held next (Answers part) part.own refl (repeats-below policy entries held next part core repeats (nat_lt part.own next) refl) core (λ own apart. refl) (λ own apart. answers-others part entries own apart) core.lone
       (reads_again policy (find (has_own part.own) held) (read_at part.own entries) part (core.reads part.own) repeats),
   kept-one asked entries held held memory (Answers part) part.own refl kept (λ own apart. refl) (λ own apart. answers-others part entries own apart)
       (λ other was. repeats_still (find (has_own part.own) held) (read_at part.own entries) part other was) (kept.wants part.own),

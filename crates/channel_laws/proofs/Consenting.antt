@@ -20,7 +20,7 @@ use Rattle.channel_model.specs.Following.{remembers, says}
 use Rattle.channel_model.specs.Giving.{command_of, configuration_at, configuration_by}
 use Rattle.channel_laws.specs.OwnTalk.{spoken, command_with, command_if, asked_between, said_of, newest}
 use Rattle.channel_laws.specs.Views.{peer_of, life_of, read_at}
-use Rattle.channel_laws.proofs.Lookups.{found-placed, find-placed}
+use Rattle.channel_laws.proofs.Lookups.{found-placed, find-placed, own_of, Distinct, placed-distinct}
 use Rattle.channel_laws.proofs.Sound.{Agrees, AgreesIf, Core, RepeatsIn, Repeats, part_of, RepeatsOf, IsRepeated, QueriesKept, Kept, Sound}
 use Rattle.channel_laws.proofs.Moves.{quiet, Found, found-there}
 use Rattle.channel_laws.proofs.Answering.{Alters, answers-others, answers-name, core-alters, kept-alters}
@@ -178,6 +178,7 @@ alters-to v w held peer setup after talks is = record {
   life_after_is = talks.life_with after;
   setup_after_is = talks.setup_with after;
   others = λ own apart. ap (find (has_own own)) is ∙ find-placed (with_setup held after) v.held own apart;
+  lone = λ distinct. subst (Distinct own_of) (sym is) (placed-distinct (with_setup held after) v.held distinct);
 }
 
 -- the first thing that happens: the answer is said

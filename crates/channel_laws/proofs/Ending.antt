@@ -24,7 +24,7 @@ use Rattle.channel_model.specs.Answers.{disconnection_by, disconnection_answer, 
 use Rattle.channel_model.specs.Following.{remembers, says, hears_kind, follows_disconnection}
 use Rattle.channel_laws.specs.OwnTalk.{spoken, command_with, response_by, command_if, exchanged, asked_between}
 use Rattle.channel_laws.specs.Views.{peer_of, life_of, read_at}
-use Rattle.channel_laws.proofs.Lookups.{own_of, find-gone, find-others, found-placed, find-placed, found-has, eqb-same}
+use Rattle.channel_laws.proofs.Lookups.{own_of, Distinct, distinct-filter, placed-distinct, find-gone, find-others, found-placed, find-placed, found-has, eqb-same}
 use Rattle.channel_laws.proofs.Entries.{entry-is, either_same, read-after, distinct-after}
 use Rattle.channel_laws.proofs.Sound.{Reads, Core, IsAway, IsEnded, EndsKept, CallsKept, QueriesKept, IsHarmless, HarmlessKept, Repeats, Kept, Sound, moved, at_each, apart-after}
 use Rattle.channel_laws.proofs.Steps.{calls-on, ends-on, queries-on, lasts-after, away-stays}
@@ -37,6 +37,7 @@ use Rattle.channel_laws.proofs.Questions.{heard, exchange, asked-none, question-
 pub record Leads (v w : Channels) (held : Held) (peer : ℕ) (said : Word) : Type 0 where
   pub others : (own : ℕ) → eqb held.own own ≡ false → find (has_own own) w.held ≡ find (has_own own) v.held
   pub to : PartsTo held peer said (find (has_own held.own) w.held)
+  pub lone : Distinct own_of v.held → Distinct own_of w.held
   pub next_is : w.next ≡ v.next
   pub memory_is : w.memory ≡ v.memory
 
@@ -45,7 +46,7 @@ pub leads-on : (policy : Policy) (asked : Requests) (entries : List Entry) (v w 
     → Core policy (entries_after entries (Parts said held.own peer)) w.held w.next × Kept asked (entries_after entries (Parts said held.own peer)) w.held memory
 leads-on policy asked entries v w memory held peer said is at leads core kept =
     subst (λ n. Core policy (entries_after entries (Parts said held.own peer)) w.held n × Kept asked (entries_after entries (Parts said held.own peer)) w.held memory) (sym leads.next_is)
-    (parts-step policy asked entries v.held w.held v.next memory said held peer is at core kept leads.others leads.to)
+    (parts-step policy asked entries v.held w.held v.next memory said held peer is at core kept leads.others (leads.lone core.lone) leads.to)
 
 -- the same where it is said
 pub leads-said : (policy : Policy) (r : Reading) (v w : Channels) (held : Held) (peer : ℕ) (said : Word) (saying : Saying) → sense saying ≡ Ends said held.own peer → find (has_own held.own) v.held ≡ Some held → peer_of held.stage ≡ Some peer
@@ -63,6 +64,7 @@ to-stage v held peer said stage is to =
     record {
       others = λ own apart. find-placed after v.held own apart;
       to = subst (PartsTo held peer said) (sym (found-placed after held v.held is)) to;
+      lone = placed-distinct after v.held;
       next_is = refl;
       memory_is = refl;
     }
@@ -71,19 +73,20 @@ is-gone : (v w : Channels) (held : Held) (peer : ℕ) (said : Word) → w.held �
 is-gone v w held peer said held_is next_is memory_is over = record {
   others = λ own apart. ap (find (has_own own)) held_is ∙ find-others own_of held.own own v.held apart;
   to = subst (PartsTo held peer said) (sym (ap (find (has_own held.own)) held_is ∙ find-gone own_of held.own v.held)) over;
+  lone = λ distinct. subst (Distinct own_of) (sym held_is) (distinct-filter own_of (λ other. not (eqb other.own held.own)) v.held distinct);
   next_is = next_is;
   memory_is = memory_is;
 }
 
 stays-held : (v : Channels) (held : Held) (peer : ℕ) (said : Word) → find (has_own held.own) v.held ≡ Some held → PartsTo held peer said (Some held) → Leads v v held peer said
-stays-held v held peer said is to = record { others = λ own apart. refl; to = subst (PartsTo held peer said) (sym is) to; next_is = refl; memory_is = refl }
+stays-held v held peer said is to = record { others = λ own apart. refl; to = subst (PartsTo held peer said) (sym is) to; lone = λ distinct. distinct; next_is = refl; memory_is = refl }
 
 peer-closes-leads : (v : Channels) (held : Held) (peer : ℕ) (stage : Stage) → held.stage ≡ stage → peer_of stage ≡ Some peer → find (has_own held.own) v.held ≡ Some held → Leads v (peer_closes_at stage held v) held peer AnswersEnd
 peer-closes-leads v held peer (Requested request) is at found = cc
 peer-closes-leads v held peer (Connected own_peer setup) is at found = is-gone v (peer_closes_at (Connected own_peer setup) held v) held peer AnswersEnd refl refl refl (ap (λ s. life_after (life_of s) (Some AnswersEnd)) is)
 peer-closes-leads v held peer (Leaving own_peer setup request) is at found =
     let leads = to-stage v held peer AnswersEnd (Crossed own_peer request) found (refl, refl, at, sym (ap (λ s. life_after (life_of s) (Some AnswersEnd)) is), tt) in
-    record { others = leads.others; to = leads.to; next_is = refl; memory_is = refl }
+    record { others = leads.others; to = leads.to; lone = leads.lone; next_is = refl; memory_is = refl }
 peer-closes-leads v held peer (Closing own_peer request) is at found =
     to-stage v held peer AnswersEnd (Crossed own_peer request) found (refl, refl, at, sym (ap (λ s. life_after (life_of s) (Some AnswersEnd)) is), tt)
 peer-closes-leads v held peer (Crossed own_peer request) is at found =
@@ -117,6 +120,7 @@ same-reads policy asked entries held next memory more none same core kept = (
     start = core.start;
     apart = apart-after more entries none core.apart;
     distinct = distinct-after more entries none core.distinct;
+    lone = core.lone;
   },
   record {
     calls = calls-on _ entries (entries_after entries more) (lasts-after more entries none) memory.connection kept.calls;

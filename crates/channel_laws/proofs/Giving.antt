@@ -13,13 +13,12 @@ use Rattle.channel_model.specs.Value.{Own, Unasked, Asking, Granted, Carrier, Pl
 use Rattle.channel_model.specs.Policies.{Policy}
 use Rattle.channel_model.specs.Changing.{has_own, held_at, setup_of, to_stage, to_setup, with_setup, is_open}
 use Rattle.channel_model.specs.Asking.{new_request, asks}
-use Rattle.channel_model.specs.Giving.{own_given, setup_given, connection_given, configuration_given, disconnection_given, stage_given, counted, queue_given, on_held, disconnection_at}
+use Rattle.channel_model.specs.Giving.{own_given, setup_given, connection_given, configuration_given, disconnection_given, stage_given, counted, gives, carrier_given, carrier_spent, held_given, queue_given, on_held, disconnection_at}
 use Rattle.channel_model.specs.Calls.{disconnected_at, disconnected_held, carrier_with, sends_on, sends_held, sends}
 use Rattle.channel_laws.specs.OwnTalk.{spoken, command_with, asked_between}
 use Rattle.channel_laws.specs.Runs.{forgone_between}
-use Rattle.channel_laws.specs.Laws.{IsGiven}
 use Rattle.channel_laws.specs.Views.{peer_of, life_of, asked_mode, carrier_mode}
-use Rattle.channel_laws.proofs.Lookups.{own_of, found-has, found-placed, find-placed}
+use Rattle.channel_laws.proofs.Lookups.{own_of, placed-distinct, found-distinct, found-has, found-placed, find-placed}
 use Rattle.channel_laws.proofs.Sound.{Agrees, AgreesIf, OwnStates, CarrierIs, RepeatsIn, WantsAt, Wants, Sound}
 use Rattle.channel_laws.proofs.Moves.{PartsTo, SetupsTo}
 use Rattle.channel_laws.proofs.Ending.{Leads, leads-said}
@@ -172,6 +171,7 @@ given-sound policy r v f own (Some held) counts is sound =
       found = at;
       found_after = found-placed after held v.held at;
       others = λ n apart. find-placed after v.held n apart;
+      lone = placed-distinct after v.held;
       next_is = refl;
       memory_is = refl;
       peer_is = peer_is;
@@ -189,10 +189,37 @@ counted-sound policy r v (Configuration own) sound = given-sound policy r v conf
 counted-sound policy r v (Disconnection own) sound = given-sound policy r v disconnection_given own (held_at own v) disconnection_counts refl sound
 counted-sound policy r v Features sound = record { core = sound.core; kept = sound.kept }
 
-pub queue-given : (policy : Policy) (r : Reading) (v : Channels) (queue : List Queued) → IsGiven queue → Sound policy r v → Sound policy r (queue_given queue v)
-queue-given policy r v [] is sound = elim is [ ]
-queue-given policy r v (Answer command ∷ behind) is sound = record { core = sound.core; kept = sound.kept }
-queue-given policy r v (Ask errand ∷ behind) is sound = counted-sound policy r (record v { queue = behind }) errand (record { core = sound.core; kept = sound.kept })
+-- an SDU or a frame is given
+spent_mode : (carrier : Option Carrier) → option_map carrier_mode (option_map carrier_given carrier) ≡ option_map carrier_mode carrier
+spent_mode None = refl
+spent_mode (Some (Plain agreed waiting)) = refl
+spent_mode (Some (Retransmitting machine)) = refl
+
+spent_carrier : (wish : Wish) (carrier : Option Carrier) → CarrierIs wish carrier → CarrierIs wish (option_map carrier_given carrier)
+spent_carrier wish None is = tt
+spent_carrier wish (Some (Plain agreed waiting)) is = is
+spent_carrier wish (Some (Retransmitting machine)) is = is
+
+carrier-spent : (policy : Policy) (r : Reading) (v : Channels) (held : Held) (setup : Option Setup) → TalksOr v held setup → Sound policy r v → Sound policy r (carrier_spent setup held v)
+carrier-spent policy r v held None talks sound = sound
+carrier-spent policy r v held (Some setup) (peer, talks) sound =
+    let after : Setup = record setup { carrier = option_map carrier_given setup.carrier } in
+    turns-sound policy r v (to_setup held after v) held (with_setup held after) peer (turns-to policy v (to_setup held after v) held peer setup after talks refl refl refl refl
+    (λ said agrees. record {
+      set_up = record { asked_is = agrees.set_up.asked_is; accepted_is = agrees.set_up.accepted_is ∙ sym (spent_mode setup.carrier) };
+      states = agrees.states;
+      carrier_is = spent_carrier (policy.wish held.psm) setup.carrier agrees.carrier_is;
+      parts_are = agrees.parts_are;
+    })) sound
+
+carrier-given : (policy : Policy) (r : Reading) (v : Channels) (found : Option Held) → find gives v.held ≡ found → Sound policy r v → Sound policy r (held_given found v)
+carrier-given policy r v None is sound = sound
+carrier-given policy r v (Some held) is sound = carrier-spent policy r v held (setup_of held.stage) (talks-at v held held.stage refl (found-distinct own_of gives v.held held sound.core.lone is)) sound
+
+pub queue-given : (policy : Policy) (r : Reading) (v : Channels) (queue : List Queued) → Sound policy r v → Sound policy r (queue_given queue v)
+queue-given policy r v [] sound = carrier-given policy r v (find gives v.held) refl sound
+queue-given policy r v (Answer command ∷ behind) sound = record { core = sound.core; kept = sound.kept }
+queue-given policy r v (Ask errand ∷ behind) sound = counted-sound policy r (record v { queue = behind }) errand (record { core = sound.core; kept = sound.kept })
 
 -- ---- an SDU is sent
 
@@ -235,11 +262,11 @@ sends-sound policy r v own sdu sound = sent-of policy r v own sdu (held_at own v
 
 -- ---- the end of a channel is asked for
 
-forgone_none : (before : Option Held) (after : Held) → forgone_between before (Some after) ≡ []
+pub forgone_none : (before : Option Held) (after : Held) → forgone_between before (Some after) ≡ []
 forgone_none None after = refl
 forgone_none (Some held) after = refl
 
-still_held : (found : Option Held) → forgone_between found found ≡ []
+pub still_held : (found : Option Held) → forgone_between found found ≡ []
 still_held None = refl
 still_held (Some held) = refl
 
@@ -258,6 +285,7 @@ end-asked policy r v held (Connected peer setup) is at sound =
     let command : Command = command_with v.identifier (disconnection_request peer held.own) in
     let leads : Leads v w held peer AsksEnd = record {
       others = λ own apart. find-placed after v.held own apart;
+      lone = placed-distinct after v.held;
       to = subst (PartsTo held peer AsksEnd) (sym here) (refl, refl, refl, sym (ap (λ s. life_after (life_of s) (Some AsksEnd)) is), subst (λ s. SetupsTo (setup_of s) (Some setup)) (sym is) refl);
       next_is = refl;
       memory_is = refl;

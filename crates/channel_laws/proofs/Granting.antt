@@ -17,8 +17,8 @@ use Rattle.channel_model.specs.Value.{no_setup, Connected, Held, Memory}
 use Rattle.channel_model.specs.Policies.{Policy}
 use Rattle.channel_model.specs.Changing.{has_own}
 use Rattle.channel_laws.specs.Views.{channel_by, read_at}
-use Rattle.channel_laws.proofs.Lookups.{eqb-same}
-use Rattle.channel_laws.proofs.Entries.{read-append, found-fails, distinct-append}
+use Rattle.channel_laws.proofs.Lookups.{eqb-same, own_of, Distinct, distinct-append}
+use Rattle.channel_laws.proofs.Entries.{read-append, found-fails, own_read}
 use Rattle.channel_laws.proofs.Sound.{Agrees, PartsAre, Reads, Apart, Core, IsSome, IsAway, Repeats, Wants, Kept, at_each}
 use Rattle.channel_laws.proofs.Steps.{calls-on, ends-on, queries-on, less-apart}
 
@@ -99,6 +99,7 @@ pub record Comes (policy : Policy) (entries : List Entry) (held held' : List Hel
   pub free : list_any (is_owner (channel_by new.psm new.own peer)) entries ≡ false
   pub others : (own : ℕ) → eqb new.own own ≡ false → find (has_own own) held' ≡ find (has_own own) held
   pub here : find (has_own new.own) held' ≡ Some new
+  pub lone : Distinct own_of held → Distinct own_of held'
   pub below : new.own < next'
   pub rises : next ≤ next'
 
@@ -120,7 +121,8 @@ core-fresh policy entries held held' next next' new peer comes core =
       read_below = λ own above. fresh-others entries channel own (less-apart new.own own (omega (arith, comes.below, above))) ∙ core.read_below own (omega (arith, comes.rises, above));
       start = omega (arith, core.start, comes.rises);
       apart = apart-fresh entries channel comes.unread comes.free core.apart;
-      distinct = distinct-append entries channel comes.unread core.distinct;
+      distinct = distinct-append own_read entries (fresh channel) comes.unread core.distinct;
+      lone = comes.lone core.lone;
     }
 
 -- at every endpoint, where all but one are as they were

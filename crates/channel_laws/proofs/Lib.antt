@@ -21,5 +21,6 @@ pub mod Settling
 pub mod Commands
 pub mod Carrying
 pub mod Giving
+pub mod Firing
 pub mod Told
 pub mod Running

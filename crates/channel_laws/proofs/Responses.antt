@@ -19,7 +19,7 @@ use Rattle.channel_model.specs.Configuring.{grants, granted_setup, opens_if}
 use Rattle.channel_model.specs.Responses.{hears_grant, hears_grant_at, is_asked}
 use Rattle.channel_laws.specs.OwnTalk.{asked_between}
 use Rattle.channel_laws.specs.Views.{asked_mode}
-use Rattle.channel_laws.proofs.Lookups.{own_of, found-has, found-placed, find-placed}
+use Rattle.channel_laws.proofs.Lookups.{own_of, found-has, found-placed, find-placed, Distinct, placed-distinct}
 use Rattle.channel_laws.proofs.Entries.{nothing-same, settles-same}
 use Rattle.channel_laws.proofs.Sound.{Agrees, AgreesIf, Core, IsAgain, RepeatsIn, WantsAt, Wants, Kept, Sound}
 use Rattle.channel_laws.proofs.Silent.{Turns}
@@ -114,6 +114,7 @@ turns-to policy v w held peer setup after talks held_is next_is memory_is parts 
   found = talks.found;
   found_after = ap (find (has_own held.own)) held_is ∙ found-placed (with_setup held after) held v.held talks.found;
   others = λ own apart. ap (find (has_own own)) held_is ∙ find-placed (with_setup held after) v.held own apart;
+  lone = λ distinct. subst (Distinct own_of) (sym held_is) (placed-distinct (with_setup held after) v.held distinct);
   next_is = next_is;
   memory_is = memory_is;
   peer_is = talks.peer_is;

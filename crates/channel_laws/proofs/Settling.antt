@@ -34,7 +34,7 @@ use Rattle.channel_model.specs.Responses.{hears_response, hears_response_on, hea
 use Rattle.channel_model.specs.Giving.{on_held, configuration_at}
 use Rattle.channel_laws.specs.OwnTalk.{spoken, command_with, asked_between}
 use Rattle.channel_laws.specs.Views.{peer_of, read_at, asked_mode}
-use Rattle.channel_laws.proofs.Lookups.{own_of, found-has, found-placed, find-placed}
+use Rattle.channel_laws.proofs.Lookups.{own_of, found-has, found-placed, find-placed, placed-again}
 use Rattle.channel_laws.proofs.Entries.{entry-is, entry-same, either_same}
 use Rattle.channel_laws.proofs.Sound.{Agrees, states_mode, Reads, WantsAt, Wants, Sound, moved, at_each}
 use Rattle.channel_laws.proofs.Moves.{Found, found-there, parts-others}
@@ -71,6 +71,7 @@ asks-sound policy r v held peer setup after options talks parts agrees states so
       life_after_is = talks.life_with last_setup ∙ sym (talks.life_with after);
       setup_after_is = talks.setup_with last_setup;
       others = λ own apart. find-placed (with_setup held last_setup) v.held own apart ∙ sym (find-placed (with_setup held after) v.held own apart);
+      lone = placed-again (with_setup held after) (with_setup held last_setup) v.held;
     } in
     let command : Command = command_with v.identifier (configuration_request peer 0 (written options)) in
     let said : asked_between v w ≡ spoken command ∷ [] =

@@ -8,6 +8,7 @@ use Rattle.channel_model.specs.Value.{Held, Channels}
 use Rattle.channel_model.specs.Policies.{Policy}
 use Rattle.channel_model.specs.Changing.{has_own, setup_of}
 use Rattle.channel_laws.specs.Views.{peer_of, life_of, channel_by, IsThere, read_at}
+use Rattle.channel_laws.proofs.Lookups.{own_of, Distinct}
 use Rattle.channel_laws.proofs.Steps.{less-apart, queries-on}
 use Rattle.channel_laws.proofs.Sound.{AgreesIf, ReadsBy, Reads, Core, Repeats, RepeatsIn, Wants, Kept, Sound, at_each}
 use Rattle.channel_laws.proofs.Moves.{wants-there, is-below, Found, found-there}
@@ -17,6 +18,7 @@ pub record Turns (policy : Policy) (v w : Channels) (held after : Held) (peer : 
   pub found : find (has_own held.own) v.held ≡ Some held
   pub found_after : find (has_own held.own) w.held ≡ Some after
   pub others : (own : ℕ) → eqb held.own own ≡ false → find (has_own own) w.held ≡ find (has_own own) v.held
+  pub lone : Distinct own_of v.held → Distinct own_of w.held
   pub next_is : w.next ≡ v.next
   pub memory_is : w.memory ≡ v.memory
   pub peer_is : peer_of held.stage ≡ Some peer
@@ -58,6 +60,7 @@ turns-sound policy r v w held after peer turns sound =
         start = core.start;
         apart = core.apart;
         distinct = core.distinct;
+        lone = turns.lone core.lone;
       });
       kept = subst (Kept r.requests r.entries w.held) (sym turns.memory_is) (record {
         calls = kept.calls;

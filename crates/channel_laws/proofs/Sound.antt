@@ -23,7 +23,8 @@ use Rattle.channel_model.specs.Value.{Own, Unasked, Asking, Granted, Carrier, Se
 use Rattle.channel_model.specs.Policies.{Policy}
 use Rattle.channel_model.specs.Changing.{has_own, setup_of}
 use Rattle.channel_laws.specs.Views.{peer_of, carrier_mode, IsSetUp, IsSetUpIf, IsThere, IsRead, IsReadBy, read_at}
-use Rattle.channel_laws.proofs.Entries.{read-after, there-before, Distinct}
+use Rattle.channel_laws.proofs.Lookups.{own_of, Distinct}
+use Rattle.channel_laws.proofs.Entries.{own_read, read-after, there-before}
 
 -- ---- one channel
 
@@ -96,7 +97,8 @@ pub record Core (policy : Policy) (entries : List Entry) (held : List Held) (nex
   pub read_below : (own : ℕ) → next ≤ own → read_at own entries ≡ None
   pub start : 0x0040 ≤ next
   pub apart : Apart entries
-  pub distinct : Distinct entries
+  pub distinct : Distinct own_read entries
+  pub lone : Distinct own_of held
 
 -- ---- what is remembered
 

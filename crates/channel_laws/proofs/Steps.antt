@@ -12,6 +12,7 @@ use Rattle.channel_model.specs.Value.{Held, Remembered, Memory}
 use Rattle.channel_model.specs.Policies.{Policy}
 use Rattle.channel_model.specs.Changing.{has_own}
 use Rattle.channel_laws.specs.Views.{read_at}
+use Rattle.channel_laws.proofs.Lookups.{own_of, Distinct}
 use Rattle.channel_laws.proofs.Entries.{read-after, gone-stays, distinct-after}
 use Rattle.channel_laws.proofs.Sound.{Reads, Core, IsSome, IsKnown, CallsKept, IsAway, IsEnded, EndsKept, Repeats, part_of, RepeatsOf, IsRepeated, QueriesKept, Wants, Kept, at_each, moved, apart-after}
 
@@ -26,8 +27,8 @@ less-apart a b below = false_if (eqb a b) (λ same. omega (arith, eqb-true a b s
 
 pub core-one : (policy : Policy) (entries : List Entry) (held held' : List Held) (next : ℕ) (more : Meaning) (here : ℕ) → made_by more ≡ None → here < next → Core policy entries held next
     → ((own : ℕ) → eqb here own ≡ false → find (has_own own) held' ≡ find (has_own own) held) → ((own : ℕ) → eqb here own ≡ false → moved more own entries ≡ read_at own entries)
-    → Reads policy (find (has_own here) held') (moved more here entries) → Core policy (entries_after entries more) held' next
-core-one policy entries held held' next more here none below core held_others read_others now = record {
+    → Distinct own_of held' → Reads policy (find (has_own here) held') (moved more here entries) → Core policy (entries_after entries more) held' next
+core-one policy entries held held' next more here none below core held_others read_others lone now = record {
   reads = λ own. subst (Reads policy (find (has_own own) held')) (sym (read-after more entries own none))
       (at_each (λ n. Reads policy (find (has_own n) held) (read_at n entries)) (λ n. Reads policy (find (has_own n) held') (moved more n entries)) here
       (λ n apart reads. subst (Reads policy (find (has_own n) held')) (sym (read_others n apart)) (subst (λ h. Reads policy h (read_at n entries)) (sym (held_others n apart)) reads)) now core.reads own);
@@ -36,6 +37,7 @@ core-one policy entries held held' next more here none below core held_others re
   start = core.start;
   apart = apart-after more entries none core.apart;
   distinct = distinct-after more entries none core.distinct;
+  lone = lone;
 }
 
 -- ---- what is remembered
