@@ -20,8 +20,8 @@ use Rattle.channel_model.specs.Changing.{has_own, setup_of}
 use Rattle.channel_laws.specs.Views.{peer_of, life_of, channel_by, IsThere, read_at}
 use Rattle.channel_laws.proofs.Lookups.{own_of, Distinct, eqb-same}
 use Rattle.channel_laws.proofs.Entries.{entry-same, read-own}
-use Rattle.channel_laws.proofs.Sound.{Agrees, AgreesIf, states_mode, ReadsBy, Reads, Core, RepeatsIn, Repeats, QueriesKept, Wants, Kept, Sound, at_each, moved}
-use Rattle.channel_laws.proofs.Steps.{core-one, kept-one, calls-on, ends-on, lasts-after, away-stays}
+use Rattle.channel_laws.proofs.Sound.{Agrees, AgreesIf, states_mode, ReadsBy, Reads, Core, RepeatsIn, Repeats, QueriesKept, Wants, Kept, Sound, at_each, moved, IsPlaced, Uncalled, placed-held}
+use Rattle.channel_laws.proofs.Steps.{core-one, kept-one, calls-on, ends-on, lasts-after, away-stays, outgoing-after}
 use Rattle.channel_laws.proofs.Moves.{wants-there, Found, found-there, is-below}
 use Rattle.channel_laws.proofs.Agreeing.{wish-agrees, set-stays}
 
@@ -111,7 +111,7 @@ kept-alters asked entries all all' memory held after peer setup setup' more alte
   queries = queries;
   ends = ends-on entries (entries_after entries more) (away-stays more entries none) memory.disconnection kept.ends;
   echoes = kept.echoes;
-  outgoing = kept.outgoing;
+  outgoing = outgoing-after asked entries all all' more held.own none alters.others (subst (λ h. IsPlaced h (read_at held.own (entries_after entries more))) (sym alters.found_after) (placed-held after (read_at held.own (entries_after entries more)))) kept.outgoing;
   informations = kept.informations;
   wants = at_each (λ n. Wants asked (find (has_own n) all)) (λ n. Wants asked (find (has_own n) all')) held.own (λ n apart is. subst (Wants asked) (sym (alters.others n apart)) is)
       (subst (Wants asked) (sym alters.found_after) (wants-there asked after after.stage peer alters.peer_after)) kept.wants;
@@ -180,7 +180,8 @@ wishes-step policy asked entries all all' next memory held after peer setup requ
           (subst (λ e. Repeats (Some after) (Some e) part) (sym same)
           (wished_repeats held after setup request options found.entry part alters.setup_is alters.setup_after_is
           (subst (λ e. Repeats (Some held) e part) found.found_is (subst (λ h. Repeats h (read_at held.own entries) part) alters.found repeats))))))
-          (subst (Wants asked) (sym alters.found_after) (wants-there asked after after.stage peer alters.peer_after)),
+          (subst (Wants asked) (sym alters.found_after) (wants-there asked after after.stage peer alters.peer_after))
+          (subst (λ h. IsPlaced h (moved more held.own entries)) (sym alters.found_after) (placed-held after (moved more held.own entries))),
     )
 
 -- the same where it is said
@@ -193,4 +194,5 @@ wishes-said policy r v w held after peer setup request options identifier saying
     (record {
       core = subst (λ n. Core policy (entries_after r.entries (Wishes identifier peer (written options))) w.held n) (sym next_is) on.0;
       kept = subst (λ m. Kept r.requests (entries_after r.entries (Wishes identifier peer (written options))) w.held m) (sym memory_is) on.1;
+      uncalled = subst (Uncalled r.requests) (sym next_is) sound.uncalled;
     })

@@ -26,7 +26,7 @@ use Rattle.channel_laws.specs.OwnTalk.{spoken, command_with, response_by, comman
 use Rattle.channel_laws.specs.Views.{peer_of, life_of, read_at}
 use Rattle.channel_laws.proofs.Lookups.{own_of, Distinct, distinct-filter, placed-distinct, find-gone, find-others, found-placed, find-placed, found-has, eqb-same}
 use Rattle.channel_laws.proofs.Entries.{entry-is, either_same, read-after, distinct-after}
-use Rattle.channel_laws.proofs.Sound.{Reads, Core, IsAway, IsEnded, EndsKept, CallsKept, QueriesKept, IsHarmless, HarmlessKept, Repeats, Kept, Sound, moved, at_each, apart-after}
+use Rattle.channel_laws.proofs.Sound.{Reads, Core, IsAway, IsEnded, EndsKept, CallsKept, QueriesKept, IsHarmless, HarmlessKept, Repeats, Kept, Sound, moved, at_each, apart-after, IsPlaced, Uncalled}
 use Rattle.channel_laws.proofs.Steps.{calls-on, ends-on, queries-on, lasts-after, away-stays}
 use Rattle.channel_laws.proofs.Moves.{quiet, Passes, passed, SetupsTo, parts-step, parts-others, PartsTo, Found, found-there}
 use Rattle.channel_laws.proofs.Questions.{heard, exchange, asked-none, question-by, harmless-said}
@@ -54,7 +54,7 @@ pub leads-said : (policy : Policy) (r : Reading) (v w : Channels) (held : Held) 
 leads-said policy r v w held peer said saying is at peer_is leads sound =
     let on = leads-on policy r.requests r.entries v w v.memory held peer said at peer_is leads sound.core sound.kept in
     subst (λ q. let after : Reading = record { requests = requests_after r.requests q; entries = entries_after r.entries (meant r.requests q) } in Sound policy after w) (sym is)
-    (record { core = on.0; kept = subst (λ m. Kept r.requests (entries_after r.entries (Parts said held.own peer)) w.held m) (sym leads.memory_is) on.1 })
+    (record { core = on.0; kept = subst (λ m. Kept r.requests (entries_after r.entries (Parts said held.own peer)) w.held m) (sym leads.memory_is) on.1; uncalled = subst (Uncalled r.requests) (sym leads.next_is) sound.uncalled })
 
 -- ---- the peer's request is answered
 
@@ -127,7 +127,7 @@ same-reads policy asked entries held next memory more none same core kept = (
     queries = queries-on asked held entries held (entries_after entries more) (λ own part is. subst (λ e. Repeats (find (has_own own) held) e part) (sym (read-after more entries own none ∙ same own)) is) memory.configuration kept.queries;
     ends = ends-on entries (entries_after entries more) (away-stays more entries none) memory.disconnection kept.ends;
     echoes = kept.echoes;
-    outgoing = kept.outgoing;
+    outgoing = λ identifier own called hopeful. subst (IsPlaced (find (has_own own) held)) (sym (read-after more entries own none ∙ same own)) (kept.outgoing identifier own called hopeful);
     informations = kept.informations;
     wants = kept.wants;
   },
@@ -157,7 +157,7 @@ away-all own peer entries away n = at_each (λ m. Unit {0}) (λ m. moved (Parts 
 ended-again : (policy : Policy) (r : Reading) (v : Channels) (identifier : ℕ) (content : Content) → IsEnded r.entries (Some content) → Sound policy r v → Sound policy (read_on r (spoken (command_with identifier content))) v
 ended-again policy r v identifier (disconnection_response own peer) ended sound =
     let same = same-reads policy r.requests r.entries v.held v.next v.memory (Parts AnswersEnd own peer) refl (away-all own peer r.entries ended) sound.core sound.kept in
-    record { core = same.0; kept = same.1 }
+    record { core = same.0; kept = same.1; uncalled = sound.uncalled }
 ended-again policy r v identifier (reject reason rest) ended sound = quiet policy r v (spoken (command_with identifier (reject reason rest))) refl sound
 ended-again policy r v identifier (connection_request psm source) ended sound = elim ended [ ]
 ended-again policy r v identifier (connection_response destination source answer status) ended sound = elim ended [ ]
@@ -208,11 +208,11 @@ rejected : (policy : Policy) (r : Reading) (v : Channels) (one : Read) (identifi
 rejected policy r v one identifier None is harmless ended sound =
     let w : Channels = remembers kinds.Disconnection identifier None v in
     subst (λ rest. Sound policy (fold read_on r (exchange one identifier None ++ rest)) w) (sym (asked-none v w refl))
-    (harmless-said policy r w one identifier None is tt (record { core = sound.core; kept = with-memory policy r.requests r.entries v.held v.memory w.memory sound.kept refl refl refl refl tt }))
+    (harmless-said policy r w one identifier None is tt (record { core = sound.core; kept = with-memory policy r.requests r.entries v.held v.memory w.memory sound.kept refl refl refl refl tt; uncalled = sound.uncalled }))
 rejected policy r v one identifier (Some content) is harmless ended sound =
     let w : Channels = says identifier (Some content) (remembers kinds.Disconnection identifier (Some content) v) in
     subst (λ rest. Sound policy (fold read_on r (exchange one identifier (Some content) ++ rest)) w) (sym (asked-none v w refl))
-    (harmless-said policy r w one identifier (Some content) is harmless (record { core = sound.core; kept = with-memory policy r.requests r.entries v.held v.memory w.memory sound.kept refl refl refl refl (ended r.entries) }))
+    (harmless-said policy r w one identifier (Some content) is harmless (record { core = sound.core; kept = with-memory policy r.requests r.entries v.held v.memory w.memory sound.kept refl refl refl refl (ended r.entries); uncalled = sound.uncalled }))
 
 away-now : (life : Life) → is_there (life_after life (Some AnswersEnd)) ≡ false
 away-now lives.Alive = refl
@@ -252,6 +252,7 @@ bids policy r v one identifier held peer is at peer_is sound =
       core = on.0;
       kept = subst (λ m. Kept past.requests (entries_after past.entries more) w.held m) (sym leads.memory_is)
           (with-memory policy past.requests (entries_after past.entries more) w.held v.memory before.memory on.1 refl refl refl refl away);
+      uncalled = subst (Uncalled past.requests) (sym leads.next_is) now.uncalled;
     })
 
 -- whatever it names

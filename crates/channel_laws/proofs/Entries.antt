@@ -12,7 +12,7 @@ use Rattle.link_talk.specs.Meanings.{Meaning, Makes, Settles, Nothing}
 use Rattle.link_talk.specs.Setups.{Setup, setup_after, term}
 use Rattle.link_talk.specs.Channels.{word, life_after, is_there, Entry, fresh, entry_after, is_owner, with_fresh, made_by, entries_after}
 use Rattle.channel_laws.specs.Views.{is_own, read_at}
-use Rattle.channel_laws.proofs.Lookups.{Distinct, distinct-map, found-distinct, find-map, find-append, found-has}
+use Rattle.channel_laws.proofs.Lookups.{Distinct, distinct-map, found-distinct, find-map, find-append, found-has, any-finds}
 
 abbrev pub own_read : Entry → ℕ
 own_read entry = entry.channel.own
@@ -120,15 +120,7 @@ distinct-after more entries none distinct =
     subst (λ made. Distinct own_read (fold with_fresh (map (entry_after more) entries) (option_to_list made))) (sym none) (distinct-map own_read (entry_after more) (λ e. refl) entries distinct)
 
 -- a member that passes is found at its endpoint
-any_finds : (p : Entry → Bool) (entries : List Entry) → list_any p entries ≡ true → (found : Entry) × (find p entries ≡ Some found) × (p found ≡ true)
-any_finds p [] is = cc
-any_finds p (entry ∷ entries) is = by (p entry) refl (λ any. any_finds p entries any) is
-  where
-    by : (t : Bool) → p entry ≡ t → (list_any p entries ≡ true → (found : Entry) × (find p entries ≡ Some found) × (p found ≡ true)) → (t || list_any p entries) ≡ true → (found : Entry) × (cond t (Some entry) (find p entries) ≡ Some found) × (p found ≡ true)
-    by true passes later any = (entry, refl, passes)
-    by false passes later any = later any
-
 pub any-found : (p : Entry → Bool) (entries : List Entry) → Distinct own_read entries → list_any p entries ≡ true → (own : ℕ) × (found : Entry) × (read_at own entries ≡ Some found) × (p found ≡ true)
 any-found p entries distinct is =
-    let (found, at, passes) = any_finds p entries is in
+    let (found, at, passes) = any-finds p entries is in
     (found.channel.own, found, found-distinct own_read p entries found distinct at, passes)

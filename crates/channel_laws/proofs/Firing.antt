@@ -3,7 +3,7 @@ use Rattle.std.proofs.Common.{◌≡◌, ℕ, List, [], ◌∷◌, ◌++◌, fol
 use Rattle.std.specs.Prelude.{find, filter, option_to_list, nat_le}
 use Rattle.std.specs.List.{list_any}
 use Rattle.std.proofs.lemmas.List.Sums.{fold-append}
-use Rattle.l2cap_signal.specs.Commands.{Command, configuration_request, disconnection_request, information_request}
+use Rattle.l2cap_signal.specs.Commands.{Command, configuration_request, disconnection_request, information_request, connection_request}
 use Rattle.l2cap_config.specs.declared.options.Options.{Options}
 use Rattle.l2cap_config.specs.Writing.{written}
 use Rattle.ertm_model.specs.declared.reason.ErtmReason.{ErtmReason}
@@ -25,12 +25,12 @@ use Rattle.channel_model.specs.Asking.{StillDue, OnceMore, Spent, new_request, n
 use Rattle.channel_model.specs.Carrying.{reason_of, settles_machine}
 use Rattle.channel_model.specs.Closing.{closes_at, closes, ends_at, ends}
 use Rattle.channel_model.specs.Timing.{fires, times, times_carrier, times_setup, times_stage, times_held, loses_end, times_end_at, times_end, loses_features, times_features, times_channels}
-use Rattle.channel_model.specs.Giving.{on_held, features_command, command_of, configuration_by, configuration_at, disconnection_at}
+use Rattle.channel_model.specs.Giving.{on_held, features_command, command_of, configuration_by, configuration_at, disconnection_at, connection_at}
 use Rattle.channel_laws.specs.OwnTalk.{spoken, command_with, said_of, asked_between}
 use Rattle.channel_laws.specs.Runs.{forgone_at, forgone_between, given_up, features_given_up, said_again, said_on_firing, said_by_channel, fired_channel, said_by_channels}
 use Rattle.channel_laws.specs.Views.{peer_of, life_of, read_at}
 use Rattle.channel_laws.proofs.Lookups.{own_of, find-gone, found-placed, found-has, eqb-same}
-use Rattle.channel_laws.proofs.Sound.{states_mode, OwnStates, WantsAt, Wants, Sound}
+use Rattle.channel_laws.proofs.Sound.{states_mode, OwnStates, Sound}
 use Rattle.channel_laws.proofs.Moves.{quiet, SetupsTo, PartsTo, Found, found-there}
 use Rattle.channel_laws.proofs.Ending.{Leads, leads-said, ends-leads}
 use Rattle.channel_laws.proofs.Answering.{Alters, found-agrees, wishes-said}
@@ -40,12 +40,9 @@ use Rattle.channel_laws.proofs.Consenting.{Talks}
 use Rattle.channel_laws.proofs.Hearing.{talks-connected, talks-leaving}
 use Rattle.channel_laws.proofs.Carrying.{carried-by}
 use Rattle.channel_laws.proofs.Giving.{forgone_none, still_held}
+use Rattle.channel_laws.proofs.Calling.{and_off, call-again, forgone-on}
 
 -- ---- what waits to be given
-
-and_off : (b : Bool) → (b && false) ≡ false
-and_off true = refl
-and_off false = refl
 
 or_on : (b : Bool) → (b || true) ≡ true
 or_on true = refl
@@ -230,9 +227,36 @@ setup-fires policy r v held peer tries setup (Asking request options) is asks ta
     (closed-fires policy r v held peer RetryLimit talks.peer_is talks.found sound) sound
 setup-fires policy r v held peer tries setup Granted is asks talks sound = carrier-fires policy r v held peer setup setup.carrier refl talks sound
 
+-- the request for the channel is said once more, or given up
+call-fires : (policy : Policy) (r : Reading) (v : Channels) (held : Held) (request : Request) → held.stage ≡ Requested request → find (has_own held.own) v.held ≡ Some held → Sound policy r v → is_due (Connection held.own) v ≡ false
+    → (let w : Channels = queued (Ask (Connection held.own)) v in Sound policy (fold read_on r (said_on_firing held.own v w)) w)
+call-fires policy r v held request is at sound new =
+    let errand : Errand = Connection held.own in
+    let w : Channels = queued (Ask errand) v in
+    let command : Command = command_with request.identifier (connection_request held.psm held.own) in
+    let command_is : command_of errand w ≡ Some command = ap (on_held (λ h. connection_at h.stage h)) at ∙ ap (λ s. connection_at s held) is in
+    let said : said_on_firing held.own v w ≡ spoken command ∷ [] =
+    firing_is held.own v w (spoken command ∷ []) [] [] [] [] (again_said errand v (eqb-same held.own) new ∙ ap (λ c. map spoken (option_to_list c)) command_is)
+    (others_said (Configuration held.own) errand v refl) (others_said (Disconnection held.own) errand v refl) (asked-none v w refl) (still_held (held_at held.own v)) in
+    let now : Sound policy (read_on r (spoken command)) v = call-again policy r v held request is at sound in
+    subst (λ more. Sound policy (fold read_on r more) w) (sym said) (record { core = now.core; kept = now.kept; uncalled = now.uncalled })
+
+forgone-call : (policy : Policy) (r : Reading) (v : Channels) (held : Held) (request : Request) (stage : Stage) → stage ≡ Requested request → held.stage ≡ Requested request → find (has_own held.own) v.held ≡ Some held → Sound policy r v
+    → (let w : Channels = closes_at stage RetryLimit held v in Sound policy (fold read_on r (said_on_firing held.own v w)) w)
+forgone-call policy r v held request (Requested other) same is at sound =
+    let w : Channels = closes_at (Requested other) RetryLimit held v in
+    let said : said_on_firing held.own v w ≡ asked_between v w ++ given_up held.own v w =
+    plain_is held.own v w (asked_between v w) (given_up held.own v w) (none_said v w (λ errand due. due_kept errand (λ waiting. not (is_copy_about held.own waiting)) v.queue due)) refl refl in
+    subst (λ more. Sound policy (fold read_on r more) w) (sym said) (forgone-on policy r v held request RetryLimit (Requested other) same is at sound)
+forgone-call policy r v held request (Connected peer setup) same is at sound = cc
+forgone-call policy r v held request (Leaving peer setup waiting) same is at sound = cc
+forgone-call policy r v held request (Closing peer waiting) same is at sound = cc
+forgone-call policy r v held request (Crossed peer waiting) same is at sound = cc
+
 stage-fires : (policy : Policy) (r : Reading) (v : Channels) (held : Held) (tries : ℕ) (stage : Stage) → held.stage ≡ stage → find (has_own held.own) v.held ≡ Some held → Sound policy r v
     → (let w : Channels = times_stage stage tries held v in Sound policy (fold read_on r (said_on_firing held.own v w)) w)
-stage-fires policy r v held tries (Requested request) is at sound = elim (subst (WantsAt r.requests held) is (subst (Wants r.requests) at (sound.kept.wants held.own))) [ ]
+stage-fires policy r v held tries (Requested request) is at sound =
+    by_times policy r v held.own tries (Connection held.own) request (closes RetryLimit held) (call-fires policy r v held request is at sound) (forgone-call policy r v held request held.stage is is at sound) sound
 stage-fires policy r v held tries (Connected peer setup) is at sound = setup-fires policy r v held peer tries setup setup.own refl (ap configuration_at is) (talks-connected v held peer setup is at) sound
 stage-fires policy r v held tries (Leaving peer setup request) is at sound = setup-fires policy r v held peer tries setup setup.own refl (ap configuration_at is) (talks-leaving v held peer setup request is at) sound
 stage-fires policy r v held tries (Closing peer request) is at sound = silent policy r v held.own sound
@@ -368,14 +392,14 @@ features-fires policy r v tries (Some request) is sound = by (is_due Features v)
     choice true new =
         let w : Channels = loses_features v in
         subst (λ said. Sound policy (fold read_on r (said ++ (GaveUp (sayings.Information request.identifier) ∷ []))) w) (sym (none_said v w (λ errand due. due) Features))
-        (quiet policy r w (GaveUp (sayings.Information request.identifier)) refl (record { core = sound.core; kept = sound.kept }))
+        (quiet policy r w (GaveUp (sayings.Information request.identifier)) refl (record { core = sound.core; kept = sound.kept; uncalled = sound.uncalled }))
     choice false new =
         let w : Channels = queued (Ask Features) v in
         let command : Command = command_with request.identifier (information_request 2) in
         let command_is : command_of Features w ≡ Some command = ap features_command is in
         let said : said_again Features v w ≡ spoken command ∷ [] = again_said Features v refl new ∙ ap (λ c. map spoken (option_to_list c)) command_is in
         subst (λ rest. Sound policy (fold read_on r (said_again Features v w ++ rest)) w) (sym (features_kept request v.features is))
-        (subst (λ more. Sound policy (fold read_on r (more ++ [])) w) (sym said) (quiet policy r w (spoken command) refl (record { core = sound.core; kept = sound.kept })))
+        (subst (λ more. Sound policy (fold read_on r (more ++ [])) w) (sym said) (quiet policy r w (spoken command) refl (record { core = sound.core; kept = sound.kept; uncalled = sound.uncalled })))
 
     by : (due : Bool) → is_due Features v ≡ due
         → (let w : Channels = fires (cond due StillDue (cond (nat_le tries request.given) Spent OnceMore)) Features loses_features v in Sound policy (fold read_on r (said_again Features v w ++ features_given_up (Some request) w.features)) w)

@@ -1,7 +1,8 @@
 -- Members of a list by a number that each has.
-use Rattle.std.proofs.Common.{◌≡◌, ℕ, List, [], ◌∷◌, ◌++◌, map, Bool, true, false, cond, eqb, not, Option, Some, None, refl, sym, ap, ◌∙◌}
+use Rattle.std.proofs.Common.{◌≡◌, ℕ, List, [], ◌∷◌, ◌++◌, map, Bool, true, false, cond, ◌||◌, eqb, not, Option, Some, None, refl, sym, ap, ◌∙◌}
 use Rattle.std.specs.Prelude.{find, filter, option_map}
 use Rattle.std.specs.Option.{option_or}
+use Rattle.std.specs.List.{list_any}
 use Rattle.std.proofs.lemmas.Bool.{eqb-true, eq-eqb}
 use Rattle.channel_model.specs.Value.{Held}
 use Rattle.channel_model.specs.Changing.{in_place_of, has_own}
@@ -62,6 +63,15 @@ none_by key gone x ys false is none = ap (λ t. cond t (Some x) (find (has key g
 pub find-gone : {X : Type 0} (key : X → ℕ) (gone : ℕ) (xs : List X) → find (has key gone) (filter (λ x. not (eqb (key x) gone)) xs) ≡ None
 find-gone key gone [] = refl
 find-gone key gone (x ∷ xs) = none_by key gone x (filter (λ y. not (eqb (key y) gone)) xs) (eqb (key x) gone) refl (find-gone key gone xs)
+
+-- a member that passes is found
+pub any-finds : {X : Type 0} (p : X → Bool) (xs : List X) → list_any p xs ≡ true → (found : X) × (find p xs ≡ Some found) × (p found ≡ true)
+any-finds p [] is = cc
+any-finds {X = X} p (x ∷ xs) is = by (p x) refl (λ any. any-finds p xs any) is
+  where
+    by : (t : Bool) → p x ≡ t → (list_any p xs ≡ true → (found : X) × (find p xs ≡ Some found) × (p found ≡ true)) → (t || list_any p xs) ≡ true → (found : X) × (cond t (Some x) (find p xs) ≡ Some found) × (p found ≡ true)
+    by true passes later any = (x, refl, passes)
+    by false passes later any = later any
 
 -- ---- each number is that of one member
 

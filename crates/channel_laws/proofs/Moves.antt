@@ -18,7 +18,7 @@ use Rattle.channel_model.specs.Changing.{has_own, setup_of}
 use Rattle.channel_laws.specs.Views.{peer_of, life_of, channel_by, IsThere, read_at}
 use Rattle.channel_laws.proofs.Lookups.{own_of, Distinct, eqb-same}
 use Rattle.channel_laws.proofs.Entries.{entry-same, either_same, nothing-same, read-own}
-use Rattle.channel_laws.proofs.Sound.{AgreesIf, ReadsBy, Reads, Core, Repeats, RepeatsIn, WantsAt, Wants, Kept, Sound, moved}
+use Rattle.channel_laws.proofs.Sound.{AgreesIf, ReadsBy, Reads, Core, Repeats, RepeatsIn, WantsAt, Wants, Kept, Sound, moved, IsPlaced, placed-read}
 use Rattle.channel_laws.proofs.Steps.{core-one, kept-one}
 
 -- ---- sayings that are nothing for channels
@@ -29,6 +29,7 @@ quiet policy r v said is sound =
     (let same = nothing-same r.entries in record {
       core = subst (λ es. Core policy es v.held v.next) (sym same) sound.core;
       kept = subst (λ es. Kept r.requests es v.held v.memory) (sym same) sound.kept;
+      uncalled = sound.uncalled;
     })
 
 -- ---- a channel that is there
@@ -78,7 +79,8 @@ sound-one policy asked entries all all' next memory more held entry is at none c
   kept-one asked entries all all' memory more held.own none kept held_others read_others
       (λ part before. subst (λ e. Repeats (find (has_own held.own) all') (option_map (entry_after more) e) part) (sym at)
       (repeats part (subst (λ e. Repeats (Some held) e part) at (subst (λ h. Repeats h (read_at held.own entries) part) is before))))
-      wants,
+      wants
+      (subst (λ e. IsPlaced (find (has_own held.own) all') (option_map (entry_after more) e)) (sym at) (placed-read (find (has_own held.own) all') (entry_after more entry))),
 )
 
 -- ---- a word on the end of a channel

@@ -9,19 +9,19 @@ use Rattle.l2cap_signal.specs.Commands.{information_request}
 use Rattle.l2cap_signal.specs.Reading.{Answer as Read, answers}
 use Rattle.link_talk.specs.Sayings.{Carried}
 use Rattle.link_talk.specs.Channels.{Reading, nothing_read, read_on, reading}
-use Rattle.channel_model.specs.declared.errand.Errand.TheVariants.{Features}
-use Rattle.channel_model.specs.Value.{Request, Carrier, Plain, Retransmitting, Channels}
+use Rattle.channel_model.specs.declared.errand.Errand.TheVariants.{Features, Connection}
+use Rattle.channel_model.specs.Value.{Request, Carrier, Plain, Retransmitting, Channels, Requested}
 use Rattle.channel_model.specs.Policies.{Policy}
 use Rattle.channel_model.specs.Changing.{held_at}
 use Rattle.channel_model.specs.Asking.{new_request, asks}
 use Rattle.channel_model.specs.Hearing.{hears_command, hears_commands}
 use Rattle.channel_model.specs.Carrying.{takes}
-use Rattle.channel_model.specs.Calls.{carrier_at, sends}
+use Rattle.channel_model.specs.Calls.{carrier_at, sends, can_connect}
 use Rattle.channel_model.specs.Giving.{Given, Signal, Whole, Framed, headed, next_given, after_given}
 use Rattle.channel_laws.specs.OwnTalk.{spoken, command_with, asked_between, said_with, said_with_all}
 use Rattle.channel_laws.specs.Runs.{Occurrence, Comes, Connects, AsksFeatures, Disconnects, Sends, Gives, Fires, Tells, peer_at, said_by_carrier, said_as, said_in, value_after, Run, new_link, run_on, run_of}
 use Rattle.channel_laws.specs.Views.{read_at}
-use Rattle.channel_laws.specs.Laws.{IsAnswering, AnsweringIsRead, EndpointsAreNew}
+use Rattle.channel_laws.specs.Laws.{ChannelsAreRead, EndpointsAreNew}
 use Rattle.channel_laws.proofs.Sound.{Sound, is_read}
 use Rattle.channel_laws.proofs.Moves.{quiet}
 use Rattle.channel_laws.proofs.Asking.{asked-one, newest-asks}
@@ -31,6 +31,8 @@ use Rattle.channel_laws.proofs.Told.{all-told}
 use Rattle.channel_laws.proofs.Carrying.{takes-pdu}
 use Rattle.channel_laws.proofs.Firing.{fires-sound}
 use Rattle.channel_laws.proofs.Giving.{queue-given, sends-sound, disconnects-sound}
+use Rattle.channel_laws.proofs.Calling.{call-new}
+use Rattle.channel_model.specs.Following.{with_channel}
 
 -- ---- the commands of a PDU
 
@@ -55,7 +57,14 @@ features-by policy r v None is sound =
     let before : Channels = record v { features = Some (new_request v) } in
     let w : Channels = asks Features before in
     let said : asked_between v w ≡ spoken (command_with v.identifier (information_request 2)) ∷ [] = asked-one v w Features (command_with v.identifier (information_request 2)) refl (newest-asks Features before) refl in
-    subst (λ rest. Sound policy (fold read_on r rest) w) (sym said) (quiet policy r w (spoken (command_with v.identifier (information_request 2))) refl (record { core = sound.core; kept = sound.kept }))
+    subst (λ rest. Sound policy (fold read_on r rest) w) (sym said) (quiet policy r w (spoken (command_with v.identifier (information_request 2))) refl (record { core = sound.core; kept = sound.kept; uncalled = sound.uncalled }))
+
+-- ---- a channel is asked for
+
+connects-by : (policy : Policy) (r : Reading) (v : Channels) (psm : ℕ) (can : Bool) → Sound policy r v
+    → (let w : Channels = cond can (asks (Connection v.next) (with_channel psm (Requested (new_request v)) v)) v in Sound policy (fold read_on r (asked_between v w)) w)
+connects-by policy r v psm true sound = call-new policy r v psm sound
+connects-by policy r v psm false sound = nothing-follows policy r v sound
 
 -- ---- an SDU is sent
 
@@ -75,26 +84,26 @@ given-quiet policy r v (Some (Framed peer frame)) pdu sound = quiet policy r v (
 
 -- ---- whatever happens
 
-one-more : (policy : Policy) (run : Run) (r : Reading) (more : Occurrence) → IsAnswering more → Sound policy r run.value → Sound policy (fold read_on r (said_in policy more run.value)) (value_after policy more run.value)
-one-more policy run r (Comes pdu) is sound = comes-by policy r run.value pdu (eqb (channel_of pdu) 0x0001) refl sound
-one-more policy run r (Connects psm) is sound = elim is [ ]
-one-more policy run r AsksFeatures is sound = features-by policy r run.value run.value.features refl sound
-one-more policy run r (Disconnects own) is sound = disconnects-sound policy r run.value own sound
-one-more policy run r (Sends own sdu) is sound =
+one-more : (policy : Policy) (run : Run) (r : Reading) (more : Occurrence) → Sound policy r run.value → Sound policy (fold read_on r (said_in policy more run.value)) (value_after policy more run.value)
+one-more policy run r (Comes pdu) sound = comes-by policy r run.value pdu (eqb (channel_of pdu) 0x0001) refl sound
+one-more policy run r (Connects psm) sound = connects-by policy r run.value psm (can_connect run.value) sound
+one-more policy run r AsksFeatures sound = features-by policy r run.value run.value.features refl sound
+one-more policy run r (Disconnects own) sound = disconnects-sound policy r run.value own sound
+one-more policy run r (Sends own sdu) sound =
     let sent : Sound policy r (sends own sdu run.value) = sends-sound policy r run.value own sdu sound in
     sent-said policy r (sends own sdu run.value) (carrier_at own run.value) (peer_at (held_at own run.value)) sdu sent
-one-more policy run r (Gives pdu) is sound = given-quiet policy r (after_given run.value) (next_given run.value) pdu (queue-given policy r run.value run.value.queue sound)
-one-more policy run r Fires is sound = fires-sound policy r run.value policy.tries (map (λ held. held.own) run.value.held) sound
-one-more policy run r Tells is sound = record { core = sound.core; kept = sound.kept }
+one-more policy run r (Gives pdu) sound = given-quiet policy r (after_given run.value) (next_given run.value) pdu (queue-given policy r run.value run.value.queue sound)
+one-more policy run r Fires sound = fires-sound policy r run.value policy.tries (map (λ held. held.own) run.value.held) sound
+one-more policy run r Tells sound = record { core = sound.core; kept = sound.kept; uncalled = sound.uncalled }
 
 abbrev IsSound : Policy → Run → Type 0
 IsSound policy run = Sound policy (reading run.said) run.value
 
-all-of : (policy : Policy) (run : Run) (list : List Occurrence) → AllByRecursion IsAnswering list → IsSound policy run → IsSound policy (fold (run_on policy) run list)
-all-of policy run [] all sound = sound
-all-of policy run (more ∷ list) (now, all) sound =
-    all-of policy (run_on policy run more) list all
-    (subst (λ x. Sound policy x (value_after policy more run.value)) (sym (fold-append read_on nothing_read run.said (said_in policy more run.value))) (one-more policy run (reading run.said) more now sound))
+all-of : (policy : Policy) (run : Run) (list : List Occurrence) → IsSound policy run → IsSound policy (fold (run_on policy) run list)
+all-of policy run [] sound = sound
+all-of policy run (more ∷ list) sound =
+    all-of policy (run_on policy run more) list
+    (subst (λ x. Sound policy x (value_after policy more run.value)) (sym (fold-append read_on nothing_read run.said (said_in policy more run.value))) (one-more policy run (reading run.said) more sound))
 
 pub at_first : (policy : Policy) → IsSound policy new_link
 at_first policy = record {
@@ -107,16 +116,17 @@ at_first policy = record {
     distinct = tt;
     lone = tt;
   };
-  kept = record { calls = refl; queries = refl; ends = tt; echoes = tt; informations = tt; wants = λ own. tt; outgoing = refl };
+  kept = record { calls = refl; queries = refl; ends = tt; echoes = tt; informations = tt; wants = λ own. tt; outgoing = λ identifier own called. cc };
+  uncalled = λ own above identifier. (refl, refl);
 }
 
-pub answering-is_read : AnsweringIsRead
-answering-is_read policy list all own =
-    let sound : IsSound policy (run_of policy list) = all-of policy new_link list all (at_first policy) in
+pub channels-are_read : ChannelsAreRead
+channels-are_read policy list own =
+    let sound : IsSound policy (run_of policy list) = all-of policy new_link list (at_first policy) in
     is_read policy (held_at own (run_of policy list).value) (read_at own (reading (run_of policy list).said).entries) (sound.core.reads own)
 
 pub endpoints-are_new : EndpointsAreNew
-endpoints-are_new policy list all =
+endpoints-are_new policy list =
     let run : Run = run_of policy list in
-    let sound : IsSound policy run = all-of policy new_link list all (at_first policy) in
+    let sound : IsSound policy run = all-of policy new_link list (at_first policy) in
     record { high = sound.core.start; unheld = sound.core.held_below run.value.next (omega arith); unread = sound.core.read_below run.value.next (omega arith) }
