@@ -18,10 +18,10 @@ use Rattle.channel_model.specs.Value.{Request, Asking, Setup, Held, Memory, Chan
 use Rattle.channel_model.specs.Policies.{Policy}
 use Rattle.channel_model.specs.Changing.{has_own, setup_of}
 use Rattle.channel_laws.specs.Views.{peer_of, life_of, channel_by, IsThere, read_at}
-use Rattle.channel_laws.proofs.Lookups.{eqb-same}
+use Rattle.channel_laws.proofs.Lookups.{own_of, Distinct, eqb-same}
 use Rattle.channel_laws.proofs.Entries.{entry-same, read-own}
-use Rattle.channel_laws.proofs.Sound.{Agrees, AgreesIf, states_mode, ReadsBy, Reads, Core, RepeatsIn, Repeats, QueriesKept, Wants, Kept, Sound, at_each, moved}
-use Rattle.channel_laws.proofs.Steps.{core-one, kept-one, calls-on, ends-on, lasts-after, away-stays}
+use Rattle.channel_laws.proofs.Sound.{Agrees, AgreesIf, states_mode, ReadsBy, Reads, Core, RepeatsIn, Repeats, QueriesKept, Wants, Kept, Sound, at_each, moved, IsPlaced, Uncalled, placed-held}
+use Rattle.channel_laws.proofs.Steps.{core-one, kept-one, calls-on, ends-on, lasts-after, away-stays, outgoing-after}
 use Rattle.channel_laws.proofs.Moves.{wants-there, Found, found-there, is-below}
 use Rattle.channel_laws.proofs.Agreeing.{wish-agrees, set-stays}
 
@@ -39,6 +39,7 @@ pub record Alters (all all' : List Held) (held after : Held) (peer : ℕ) (setup
   pub life_after_is : life_of after.stage ≡ life_of held.stage
   pub setup_after_is : setup_of after.stage ≡ Some setup'
   pub others : (own : ℕ) → eqb held.own own ≡ false → find (has_own own) all' ≡ find (has_own own) all
+  pub lone : Distinct own_of all → Distinct own_of all'
 
 -- what names the channel by a term
 pub record Names (more : Meaning) (channel : Channel) (one : Term) : Type 0 where
@@ -76,7 +77,7 @@ pub core-alters : (policy : Policy) (entries : List Entry) (all all' : List Held
 core-alters policy entries all all' next held after peer setup setup' more one alters names core read_others agrees =
     let found : Found policy held peer (read_at held.own entries) = found-there policy entries all next held peer core alters.found alters.peer_is in
     let same = altered-is more held peer found.entry one names found.there alters.there in
-    core-one policy entries all all' next more held.own names.made (is-below policy entries all next held core alters.found) core alters.others read_others
+    core-one policy entries all all' next more held.own names.made (is-below policy entries all next held core alters.found) core alters.others read_others (alters.lone core.lone)
     (subst (λ h. Reads policy h (moved more held.own entries)) (sym alters.found_after)
     (subst (λ e. Reads policy (Some after) (option_map (entry_after more) e)) (sym found.found_is)
     (subst (λ e. Reads policy (Some after) (Some e)) (sym same)
@@ -110,7 +111,7 @@ kept-alters asked entries all all' memory held after peer setup setup' more alte
   queries = queries;
   ends = ends-on entries (entries_after entries more) (away-stays more entries none) memory.disconnection kept.ends;
   echoes = kept.echoes;
-  outgoing = kept.outgoing;
+  outgoing = outgoing-after asked entries all all' more held.own none alters.others (subst (λ h. IsPlaced h (read_at held.own (entries_after entries more))) (sym alters.found_after) (placed-held after (read_at held.own (entries_after entries more)))) kept.outgoing;
   informations = kept.informations;
   wants = at_each (λ n. Wants asked (find (has_own n) all)) (λ n. Wants asked (find (has_own n) all')) held.own (λ n apart is. subst (Wants asked) (sym (alters.others n apart)) is)
       (subst (Wants asked) (sym alters.found_after) (wants-there asked after after.stage peer alters.peer_after)) kept.wants;
@@ -179,7 +180,8 @@ wishes-step policy asked entries all all' next memory held after peer setup requ
           (subst (λ e. Repeats (Some after) (Some e) part) (sym same)
           (wished_repeats held after setup request options found.entry part alters.setup_is alters.setup_after_is
           (subst (λ e. Repeats (Some held) e part) found.found_is (subst (λ h. Repeats h (read_at held.own entries) part) alters.found repeats))))))
-          (subst (Wants asked) (sym alters.found_after) (wants-there asked after after.stage peer alters.peer_after)),
+          (subst (Wants asked) (sym alters.found_after) (wants-there asked after after.stage peer alters.peer_after))
+          (subst (λ h. IsPlaced h (moved more held.own entries)) (sym alters.found_after) (placed-held after (moved more held.own entries))),
     )
 
 -- the same where it is said
@@ -192,4 +194,5 @@ wishes-said policy r v w held after peer setup request options identifier saying
     (record {
       core = subst (λ n. Core policy (entries_after r.entries (Wishes identifier peer (written options))) w.held n) (sym next_is) on.0;
       kept = subst (λ m. Kept r.requests (entries_after r.entries (Wishes identifier peer (written options))) w.held m) (sym memory_is) on.1;
+      uncalled = subst (Uncalled r.requests) (sym next_is) sound.uncalled;
     })

@@ -17,7 +17,7 @@ use Rattle.channel_model.specs.Closing.{closes_at}
 use Rattle.channel_model.specs.Giving.{command_of, on_held, disconnection_at}
 use Rattle.channel_laws.specs.OwnTalk.{spoken, command_with, asked_between, said_of, newest}
 use Rattle.channel_laws.specs.Views.{peer_of, life_of}
-use Rattle.channel_laws.proofs.Lookups.{found-placed, find-placed}
+use Rattle.channel_laws.proofs.Lookups.{own_of, Distinct, placed-distinct, found-placed, find-placed}
 use Rattle.channel_laws.proofs.Sound.{Sound}
 use Rattle.channel_laws.proofs.Moves.{PartsTo}
 use Rattle.channel_laws.proofs.Ending.{Leads, leads-said}
@@ -26,7 +26,7 @@ use Rattle.channel_laws.proofs.Silent.{turns-sound}
 
 -- ---- a new request is said
 
-next-apart : (n : ℕ) → eqb (next_identifier n) n ≡ false
+pub next-apart : (n : ℕ) → eqb (next_identifier n) n ≡ false
 next-apart n = by (eqb n 255) refl (eqb (next_identifier n) n) refl
   where
     by : (last : Bool) → eqb n 255 ≡ last → (same : Bool) → eqb (next_identifier n) n ≡ same → same ≡ false
@@ -66,6 +66,7 @@ silent-closing policy r v w held peer setup request is at held_is next_is memory
       found = at;
       found_after = here;
       others = others;
+      lone = λ distinct. subst (Distinct own_of) (sym held_is) (placed-distinct after v.held distinct);
       next_is = next_is;
       memory_is = memory_is;
       peer_is = ap peer_of is;
@@ -92,6 +93,7 @@ closes-sound policy r v held peer reason (Connected own_peer setup) is peer_is a
     let same : own_peer ≡ peer = some_peer own_peer peer peer_is in
     let leads : Leads v w held peer AsksEnd = record {
       others = λ own apart. find-placed after v.held own apart;
+      lone = placed-distinct after v.held;
       to = subst (PartsTo held peer AsksEnd) (sym here) (refl, refl, peer_is, sym (ap (λ s. life_after (life_of s) (Some AsksEnd)) is), tt);
       next_is = refl;
       memory_is = refl;

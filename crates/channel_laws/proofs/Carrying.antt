@@ -53,7 +53,7 @@ staged_twice (Leaving peer setup request) s t = refl
 staged_twice (Closing peer request) s t = refl
 staged_twice (Crossed peer request) s t = refl
 
-carried-by : (policy : Policy) (r : Reading) (u : Channels) (held : Held) (peer : ℕ) (setup : Setup) (machine : Ertm) (closed : Option ErtmReason) (before : Ertm) → setup.carrier ≡ Some (Retransmitting before) → Talks u held peer setup → Sound policy r u
+pub carried-by : (policy : Policy) (r : Reading) (u : Channels) (held : Held) (peer : ℕ) (setup : Setup) (machine : Ertm) (closed : Option ErtmReason) (before : Ertm) → setup.carrier ≡ Some (Retransmitting before) → Talks u held peer setup → Sound policy r u
     → (let w : Channels = settles_machine closed machine held setup u in Sound policy (fold read_on r (asked_between u w)) w)
 carried-by policy r u held peer setup machine None before is talks sound =
     let after : Setup = record setup { carrier = Some (Retransmitting machine) } in

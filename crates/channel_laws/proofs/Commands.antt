@@ -32,7 +32,7 @@ use Rattle.channel_laws.proofs.Ending.{hears-bidding, hears-bidding_unread}
 use Rattle.channel_laws.proofs.Inviting.{came, Invites, invites-by, hears-inviting, hears-inviting_unread}
 use Rattle.channel_laws.proofs.Configuring.{Queries, queries-by}
 use Rattle.channel_laws.proofs.Hearing.{hears-configuring, hears-configuring_unread}
-use Rattle.channel_laws.proofs.Responses.{hears-granting}
+use Rattle.channel_laws.proofs.Connecting.{hears-granting}
 use Rattle.channel_laws.proofs.Settling.{hears-settling, hears-ended, nothing-follows}
 
 -- what a command comes to
@@ -47,7 +47,7 @@ features_by policy r v identifier features sound = by (has_identifier identifier
     by : (awaited : Bool) → (let w : Channels = cond awaited (tells (Features features) (forgets errands.Features (record v { features = None }))) v in Sound policy (fold read_on r (asked_between v w)) w)
     by true =
         let w : Channels = tells (Features features) (forgets errands.Features (record v { features = None })) in
-        subst (λ rest. Sound policy (fold read_on r rest) w) (sym (asked-none v w refl)) (record { core = sound.core; kept = sound.kept })
+        subst (λ rest. Sound policy (fold read_on r rest) w) (sym (asked-none v w refl)) (record { core = sound.core; kept = sound.kept; uncalled = sound.uncalled })
     by false = nothing-follows policy r v sound
 
 -- ---- a command that can be read

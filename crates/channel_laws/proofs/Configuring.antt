@@ -7,7 +7,7 @@ use Rattle.l2cap_signal.specs.Reading.{Answer as Read}
 use Rattle.l2cap_config.specs.declared.wish.Wish.{Wish}
 use Rattle.link_talk.specs.Senses.{sense}
 use Rattle.link_talk.specs.Requests.{Requests, Query, Terms, requests_after, went, has_identifier, first_of_run, last_run, query_terms, answered_query}
-use Rattle.link_talk.specs.Meanings.{Part, Answers, Nothing, meant, answered as meant_by}
+use Rattle.link_talk.specs.Meanings.{Part, Answers, Nothing, meant, answered as meant_by, Meaning}
 use Rattle.link_talk.specs.Setups as read
 use Rattle.link_talk.specs.Setups.{Term, is_set, setup_after, term, Answered}
 use Rattle.link_talk.specs.Channels.{is_there, Entry, entry_after, entries_after, Reading, read_on}
@@ -17,7 +17,7 @@ use Rattle.channel_model.specs.Changing.{has_own, setup_of}
 use Rattle.channel_laws.specs.Views.{peer_of, read_at}
 use Rattle.channel_laws.proofs.Lookups.{eqb-same}
 use Rattle.channel_laws.proofs.Entries.{nothing-same}
-use Rattle.channel_laws.proofs.Sound.{Agrees, AgreesIf, ReadsBy, Reads, Core, BeginsWith, IsAgain, RepeatsIn, Repeats, part_of, RepeatsOf, QueriesKept, CallsKept, EndsKept, HarmlessKept, identifier_asked, WantsAt, Wants, Kept, Sound}
+use Rattle.channel_laws.proofs.Sound.{Agrees, AgreesIf, ReadsBy, Reads, Core, BeginsWith, IsAgain, RepeatsIn, Repeats, part_of, RepeatsOf, QueriesKept, CallsKept, EndsKept, HarmlessKept, identifier_asked, WantsAt, Wants, Kept, Sound, IsPlaced, placed-read}
 use Rattle.channel_laws.proofs.Steps.{core-one, kept-one}
 use Rattle.channel_laws.proofs.Agreeing.{Answers as AnswersSo, answer-agrees, refused-answers, part-answers, set-stays}
 use Rattle.channel_laws.proofs.Answering.{answers-others}
@@ -144,13 +144,19 @@ repeats-below policy entries held next part core repeats true is = ltb-true part
 repeats-below policy entries held next part core repeats false is =
     elim (no_entry (find (has_own part.own) held) part (subst (λ e. Repeats (find (has_own part.own) held) e part) (core.read_below part.own (ltb-false part.own next is)) repeats)) [ ]
 
+placed_repeats : (more : Meaning) (held : Option Held) (found : Option Entry) (part : Part) → Repeats held found part → IsPlaced held (option_map (entry_after more) found)
+placed_repeats more None None part repeats = repeats
+placed_repeats more (Some held) None part repeats = elim repeats [ ]
+placed_repeats more held (Some entry) part repeats = placed-read held (entry_after more entry)
+
 pub repeat-step : (policy : Policy) (asked : Requests) (entries : List Entry) (held : List Held) (next : ℕ) (memory : Memory) (part : Part) → Repeats (find (has_own part.own) held) (read_at part.own entries) part
     → Core policy entries held next → Kept asked entries held memory → Core policy (entries_after entries (Answers part)) held next × Kept asked (entries_after entries (Answers part)) held memory
 repeat-step policy asked entries held next memory part repeats core kept = (
-  core-one policy entries held held next (Answers part) part.own refl (repeats-below policy entries held next part core repeats (nat_lt part.own next) refl) core (λ own apart. refl) (λ own apart. answers-others part entries own apart)
+  core-one policy entries held held next (Answers part) part.own refl (repeats-below policy entries held next part core repeats (nat_lt part.own next) refl) core (λ own apart. refl) (λ own apart. answers-others part entries own apart) core.lone
       (reads_again policy (find (has_own part.own) held) (read_at part.own entries) part (core.reads part.own) repeats),
   kept-one asked entries held held memory (Answers part) part.own refl kept (λ own apart. refl) (λ own apart. answers-others part entries own apart)
-      (λ other was. repeats_still (find (has_own part.own) held) (read_at part.own entries) part other was) (kept.wants part.own),
+      (λ other was. repeats_still (find (has_own part.own) held) (read_at part.own entries) part other was) (kept.wants part.own)
+      (placed_repeats (Answers part) (find (has_own part.own) held) (read_at part.own entries) part repeats),
 )
 
 -- ---- it is answered as before
@@ -159,7 +165,7 @@ pub repeat-terms : (policy : Policy) (r : Reading) (v : Channels) (terms : Optio
     → (let after : Reading = record { requests = r.requests; entries = entries_after r.entries (meant_by peer flags answer terms) } in Sound policy after v)
 repeat-terms policy r v None peer flags answer repeats sound =
     let same = nothing-same r.entries in
-    record { core = subst (λ es. Core policy es v.held v.next) (sym same) sound.core; kept = subst (λ es. Kept r.requests es v.held v.memory) (sym same) sound.kept }
+    record { core = subst (λ es. Core policy es v.held v.next) (sym same) sound.core; kept = subst (λ es. Kept r.requests es v.held v.memory) (sym same) sound.kept; uncalled = sound.uncalled }
 repeat-terms policy r v (Some terms) peer flags answer repeats sound =
     let step = repeat-step policy r.requests r.entries v.held v.next v.memory (part_of terms peer flags answer) repeats sound.core sound.kept in
-    record { core = step.0; kept = step.1 }
+    record { core = step.0; kept = step.1; uncalled = sound.uncalled }

@@ -20,8 +20,8 @@ use Rattle.channel_model.specs.Following.{remembers, says}
 use Rattle.channel_model.specs.Giving.{command_of, configuration_at, configuration_by}
 use Rattle.channel_laws.specs.OwnTalk.{spoken, command_with, command_if, asked_between, said_of, newest}
 use Rattle.channel_laws.specs.Views.{peer_of, life_of, read_at}
-use Rattle.channel_laws.proofs.Lookups.{found-placed, find-placed}
-use Rattle.channel_laws.proofs.Sound.{Agrees, AgreesIf, Core, RepeatsIn, Repeats, part_of, RepeatsOf, IsRepeated, QueriesKept, Kept, Sound}
+use Rattle.channel_laws.proofs.Lookups.{found-placed, find-placed, own_of, Distinct, placed-distinct}
+use Rattle.channel_laws.proofs.Sound.{Agrees, AgreesIf, Core, RepeatsIn, Repeats, part_of, RepeatsOf, IsRepeated, QueriesKept, Kept, Sound, Uncalled}
 use Rattle.channel_laws.proofs.Moves.{quiet, Found, found-there}
 use Rattle.channel_laws.proofs.Answering.{Alters, answers-others, answers-name, core-alters, kept-alters}
 use Rattle.channel_laws.proofs.Questions.{exchange, asked-none, IsNew}
@@ -33,7 +33,7 @@ pub repeated-said : (policy : Policy) (r : Reading) (v : Channels) (identifier :
     → Sound policy (read_on r (spoken (command_with identifier content))) v
 repeated-said policy r v identifier (configuration_response peer flags answer options) repeated sound =
     let now = repeat-terms policy r v (answered_query r.requests identifier) peer flags answer repeated sound in
-    record { core = now.core; kept = now.kept }
+    record { core = now.core; kept = now.kept; uncalled = sound.uncalled }
 repeated-said policy r v identifier (reject reason rest) repeated sound = quiet policy r v (spoken (command_with identifier (reject reason rest))) refl sound
 repeated-said policy r v identifier (connection_request psm source) repeated sound = elim repeated [ ]
 repeated-said policy r v identifier (connection_response destination source answer status) repeated sound = elim repeated [ ]
@@ -64,6 +64,7 @@ queries-again policy r v one identifier terms queries l at same sound =
     let now : Sound policy past v = record {
       core = sound.core;
       kept = queried-kept r identifier terms v.held v.memory v.memory sound.kept refl refl refl refl (subst (QueriesKept past.requests v.held r.entries) (sym at) (sym same, repeated));
+      uncalled = sound.uncalled;
     } in
     subst (λ before. Sound policy (fold read_on before (map spoken (option_to_list (command_if identifier l.response)))) v) (sym (queries r))
     (said_repeated policy past v identifier l.response (subst (λ n. IsRepeated (answered_query past.requests n) v.held r.entries l.response) same repeated) now)
@@ -80,6 +81,7 @@ queries-stays policy r v one identifier terms content queries new repeated sound
     let now : Sound policy past w = record {
       core = sound.core;
       kept = queried-kept r identifier terms v.held v.memory w.memory sound.kept refl refl refl refl (refl, now_repeated);
+      uncalled = sound.uncalled;
     } in
     subst (λ rest. Sound policy (fold read_on r (exchange one identifier (Some content) ++ rest)) w) (sym (asked-none v w refl))
     (subst (λ before. Sound policy (read_on before (spoken (command_with identifier content))) w) (sym (queries r)) (repeated-said policy past w identifier content now_repeated now))
@@ -150,7 +152,7 @@ remembers-sound policy r u w identifier content memory held_is next_is silent me
       informations = before.informations;
       wants = before.wants;
     } in
-    record { core = core; kept = subst (λ m. Kept r.requests r.entries w.held m) (sym memory_is) (subst (λ h. Kept r.requests r.entries h after) (sym held_is) kept) }
+    record { core = core; kept = subst (λ m. Kept r.requests r.entries w.held m) (sym memory_is) (subst (λ h. Kept r.requests r.entries h after) (sym held_is) kept); uncalled = subst (Uncalled r.requests) (sym next_is) sound.uncalled }
 
 -- ---- a channel whose options change
 
@@ -178,6 +180,7 @@ alters-to v w held peer setup after talks is = record {
   life_after_is = talks.life_with after;
   setup_after_is = talks.setup_with after;
   others = λ own apart. ap (find (has_own own)) is ∙ find-placed (with_setup held after) v.held own apart;
+  lone = λ distinct. subst (Distinct own_of) (sym is) (placed-distinct (with_setup held after) v.held distinct);
 }
 
 -- the first thing that happens: the answer is said
@@ -201,6 +204,7 @@ answers-first policy r v u one identifier held peer setup after octets flags ans
     (record {
       core = subst (λ m. Core policy (entries_after r.entries m) u.held u.next) (sym more) (subst (Core policy (entries_after r.entries (Answers part)) u.held) (sym next_is) core_on);
       kept = subst (λ m. Kept past.requests (entries_after r.entries m) u.held u.memory) (sym more) (subst (Kept past.requests (entries_after r.entries (Answers part)) u.held) (sym memory_is) kept_on);
+      uncalled = subst (Uncalled past.requests) (sym next_is) sound.uncalled;
     })
 
 -- at last: it could be said again

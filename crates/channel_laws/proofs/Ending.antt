@@ -24,9 +24,9 @@ use Rattle.channel_model.specs.Answers.{disconnection_by, disconnection_answer, 
 use Rattle.channel_model.specs.Following.{remembers, says, hears_kind, follows_disconnection}
 use Rattle.channel_laws.specs.OwnTalk.{spoken, command_with, response_by, command_if, exchanged, asked_between}
 use Rattle.channel_laws.specs.Views.{peer_of, life_of, read_at}
-use Rattle.channel_laws.proofs.Lookups.{own_of, find-gone, find-others, found-placed, find-placed, found-has, eqb-same}
+use Rattle.channel_laws.proofs.Lookups.{own_of, Distinct, distinct-filter, placed-distinct, find-gone, find-others, found-placed, find-placed, found-has, eqb-same}
 use Rattle.channel_laws.proofs.Entries.{entry-is, either_same, read-after, distinct-after}
-use Rattle.channel_laws.proofs.Sound.{Reads, Core, IsAway, IsEnded, EndsKept, CallsKept, QueriesKept, IsHarmless, HarmlessKept, Repeats, Kept, Sound, moved, at_each, apart-after}
+use Rattle.channel_laws.proofs.Sound.{Reads, Core, IsAway, IsEnded, EndsKept, CallsKept, QueriesKept, IsHarmless, HarmlessKept, Repeats, Kept, Sound, moved, at_each, apart-after, IsPlaced, Uncalled}
 use Rattle.channel_laws.proofs.Steps.{calls-on, ends-on, queries-on, lasts-after, away-stays}
 use Rattle.channel_laws.proofs.Moves.{quiet, Passes, passed, SetupsTo, parts-step, parts-others, PartsTo, Found, found-there}
 use Rattle.channel_laws.proofs.Questions.{heard, exchange, asked-none, question-by, harmless-said}
@@ -37,6 +37,7 @@ use Rattle.channel_laws.proofs.Questions.{heard, exchange, asked-none, question-
 pub record Leads (v w : Channels) (held : Held) (peer : ℕ) (said : Word) : Type 0 where
   pub others : (own : ℕ) → eqb held.own own ≡ false → find (has_own own) w.held ≡ find (has_own own) v.held
   pub to : PartsTo held peer said (find (has_own held.own) w.held)
+  pub lone : Distinct own_of v.held → Distinct own_of w.held
   pub next_is : w.next ≡ v.next
   pub memory_is : w.memory ≡ v.memory
 
@@ -45,7 +46,7 @@ pub leads-on : (policy : Policy) (asked : Requests) (entries : List Entry) (v w 
     → Core policy (entries_after entries (Parts said held.own peer)) w.held w.next × Kept asked (entries_after entries (Parts said held.own peer)) w.held memory
 leads-on policy asked entries v w memory held peer said is at leads core kept =
     subst (λ n. Core policy (entries_after entries (Parts said held.own peer)) w.held n × Kept asked (entries_after entries (Parts said held.own peer)) w.held memory) (sym leads.next_is)
-    (parts-step policy asked entries v.held w.held v.next memory said held peer is at core kept leads.others leads.to)
+    (parts-step policy asked entries v.held w.held v.next memory said held peer is at core kept leads.others (leads.lone core.lone) leads.to)
 
 -- the same where it is said
 pub leads-said : (policy : Policy) (r : Reading) (v w : Channels) (held : Held) (peer : ℕ) (said : Word) (saying : Saying) → sense saying ≡ Ends said held.own peer → find (has_own held.own) v.held ≡ Some held → peer_of held.stage ≡ Some peer
@@ -53,7 +54,7 @@ pub leads-said : (policy : Policy) (r : Reading) (v w : Channels) (held : Held) 
 leads-said policy r v w held peer said saying is at peer_is leads sound =
     let on = leads-on policy r.requests r.entries v w v.memory held peer said at peer_is leads sound.core sound.kept in
     subst (λ q. let after : Reading = record { requests = requests_after r.requests q; entries = entries_after r.entries (meant r.requests q) } in Sound policy after w) (sym is)
-    (record { core = on.0; kept = subst (λ m. Kept r.requests (entries_after r.entries (Parts said held.own peer)) w.held m) (sym leads.memory_is) on.1 })
+    (record { core = on.0; kept = subst (λ m. Kept r.requests (entries_after r.entries (Parts said held.own peer)) w.held m) (sym leads.memory_is) on.1; uncalled = subst (Uncalled r.requests) (sym leads.next_is) sound.uncalled })
 
 -- ---- the peer's request is answered
 
@@ -63,6 +64,7 @@ to-stage v held peer said stage is to =
     record {
       others = λ own apart. find-placed after v.held own apart;
       to = subst (PartsTo held peer said) (sym (found-placed after held v.held is)) to;
+      lone = placed-distinct after v.held;
       next_is = refl;
       memory_is = refl;
     }
@@ -71,19 +73,20 @@ is-gone : (v w : Channels) (held : Held) (peer : ℕ) (said : Word) → w.held �
 is-gone v w held peer said held_is next_is memory_is over = record {
   others = λ own apart. ap (find (has_own own)) held_is ∙ find-others own_of held.own own v.held apart;
   to = subst (PartsTo held peer said) (sym (ap (find (has_own held.own)) held_is ∙ find-gone own_of held.own v.held)) over;
+  lone = λ distinct. subst (Distinct own_of) (sym held_is) (distinct-filter own_of (λ other. not (eqb other.own held.own)) v.held distinct);
   next_is = next_is;
   memory_is = memory_is;
 }
 
 stays-held : (v : Channels) (held : Held) (peer : ℕ) (said : Word) → find (has_own held.own) v.held ≡ Some held → PartsTo held peer said (Some held) → Leads v v held peer said
-stays-held v held peer said is to = record { others = λ own apart. refl; to = subst (PartsTo held peer said) (sym is) to; next_is = refl; memory_is = refl }
+stays-held v held peer said is to = record { others = λ own apart. refl; to = subst (PartsTo held peer said) (sym is) to; lone = λ distinct. distinct; next_is = refl; memory_is = refl }
 
 peer-closes-leads : (v : Channels) (held : Held) (peer : ℕ) (stage : Stage) → held.stage ≡ stage → peer_of stage ≡ Some peer → find (has_own held.own) v.held ≡ Some held → Leads v (peer_closes_at stage held v) held peer AnswersEnd
 peer-closes-leads v held peer (Requested request) is at found = cc
 peer-closes-leads v held peer (Connected own_peer setup) is at found = is-gone v (peer_closes_at (Connected own_peer setup) held v) held peer AnswersEnd refl refl refl (ap (λ s. life_after (life_of s) (Some AnswersEnd)) is)
 peer-closes-leads v held peer (Leaving own_peer setup request) is at found =
     let leads = to-stage v held peer AnswersEnd (Crossed own_peer request) found (refl, refl, at, sym (ap (λ s. life_after (life_of s) (Some AnswersEnd)) is), tt) in
-    record { others = leads.others; to = leads.to; next_is = refl; memory_is = refl }
+    record { others = leads.others; to = leads.to; lone = leads.lone; next_is = refl; memory_is = refl }
 peer-closes-leads v held peer (Closing own_peer request) is at found =
     to-stage v held peer AnswersEnd (Crossed own_peer request) found (refl, refl, at, sym (ap (λ s. life_after (life_of s) (Some AnswersEnd)) is), tt)
 peer-closes-leads v held peer (Crossed own_peer request) is at found =
@@ -117,13 +120,14 @@ same-reads policy asked entries held next memory more none same core kept = (
     start = core.start;
     apart = apart-after more entries none core.apart;
     distinct = distinct-after more entries none core.distinct;
+    lone = core.lone;
   },
   record {
     calls = calls-on _ entries (entries_after entries more) (lasts-after more entries none) memory.connection kept.calls;
     queries = queries-on asked held entries held (entries_after entries more) (λ own part is. subst (λ e. Repeats (find (has_own own) held) e part) (sym (read-after more entries own none ∙ same own)) is) memory.configuration kept.queries;
     ends = ends-on entries (entries_after entries more) (away-stays more entries none) memory.disconnection kept.ends;
     echoes = kept.echoes;
-    outgoing = kept.outgoing;
+    outgoing = λ identifier own called hopeful. subst (IsPlaced (find (has_own own) held)) (sym (read-after more entries own none ∙ same own)) (kept.outgoing identifier own called hopeful);
     informations = kept.informations;
     wants = kept.wants;
   },
@@ -153,7 +157,7 @@ away-all own peer entries away n = at_each (λ m. Unit {0}) (λ m. moved (Parts 
 ended-again : (policy : Policy) (r : Reading) (v : Channels) (identifier : ℕ) (content : Content) → IsEnded r.entries (Some content) → Sound policy r v → Sound policy (read_on r (spoken (command_with identifier content))) v
 ended-again policy r v identifier (disconnection_response own peer) ended sound =
     let same = same-reads policy r.requests r.entries v.held v.next v.memory (Parts AnswersEnd own peer) refl (away-all own peer r.entries ended) sound.core sound.kept in
-    record { core = same.0; kept = same.1 }
+    record { core = same.0; kept = same.1; uncalled = sound.uncalled }
 ended-again policy r v identifier (reject reason rest) ended sound = quiet policy r v (spoken (command_with identifier (reject reason rest))) refl sound
 ended-again policy r v identifier (connection_request psm source) ended sound = elim ended [ ]
 ended-again policy r v identifier (connection_response destination source answer status) ended sound = elim ended [ ]
@@ -204,11 +208,11 @@ rejected : (policy : Policy) (r : Reading) (v : Channels) (one : Read) (identifi
 rejected policy r v one identifier None is harmless ended sound =
     let w : Channels = remembers kinds.Disconnection identifier None v in
     subst (λ rest. Sound policy (fold read_on r (exchange one identifier None ++ rest)) w) (sym (asked-none v w refl))
-    (harmless-said policy r w one identifier None is tt (record { core = sound.core; kept = with-memory policy r.requests r.entries v.held v.memory w.memory sound.kept refl refl refl refl tt }))
+    (harmless-said policy r w one identifier None is tt (record { core = sound.core; kept = with-memory policy r.requests r.entries v.held v.memory w.memory sound.kept refl refl refl refl tt; uncalled = sound.uncalled }))
 rejected policy r v one identifier (Some content) is harmless ended sound =
     let w : Channels = says identifier (Some content) (remembers kinds.Disconnection identifier (Some content) v) in
     subst (λ rest. Sound policy (fold read_on r (exchange one identifier (Some content) ++ rest)) w) (sym (asked-none v w refl))
-    (harmless-said policy r w one identifier (Some content) is harmless (record { core = sound.core; kept = with-memory policy r.requests r.entries v.held v.memory w.memory sound.kept refl refl refl refl (ended r.entries) }))
+    (harmless-said policy r w one identifier (Some content) is harmless (record { core = sound.core; kept = with-memory policy r.requests r.entries v.held v.memory w.memory sound.kept refl refl refl refl (ended r.entries); uncalled = sound.uncalled }))
 
 away-now : (life : Life) → is_there (life_after life (Some AnswersEnd)) ≡ false
 away-now lives.Alive = refl
@@ -248,6 +252,7 @@ bids policy r v one identifier held peer is at peer_is sound =
       core = on.0;
       kept = subst (λ m. Kept past.requests (entries_after past.entries more) w.held m) (sym leads.memory_is)
           (with-memory policy past.requests (entries_after past.entries more) w.held v.memory before.memory on.1 refl refl refl refl away);
+      uncalled = subst (Uncalled past.requests) (sym leads.next_is) now.uncalled;
     })
 
 -- whatever it names

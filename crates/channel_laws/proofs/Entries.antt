@@ -1,9 +1,8 @@
 -- What a meaning does to the channels that were read.
 use Rattle.std.proofs.Common.{◌≡◌, ℕ, List, [], ◌∷◌, ◌++◌, fold, map, Bool, true, false, cond, ◌||◌, eqb, Option, Some, None, refl, sym, ap, subst, ◌∙◌}
-use Rattle.std.specs.Prelude.{option_map, option_to_list}
+use Rattle.std.specs.Prelude.{find, option_map, option_to_list}
 use Rattle.std.specs.Option.{option_or}
 use Rattle.std.specs.List.{list_any}
-use Rattle.std.proofs.lemmas.Bool.{eqb-true}
 use Rattle.link_talk.specs.declared.channel.Channel.{Channel}
 use Rattle.link_talk.specs.declared.life.Life.{Life}
 use Rattle.link_talk.specs.declared.life.Life.TheVariants.{Alive, Leaving, Crossed, Over}
@@ -13,7 +12,7 @@ use Rattle.link_talk.specs.Meanings.{Meaning, Makes, Settles, Nothing}
 use Rattle.link_talk.specs.Setups.{Setup, setup_after, term}
 use Rattle.link_talk.specs.Channels.{word, life_after, is_there, Entry, fresh, entry_after, is_owner, with_fresh, made_by, entries_after}
 use Rattle.channel_laws.specs.Views.{is_own, read_at}
-use Rattle.channel_laws.proofs.Lookups.{find-map, find-append, found-has, eqb-same}
+use Rattle.channel_laws.proofs.Lookups.{Distinct, distinct-map, found-distinct, find-map, find-append, found-has, any-finds}
 
 abbrev pub own_read : Entry → ℕ
 own_read entry = entry.channel.own
@@ -116,52 +115,12 @@ found-passes channel own (entry ∷ entries) found is passes =
 
 -- ---- each endpoint is that of one channel
 
-abbrev pub Distinct : List Entry → Type 0
-Distinct [] = Unit {0}
-Distinct (entry ∷ entries) = (read_at entry.channel.own entries ≡ None) × Distinct entries
-
-distinct-map : (more : Meaning) (entries : List Entry) → Distinct entries → Distinct (map (entry_after more) entries)
-distinct-map more [] distinct = tt
-distinct-map more (entry ∷ entries) distinct =
-    (find-map own_read (entry_after more) (λ e. refl) entry.channel.own entries ∙ ap (option_map (entry_after more)) distinct.0, distinct-map more entries distinct.1)
-
-pub distinct-after : (more : Meaning) (entries : List Entry) → made_by more ≡ None → Distinct entries → Distinct (entries_after entries more)
+pub distinct-after : (more : Meaning) (entries : List Entry) → made_by more ≡ None → Distinct own_read entries → Distinct own_read (entries_after entries more)
 distinct-after more entries none distinct =
-    subst (λ made. Distinct (fold with_fresh (map (entry_after more) entries) (option_to_list made))) (sym none) (distinct-map more entries distinct)
-
-cond_some : {X : Type 0} (test : Bool) (x : X) (rest : Option X) → cond test (Some x) rest ≡ None → (test ≡ false) × (rest ≡ None)
-cond_some true x rest is = cc
-cond_some false x rest is = (refl, is)
-
-eqb-away : (a b : ℕ) → eqb a b ≡ false → eqb b a ≡ false
-eqb-away a b is = by (eqb b a) refl
-  where
-    by : (t : Bool) → eqb b a ≡ t → t ≡ false
-    by false now = refl
-    by true now = let never : true ≡ false = sym (eqb-same a) ∙ (ap (eqb a) (sym (eqb-true b a now)) ∙ is) in absurd cc
-
-pub distinct-append : (entries : List Entry) (channel : Channel) → read_at channel.own entries ≡ None → Distinct entries → Distinct (entries ++ fresh channel ∷ [])
-distinct-append [] channel none distinct = (refl, tt)
-distinct-append (entry ∷ entries) channel none distinct =
-    let parts = cond_some (is_own channel.own entry) entry (read_at channel.own entries) none in (
-      read-append entry.channel.own entries channel ∙ (ap (λ o. option_or o (cond (eqb channel.own entry.channel.own) (Some (fresh channel)) None)) distinct.0
-          ∙ ap (λ t. cond t (Some (fresh channel)) None) (eqb-away entry.channel.own channel.own parts.0)),
-      distinct-append entries channel parts.1 distinct.1,
-    )
+    subst (λ made. Distinct own_read (fold with_fresh (map (entry_after more) entries) (option_to_list made))) (sym none) (distinct-map own_read (entry_after more) (λ e. refl) entries distinct)
 
 -- a member that passes is found at its endpoint
-pub any-found : (p : Entry → Bool) (entries : List Entry) → Distinct entries → list_any p entries ≡ true → (own : ℕ) × (found : Entry) × (read_at own entries ≡ Some found) × (p found ≡ true)
-any-found p [] distinct is = cc
-any-found p (entry ∷ entries) distinct is = by (p entry) refl (λ any. any-found p entries distinct.1 any) is
-  where
-    further : (own : ℕ) × (found : Entry) × (read_at own entries ≡ Some found) × (p found ≡ true) → (own : ℕ) × (found : Entry) × (read_at own (entry ∷ entries) ≡ Some found) × (p found ≡ true)
-    further (own, found, at, passes) = (own, found, ap (λ t. cond t (Some entry) (read_at own entries)) (flip (is_own own entry) refl) ∙ at, passes)
-      where
-        flip : (t : Bool) → is_own own entry ≡ t → t ≡ false
-        flip false now = refl
-        flip true now = let never : None ≡ Some found = sym distinct.0 ∙ (ap (λ n. read_at n entries) (eqb-true entry.channel.own own now) ∙ at) in absurd cc
-
-    by : (t : Bool) → p entry ≡ t → (list_any p entries ≡ true → (own : ℕ) × (found : Entry) × (read_at own entries ≡ Some found) × (p found ≡ true)) → (t || list_any p entries) ≡ true
-        → (own : ℕ) × (found : Entry) × (read_at own (entry ∷ entries) ≡ Some found) × (p found ≡ true)
-    by true passes later any = (entry.channel.own, entry, ap (λ t. cond t (Some entry) (read_at entry.channel.own entries)) (eqb-same entry.channel.own), passes)
-    by false passes later any = further (later any)
+pub any-found : (p : Entry → Bool) (entries : List Entry) → Distinct own_read entries → list_any p entries ≡ true → (own : ℕ) × (found : Entry) × (read_at own entries ≡ Some found) × (p found ≡ true)
+any-found p entries distinct is =
+    let (found, at, passes) = any-finds p entries is in
+    (found.channel.own, found, found-distinct own_read p entries found distinct at, passes)

@@ -6,29 +6,31 @@ use Rattle.l2cap_config.specs.declared.wish.Wish.{Wish}
 use Rattle.link_talk.specs.declared.word.Word.TheVariants.{AsksEnd}
 use Rattle.link_talk.specs.Meanings.{Part}
 use Rattle.link_talk.specs.Setups as read
-use Rattle.link_talk.specs.Channels.{life_after, Reading, read_on}
+use Rattle.link_talk.specs.Channels.{life_after, Reading, read_on, Entry}
 use Rattle.channel_model.specs.declared.errand.Errand.{Errand}
 use Rattle.channel_model.specs.declared.errand.Errand.TheVariants.{Connection, Configuration, Disconnection, Features}
 use Rattle.channel_model.specs.Value.{Own, Unasked, Asking, Granted, Carrier, Plain, Retransmitting, Setup, Stage, Requested, Connected, Leaving, Closing, Crossed, Held, Queued, Answer, Ask, Channels}
 use Rattle.channel_model.specs.Policies.{Policy}
 use Rattle.channel_model.specs.Changing.{has_own, held_at, setup_of, to_stage, to_setup, with_setup, is_open}
 use Rattle.channel_model.specs.Asking.{new_request, asks}
-use Rattle.channel_model.specs.Giving.{own_given, setup_given, connection_given, configuration_given, disconnection_given, stage_given, counted, queue_given, on_held, disconnection_at}
+use Rattle.channel_model.specs.Giving.{own_given, setup_given, connection_given, configuration_given, disconnection_given, stage_given, counted, gives, carrier_given, carrier_spent, held_given, queue_given, on_held, disconnection_at}
 use Rattle.channel_model.specs.Calls.{disconnected_at, disconnected_held, carrier_with, sends_on, sends_held, sends}
 use Rattle.channel_laws.specs.OwnTalk.{spoken, command_with, asked_between}
 use Rattle.channel_laws.specs.Runs.{forgone_between}
-use Rattle.channel_laws.specs.Laws.{IsGiven}
 use Rattle.channel_laws.specs.Views.{peer_of, life_of, asked_mode, carrier_mode}
-use Rattle.channel_laws.proofs.Lookups.{own_of, found-has, found-placed, find-placed}
-use Rattle.channel_laws.proofs.Sound.{Agrees, AgreesIf, OwnStates, CarrierIs, RepeatsIn, WantsAt, Wants, Sound}
+use Rattle.channel_laws.proofs.Lookups.{own_of, placed-distinct, found-distinct, found-has, found-placed, find-placed}
+use Rattle.channel_laws.proofs.Sound.{Agrees, AgreesIf, OwnStates, CarrierIs, RepeatsIn, WantsAt, Sound, ReadsBy, Repeats}
 use Rattle.channel_laws.proofs.Moves.{PartsTo, SetupsTo}
 use Rattle.channel_laws.proofs.Ending.{Leads, leads-said}
-use Rattle.channel_laws.proofs.Silent.{turns-sound}
+use Rattle.channel_laws.proofs.Silent.{turns-sound, becomes-sound}
 use Rattle.channel_laws.proofs.Asking.{asked-one, newest-asks}
 use Rattle.channel_laws.proofs.Questions.{asked-none}
 use Rattle.channel_laws.proofs.Consenting.{Talks}
 use Rattle.channel_laws.proofs.Responses.{turns-to}
 use Rattle.channel_laws.proofs.Settling.{TalksOr, talks-at}
+use Rattle.link_talk.specs.Requests.{Requests}
+use Rattle.channel_laws.proofs.Calling.{forgone-on}
+use Rattle.channel_model.specs.declared.event.CloseReason.TheVariants.{OwnClosed}
 
 -- ---- a request was given one time more
 
@@ -38,6 +40,7 @@ pub record Counts (f : Stage → Stage) : Type 0 where
   pub life_is : (stage : Stage) → life_of (f stage) ≡ life_of stage
   pub agrees : (wish : Wish) (stage : Stage) (said : read.Setup) → AgreesIf wish (setup_of stage) said → AgreesIf wish (setup_of (f stage)) said
   pub repeats : (stage : Stage) (said : read.Setup) (part : Part) → RepeatsIn (setup_of stage) said part → RepeatsIn (setup_of (f stage)) said part
+  pub waits : (asked : Requests) (held : Held) (stage : Stage) → WantsAt asked held stage → WantsAt asked held (f stage)
 
 states_given : (wish : Wish) (own : Own) → OwnStates wish own → OwnStates wish (own_given own)
 states_given wish Unasked states = tt
@@ -58,8 +61,15 @@ given_agrees wish setup said agrees = record {
 }
 
 connection_counts : Counts connection_given
-connection_counts = record { peer_is = peer; life_is = life; agrees = agree; repeats = repeat }
+connection_counts = record { peer_is = peer; life_is = life; agrees = agree; repeats = repeat; waits = wait }
   where
+    wait : (asked : Requests) (held : Held) (stage : Stage) → WantsAt asked held stage → WantsAt asked held (connection_given stage)
+    wait asked held (Requested request) so = so
+    wait asked held (Connected at setup) so = tt
+    wait asked held (Leaving at setup request) so = tt
+    wait asked held (Closing at request) so = tt
+    wait asked held (Crossed at request) so = tt
+
     peer : (stage : Stage) → peer_of (connection_given stage) ≡ peer_of stage
     peer (Requested request) = refl
     peer (Connected at setup) = refl
@@ -89,8 +99,15 @@ connection_counts = record { peer_is = peer; life_is = life; agrees = agree; rep
     repeat (Crossed at request) said part so = tt
 
 configuration_counts : Counts configuration_given
-configuration_counts = record { peer_is = peer; life_is = life; agrees = agree; repeats = repeat }
+configuration_counts = record { peer_is = peer; life_is = life; agrees = agree; repeats = repeat; waits = wait }
   where
+    wait : (asked : Requests) (held : Held) (stage : Stage) → WantsAt asked held stage → WantsAt asked held (configuration_given stage)
+    wait asked held (Requested request) so = so
+    wait asked held (Connected at setup) so = tt
+    wait asked held (Leaving at setup request) so = tt
+    wait asked held (Closing at request) so = tt
+    wait asked held (Crossed at request) so = tt
+
     peer : (stage : Stage) → peer_of (configuration_given stage) ≡ peer_of stage
     peer (Requested request) = refl
     peer (Connected at setup) = refl
@@ -120,8 +137,15 @@ configuration_counts = record { peer_is = peer; life_is = life; agrees = agree; 
     repeat (Crossed at request) said part so = tt
 
 disconnection_counts : Counts disconnection_given
-disconnection_counts = record { peer_is = peer; life_is = life; agrees = agree; repeats = repeat }
+disconnection_counts = record { peer_is = peer; life_is = life; agrees = agree; repeats = repeat; waits = wait }
   where
+    wait : (asked : Requests) (held : Held) (stage : Stage) → WantsAt asked held stage → WantsAt asked held (disconnection_given stage)
+    wait asked held (Requested request) so = so
+    wait asked held (Connected at setup) so = tt
+    wait asked held (Leaving at setup request) so = tt
+    wait asked held (Closing at request) so = tt
+    wait asked held (Crossed at request) so = tt
+
     peer : (stage : Stage) → peer_of (disconnection_given stage) ≡ peer_of stage
     peer (Requested request) = refl
     peer (Connected at setup) = refl
@@ -150,16 +174,16 @@ disconnection_counts = record { peer_is = peer; life_is = life; agrees = agree; 
     repeat (Closing at request) said part so = tt
     repeat (Crossed at request) said part so = tt
 
--- every channel that is held has an endpoint of the peer
-peer-there : (policy : Policy) (r : Reading) (v : Channels) (held : Held) → find (has_own held.own) v.held ≡ Some held → Sound policy r v → (peer : ℕ) × (peer_of held.stage ≡ Some peer)
-peer-there policy r v held is sound = by held.stage (subst (Wants r.requests) is (sound.kept.wants held.own))
-  where
-    by : (stage : Stage) → WantsAt r.requests held stage → (peer : ℕ) × (peer_of stage ≡ Some peer)
-    by (Requested request) wants = elim wants [ ]
-    by (Connected peer setup) wants = (peer, refl)
-    by (Leaving peer setup request) wants = (peer, refl)
-    by (Closing peer request) wants = (peer, refl)
-    by (Crossed peer request) wants = (peer, refl)
+counted_reads : (policy : Policy) (f : Stage → Stage) (held : Held) (found : Option Entry) (peer : Option ℕ) → Counts f → ReadsBy policy held peer found → (let after : Held = record held { stage = f held.stage } in ReadsBy policy after peer found)
+counted_reads policy f held None None counts reads = tt
+counted_reads policy f held (Some entry) None counts reads = reads
+counted_reads policy f held None (Some peer) counts reads = reads
+counted_reads policy f held (Some entry) (Some peer) counts (there, agrees) =
+    (record { channel_is = there.channel_is; life_is = there.life_is ∙ sym (counts.life_is held.stage) }, counts.agrees (policy.wish held.psm) held.stage entry.setup agrees)
+
+counted_repeats : (f : Stage → Stage) (held : Held) (found : Option Entry) (part : Part) → Counts f → Repeats (Some held) found part → (let after : Held = record held { stage = f held.stage } in Repeats (Some after) found part)
+counted_repeats f held None part counts repeats = repeats
+counted_repeats f held (Some entry) part counts repeats = counts.repeats held.stage entry.setup part repeats
 
 given-sound : (policy : Policy) (r : Reading) (v : Channels) (f : Stage → Stage) (own : ℕ) (found : Option Held) → Counts f → find (has_own own) v.held ≡ found → Sound policy r v → Sound policy r (stage_given f found v)
 given-sound policy r v f own None counts is sound = sound
@@ -167,32 +191,55 @@ given-sound policy r v f own (Some held) counts is sound =
     let same : held.own ≡ own = found-has own_of own v.held held is in
     let at : find (has_own held.own) v.held ≡ Some held = ap (λ n. find (has_own n) v.held) same ∙ is in
     let after : Held = record held { stage = f held.stage } in
-    let (peer, peer_is) = peer-there policy r v held at sound in
-    turns-sound policy r v (stage_given f (Some held) v) held after peer (record {
+    becomes-sound policy r v (stage_given f (Some held) v) held after (record {
       found = at;
       found_after = found-placed after held v.held at;
       others = λ n apart. find-placed after v.held n apart;
+      lone = placed-distinct after v.held;
       next_is = refl;
       memory_is = refl;
-      peer_is = peer_is;
-      peer_after = counts.peer_is held.stage ∙ peer_is;
-      life_after_is = counts.life_is held.stage;
-      psm_after = refl;
-      own_after = refl;
-      agrees = λ said so. counts.agrees (policy.wish held.psm) held.stage said so;
-      repeats = λ said part so. counts.repeats held.stage said part so;
+      reads = λ found is. subst (λ p. ReadsBy policy after p found) (sym (counts.peer_is held.stage)) (counted_reads policy f held found (peer_of held.stage) counts is);
+      repeats = λ found part is. counted_repeats f held found part counts is;
+      wants = λ asked is. counts.waits asked held held.stage is;
     }) sound
 
 counted-sound : (policy : Policy) (r : Reading) (v : Channels) (errand : Errand) → Sound policy r v → Sound policy r (counted errand v)
 counted-sound policy r v (Connection own) sound = given-sound policy r v connection_given own (held_at own v) connection_counts refl sound
 counted-sound policy r v (Configuration own) sound = given-sound policy r v configuration_given own (held_at own v) configuration_counts refl sound
 counted-sound policy r v (Disconnection own) sound = given-sound policy r v disconnection_given own (held_at own v) disconnection_counts refl sound
-counted-sound policy r v Features sound = record { core = sound.core; kept = sound.kept }
+counted-sound policy r v Features sound = record { core = sound.core; kept = sound.kept; uncalled = sound.uncalled }
 
-pub queue-given : (policy : Policy) (r : Reading) (v : Channels) (queue : List Queued) → IsGiven queue → Sound policy r v → Sound policy r (queue_given queue v)
-queue-given policy r v [] is sound = elim is [ ]
-queue-given policy r v (Answer command ∷ behind) is sound = record { core = sound.core; kept = sound.kept }
-queue-given policy r v (Ask errand ∷ behind) is sound = counted-sound policy r (record v { queue = behind }) errand (record { core = sound.core; kept = sound.kept })
+-- an SDU or a frame is given
+spent_mode : (carrier : Option Carrier) → option_map carrier_mode (option_map carrier_given carrier) ≡ option_map carrier_mode carrier
+spent_mode None = refl
+spent_mode (Some (Plain agreed waiting)) = refl
+spent_mode (Some (Retransmitting machine)) = refl
+
+spent_carrier : (wish : Wish) (carrier : Option Carrier) → CarrierIs wish carrier → CarrierIs wish (option_map carrier_given carrier)
+spent_carrier wish None is = tt
+spent_carrier wish (Some (Plain agreed waiting)) is = is
+spent_carrier wish (Some (Retransmitting machine)) is = is
+
+carrier-spent : (policy : Policy) (r : Reading) (v : Channels) (held : Held) (setup : Option Setup) → TalksOr v held setup → Sound policy r v → Sound policy r (carrier_spent setup held v)
+carrier-spent policy r v held None talks sound = sound
+carrier-spent policy r v held (Some setup) (peer, talks) sound =
+    let after : Setup = record setup { carrier = option_map carrier_given setup.carrier } in
+    turns-sound policy r v (to_setup held after v) held (with_setup held after) peer (turns-to policy v (to_setup held after v) held peer setup after talks refl refl refl refl
+    (λ said agrees. record {
+      set_up = record { asked_is = agrees.set_up.asked_is; accepted_is = agrees.set_up.accepted_is ∙ sym (spent_mode setup.carrier) };
+      states = agrees.states;
+      carrier_is = spent_carrier (policy.wish held.psm) setup.carrier agrees.carrier_is;
+      parts_are = agrees.parts_are;
+    })) sound
+
+carrier-given : (policy : Policy) (r : Reading) (v : Channels) (found : Option Held) → find gives v.held ≡ found → Sound policy r v → Sound policy r (held_given found v)
+carrier-given policy r v None is sound = sound
+carrier-given policy r v (Some held) is sound = carrier-spent policy r v held (setup_of held.stage) (talks-at v held held.stage refl (found-distinct own_of gives v.held held sound.core.lone is)) sound
+
+pub queue-given : (policy : Policy) (r : Reading) (v : Channels) (queue : List Queued) → Sound policy r v → Sound policy r (queue_given queue v)
+queue-given policy r v [] sound = carrier-given policy r v (find gives v.held) refl sound
+queue-given policy r v (Answer command ∷ behind) sound = record { core = sound.core; kept = sound.kept; uncalled = sound.uncalled }
+queue-given policy r v (Ask errand ∷ behind) sound = counted-sound policy r (record v { queue = behind }) errand (record { core = sound.core; kept = sound.kept; uncalled = sound.uncalled })
 
 -- ---- an SDU is sent
 
@@ -235,11 +282,11 @@ sends-sound policy r v own sdu sound = sent-of policy r v own sdu (held_at own v
 
 -- ---- the end of a channel is asked for
 
-forgone_none : (before : Option Held) (after : Held) → forgone_between before (Some after) ≡ []
+pub forgone_none : (before : Option Held) (after : Held) → forgone_between before (Some after) ≡ []
 forgone_none None after = refl
 forgone_none (Some held) after = refl
 
-still_held : (found : Option Held) → forgone_between found found ≡ []
+pub still_held : (found : Option Held) → forgone_between found found ≡ []
 still_held None = refl
 still_held (Some held) = refl
 
@@ -249,7 +296,7 @@ nothing-ends policy r v own sound =
 
 end-asked : (policy : Policy) (r : Reading) (v : Channels) (held : Held) (stage : Stage) → held.stage ≡ stage → find (has_own held.own) v.held ≡ Some held → Sound policy r v
     → (let w : Channels = disconnected_at stage held v in Sound policy (fold read_on r (asked_between v w ++ forgone_between (held_at held.own v) (held_at held.own w))) w)
-end-asked policy r v held (Requested request) is at sound = elim (subst (WantsAt r.requests held) is (subst (Wants r.requests) at (sound.kept.wants held.own))) [ ]
+end-asked policy r v held (Requested request) is at sound = forgone-on policy r v held request OwnClosed held.stage is is at sound
 end-asked policy r v held (Connected peer setup) is at sound =
     let after : Held = record held { stage = Leaving peer setup (new_request v) } in
     let before : Channels = to_stage held (Leaving peer setup (new_request v)) v in
@@ -258,6 +305,7 @@ end-asked policy r v held (Connected peer setup) is at sound =
     let command : Command = command_with v.identifier (disconnection_request peer held.own) in
     let leads : Leads v w held peer AsksEnd = record {
       others = λ own apart. find-placed after v.held own apart;
+      lone = placed-distinct after v.held;
       to = subst (PartsTo held peer AsksEnd) (sym here) (refl, refl, refl, sym (ap (λ s. life_after (life_of s) (Some AsksEnd)) is), subst (λ s. SetupsTo (setup_of s) (Some setup)) (sym is) refl);
       next_is = refl;
       memory_is = refl;

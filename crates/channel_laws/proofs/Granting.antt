@@ -17,9 +17,9 @@ use Rattle.channel_model.specs.Value.{no_setup, Connected, Held, Memory}
 use Rattle.channel_model.specs.Policies.{Policy}
 use Rattle.channel_model.specs.Changing.{has_own}
 use Rattle.channel_laws.specs.Views.{channel_by, read_at}
-use Rattle.channel_laws.proofs.Lookups.{eqb-same}
-use Rattle.channel_laws.proofs.Entries.{read-append, found-fails, distinct-append}
-use Rattle.channel_laws.proofs.Sound.{Agrees, PartsAre, Reads, Apart, Core, IsSome, IsAway, Repeats, Wants, Kept, at_each}
+use Rattle.channel_laws.proofs.Lookups.{eqb-same, own_of, Distinct, distinct-append}
+use Rattle.channel_laws.proofs.Entries.{read-append, found-fails, own_read}
+use Rattle.channel_laws.proofs.Sound.{Agrees, PartsAre, Reads, Apart, Core, IsSome, IsAway, Repeats, Wants, Kept, at_each, IsPlaced, placed-held}
 use Rattle.channel_laws.proofs.Steps.{calls-on, ends-on, queries-on, less-apart}
 
 -- ---- nothing is agreed on
@@ -99,6 +99,7 @@ pub record Comes (policy : Policy) (entries : List Entry) (held held' : List Hel
   pub free : list_any (is_owner (channel_by new.psm new.own peer)) entries ≡ false
   pub others : (own : ℕ) → eqb new.own own ≡ false → find (has_own own) held' ≡ find (has_own own) held
   pub here : find (has_own new.own) held' ≡ Some new
+  pub lone : Distinct own_of held → Distinct own_of held'
   pub below : new.own < next'
   pub rises : next ≤ next'
 
@@ -120,7 +121,8 @@ core-fresh policy entries held held' next next' new peer comes core =
       read_below = λ own above. fresh-others entries channel own (less-apart new.own own (omega (arith, comes.below, above))) ∙ core.read_below own (omega (arith, comes.rises, above));
       start = omega (arith, core.start, comes.rises);
       apart = apart-fresh entries channel comes.unread comes.free core.apart;
-      distinct = distinct-append entries channel comes.unread core.distinct;
+      distinct = distinct-append own_read entries (fresh channel) comes.unread core.distinct;
+      lone = comes.lone core.lone;
     }
 
 -- at every endpoint, where all but one are as they were
@@ -139,7 +141,7 @@ away-fresh : (entries : List Entry) (channel : Channel) → read_at channel.own 
 away-fresh entries channel none = at_all (λ n. IsAway (read_at n entries) → IsAway (read_at n (entries ++ fresh channel ∷ []))) channel.own
     (λ n apart was. subst IsAway (sym (fresh-others entries channel n apart)) was) (λ was. elim (subst IsAway none was) [ ])
 
-no_repeats : (held : Option Held) (part : Part) → Repeats held None part → ⊥
+pub no_repeats : (held : Option Held) (part : Part) → Repeats held None part → ⊥
 no_repeats None part repeats = repeats
 no_repeats (Some held) part repeats = repeats
 
@@ -157,7 +159,9 @@ kept-fresh policy asked entries held held' next next' memory new peer comes kept
           memory.configuration kept.queries;
       ends = ends-on entries (entries ++ fresh channel ∷ []) (away-fresh entries channel comes.unread) memory.disconnection kept.ends;
       echoes = kept.echoes;
-      outgoing = kept.outgoing;
+      outgoing = λ identifier own called hopeful. at_all (λ n. IsPlaced (find (has_own n) held) (read_at n entries) → IsPlaced (find (has_own n) held') (read_at n (entries ++ fresh channel ∷ []))) new.own
+          (λ n apart was. subst (λ e. IsPlaced (find (has_own n) held') e) (sym (fresh-others entries channel n apart)) (subst (λ h. IsPlaced h (read_at n entries)) (sym (comes.others n apart)) was))
+          (λ was. subst (λ h. IsPlaced h (read_at new.own (entries ++ fresh channel ∷ []))) (sym comes.here) (placed-held new (read_at new.own (entries ++ fresh channel ∷ [])))) own (kept.outgoing identifier own called hopeful);
       informations = kept.informations;
       wants = at_each (λ n. Wants asked (find (has_own n) held)) (λ n. Wants asked (find (has_own n) held')) new.own (λ n apart is. subst (Wants asked) (sym (comes.others n apart)) is)
           (subst (Wants asked) (sym comes.here) (subst (λ s. let at : Held = record new { stage = s } in Wants asked (Some at)) (sym comes.stage_is) tt)) kept.wants;

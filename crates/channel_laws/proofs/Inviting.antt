@@ -23,7 +23,7 @@ use Rattle.channel_model.specs.Answers.{connection_result, connection_answer}
 use Rattle.channel_model.specs.Following.{remembers, says, hears_kind, follows_connection, with_channel}
 use Rattle.channel_laws.specs.OwnTalk.{spoken, command_with, response_by, command_if, exchanged, asked_between}
 use Rattle.channel_laws.specs.Views.{peer_of, channel_by, read_at}
-use Rattle.channel_laws.proofs.Lookups.{own_of, find-append, eqb-same}
+use Rattle.channel_laws.proofs.Lookups.{own_of, find-append, eqb-same, distinct-append}
 use Rattle.channel_laws.proofs.Entries.{nothing-same, makes-fresh, found-passes, any-found, read-own}
 use Rattle.channel_laws.proofs.Sound.{ReadsBy, Reads, Core, BeginsWith, IsSome, IsKnown, CallsKept, QueriesKept, EndsKept, HarmlessKept, WantsAt, Wants, identifier_of, Kept, Sound}
 use Rattle.channel_laws.proofs.Granting.{Comes, core-fresh, kept-fresh, fresh-here}
@@ -35,7 +35,7 @@ or_true : (b : Bool) → (b || true) ≡ true
 or_true true = refl
 or_true false = refl
 
-granted-again : (entries : List Entry) (own peer : ℕ) (wanted : Option Wanted) → IsSome (read_at own entries) → entries_after entries (granted own peer wanted) ≡ entries
+pub granted-again : (entries : List Entry) (own peer : ℕ) (wanted : Option Wanted) → IsSome (read_at own entries) → entries_after entries (granted own peer wanted) ≡ entries
 granted-again entries own peer None is = nothing-same entries
 granted-again entries own peer (Some wanted) is = makes-fresh (channel_by wanted.psm own peer) entries ∙ by (read_at own entries) refl is
   where
@@ -60,10 +60,10 @@ response-again asked entries identifier destination source answer known = by (eq
 known-again : (policy : Policy) (r : Reading) (v : Channels) (identifier : ℕ) (content : Content) → IsKnown r.entries (Some content) → Sound policy r v → Sound policy (read_on r (spoken (command_with identifier content))) v
 known-again policy r v identifier (connection_response destination source answer status) known sound =
     let same = response-again r.requests r.entries identifier destination source answer known in
-    record { core = subst (λ es. Core policy es v.held v.next) (sym same) sound.core; kept = subst (λ es. Kept r.requests es v.held v.memory) (sym same) sound.kept }
+    record { core = subst (λ es. Core policy es v.held v.next) (sym same) sound.core; kept = subst (λ es. Kept r.requests es v.held v.memory) (sym same) sound.kept; uncalled = sound.uncalled }
 known-again policy r v identifier (reject reason rest) known sound =
     let same = nothing-same r.entries in
-    record { core = subst (λ es. Core policy es v.held v.next) (sym same) sound.core; kept = subst (λ es. Kept r.requests es v.held v.memory) (sym same) sound.kept }
+    record { core = subst (λ es. Core policy es v.held v.next) (sym same) sound.core; kept = subst (λ es. Kept r.requests es v.held v.memory) (sym same) sound.kept; uncalled = sound.uncalled }
 known-again policy r v identifier (connection_request psm source) known sound = elim known [ ]
 known-again policy r v identifier (configuration_request destination flags options) known sound = elim known [ ]
 known-again policy r v identifier (configuration_response source flags answer options) known sound = elim known [ ]
@@ -140,6 +140,7 @@ invites-again policy r v one identifier wanted invites l at same sound =
     let now : Sound policy (invited r identifier wanted) v = record {
       core = sound.core;
       kept = invited-kept r identifier wanted v.held v.memory v.memory sound.kept refl refl refl refl (subst (CallsKept (came identifier wanted ∷ filter (went Into) r.requests.calls) r.entries) (sym at) (sym same, kept.1));
+      uncalled = sound.uncalled;
     } in
     subst (λ past. Sound policy (fold read_on past (map spoken (option_to_list (command_if identifier l.response)))) v) (sym (invites r)) (said_known policy (invited r identifier wanted) v identifier l.response kept.1 now)
 
@@ -152,6 +153,7 @@ invites-refused policy r v one identifier wanted content invites known sound =
     let now : Sound policy (invited r identifier wanted) w = record {
       core = sound.core;
       kept = invited-kept r identifier wanted v.held v.memory w.memory sound.kept refl refl refl refl (refl, known r.entries);
+      uncalled = sound.uncalled;
     } in
     subst (λ rest. Sound policy (fold read_on r (exchange one identifier (Some content) ++ rest)) w) (sym (asked-none v w refl))
     (subst (λ past. Sound policy (read_on past (spoken (command_with identifier content))) w) (sym (invites r)) (known-again policy (invited r identifier wanted) w identifier content (known r.entries) now))
@@ -259,14 +261,14 @@ le_true a b below = by (nat_le a b) refl
     by true is = refl
     by false is = absurd (omega (arith, below, leb-false a b is))
 
-held_others : (held : List Held) (new : Held) (own : ℕ) → eqb new.own own ≡ false → find (has_own own) (held ++ new ∷ []) ≡ find (has_own own) held
+pub held_others : (held : List Held) (new : Held) (own : ℕ) → eqb new.own own ≡ false → find (has_own own) (held ++ new ∷ []) ≡ find (has_own own) held
 held_others held new own apart = find-append own_of own held new ∙ (ap (λ t. option_or (find (has_own own) held) (cond t (Some new) None)) apart ∙ or_none (find (has_own own) held))
   where
     or_none : (found : Option Held) → option_or found None ≡ found
     or_none None = refl
     or_none (Some found) = refl
 
-held_here : (held : List Held) (new : Held) → find (has_own new.own) held ≡ None → find (has_own new.own) (held ++ new ∷ []) ≡ Some new
+pub held_here : (held : List Held) (new : Held) → find (has_own new.own) held ≡ None → find (has_own new.own) (held ++ new ∷ []) ≡ Some new
 held_here held new none =
     find-append own_of new.own held new
     ∙ (ap (λ o. option_or o (cond (eqb new.own new.own) (Some new) None)) none ∙ ap (λ t. cond t (Some new) None) (eqb-same new.own))
@@ -305,6 +307,7 @@ invites-granted policy r v one identifier psm source invites new none sound =
       free = free;
       others = λ own apart. held_others v.held held own apart;
       here = held_here v.held held (sound.core.held_below v.next (omega arith));
+      lone = distinct-append own_of v.held held (sound.core.held_below v.next (omega arith));
       below = omega arith;
       rises = omega arith;
     } in
@@ -326,6 +329,7 @@ invites-granted policy r v one identifier psm source invites new none sound =
         informations = kept.informations;
         wants = kept.wants;
       });
+      uncalled = λ own above. sound.uncalled own (omega (arith, above));
     }))
 
 -- ---- a request for a channel

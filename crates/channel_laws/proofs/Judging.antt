@@ -27,7 +27,7 @@ use Rattle.channel_model.specs.Answers.{configuration_answer}
 use Rattle.channel_model.specs.Giving.{on_held, configuration_at}
 use Rattle.channel_laws.specs.OwnTalk.{spoken, command_with, asked_between}
 use Rattle.channel_laws.specs.Views.{peer_of, life_of, read_at, asked_mode}
-use Rattle.channel_laws.proofs.Lookups.{found-placed, find-placed}
+use Rattle.channel_laws.proofs.Lookups.{found-placed, find-placed, placed-again}
 use Rattle.channel_laws.proofs.Sound.{AgreesIf, RepeatsIn, Repeats, part_of, Sound}
 use Rattle.channel_laws.proofs.Moves.{Found, found-there}
 use Rattle.channel_laws.proofs.Agreeing.{requested-states}
@@ -169,6 +169,7 @@ accepted-asks policy r v one identifier held peer setup after octets given asked
       life_after_is = asked.talks.life_with last_setup ∙ sym (asked.talks.life_with after);
       setup_after_is = asked.talks.setup_with last_setup;
       others = λ own apart. find-placed (with_setup held last_setup) v.held own apart ∙ sym (find-placed (with_setup held after) v.held own apart);
+      lone = placed-again (with_setup held after) (with_setup held last_setup) v.held;
     } in
     let command : Command = command_with v.identifier (configuration_request peer 0 (written options)) in
     let said : asked_between v w ≡ spoken command ∷ [] =

@@ -11,6 +11,7 @@ pub mod Agreeing
 pub mod Answering
 pub mod Silent
 pub mod Asking
+pub mod Calling
 pub mod Configuring
 pub mod Consenting
 pub mod Verdicts
@@ -18,8 +19,10 @@ pub mod Judging
 pub mod Hearing
 pub mod Responses
 pub mod Settling
+pub mod Connecting
 pub mod Commands
 pub mod Carrying
 pub mod Giving
+pub mod Firing
 pub mod Told
 pub mod Running

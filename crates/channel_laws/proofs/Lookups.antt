@@ -1,7 +1,8 @@
 -- Members of a list by a number that each has.
-use Rattle.std.proofs.Common.{◌≡◌, ℕ, List, [], ◌∷◌, ◌++◌, map, Bool, true, false, cond, eqb, not, Option, Some, None, refl, sym, ap, ◌∙◌}
+use Rattle.std.proofs.Common.{◌≡◌, ℕ, List, [], ◌∷◌, ◌++◌, map, Bool, true, false, cond, ◌||◌, eqb, not, Option, Some, None, refl, sym, ap, ◌∙◌}
 use Rattle.std.specs.Prelude.{find, filter, option_map}
 use Rattle.std.specs.Option.{option_or}
+use Rattle.std.specs.List.{list_any}
 use Rattle.std.proofs.lemmas.Bool.{eqb-true, eq-eqb}
 use Rattle.channel_model.specs.Value.{Held}
 use Rattle.channel_model.specs.Changing.{in_place_of, has_own}
@@ -63,6 +64,85 @@ pub find-gone : {X : Type 0} (key : X → ℕ) (gone : ℕ) (xs : List X) → fi
 find-gone key gone [] = refl
 find-gone key gone (x ∷ xs) = none_by key gone x (filter (λ y. not (eqb (key y) gone)) xs) (eqb (key x) gone) refl (find-gone key gone xs)
 
+-- a member that passes is found
+pub any-finds : {X : Type 0} (p : X → Bool) (xs : List X) → list_any p xs ≡ true → (found : X) × (find p xs ≡ Some found) × (p found ≡ true)
+any-finds p [] is = cc
+any-finds {X = X} p (x ∷ xs) is = by (p x) refl (λ any. any-finds p xs any) is
+  where
+    by : (t : Bool) → p x ≡ t → (list_any p xs ≡ true → (found : X) × (find p xs ≡ Some found) × (p found ≡ true)) → (t || list_any p xs) ≡ true → (found : X) × (cond t (Some x) (find p xs) ≡ Some found) × (p found ≡ true)
+    by true passes later any = (x, refl, passes)
+    by false passes later any = later any
+
+-- ---- each number is that of one member
+
+abbrev pub Distinct : {X : Type 0} → (X → ℕ) → List X → Type 0
+Distinct key [] = Unit {0}
+Distinct key (x ∷ xs) = (find (has key (key x)) xs ≡ None) × Distinct key xs
+
+pub distinct-map : {X : Type 0} (key : X → ℕ) (f : X → X) → ((x : X) → key (f x) ≡ key x) → (xs : List X) → Distinct key xs → Distinct key (map f xs)
+distinct-map key f keeps [] distinct = tt
+distinct-map key f keeps (x ∷ xs) distinct =
+    (ap (λ n. find (has key n) (map f xs)) (keeps x) ∙ (find-map key f keeps (key x) xs ∙ ap (option_map f) distinct.0), distinct-map key f keeps xs distinct.1)
+
+none_before : {X : Type 0} (f : X → X) (found : Option X) → option_map f found ≡ None → found ≡ None
+none_before f None is = refl
+none_before f (Some x) is = cc
+
+pub distinct-before : {X : Type 0} (key : X → ℕ) (f : X → X) → ((x : X) → key (f x) ≡ key x) → (xs : List X) → Distinct key (map f xs) → Distinct key xs
+distinct-before key f keeps [] distinct = tt
+distinct-before key f keeps (x ∷ xs) distinct =
+    (none_before f (find (has key (key x)) xs) (sym (find-map key f keeps (key x) xs) ∙ (sym (ap (λ n. find (has key n) (map f xs)) (keeps x)) ∙ distinct.0)), distinct-before key f keeps xs distinct.1)
+
+pub not_found : {X : Type 0} (test : Bool) (x : X) (rest : Option X) → cond test (Some x) rest ≡ None → (test ≡ false) × (rest ≡ None)
+not_found true x rest is = cc
+not_found false x rest is = (refl, is)
+
+none_passing : {X : Type 0} (p q : X → Bool) (xs : List X) → find q xs ≡ None → find q (filter p xs) ≡ None
+none_passing p q [] none = refl
+none_passing p q (x ∷ xs) none = by (p x) (none_passing p q xs (not_found (q x) x (find q xs) none).1)
+  where
+    by : (t : Bool) → find q (filter p xs) ≡ None → find q (cond t (x ∷ filter p xs) (filter p xs)) ≡ None
+    by true rest = ap (λ t. cond t (Some x) (find q (filter p xs))) (not_found (q x) x (find q xs) none).0 ∙ rest
+    by false rest = rest
+
+pub distinct-filter : {X : Type 0} (key : X → ℕ) (p : X → Bool) (xs : List X) → Distinct key xs → Distinct key (filter p xs)
+distinct-filter key p [] distinct = tt
+distinct-filter key p (x ∷ xs) distinct = by (p x) (distinct-filter key p xs distinct.1)
+  where
+    by : (t : Bool) → Distinct key (filter p xs) → Distinct key (cond t (x ∷ filter p xs) (filter p xs))
+    by true rest = (none_passing p (has key (key x)) xs distinct.0, rest)
+    by false rest = rest
+
+pub eqb-away : (a b : ℕ) → eqb a b ≡ false → eqb b a ≡ false
+eqb-away a b is = by (eqb b a) refl
+  where
+    by : (t : Bool) → eqb b a ≡ t → t ≡ false
+    by false now = refl
+    by true now = let never : true ≡ false = sym (eqb-same a) ∙ (ap (eqb a) (sym (eqb-true b a now)) ∙ is) in absurd cc
+
+pub distinct-append : {X : Type 0} (key : X → ℕ) (xs : List X) (y : X) → find (has key (key y)) xs ≡ None → Distinct key xs → Distinct key (xs ++ y ∷ [])
+distinct-append key [] y none distinct = (refl, tt)
+distinct-append key (x ∷ xs) y none distinct =
+    let parts = not_found (has key (key y) x) x (find (has key (key y)) xs) none in (
+      find-append key (key x) xs y ∙ (ap (λ o. option_or o (cond (has key (key x) y) (Some y) None)) distinct.0 ∙ ap (λ t. cond t (Some y) None) (eqb-away (key x) (key y) parts.0)),
+      distinct-append key xs y parts.1 distinct.1,
+    )
+
+-- a member that is found otherwise is found by its number
+pub found-distinct : {X : Type 0} (key : X → ℕ) (p : X → Bool) (xs : List X) (found : X) → Distinct key xs → find p xs ≡ Some found → find (has key (key found)) xs ≡ Some found
+found-distinct key p [] found distinct is = cc
+found-distinct {X = X} key p (x ∷ xs) found distinct is = by (p x) (λ some. found-distinct key p xs found distinct.1 some) is
+  where
+    further : find (has key (key found)) xs ≡ Some found → (t : Bool) → has key (key found) x ≡ t → cond t (Some x) (find (has key (key found)) xs) ≡ Some found
+    further there false now = there
+    further there true now = let never : None ≡ Some found = sym distinct.0 ∙ (ap (λ n. find (has key n) xs) (eqb-true (key x) (key found) now) ∙ there) in absurd cc
+
+    by : (t : Bool) → (find p xs ≡ Some found → find (has key (key found)) xs ≡ Some found) → cond t (Some x) (find p xs) ≡ Some found → cond (has key (key found) x) (Some x) (find (has key (key found)) xs) ≡ Some found
+    by true later some =
+        let same : x ≡ found = cc in
+        ap (λ (y : X). cond (eqb (key x) (key y)) (Some x) (find (has key (key y)) xs)) (sym same) ∙ (ap (λ t. cond t (Some x) (find (has key (key x)) xs)) (eqb-same (key x)) ∙ ap Some same)
+    by false later some = further (later some) (has key (key found) x) refl
+
 -- ---- channels that are held
 
 abbrev pub own_of : Held → ℕ
@@ -97,3 +177,10 @@ pub find-placed : (held : Held) (hs : List Held) (own : ℕ) → eqb held.own ow
 find-placed held hs own apart =
     find-map own_of (in_place_of held) (in_place_keeps held) own hs
     ∙ map_others held own (find (has_own own) hs) (λ x is. found-has own_of own hs x is) apart
+
+-- endpoints stay those of one channel each
+pub placed-distinct : (held : Held) (hs : List Held) → Distinct own_of hs → Distinct own_of (map (in_place_of held) hs)
+placed-distinct held hs distinct = distinct-map own_of (in_place_of held) (in_place_keeps held) hs distinct
+
+pub placed-again : (held other : Held) (hs : List Held) → Distinct own_of (map (in_place_of held) hs) → Distinct own_of (map (in_place_of other) hs)
+placed-again held other hs distinct = placed-distinct other hs (distinct-before own_of (in_place_of held) (in_place_keeps held) hs distinct)

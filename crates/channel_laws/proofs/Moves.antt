@@ -16,9 +16,9 @@ use Rattle.channel_model.specs.Value.{Setup, Stage, Requested, Connected, Leavin
 use Rattle.channel_model.specs.Policies.{Policy}
 use Rattle.channel_model.specs.Changing.{has_own, setup_of}
 use Rattle.channel_laws.specs.Views.{peer_of, life_of, channel_by, IsThere, read_at}
-use Rattle.channel_laws.proofs.Lookups.{eqb-same}
+use Rattle.channel_laws.proofs.Lookups.{own_of, Distinct, eqb-same}
 use Rattle.channel_laws.proofs.Entries.{entry-same, either_same, nothing-same, read-own}
-use Rattle.channel_laws.proofs.Sound.{AgreesIf, ReadsBy, Reads, Core, Repeats, RepeatsIn, WantsAt, Wants, Kept, Sound, moved}
+use Rattle.channel_laws.proofs.Sound.{AgreesIf, ReadsBy, Reads, Core, Repeats, RepeatsIn, WantsAt, Wants, Kept, Sound, moved, IsPlaced, placed-read}
 use Rattle.channel_laws.proofs.Steps.{core-one, kept-one}
 
 -- ---- sayings that are nothing for channels
@@ -29,6 +29,7 @@ quiet policy r v said is sound =
     (let same = nothing-same r.entries in record {
       core = subst (λ es. Core policy es v.held v.next) (sym same) sound.core;
       kept = subst (λ es. Kept r.requests es v.held v.memory) (sym same) sound.kept;
+      uncalled = sound.uncalled;
     })
 
 -- ---- a channel that is there
@@ -68,17 +69,18 @@ is-below policy entries all next held core is = some_below next held.own held al
 pub sound-one : (policy : Policy) (asked : Requests) (entries : List Entry) (all all' : List Held) (next : ℕ) (memory : Memory) (more : Meaning) (held : Held) (entry : Entry)
     → find (has_own held.own) all ≡ Some held → read_at held.own entries ≡ Some entry → made_by more ≡ None → Core policy entries all next → Kept asked entries all memory
     → ((own : ℕ) → eqb held.own own ≡ false → find (has_own own) all' ≡ find (has_own own) all) → ((own : ℕ) → eqb held.own own ≡ false → moved more own entries ≡ read_at own entries)
-    → Reads policy (find (has_own held.own) all') (Some (entry_after more entry))
+    → Distinct own_of all' → Reads policy (find (has_own held.own) all') (Some (entry_after more entry))
     → ((part : Part) → Repeats (Some held) (Some entry) part → Repeats (find (has_own held.own) all') (Some (entry_after more entry)) part)
     → Wants asked (find (has_own held.own) all')
     → Core policy (entries_after entries more) all' next × Kept asked (entries_after entries more) all' memory
-sound-one policy asked entries all all' next memory more held entry is at none core kept held_others read_others now repeats wants = (
-  core-one policy entries all all' next more held.own none (is-below policy entries all next held core is) core held_others read_others
+sound-one policy asked entries all all' next memory more held entry is at none core kept held_others read_others lone now repeats wants = (
+  core-one policy entries all all' next more held.own none (is-below policy entries all next held core is) core held_others read_others lone
       (subst (λ e. Reads policy (find (has_own held.own) all') (option_map (entry_after more) e)) (sym at) now),
   kept-one asked entries all all' memory more held.own none kept held_others read_others
       (λ part before. subst (λ e. Repeats (find (has_own held.own) all') (option_map (entry_after more) e) part) (sym at)
       (repeats part (subst (λ e. Repeats (Some held) e part) at (subst (λ h. Repeats h (read_at held.own entries) part) is before))))
-      wants,
+      wants
+      (subst (λ e. IsPlaced (find (has_own held.own) all') (option_map (entry_after more) e)) (sym at) (placed-read (find (has_own held.own) all') (entry_after more entry))),
 )
 
 -- ---- a word on the end of a channel
@@ -152,13 +154,13 @@ parted_wants asked held peer said (Some after) (same_psm, same_own, at, lives, s
 
 pub parts-step : (policy : Policy) (asked : Requests) (entries : List Entry) (all all' : List Held) (next : ℕ) (memory : Memory) (said : Word) (held : Held) (peer : ℕ)
     → find (has_own held.own) all ≡ Some held → peer_of held.stage ≡ Some peer → Core policy entries all next → Kept asked entries all memory
-    → ((own : ℕ) → eqb held.own own ≡ false → find (has_own own) all' ≡ find (has_own own) all) → PartsTo held peer said (find (has_own held.own) all')
+    → ((own : ℕ) → eqb held.own own ≡ false → find (has_own own) all' ≡ find (has_own own) all) → Distinct own_of all' → PartsTo held peer said (find (has_own held.own) all')
     → Core policy (entries_after entries (Parts said held.own peer)) all' next × Kept asked (entries_after entries (Parts said held.own peer)) all' memory
-parts-step policy asked entries all all' next memory said held peer is at core kept others to =
+parts-step policy asked entries all all' next memory said held peer is at core kept others lone to =
     let found : Found policy held peer (read_at held.own entries) = found-there policy entries all next held peer core is at in
     let same : entry_after (Parts said held.own peer) found.entry ≡ parted said found.entry = parted-is said held peer found.entry found.there in
     let after : Option Held = find (has_own held.own) all' in
-    sound-one policy asked entries all all' next memory (Parts said held.own peer) held found.entry is found.found_is refl core kept others (λ n apart. parts-others said held.own peer entries n apart)
+    sound-one policy asked entries all all' next memory (Parts said held.own peer) held found.entry is found.found_is refl core kept others (λ n apart. parts-others said held.own peer entries n apart) lone
     (subst (λ e. Reads policy after (Some e)) (sym same) (parted_reads policy held peer said after found.entry found.there found.agrees to))
     (λ part before. subst (λ e. Repeats after (Some e) part) (sym same) (parted_repeats held peer said after found.entry to part before))
     (parted_wants asked held peer said after to)

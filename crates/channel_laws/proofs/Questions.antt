@@ -41,7 +41,7 @@ again-by policy r v one identifier (Some content) said sound = room (has_room v)
     room : (b : Bool) → Sound policy (fold read_on r (cond b (heard one ∷ spoken (command_with identifier content) ∷ []) [] ++ asked_between v (cond b (answers identifier content v) v))) (cond b (answers identifier content v) v)
     room true =
         let w : Channels = answers identifier content v in
-        subst (λ more. Sound policy (fold read_on r ((heard one ∷ spoken (command_with identifier content) ∷ []) ++ more)) w) (sym (asked-none v w refl)) (record { core = said.core; kept = said.kept })
+        subst (λ more. Sound policy (fold read_on r ((heard one ∷ spoken (command_with identifier content) ∷ []) ++ more)) w) (sym (asked-none v w refl)) (record { core = said.core; kept = said.kept; uncalled = said.uncalled })
     room false = subst (λ more. Sound policy (fold read_on r more) v) (sym (asked-none v v refl)) sound
 
 -- what a request leads to, once it is answered
@@ -101,11 +101,11 @@ hears-echo policy r v identifier one fresh is harmless sound =
     remembered-now None all =
         let w : Channels = answered kinds.Echo identifier None (λ u. u) v in
         subst (λ rest. Sound policy (fold read_on r (exchange one identifier None ++ rest)) w) (sym (asked-none v w refl))
-        (harmless-said policy r w one identifier None is tt (record { core = sound.core; kept = record { calls = sound.kept.calls; queries = sound.kept.queries; ends = sound.kept.ends; outgoing = sound.kept.outgoing; echoes = tt; informations = sound.kept.informations; wants = sound.kept.wants } }))
+        (harmless-said policy r w one identifier None is tt (record { core = sound.core; kept = record { calls = sound.kept.calls; queries = sound.kept.queries; ends = sound.kept.ends; outgoing = sound.kept.outgoing; echoes = tt; informations = sound.kept.informations; wants = sound.kept.wants }; uncalled = sound.uncalled }))
     remembered-now (Some content) all =
         let w : Channels = answered kinds.Echo identifier (Some content) (λ u. u) v in
         subst (λ rest. Sound policy (fold read_on r (exchange one identifier (Some content) ++ rest)) w) (sym (asked-none v w refl))
-        (harmless-said policy r w one identifier (Some content) is all (record { core = sound.core; kept = record { calls = sound.kept.calls; queries = sound.kept.queries; ends = sound.kept.ends; outgoing = sound.kept.outgoing; echoes = all; informations = sound.kept.informations; wants = sound.kept.wants } }))
+        (harmless-said policy r w one identifier (Some content) is all (record { core = sound.core; kept = record { calls = sound.kept.calls; queries = sound.kept.queries; ends = sound.kept.ends; outgoing = sound.kept.outgoing; echoes = all; informations = sound.kept.informations; wants = sound.kept.wants }; uncalled = sound.uncalled }))
 
 pub hears-information : (policy : Policy) (r : Reading) (v : Channels) (identifier : ℕ) (one : Read) (fresh : Option Content) → Passes (heard one) → IsHarmless fresh → Sound policy r v
     → Sound policy (fold read_on r (exchanged one (command_if identifier (response_by v.memory.information identifier fresh)) v ++ asked_between v (hears_kind v.memory.information kinds.Information identifier fresh (λ w. w) v)))
@@ -119,8 +119,8 @@ hears-information policy r v identifier one fresh is harmless sound =
     remembered-now None all =
         let w : Channels = answered kinds.Information identifier None (λ u. u) v in
         subst (λ rest. Sound policy (fold read_on r (exchange one identifier None ++ rest)) w) (sym (asked-none v w refl))
-        (harmless-said policy r w one identifier None is tt (record { core = sound.core; kept = record { calls = sound.kept.calls; queries = sound.kept.queries; ends = sound.kept.ends; outgoing = sound.kept.outgoing; echoes = sound.kept.echoes; informations = tt; wants = sound.kept.wants } }))
+        (harmless-said policy r w one identifier None is tt (record { core = sound.core; kept = record { calls = sound.kept.calls; queries = sound.kept.queries; ends = sound.kept.ends; outgoing = sound.kept.outgoing; echoes = sound.kept.echoes; informations = tt; wants = sound.kept.wants }; uncalled = sound.uncalled }))
     remembered-now (Some content) all =
         let w : Channels = answered kinds.Information identifier (Some content) (λ u. u) v in
         subst (λ rest. Sound policy (fold read_on r (exchange one identifier (Some content) ++ rest)) w) (sym (asked-none v w refl))
-        (harmless-said policy r w one identifier (Some content) is all (record { core = sound.core; kept = record { calls = sound.kept.calls; queries = sound.kept.queries; ends = sound.kept.ends; outgoing = sound.kept.outgoing; echoes = sound.kept.echoes; informations = all; wants = sound.kept.wants } }))
+        (harmless-said policy r w one identifier (Some content) is all (record { core = sound.core; kept = record { calls = sound.kept.calls; queries = sound.kept.queries; ends = sound.kept.ends; outgoing = sound.kept.outgoing; echoes = sound.kept.echoes; informations = all; wants = sound.kept.wants }; uncalled = sound.uncalled }))

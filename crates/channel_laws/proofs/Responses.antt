@@ -19,79 +19,13 @@ use Rattle.channel_model.specs.Configuring.{grants, granted_setup, opens_if}
 use Rattle.channel_model.specs.Responses.{hears_grant, hears_grant_at, is_asked}
 use Rattle.channel_laws.specs.OwnTalk.{asked_between}
 use Rattle.channel_laws.specs.Views.{asked_mode}
-use Rattle.channel_laws.proofs.Lookups.{own_of, found-has, found-placed, find-placed}
+use Rattle.channel_laws.proofs.Lookups.{own_of, found-has, found-placed, find-placed, Distinct, placed-distinct}
 use Rattle.channel_laws.proofs.Entries.{nothing-same, settles-same}
 use Rattle.channel_laws.proofs.Sound.{Agrees, AgreesIf, Core, IsAgain, RepeatsIn, WantsAt, Wants, Kept, Sound}
 use Rattle.channel_laws.proofs.Silent.{Turns}
 use Rattle.channel_laws.proofs.Questions.{asked-none}
 use Rattle.channel_laws.proofs.Consenting.{Talks}
 use Rattle.channel_laws.proofs.Inviting.{queries-same}
-
--- ---- a channel that the host asked for: there is none
-
--- no response is awaited
-not-requested : (policy : Policy) (r : Reading) (v : Channels) (held : Held) → find (has_own held.own) v.held ≡ Some held → Sound policy r v → WantsAt r.requests held held.stage
-not-requested policy r v held is sound = subst (Wants r.requests) is (sound.kept.wants held.own)
-
-grant_at : (policy : Policy) (asked : Requests) (stage : Stage) (identifier endpoint answer : ℕ) (held : Held) (v : Channels) → WantsAt asked held stage → hears_grant_at stage policy identifier endpoint answer held v ≡ v
-grant_at policy asked (Requested request) identifier endpoint answer held v wants = elim wants [ ]
-grant_at policy asked (Connected peer setup) identifier endpoint answer held v wants = refl
-grant_at policy asked (Leaving peer setup request) identifier endpoint answer held v wants = refl
-grant_at policy asked (Closing peer request) identifier endpoint answer held v wants = refl
-grant_at policy asked (Crossed peer request) identifier endpoint answer held v wants = refl
-
-grant_of : (policy : Policy) (r : Reading) (v : Channels) (own : ℕ) (found : Option Held) (identifier endpoint answer : ℕ) → find (has_own own) v.held ≡ found → Sound policy r v → hears_grant found policy identifier endpoint answer v ≡ v
-grant_of policy r v own None identifier endpoint answer is sound = refl
-grant_of policy r v own (Some held) identifier endpoint answer is sound =
-    let same : held.own ≡ own = found-has own_of own v.held held is in
-    grant_at policy r.requests held.stage identifier endpoint answer held v (not-requested policy r v held (ap (λ n. find (has_own n) v.held) same ∙ is) sound)
-
--- and nothing is read of it
-nothing-granted : (asked : Requests) (entries : List Entry) (identifier destination source answer : ℕ) → filter (went Out) asked.calls ≡ [] → entries_after entries (meant asked (Opens Into identifier (OnChannel destination source answer))) ≡ entries
-nothing-granted asked entries identifier destination source answer none = by (eqb answer 0 && nat_le 0x0040 destination) (has_failed asked identifier source)
-  where
-    nobody : answered_call asked Out identifier source ≡ None
-    nobody = ap (λ (calls : List Call). call_wanted (last_run (is_call identifier source) calls)) none
-
-    by : (t failed : Bool) → entries_after entries (cond t (cond failed Nothing (granted source destination (answered_call asked Out identifier source))) Nothing) ≡ entries
-    by true true = nothing-same entries
-    by true false = ap (λ w. entries_after entries (granted source destination w)) nobody ∙ nothing-same entries
-    by false failed = nothing-same entries
-
-wants_at : (asked : Requests) (failures : List Failure) (held : Held) (stage : Stage) → WantsAt asked held stage → (let more : Requests = record { calls = asked.calls; queries = asked.queries; failures = failures } in WantsAt more held stage)
-wants_at asked failures held (Requested request) wants = wants
-wants_at asked failures held (Connected peer setup) wants = tt
-wants_at asked failures held (Leaving peer setup request) wants = tt
-wants_at asked failures held (Closing peer request) wants = tt
-wants_at asked failures held (Crossed peer request) wants = tt
-
-wants_still : (asked : Requests) (failures : List Failure) (found : Option Held) → Wants asked found → (let more : Requests = record { calls = asked.calls; queries = asked.queries; failures = failures } in Wants more found)
-wants_still asked failures None wants = tt
-wants_still asked failures (Some held) wants = wants_at asked failures held held.stage wants
-
-failed-kept : (asked : Requests) (failures : List Failure) (entries : List Entry) (held : List Held) (memory : Memory) → Kept asked entries held memory → (let more : Requests = record { calls = asked.calls; queries = asked.queries; failures = failures } in Kept more entries held memory)
-failed-kept asked failures entries held memory kept = record {
-  calls = kept.calls;
-  queries = queries-same asked asked.calls failures held entries memory.configuration kept.queries;
-  ends = kept.ends;
-  echoes = kept.echoes;
-  informations = kept.informations;
-  wants = λ own. wants_still asked failures (find (has_own own) held) (kept.wants own);
-  outgoing = kept.outgoing;
-}
-
-pub hears-granting : (policy : Policy) (r : Reading) (v : Channels) (said : Saying) (identifier destination source answer : ℕ) → sense said ≡ Opens Into identifier (OnChannel destination source answer) → Sound policy r v
-    → (let w : Channels = hears_grant (held_at source v) policy identifier destination answer v in Sound policy (fold read_on r (said ∷ asked_between v w)) w)
-hears-granting policy r v said identifier destination source answer is sound =
-    let same : hears_grant (held_at source v) policy identifier destination answer v ≡ v = grant_of policy r v source (held_at source v) identifier destination answer refl sound in
-    let after : Sound policy (read_on r said) v =
-    subst (λ q. let past : Reading = record { requests = requests_after r.requests q; entries = entries_after r.entries (meant r.requests q) } in Sound policy past v) (sym is)
-    (let entries_same = nothing-granted r.requests r.entries identifier destination source answer sound.kept.outgoing in record {
-      core = subst (λ es. Core policy es v.held v.next) (sym entries_same) sound.core;
-      kept = subst (λ es. Kept (requests_after r.requests (Opens Into identifier (OnChannel destination source answer))) es v.held v.memory) (sym entries_same)
-          (failed-kept r.requests (requests_after r.requests (Opens Into identifier (OnChannel destination source answer))).failures r.entries v.held v.memory sound.kept);
-    }) in
-    subst (λ w. Sound policy (fold read_on r (said ∷ asked_between v w)) w) (sym same) (subst (λ rest. Sound policy (fold read_on r (said ∷ rest)) v) (sym (asked-none v v refl)) after)
 
 -- ---- the options that the host asked for
 
@@ -101,6 +35,7 @@ settled-sound policy r v said identifier source flags answer options is sound =
     (let same = by (is_read (options_read options) && not (eqb answer 4)) in record {
       core = subst (λ es. Core policy es v.held v.next) (sym same) sound.core;
       kept = subst (λ es. Kept r.requests es v.held v.memory) (sym same) sound.kept;
+      uncalled = sound.uncalled;
     })
   where
     by : (t : Bool) → entries_after r.entries (cond t (Settles identifier source) Nothing) ≡ r.entries
@@ -114,6 +49,7 @@ turns-to policy v w held peer setup after talks held_is next_is memory_is parts 
   found = talks.found;
   found_after = ap (find (has_own held.own)) held_is ∙ found-placed (with_setup held after) held v.held talks.found;
   others = λ own apart. ap (find (has_own own)) held_is ∙ find-placed (with_setup held after) v.held own apart;
+  lone = λ distinct. subst (Distinct own_of) (sym held_is) (placed-distinct (with_setup held after) v.held distinct);
   next_is = next_is;
   memory_is = memory_is;
   peer_is = talks.peer_is;

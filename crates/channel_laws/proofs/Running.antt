@@ -1,27 +1,27 @@
 -- A whole run.
-use Rattle.std.proofs.Common.{◌≡◌, ℕ, List, [], ◌∷◌, fold, drop, Bool, true, false, cond, eqb, Option, Some, None, refl, sym, subst, arith}
-use Rattle.std.specs.Prelude.{is_some, option_map}
+use Rattle.std.proofs.Common.{◌≡◌, ℕ, List, [], ◌∷◌, fold, map, drop, Bool, true, false, cond, eqb, Option, Some, None, refl, sym, subst, arith}
+use Rattle.std.specs.Prelude.{is_some}
 use Rattle.std.specs.List.{AllByRecursion}
 use Rattle.std.proofs.lemmas.List.Sums.{fold-append}
 use Rattle.acl_fragments.specs.Pieces.{channel_of}
 use Rattle.capture.specs.declared.flow.Flow.TheVariants.{Out, Into}
-use Rattle.l2cap_signal.specs.Commands.{Command, information_request}
+use Rattle.l2cap_signal.specs.Commands.{information_request}
 use Rattle.l2cap_signal.specs.Reading.{Answer as Read, answers}
 use Rattle.link_talk.specs.Sayings.{Carried}
 use Rattle.link_talk.specs.Channels.{Reading, nothing_read, read_on, reading}
-use Rattle.channel_model.specs.declared.errand.Errand.TheVariants.{Features}
-use Rattle.channel_model.specs.Value.{Request, Carrier, Plain, Retransmitting, Queued, Answer, Ask, Channels}
+use Rattle.channel_model.specs.declared.errand.Errand.TheVariants.{Features, Connection}
+use Rattle.channel_model.specs.Value.{Request, Carrier, Plain, Retransmitting, Channels, Requested}
 use Rattle.channel_model.specs.Policies.{Policy}
 use Rattle.channel_model.specs.Changing.{held_at}
 use Rattle.channel_model.specs.Asking.{new_request, asks}
 use Rattle.channel_model.specs.Hearing.{hears_command, hears_commands}
 use Rattle.channel_model.specs.Carrying.{takes}
-use Rattle.channel_model.specs.Calls.{carrier_at, sends}
-use Rattle.channel_model.specs.Giving.{Signal, headed, command_of, queue_gives, queue_given}
+use Rattle.channel_model.specs.Calls.{carrier_at, sends, can_connect}
+use Rattle.channel_model.specs.Giving.{Given, Signal, Whole, Framed, headed, next_given, after_given}
 use Rattle.channel_laws.specs.OwnTalk.{spoken, command_with, asked_between, said_with, said_with_all}
 use Rattle.channel_laws.specs.Runs.{Occurrence, Comes, Connects, AsksFeatures, Disconnects, Sends, Gives, Fires, Tells, peer_at, said_by_carrier, said_as, said_in, value_after, Run, new_link, run_on, run_of}
 use Rattle.channel_laws.specs.Views.{read_at}
-use Rattle.channel_laws.specs.Laws.{IsGiven, IsAnswering, AreAnswering, AnsweringIsRead, EndpointsAreNew}
+use Rattle.channel_laws.specs.Laws.{ChannelsAreRead, EndpointsAreNew}
 use Rattle.channel_laws.proofs.Sound.{Sound, is_read}
 use Rattle.channel_laws.proofs.Moves.{quiet}
 use Rattle.channel_laws.proofs.Asking.{asked-one, newest-asks}
@@ -29,7 +29,10 @@ use Rattle.channel_laws.proofs.Settling.{nothing-follows}
 use Rattle.channel_laws.proofs.Commands.{IsTold, hears-any}
 use Rattle.channel_laws.proofs.Told.{all-told}
 use Rattle.channel_laws.proofs.Carrying.{takes-pdu}
+use Rattle.channel_laws.proofs.Firing.{fires-sound}
 use Rattle.channel_laws.proofs.Giving.{queue-given, sends-sound, disconnects-sound}
+use Rattle.channel_laws.proofs.Calling.{call-new}
+use Rattle.channel_model.specs.Following.{with_channel}
 
 -- ---- the commands of a PDU
 
@@ -54,7 +57,14 @@ features-by policy r v None is sound =
     let before : Channels = record v { features = Some (new_request v) } in
     let w : Channels = asks Features before in
     let said : asked_between v w ≡ spoken (command_with v.identifier (information_request 2)) ∷ [] = asked-one v w Features (command_with v.identifier (information_request 2)) refl (newest-asks Features before) refl in
-    subst (λ rest. Sound policy (fold read_on r rest) w) (sym said) (quiet policy r w (spoken (command_with v.identifier (information_request 2))) refl (record { core = sound.core; kept = sound.kept }))
+    subst (λ rest. Sound policy (fold read_on r rest) w) (sym said) (quiet policy r w (spoken (command_with v.identifier (information_request 2))) refl (record { core = sound.core; kept = sound.kept; uncalled = sound.uncalled }))
+
+-- ---- a channel is asked for
+
+connects-by : (policy : Policy) (r : Reading) (v : Channels) (psm : ℕ) (can : Bool) → Sound policy r v
+    → (let w : Channels = cond can (asks (Connection v.next) (with_channel psm (Requested (new_request v)) v)) v in Sound policy (fold read_on r (asked_between v w)) w)
+connects-by policy r v psm true sound = call-new policy r v psm sound
+connects-by policy r v psm false sound = nothing-follows policy r v sound
 
 -- ---- an SDU is sent
 
@@ -64,40 +74,36 @@ sent-said policy r v (Some (Plain agreed (Some waiting))) peer sdu sound = sound
 sent-said policy r v (Some (Plain agreed None)) peer sdu sound = quiet policy r v (Carried Out (headed peer sdu)) refl sound
 sent-said policy r v (Some (Retransmitting machine)) peer sdu sound = sound
 
--- ---- what waits on the signalling channel is given
+-- ---- the next PDU is given
 
-command_said : (r : Reading) (found : Option Command) (pdu : List ℕ) → fold read_on r (said_as (option_map Signal found) pdu) ≡ r
-command_said r None pdu = refl
-command_said r (Some command) pdu = refl
-
-given-said : (policy : Policy) (r : Reading) (v : Channels) (pdu : List ℕ) (queue : List Queued) → v.queue ≡ queue → IsGiven queue → Sound policy r v → Sound policy (fold read_on r (said_as (queue_gives queue v) pdu)) (queue_given queue v)
-given-said policy r v pdu [] at is sound = elim is [ ]
-given-said policy r v pdu (Answer command ∷ behind) at is sound = queue-given policy r v (Answer command ∷ behind) tt sound
-given-said policy r v pdu (Ask errand ∷ behind) at is sound =
-    subst (λ x. Sound policy x (queue_given (Ask errand ∷ behind) v)) (sym (command_said r (command_of errand v) pdu)) (queue-given policy r v (Ask errand ∷ behind) tt sound)
+given-quiet : (policy : Policy) (r : Reading) (v : Channels) (given : Option Given) (pdu : List ℕ) → Sound policy r v → Sound policy (fold read_on r (said_as given pdu)) v
+given-quiet policy r v None pdu sound = sound
+given-quiet policy r v (Some (Signal command)) pdu sound = sound
+given-quiet policy r v (Some (Whole peer sdu)) pdu sound = sound
+given-quiet policy r v (Some (Framed peer frame)) pdu sound = quiet policy r v (Carried Out pdu) refl sound
 
 -- ---- whatever happens
 
-one-more : (policy : Policy) (run : Run) (r : Reading) (more : Occurrence) → IsAnswering run more → Sound policy r run.value → Sound policy (fold read_on r (said_in policy more run.value)) (value_after policy more run.value)
-one-more policy run r (Comes pdu) is sound = comes-by policy r run.value pdu (eqb (channel_of pdu) 0x0001) refl sound
-one-more policy run r (Connects psm) is sound = elim is [ ]
-one-more policy run r AsksFeatures is sound = features-by policy r run.value run.value.features refl sound
-one-more policy run r (Disconnects own) is sound = disconnects-sound policy r run.value own sound
-one-more policy run r (Sends own sdu) is sound =
+one-more : (policy : Policy) (run : Run) (r : Reading) (more : Occurrence) → Sound policy r run.value → Sound policy (fold read_on r (said_in policy more run.value)) (value_after policy more run.value)
+one-more policy run r (Comes pdu) sound = comes-by policy r run.value pdu (eqb (channel_of pdu) 0x0001) refl sound
+one-more policy run r (Connects psm) sound = connects-by policy r run.value psm (can_connect run.value) sound
+one-more policy run r AsksFeatures sound = features-by policy r run.value run.value.features refl sound
+one-more policy run r (Disconnects own) sound = disconnects-sound policy r run.value own sound
+one-more policy run r (Sends own sdu) sound =
     let sent : Sound policy r (sends own sdu run.value) = sends-sound policy r run.value own sdu sound in
     sent-said policy r (sends own sdu run.value) (carrier_at own run.value) (peer_at (held_at own run.value)) sdu sent
-one-more policy run r (Gives pdu) is sound = given-said policy r run.value pdu run.value.queue refl is sound
-one-more policy run r Fires is sound = elim is [ ]
-one-more policy run r Tells is sound = record { core = sound.core; kept = sound.kept }
+one-more policy run r (Gives pdu) sound = given-quiet policy r (after_given run.value) (next_given run.value) pdu (queue-given policy r run.value run.value.queue sound)
+one-more policy run r Fires sound = fires-sound policy r run.value policy.tries (map (λ held. held.own) run.value.held) sound
+one-more policy run r Tells sound = record { core = sound.core; kept = sound.kept; uncalled = sound.uncalled }
 
 abbrev IsSound : Policy → Run → Type 0
 IsSound policy run = Sound policy (reading run.said) run.value
 
-all-of : (policy : Policy) (run : Run) (list : List Occurrence) → AreAnswering policy run list → IsSound policy run → IsSound policy (fold (run_on policy) run list)
-all-of policy run [] all sound = sound
-all-of policy run (more ∷ list) (now, all) sound =
-    all-of policy (run_on policy run more) list all
-    (subst (λ x. Sound policy x (value_after policy more run.value)) (sym (fold-append read_on nothing_read run.said (said_in policy more run.value))) (one-more policy run (reading run.said) more now sound))
+all-of : (policy : Policy) (run : Run) (list : List Occurrence) → IsSound policy run → IsSound policy (fold (run_on policy) run list)
+all-of policy run [] sound = sound
+all-of policy run (more ∷ list) sound =
+    all-of policy (run_on policy run more) list
+    (subst (λ x. Sound policy x (value_after policy more run.value)) (sym (fold-append read_on nothing_read run.said (said_in policy more run.value))) (one-more policy run (reading run.said) more sound))
 
 pub at_first : (policy : Policy) → IsSound policy new_link
 at_first policy = record {
@@ -108,17 +114,19 @@ at_first policy = record {
     start = omega arith;
     apart = λ a b x y at_a at_b. cc;
     distinct = tt;
+    lone = tt;
   };
-  kept = record { calls = refl; queries = refl; ends = tt; echoes = tt; informations = tt; wants = λ own. tt; outgoing = refl };
+  kept = record { calls = refl; queries = refl; ends = tt; echoes = tt; informations = tt; wants = λ own. tt; outgoing = λ identifier own called. cc };
+  uncalled = λ own above identifier. (refl, refl);
 }
 
-pub answering-is_read : AnsweringIsRead
-answering-is_read policy list all own =
-    let sound : IsSound policy (run_of policy list) = all-of policy new_link list all (at_first policy) in
+pub channels-are_read : ChannelsAreRead
+channels-are_read policy list own =
+    let sound : IsSound policy (run_of policy list) = all-of policy new_link list (at_first policy) in
     is_read policy (held_at own (run_of policy list).value) (read_at own (reading (run_of policy list).said).entries) (sound.core.reads own)
 
 pub endpoints-are_new : EndpointsAreNew
-endpoints-are_new policy list all =
+endpoints-are_new policy list =
     let run : Run = run_of policy list in
-    let sound : IsSound policy run = all-of policy new_link list all (at_first policy) in
+    let sound : IsSound policy run = all-of policy new_link list (at_first policy) in
     record { high = sound.core.start; unheld = sound.core.held_below run.value.next (omega arith); unread = sound.core.read_below run.value.next (omega arith) }

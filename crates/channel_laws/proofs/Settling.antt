@@ -34,9 +34,9 @@ use Rattle.channel_model.specs.Responses.{hears_response, hears_response_on, hea
 use Rattle.channel_model.specs.Giving.{on_held, configuration_at}
 use Rattle.channel_laws.specs.OwnTalk.{spoken, command_with, asked_between}
 use Rattle.channel_laws.specs.Views.{peer_of, read_at, asked_mode}
-use Rattle.channel_laws.proofs.Lookups.{own_of, found-has, found-placed, find-placed}
+use Rattle.channel_laws.proofs.Lookups.{own_of, found-has, found-placed, find-placed, placed-again}
 use Rattle.channel_laws.proofs.Entries.{entry-is, entry-same, either_same}
-use Rattle.channel_laws.proofs.Sound.{Agrees, states_mode, Reads, WantsAt, Wants, Sound, moved, at_each}
+use Rattle.channel_laws.proofs.Sound.{Agrees, states_mode, Reads, Sound, moved, at_each, requested-unread}
 use Rattle.channel_laws.proofs.Moves.{Found, found-there, parts-others}
 use Rattle.channel_laws.proofs.Ending.{leads-said, ends-leads, same-reads}
 use Rattle.channel_laws.proofs.Agreeing.{requested-states}
@@ -71,6 +71,7 @@ asks-sound policy r v held peer setup after options talks parts agrees states so
       life_after_is = talks.life_with last_setup ∙ sym (talks.life_with after);
       setup_after_is = talks.setup_with last_setup;
       others = λ own apart. find-placed (with_setup held last_setup) v.held own apart ∙ sym (find-placed (with_setup held after) v.held own apart);
+      lone = placed-again (with_setup held after) (with_setup held last_setup) v.held;
     } in
     let command : Command = command_with v.identifier (configuration_request peer 0 (written options)) in
     let said : asked_between v w ≡ spoken command ∷ [] =
@@ -191,7 +192,7 @@ unnamed policy r v said own endpoint is same sound =
     let all : (n : ℕ) → moved (Parts EndAnswered own endpoint) n r.entries ≡ read_at n r.entries =
     λ n. at_each (λ m. Unit {0}) (λ m. moved (Parts EndAnswered own endpoint) m r.entries ≡ read_at m r.entries) own (λ m apart any. parts-others EndAnswered own endpoint r.entries m apart) same (λ m. tt) n in
     let on = same-reads policy r.requests r.entries v.held v.next v.memory (Parts EndAnswered own endpoint) refl all sound.core sound.kept in
-    subst (λ q. let past : Reading = record { requests = requests_after r.requests q; entries = entries_after r.entries (meant r.requests q) } in Sound policy past v) (sym is) (record { core = on.0; kept = on.1 })
+    subst (λ q. let past : Reading = record { requests = requests_after r.requests q; entries = entries_after r.entries (meant r.requests q) } in Sound policy past v) (sym is) (record { core = on.0; kept = on.1; uncalled = sound.uncalled })
 
 ends-identifier : (stage : Stage) (held : Held) (v : Channels) → (ends_at stage OwnClosed held v).identifier ≡ v.identifier
 ends-identifier (Requested request) held v = refl
@@ -217,7 +218,9 @@ ended-by policy r v said held peer endpoint false is says at peer_is sound =
 ended-at : (policy : Policy) (r : Reading) (v : Channels) (said : Saying) (held : Held) (endpoint : ℕ) (stage : Stage) → held.stage ≡ stage → sense said ≡ Ends EndAnswered held.own endpoint → find (has_own held.own) v.held ≡ Some held → Sound policy r v
     → (let w : Channels = cond (is_peer endpoint stage) (ends_at held.stage OwnClosed held v) v in Sound policy (fold read_on r (said ∷ asked_between v w)) w)
 ended-at policy r v said held endpoint (Requested request) is says at sound =
-    elim (subst (WantsAt r.requests held) is (subst (Wants r.requests) at (sound.kept.wants held.own))) [ ]
+    let reads : Reads policy (Some held) (read_at held.own r.entries) = subst (λ h. Reads policy h (read_at held.own r.entries)) at (sound.core.reads held.own) in
+    let unread : read_at held.own r.entries ≡ None = requested-unread policy held request (read_at held.own r.entries) is reads in
+    nothing-follows policy (read_on r said) v (unnamed policy r v said held.own endpoint says (ap (option_map (entry_after (Parts EndAnswered held.own endpoint))) unread ∙ sym unread) sound)
 ended-at policy r v said held endpoint (Connected peer setup) is says at sound = ended-by policy r v said held peer endpoint (eqb endpoint peer) refl says at (ap peer_of is) sound
 ended-at policy r v said held endpoint (Leaving peer setup request) is says at sound = ended-by policy r v said held peer endpoint (eqb endpoint peer) refl says at (ap peer_of is) sound
 ended-at policy r v said held endpoint (Closing peer request) is says at sound = ended-by policy r v said held peer endpoint (eqb endpoint peer) refl says at (ap peer_of is) sound

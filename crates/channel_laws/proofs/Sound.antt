@@ -2,6 +2,7 @@
 use Rattle.std.proofs.Common.{◌≡◌, ℕ, ◌≤◌, ◌%◌, List, [], ◌∷◌, Bool, true, false, eqb, Option, Some, None, Ok, refl, sym, ap, subst, ◌∙◌}
 use Rattle.std.specs.Prelude.{find, filter, option_map}
 use Rattle.std.specs.Option.{option_or}
+use Rattle.std.specs.List.{list_any}
 use Rattle.std.proofs.lemmas.Bool.{eqb-true}
 use Rattle.capture.specs.declared.flow.Flow.TheVariants.{Out, Into}
 use Rattle.l2cap_signal.specs.Commands.{Content, reject, connection_request, connection_response, configuration_request, configuration_response, disconnection_request, disconnection_response, echo_request, echo_response, information_request, information_response}
@@ -12,18 +13,20 @@ use Rattle.l2cap_config.specs.declared.wish.Mode.TheVariants.{Basic, Enhanced}
 use Rattle.l2cap_config.specs.declared.wish.Wish.{Wish}
 use Rattle.l2cap_config.specs.Reading.{options_read}
 use Rattle.l2cap_config.specs.Writing.{written}
+use Rattle.link_talk.specs.declared.call.Wanted.{Wanted}
 use Rattle.link_talk.specs.declared.call.Call.{Call}
 use Rattle.link_talk.specs.Senses.{Quiet, sense_of}
-use Rattle.link_talk.specs.Requests.{Requests, Query, Terms, went, answered_query}
+use Rattle.link_talk.specs.Requests.{Requests, Query, Terms, went, is_own_call, answered_call, answered_query, has_failed}
 use Rattle.link_talk.specs.Meanings.{Meaning, Part}
 use Rattle.link_talk.specs.Setups as read
 use Rattle.link_talk.specs.declared.life.Life.TheVariants.{Over}
 use Rattle.link_talk.specs.Channels.{word, is_there, Entry, entry_after, made_by, entries_after, Reading}
-use Rattle.channel_model.specs.Value.{Own, Unasked, Asking, Granted, Carrier, Setup, Stage, Requested, Connected, Leaving, Closing, Crossed, Held, Remembered, Memory, Channels}
+use Rattle.channel_model.specs.Value.{Own, Unasked, Asking, Granted, Carrier, Setup, Stage, Requested, Connected, Leaving, Closing, Crossed, Held, Remembered, Memory, Channels, Request}
 use Rattle.channel_model.specs.Policies.{Policy}
 use Rattle.channel_model.specs.Changing.{has_own, setup_of}
 use Rattle.channel_laws.specs.Views.{peer_of, carrier_mode, IsSetUp, IsSetUpIf, IsThere, IsRead, IsReadBy, read_at}
-use Rattle.channel_laws.proofs.Entries.{read-after, there-before, Distinct}
+use Rattle.channel_laws.proofs.Lookups.{own_of, Distinct}
+use Rattle.channel_laws.proofs.Entries.{own_read, read-after, there-before}
 
 -- ---- one channel
 
@@ -84,6 +87,14 @@ is_read policy None None reads = tt
 is_read policy None (Some entry) reads = reads
 is_read policy (Some held) found reads = weaker_by policy held (peer_of held.stage) found reads
 
+-- one that is only asked for is not read
+unread_by : (policy : Policy) (held : Held) (found : Option Entry) → ReadsBy policy held None found → found ≡ None
+unread_by policy held None reads = refl
+unread_by policy held (Some entry) reads = elim reads [ ]
+
+pub requested-unread : (policy : Policy) (held : Held) (request : Request) (found : Option Entry) → held.stage ≡ Requested request → Reads policy (Some held) found → found ≡ None
+requested-unread policy held request found is reads = unread_by policy held found (subst (λ p. ReadsBy policy held p found) (ap peer_of is) reads)
+
 -- ---- all channels
 
 -- of channels that are there the peer gave each an endpoint of its own
@@ -96,7 +107,8 @@ pub record Core (policy : Policy) (entries : List Entry) (held : List Held) (nex
   pub read_below : (own : ℕ) → next ≤ own → read_at own entries ≡ None
   pub start : 0x0040 ≤ next
   pub apart : Apart entries
-  pub distinct : Distinct entries
+  pub distinct : Distinct own_read entries
+  pub lone : Distinct own_of held
 
 -- ---- what is remembered
 
@@ -215,10 +227,21 @@ abbrev pub HarmlessKept : Option Remembered → Type 0
 HarmlessKept None = Unit {0}
 HarmlessKept (Some last) = IsHarmless last.response
 
--- ---- the host asks for no channel of its own
+-- ---- what the host asked for
+
+abbrev pub has_called : Requests → (identifier own : ℕ) → Bool
+has_called asked identifier own = list_any (is_own_call identifier own) asked.calls
+
+abbrev pub wanted_by : (psm own : ℕ) → Wanted
+wanted_by psm own = record { psm = psm; source = own }
+
+-- a request that waits is the one that a response answers, and the only one for its endpoint
+abbrev pub Awaits : Requests → (psm own identifier : ℕ) → Type 0
+Awaits asked psm own identifier =
+    (answered_call asked Out identifier own ≡ Some (wanted_by psm own)) × (has_failed asked identifier own ≡ false) × ((other : ℕ) → has_called asked other own ≡ true → other ≡ identifier)
 
 abbrev pub WantsAt : Requests → Held → Stage → Type 0
-WantsAt asked held (Requested request) = ⊥
+WantsAt asked held (Requested request) = Awaits asked held.psm held.own request.identifier
 WantsAt asked held (Connected peer setup) = Unit {0}
 WantsAt asked held (Leaving peer setup request) = Unit {0}
 WantsAt asked held (Closing peer request) = Unit {0}
@@ -227,6 +250,27 @@ WantsAt asked held (Crossed peer request) = Unit {0}
 abbrev pub Wants : Requests → Option Held → Type 0
 Wants asked None = Unit {0}
 Wants asked (Some held) = WantsAt asked held held.stage
+
+-- any other came to a channel, or to nothing
+abbrev pub IsPlaced : Option Held → Option Entry → Type 0
+IsPlaced held (Some entry) = Unit {0}
+IsPlaced (Some held) None = Unit {0}
+IsPlaced None None = ⊥
+
+abbrev pub Outgoing : Requests → List Held → List Entry → Type 0
+Outgoing asked held entries = (identifier own : ℕ) → has_called asked identifier own ≡ true → has_failed asked identifier own ≡ false → IsPlaced (find (has_own own) held) (read_at own entries)
+
+-- nothing was asked for the endpoints that are given later
+abbrev pub Uncalled : Requests → ℕ → Type 0
+Uncalled asked next = (own : ℕ) → next ≤ own → (identifier : ℕ) → (has_called asked identifier own ≡ false) × (has_failed asked identifier own ≡ false)
+
+pub placed-held : (held : Held) (found : Option Entry) → IsPlaced (Some held) found
+placed-held held None = tt
+placed-held held (Some entry) = tt
+
+pub placed-read : (held : Option Held) (entry : Entry) → IsPlaced held (Some entry)
+placed-read None entry = tt
+placed-read (Some held) entry = tt
 
 -- ---- all of it
 
@@ -237,11 +281,12 @@ pub record Kept (asked : Requests) (entries : List Entry) (held : List Held) (me
   pub echoes : HarmlessKept memory.echo
   pub informations : HarmlessKept memory.information
   pub wants : (own : ℕ) → Wants asked (find (has_own own) held)
-  pub outgoing : filter (went Out) asked.calls ≡ []
+  pub outgoing : Outgoing asked held entries
 
 pub record Sound (policy : Policy) (read_so_far : Reading) (v : Channels) : Type 0 where
   pub core : Core policy read_so_far.entries v.held v.next
   pub kept : Kept read_so_far.requests read_so_far.entries v.held v.memory
+  pub uncalled : Uncalled read_so_far.requests v.next
 
 -- ---- one channel goes on
 

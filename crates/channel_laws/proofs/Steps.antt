@@ -12,8 +12,9 @@ use Rattle.channel_model.specs.Value.{Held, Remembered, Memory}
 use Rattle.channel_model.specs.Policies.{Policy}
 use Rattle.channel_model.specs.Changing.{has_own}
 use Rattle.channel_laws.specs.Views.{read_at}
+use Rattle.channel_laws.proofs.Lookups.{own_of, Distinct}
 use Rattle.channel_laws.proofs.Entries.{read-after, gone-stays, distinct-after}
-use Rattle.channel_laws.proofs.Sound.{Reads, Core, IsSome, IsKnown, CallsKept, IsAway, IsEnded, EndsKept, Repeats, part_of, RepeatsOf, IsRepeated, QueriesKept, Wants, Kept, at_each, moved, apart-after}
+use Rattle.channel_laws.proofs.Sound.{Reads, Core, IsSome, IsKnown, CallsKept, IsAway, IsEnded, EndsKept, Repeats, part_of, RepeatsOf, IsRepeated, QueriesKept, Wants, Kept, at_each, moved, apart-after, IsPlaced, Outgoing, placed-read}
 
 false_if : (b : Bool) → (b ≡ true → ⊥) → b ≡ false
 false_if true never = absurd (never refl)
@@ -26,8 +27,8 @@ less-apart a b below = false_if (eqb a b) (λ same. omega (arith, eqb-true a b s
 
 pub core-one : (policy : Policy) (entries : List Entry) (held held' : List Held) (next : ℕ) (more : Meaning) (here : ℕ) → made_by more ≡ None → here < next → Core policy entries held next
     → ((own : ℕ) → eqb here own ≡ false → find (has_own own) held' ≡ find (has_own own) held) → ((own : ℕ) → eqb here own ≡ false → moved more own entries ≡ read_at own entries)
-    → Reads policy (find (has_own here) held') (moved more here entries) → Core policy (entries_after entries more) held' next
-core-one policy entries held held' next more here none below core held_others read_others now = record {
+    → Distinct own_of held' → Reads policy (find (has_own here) held') (moved more here entries) → Core policy (entries_after entries more) held' next
+core-one policy entries held held' next more here none below core held_others read_others lone now = record {
   reads = λ own. subst (Reads policy (find (has_own own) held')) (sym (read-after more entries own none))
       (at_each (λ n. Reads policy (find (has_own n) held) (read_at n entries)) (λ n. Reads policy (find (has_own n) held') (moved more n entries)) here
       (λ n apart reads. subst (Reads policy (find (has_own n) held')) (sym (read_others n apart)) (subst (λ h. Reads policy h (read_at n entries)) (sym (held_others n apart)) reads)) now core.reads own);
@@ -36,6 +37,7 @@ core-one policy entries held held' next more here none below core held_others re
   start = core.start;
   apart = apart-after more entries none core.apart;
   distinct = distinct-after more entries none core.distinct;
+  lone = lone;
 }
 
 -- ---- what is remembered
@@ -129,11 +131,23 @@ lasts-after more entries none own is = subst IsSome (sym (read-after more entrie
 pub away-stays : (more : Meaning) (entries : List Entry) → made_by more ≡ None → StaysAway entries (entries_after entries more)
 away-stays more entries none own is = subst IsAway (sym (read-after more entries own none)) (away-after more (read_at own entries) is)
 
+placed_moved : (more : Meaning) (held : Option Held) (found : Option Entry) → IsPlaced held found → IsPlaced held (option_map (entry_after more) found)
+placed_moved more held None placed = placed
+placed_moved more held (Some entry) placed = placed-read held (entry_after more entry)
+
+-- what was asked for still comes to something
+pub outgoing-after : (asked : Requests) (entries : List Entry) (held held' : List Held) (more : Meaning) (here : ℕ) → made_by more ≡ None → ((own : ℕ) → eqb here own ≡ false → find (has_own own) held' ≡ find (has_own own) held)
+    → IsPlaced (find (has_own here) held') (read_at here (entries_after entries more)) → Outgoing asked held entries → Outgoing asked held' (entries_after entries more)
+outgoing-after asked entries held held' more here none others now outgoing identifier own called hopeful =
+    at_each (λ n. Unit {0}) (λ n. IsPlaced (find (has_own n) held) (read_at n entries) → IsPlaced (find (has_own n) held') (read_at n (entries_after entries more))) here
+    (λ n apart any is. subst (λ h. IsPlaced h (read_at n (entries_after entries more))) (sym (others n apart)) (subst (IsPlaced (find (has_own n) held)) (sym (read-after more entries n none)) (placed_moved more (find (has_own n) held) (read_at n entries) is)))
+    (λ is. now) (λ n. tt) own (outgoing identifier own called hopeful)
+
 pub kept-one : (asked : Requests) (entries : List Entry) (held held' : List Held) (memory : Memory) (more : Meaning) (here : ℕ) → made_by more ≡ None → Kept asked entries held memory
     → ((own : ℕ) → eqb here own ≡ false → find (has_own own) held' ≡ find (has_own own) held) → ((own : ℕ) → eqb here own ≡ false → moved more own entries ≡ read_at own entries)
     → ((part : Part) → Repeats (find (has_own here) held) (read_at here entries) part → Repeats (find (has_own here) held') (moved more here entries) part)
-    → Wants asked (find (has_own here) held') → Kept asked (entries_after entries more) held' memory
-kept-one asked entries held held' memory more here none kept held_others read_others repeats wants = record {
+    → Wants asked (find (has_own here) held') → IsPlaced (find (has_own here) held') (moved more here entries) → Kept asked (entries_after entries more) held' memory
+kept-one asked entries held held' memory more here none kept held_others read_others repeats wants placed = record {
   calls = calls-on (filter (went Into) asked.calls) entries (entries_after entries more) (lasts-after more entries none) memory.connection kept.calls;
   queries = queries-on asked held entries held' (entries_after entries more)
       (λ own part. at_each (λ n. Unit {0}) (λ n. Repeats (find (has_own n) held) (read_at n entries) part → Repeats (find (has_own n) held') (read_at n (entries_after entries more)) part) here
@@ -143,7 +157,7 @@ kept-one asked entries held held' memory more here none kept held_others read_ot
       memory.configuration kept.queries;
   ends = ends-on entries (entries_after entries more) (away-stays more entries none) memory.disconnection kept.ends;
   echoes = kept.echoes;
-  outgoing = kept.outgoing;
+  outgoing = outgoing-after asked entries held held' more here none held_others (subst (IsPlaced (find (has_own here) held')) (sym (read-after more entries here none)) placed) kept.outgoing;
   informations = kept.informations;
   wants = at_each (λ n. Wants asked (find (has_own n) held)) (λ n. Wants asked (find (has_own n) held')) here (λ n apart is. subst (Wants asked) (sym (held_others n apart)) is) wants kept.wants;
 }
