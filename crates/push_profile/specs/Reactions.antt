@@ -1,11 +1,11 @@
 -- What the calls of a server do: the pure machine goes from what was to what is, whatever answers of the inbox are left over.
-use Rattle.std.specs.Prelude.{◌≡◌, ℕ, ◌≤◌, Bool, List, [], ◌++◌, length, take, drop, Option, Result, IsTrue, IfOk, is_err}
+use Rattle.std.specs.Prelude.{◌≡◌, ℕ, ◌≤◌, List, [], ◌++◌, length, drop, Option, Result, IsTrue, IfOk, is_err}
 use Rattle.bt_base.specs.Counts.{HasRisen}
 use Rattle.bt_base.specs.Objects.{Contents}
 use Rattle.bt_base.specs.declared.no_memory.NoMemory.{NoMemory}
 use Rattle.bt_base.specs.declared.settings.Transport.{Transport}
 use Rattle.obex_session.specs.InboxCalls.{Answer}
-use Rattle.push_model.specs.Sessions.{Sessions, Gift, Parted, Heard, lets_go, answers_to, hears}
+use Rattle.push_model.specs.Sessions.{Sessions, Gift, lets_go, answers_to, hears}
 use Rattle.push_model.specs.Service.{Service, hears_packet, parts}
 
 abbrev pub given : Option Contents → List Answer → Gift
