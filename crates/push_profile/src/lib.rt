@@ -2,6 +2,8 @@
 //! stores objects over two transports, and the client that pushes.
 #![tactic(auto)]
 
+mod causes;
+mod course;
 mod service;
 mod sessions;
 
