@@ -17,9 +17,9 @@ next_identifier identifier = if identifier == 255 then 1 else identifier + 1
 abbrev pub new_request : Channels → Request
 new_request v = record { identifier = v.identifier; given = 0 }
 
--- a new own request waits to be given
+-- a new own request waits to be given, in place of any before it
 abbrev pub asks : Errand → Channels → Channels
-asks errand v = queued (Ask errand) (record v { identifier = next_identifier v.identifier })
+asks errand v = queued (Ask errand) (forgets errand (record v { identifier = next_identifier v.identifier }))
 
 -- ---- the own request for options
 
@@ -29,7 +29,7 @@ first_options wish = requested wish no_options
 
 abbrev pub asks_options : Held → Setup → Options → Channels → Channels
 asks_options held setup options v =
-    asks (Configuration held.own) (to_setup held (record setup { own = Asking (new_request v) options }) (forgets (Configuration held.own) v))
+    asks (Configuration held.own) (to_setup held (record setup { own = Asking (new_request v) options }) v)
 
 -- ---- the timer
 

@@ -22,10 +22,6 @@ in_place_of held other = if other.own == held.own then held else other
 abbrev pub to_stage : Held → Stage → Channels → Channels
 to_stage held stage v = record v { held = map (in_place_of (record held { stage = stage })) v.held }
 
--- a channel does not count any more
-abbrev pub gone : Held → Channels → Channels
-gone held v = record v { held = filter (λ other. not (other.own == held.own)) v.held }
-
 -- the peer's endpoint of a channel that counts
 abbrev pub is_peer : ℕ → Stage → Bool
 is_peer endpoint (Requested request) = false
@@ -103,6 +99,24 @@ queued more v = record v { queue = v.queue ++ more ∷ [] }
 -- a copy that waits of a request that needs no answer any more is not given (this project's own)
 abbrev pub forgets : Errand → Channels → Channels
 forgets errand v = record v { queue = filter (λ waiting. not (is_copy errand waiting)) v.queue }
+
+-- the request is about the channel
+abbrev pub is_about : (own : ℕ) → Errand → Bool
+is_about own (Connection other) = other == own
+is_about own (Configuration other) = other == own
+is_about own (Disconnection other) = other == own
+is_about own Features = false
+
+abbrev pub is_copy_about : (own : ℕ) → Queued → Bool
+is_copy_about own (Answer command) = false
+is_copy_about own (Ask errand) = is_about own errand
+
+-- a channel does not count any more, and nothing is asked of it
+abbrev pub gone : Held → Channels → Channels
+gone held v = record v {
+  held = filter (λ other. not (other.own == held.own)) v.held;
+  queue = filter (λ waiting. not (is_copy_about held.own waiting)) v.queue;
+}
 
 abbrev pub is_answer : Queued → Bool
 is_answer (Answer command) = true

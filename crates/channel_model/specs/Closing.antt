@@ -1,6 +1,6 @@
 -- How a channel is closed (Core 5.1, Volume 3 Part A, 4.6 and 4.7).
 use Rattle.std.specs.Prelude.{ℕ}
-use Rattle.channel_model.specs.declared.errand.Errand.TheVariants.{Connection, Configuration, Disconnection}
+use Rattle.channel_model.specs.declared.errand.Errand.TheVariants.{Configuration, Disconnection}
 use Rattle.channel_model.specs.declared.event.ChannelEvent.TheVariants.{Closed}
 use Rattle.channel_model.specs.declared.event.CloseReason.{CloseReason}
 use Rattle.channel_model.specs.declared.event.CloseReason.TheVariants.{PeerClosed}
@@ -14,7 +14,7 @@ closed_event reason held v = tells (Closed held.own held.psm reason) v
 -- The host closes a channel. One that is only asked for is no more. For any other a request for its end goes out, unless one
 -- waits.
 abbrev pub closes_at : Stage → CloseReason → Held → Channels → Channels
-closes_at (Requested request) reason held v = closed_event reason held (gone held (forgets (Connection held.own) v))
+closes_at (Requested request) reason held v = closed_event reason held (gone held v)
 closes_at (Connected peer setup) reason held v =
     closed_event reason held (asks (Disconnection held.own) (to_stage held (Closing peer (new_request v)) (forgets (Configuration held.own) v)))
 closes_at (Leaving peer setup request) reason held v =
@@ -28,7 +28,7 @@ closes reason held v = closes_at held.stage reason held v
 -- The peer's request for the end is answered. An own one that waits goes on waiting.
 abbrev pub peer_closes_at : Stage → Held → Channels → Channels
 peer_closes_at (Requested request) held v = v
-peer_closes_at (Connected peer setup) held v = closed_event PeerClosed held (gone held (forgets (Configuration held.own) v))
+peer_closes_at (Connected peer setup) held v = closed_event PeerClosed held (gone held v)
 peer_closes_at (Leaving peer setup request) held v =
     closed_event PeerClosed held (to_stage held (Crossed peer request) (forgets (Configuration held.own) v))
 peer_closes_at (Closing peer request) held v = to_stage held (Crossed peer request) v
@@ -42,10 +42,9 @@ peer_closes held v = peer_closes_at held.stage held v
 abbrev pub ends_at : Stage → CloseReason → Held → Channels → Channels
 ends_at (Requested request) reason held v = v
 ends_at (Connected peer setup) reason held v = v
-ends_at (Leaving peer setup request) reason held v =
-    closed_event reason held (gone held (forgets (Disconnection held.own) (forgets (Configuration held.own) v)))
-ends_at (Closing peer request) reason held v = gone held (forgets (Disconnection held.own) v)
-ends_at (Crossed peer request) reason held v = gone held (forgets (Disconnection held.own) v)
+ends_at (Leaving peer setup request) reason held v = closed_event reason held (gone held v)
+ends_at (Closing peer request) reason held v = gone held v
+ends_at (Crossed peer request) reason held v = gone held v
 
 abbrev pub ends : CloseReason → Held → Channels → Channels
 ends reason held v = ends_at held.stage reason held v

@@ -1,6 +1,6 @@
 -- What a host gives next: what waits on the signalling channel, in the order in which it arose, and then what waits on the
 -- channels, in the order of their endpoints (Core 5.1, Volume 3 Part A, 3.1, 3.3 and 4).
-use Rattle.std.specs.Prelude.{ℕ, ◌≡◌, ◌+◌, ◌==◌, not, Bool, true, false, List, [], ◌∷◌, ◌++◌, length, find, Option, Some, None, option_map, is_some}
+use Rattle.std.specs.Prelude.{ℕ, ◌≡◌, ◌+◌, ◌==◌, min, not, Bool, true, false, List, [], ◌∷◌, ◌++◌, length, find, Option, Some, None, option_map, is_some}
 use Rattle.bt_base.specs.Octets.{le16}
 use Rattle.l2cap_signal.specs.Commands.{Content, Command, spelling, connection_request, configuration_request, disconnection_request, information_request}
 use Rattle.l2cap_config.specs.Writing.{written}
@@ -20,8 +20,9 @@ pub data Given : Type 0 where
 
 -- ---- own requests
 
+-- the count stands still at 255, which is far above what is ever given (this project's own)
 abbrev pub one_more : Request → Request
-one_more request = record { identifier = request.identifier; given = request.given + 1 }
+one_more request = record { identifier = request.identifier; given = min (request.given + 1) 255 }
 
 -- with what an own request asks
 abbrev pub asking : Request → Content → Option Command

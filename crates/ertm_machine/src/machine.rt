@@ -5,6 +5,7 @@ ghost use Rattle.ertm_frames.specs.Frames.{plain, IsFrame};
 ghost use Rattle.ertm_model.specs.Value as value;
 ghost use Rattle.ertm_model.specs.Giving.{timed};
 ghost use Rattle.ertm_model.specs.Hearing.{refused};
+ghost use Rattle.ertm_model.specs.Submitting.{is_busy};
 ghost use Rattle.l2cap_config.specs.declared.wish.Mode.TheVariants.{Enhanced};
 
 use crate::answers::{Heard, Submit};
@@ -77,6 +78,20 @@ impl Ertm {
         self.sender.reset(agreed);
         self.receiver.reset();
         self.closed = None;
+    }
+
+    /// What was agreed.
+    pub fn agreed(&self) -> Agreed
+        ensures { result ≡ self.now.ertm.agreed }
+    {
+        self.sender.agreed()
+    }
+
+    /// Whether a segment of an SDU was not given yet, so that `submit` would answer `Busy`.
+    pub fn waits(&self) -> bool
+        ensures { result ≡ is_busy self.now.ertm }
+    {
+        self.sender.is_waiting()
     }
 
     /// Takes an SDU, of at most `send_mtu` octets: `Busy` where a segment of the SDU before was not

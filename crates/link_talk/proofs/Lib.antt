@@ -8,3 +8,5 @@ pub mod Multiplexed
 pub mod Spelling
 pub mod Growing
 pub mod Worked
+pub mod Waiting
+pub mod Answering

@@ -16,7 +16,7 @@ use Rattle.link_talk.specs.declared.word.Word.TheVariants.{AsksEnd, AnswersEnd, 
 use Rattle.link_talk.specs.Senses.{Sense, sense}
 use Rattle.link_talk.specs.declared.call.Call.{Call}
 use Rattle.link_talk.specs.declared.call.Failure.{Failure}
-use Rattle.link_talk.specs.Requests.{Requests, Query, call, query, failure, no_requests, requests, requests_after}
+use Rattle.link_talk.specs.Requests.{Requests, Query, call, query, failure, is_own_call, counted, calls_in, failure_behind, no_requests, requests, requests_after}
 use Rattle.link_talk.specs.Meanings.{Meaning, meant, meaning_behind, meanings}
 use Rattle.link_talk.specs.Setups.{Setup, no_setup, setup_after, term}
 use Rattle.link_talk.specs.Channels.{word, closes, answers_end, frees, behind_request, is_freed, is_closed, is_gone, is_left, Birth, since, words, is_taken, made_by, with_birth, births_behind, births, setup_of, life_after, is_alive, is_there, waits_for_end, Entry, fresh, entry_after, is_owner, with_fresh, entries_after, Reading, nothing_read, read_on, reading}
@@ -35,13 +35,21 @@ gathered-more pick xs x =
     last None = ap reverse (append-nil (filter_map pick xs))
     last (Some y) = reverse-more (filter_map pick xs) y
 
+counted_last : (calls : List Call) (xs : List Failure) (found : Option Failure) → reverse (xs ++ counted calls found) ≡ counted calls found ++ reverse xs
+counted_last calls xs None = ap reverse (append-nil xs)
+counted_last calls xs (Some one) = by_test (list_any (is_own_call one.identifier one.own) calls)
+  where
+    by_test : (b : Bool) → reverse (xs ++ cond b (one ∷ []) []) ≡ cond b (one ∷ []) [] ++ reverse xs
+    by_test true = reverse-more xs one
+    by_test false = ap reverse (append-nil xs)
+
 pub requests-more : (said : List Sense) (more : Sense) → requests (said ++ more ∷ []) ≡ requests_after (requests said) more
 requests-more said more =
     let calls : reverse (filter_map call (said ++ more ∷ [])) ≡ option_to_list (call more) ++ reverse (filter_map call said) = gathered-more call said more in
     let queries : reverse (filter_map query (said ++ more ∷ [])) ≡ option_to_list (query more) ++ reverse (filter_map query said) = gathered-more query said more in
-    let failures : reverse (filter_map failure (said ++ more ∷ [])) ≡ option_to_list (failure more) ++ reverse (filter_map failure said) = gathered-more failure said more in
-    ap (λ (cs : List Call). let r : Requests = record { calls = cs; queries = reverse (filter_map query (said ++ more ∷ [])); failures = reverse (filter_map failure (said ++ more ∷ [])) } in r) calls
-    ∙ (ap (λ (qs : List Query). let r : Requests = record { calls = option_to_list (call more) ++ reverse (filter_map call said); queries = qs; failures = reverse (filter_map failure (said ++ more ∷ [])) } in r) queries
+    let failures : reverse (given_by failure_behind (said ++ more ∷ [])) ≡ counted (calls_in said) (failure more) ++ reverse (given_by failure_behind said) = ap reverse (given_by-more failure_behind said more) ∙ counted_last (calls_in said) (given_by failure_behind said) (failure more) in
+    ap (λ (cs : List Call). let r : Requests = record { calls = cs; queries = reverse (filter_map query (said ++ more ∷ [])); failures = reverse (given_by failure_behind (said ++ more ∷ [])) } in r) calls
+    ∙ (ap (λ (qs : List Query). let r : Requests = record { calls = option_to_list (call more) ++ reverse (filter_map call said); queries = qs; failures = reverse (given_by failure_behind (said ++ more ∷ [])) } in r) queries
     ∙ ap (λ (fs : List Failure). let r : Requests = record { calls = option_to_list (call more) ++ reverse (filter_map call said); queries = option_to_list (query more) ++ reverse (filter_map query said); failures = fs } in r) failures)
 
 -- ---- the life of a channel

@@ -1,9 +1,14 @@
 -- The small talks, worked out.
 use Rattle.std.proofs.Common.{refl}
-use Rattle.link_talk.specs.Examples.{AreExchanged, AreAnswered, DoWait}
+use Rattle.obex_headers.specs.Reading.{packet_in, front_at, behind_length, headers_in, headers_at, header_at, value_at, text_at, octets_at, one_at, sized_at, fields_in}
+use Rattle.link_talk.specs.Examples.{AreExchanged, AreSilent, AreAnswered, DoWait}
 
 pub are_exchanged : AreExchanged
 are_exchanged = record { one_by_one = refl; together = refl; aborted = refl; fault_then_goodbye = refl; unasked = refl }
+
+pub are_silent : AreSilent
+unfolding packet_in front_at behind_length headers_in headers_at header_at value_at text_at octets_at one_at sized_at fields_in
+are_silent = record { passed_over = refl; read_by_order = refl; singly = refl }
 
 pub are_answered : AreAnswered
 are_answered = record { joined = refl; twice = refl; another = refl; unfinished = refl; refused = refl }
@@ -15,6 +20,7 @@ do_wait = record {
   repeated = refl;
   pending = refl;
   refused = refl;
+  early = refl;
   low = refl;
   forgone = refl;
   information = refl;
@@ -22,4 +28,5 @@ do_wait = record {
   ending = refl;
   ended = refl;
   crossed = refl;
+  of_another = refl;
 }

@@ -1,6 +1,6 @@
 -- Small talks, worked out by hand, and what is read off them.
 use Rattle.std.specs.Prelude.{ℕ, ◌≡◌, Bool, true, false, List, [], ◌∷◌, ◌++◌, map, Some, Ok, Err}
-use Rattle.l2cap_signal.specs.Commands.{Content, connection_request, connection_response, disconnection_request, disconnection_response, information_request, information_response, reject}
+use Rattle.l2cap_signal.specs.Commands.{Content, connection_request, connection_response, configuration_request, disconnection_request, disconnection_response, information_request, information_response, reject}
 use Rattle.capture.specs.declared.flow.Flow.{Flow}
 use Rattle.capture.specs.declared.flow.Flow.TheVariants.{Out, Into}
 use Rattle.rfcomm_frames.specs.declared.connection.Role.TheVariants.{Initiator}
@@ -9,6 +9,7 @@ use Rattle.link_talk.specs.declared.party.Party.{Party}
 use Rattle.link_talk.specs.Sayings.{Saying, Command, GaveUp, Connection, Information}
 use Rattle.link_talk.specs.Sdus.{Spoken}
 use Rattle.link_talk.specs.Exchanges.{exchanges, is_final}
+use Rattle.link_talk.specs.Silences.{channel_exchanges}
 use Rattle.link_talk.specs.ServiceAnswers.{answers_in}
 use Rattle.link_talk.specs.Waits.{waits}
 
@@ -35,6 +36,27 @@ pub record AreExchanged : Type 0 where
   pub aborted : Ends (out (packet 0x02) ∷ out (packet 0xFF) ∷ came (packet 0xA0) ∷ []) (false ∷ [])
   pub fault_then_goodbye : Ends (out (packet 0x82) ∷ came (packet 0xD0) ∷ out (packet 0x81) ∷ came (packet 0xA0) ∷ []) (true ∷ false ∷ [])
   pub unasked : Ends (came (packet 0xA0) ∷ out (packet 0x82) ∷ []) []
+
+-- A first PUT with a Name that asks for single response mode, and the answer that grants it; a PUT with a body, and the final one.
+abbrev pub first_put : List ℕ
+first_put = 0x02 ∷ 0 ∷ 12 ∷ 0x97 ∷ 1 ∷ 0x01 ∷ 0 ∷ 7 ∷ 0 ∷ 0x61 ∷ 0 ∷ 0 ∷ []
+
+abbrev pub granting : List ℕ
+granting = 0x90 ∷ 0 ∷ 5 ∷ 0x97 ∷ 1 ∷ []
+
+abbrev pub put_with_body : ℕ → List ℕ
+put_with_body code = code ∷ 0 ∷ 6 ∷ 0x48 ∷ 0 ∷ 3 ∷ []
+
+-- The server refuses the second PUT; the third, which is final, is under way and is passed over; so the A0 that answers
+-- DISCONNECT is no success of that PUT. Where no mode was granted each PUT is answered.
+abbrev pub refused_early : List ℕ → List Spoken
+refused_early answer =
+    came first_put ∷ out answer ∷ came (put_with_body 0x02) ∷ out (packet 0xD0) ∷ came (put_with_body 0x82) ∷ came (packet 0x81) ∷ out (packet 0xA0) ∷ []
+
+pub record AreSilent : Type 0 where
+  pub passed_over : map is_final (channel_exchanges Into 1024 (refused_early granting)) ≡ false ∷ false ∷ false ∷ []
+  pub read_by_order : map is_final (exchanges Into (refused_early granting)) ≡ false ∷ false ∷ true ∷ []
+  pub singly : map is_final (channel_exchanges Into 1024 (refused_early (packet 0x90))) ≡ false ∷ false ∷ true ∷ []
 
 -- ---- answers of service discovery
 
@@ -77,14 +99,20 @@ asked = says 1 (connection_request 0x0001 0x40)
 abbrev pub granted : Saying
 granted = hears 1 (connection_response 0x50 0x40 0 0)
 
+-- a channel whose request for options was never answered, and which is no more
+abbrev pub gone : List Saying
+gone = asked ∷ granted ∷ says 2 (configuration_request 0x50 0 []) ∷ hears 9 (disconnection_request 0x40 0x50) ∷ says 9 (disconnection_response 0x40 0x50) ∷ []
+
 -- A request for a channel waits while it is pending, and until it is refused, granted or given up; a grant of an endpoint
--- that no channel can have is none.
+-- that no channel can have is none. A refusal ahead of the request
+-- refuses nothing. A channel does not wait for what was asked on an earlier one.
 pub record DoWait : Type 0 where
   pub nothing : waits client [] ≡ false
   pub call : waits client (asked ∷ []) ≡ true
   pub repeated : waits client (asked ∷ asked ∷ granted ∷ []) ≡ false
   pub pending : waits client (asked ∷ hears 1 (connection_response 0 0x40 1 0) ∷ []) ≡ true
   pub refused : waits client (asked ∷ hears 1 (connection_response 0 0x40 2 0) ∷ []) ≡ false
+  pub early : waits client (hears 1 (connection_response 0 0x40 2 0) ∷ asked ∷ []) ≡ true
   pub low : waits client (asked ∷ hears 1 (connection_response 0x3F 0x40 0 0) ∷ []) ≡ true
   pub forgone : waits client (asked ∷ GaveUp (Connection 1 0x40) ∷ []) ≡ false
   pub information : waits client (says 1 (information_request 2) ∷ []) ≡ true
@@ -92,3 +120,4 @@ pub record DoWait : Type 0 where
   pub ending : waits client (asked ∷ granted ∷ says 2 (disconnection_request 0x50 0x40) ∷ []) ≡ true
   pub ended : waits client (asked ∷ granted ∷ says 2 (disconnection_request 0x50 0x40) ∷ hears 2 (disconnection_response 0x50 0x40) ∷ []) ≡ false
   pub crossed : waits client (asked ∷ granted ∷ says 2 (disconnection_request 0x50 0x40) ∷ says 9 (disconnection_response 0x40 0x50) ∷ []) ≡ true
+  pub of_another : waits client (gone ++ says 3 (connection_request 0x0001 0x41) ∷ hears 3 (connection_response 0x50 0x41 0 0) ∷ []) ≡ false

@@ -11,6 +11,8 @@ pub mod Sdus
 pub mod Packets
 pub mod ObjectsHeard
 pub mod Exchanges
+pub mod Exchanging
+pub mod Silences
 pub mod ServiceAnswers
 pub mod Accounts
 pub mod Waits

@@ -3,6 +3,7 @@ use Rattle.std.specs.Prelude.{ℕ, ◌==◌, ◌&&◌, nat_lt, Bool, false, List
 use Rattle.std.specs.List.{filter_map, list_any}
 use Rattle.capture.specs.declared.flow.Flow.{Flow}
 use Rattle.capture.specs.declared.flow.Flow.TheVariants.{Out, Into}
+use Rattle.capture.specs.Histories.{given_by}
 use Rattle.capture.specs.Pdus.{same_flow}
 use Rattle.link_talk.specs.declared.call.Wanted.{Wanted}
 use Rattle.link_talk.specs.declared.call.Call.{Call}
@@ -33,6 +34,16 @@ call (Asks flow identifier question) = called flow identifier question
 call (Opens flow identifier reply) = None
 call (Ends word own peer) = None
 call Quiet = None
+
+abbrev pub went : Flow → Call → Bool
+went flow one = same_flow flow one.flow
+
+abbrev pub has_source : ℕ → Option Wanted → Bool
+has_source source None = false
+has_source source (Some wanted) = wanted.source == source
+
+abbrev pub is_call : (identifier source : ℕ) → Call → Bool
+is_call identifier source one = (one.identifier == identifier) && has_source source one.wanted
 
 -- the peer asks for options of the channel of the host's endpoint (4.4)
 pub record Terms : Type 0 where
@@ -76,9 +87,24 @@ pub record Requests : Type 0 where
   pub queries : List Query
   pub failures : List Failure
 
+-- a request of the host for a channel, with an identifier and the endpoint that it names
+abbrev pub is_own_call : (identifier own : ℕ) → Call → Bool
+is_own_call identifier own one = went Out one && is_call identifier own one
+
+-- a refusal counts where the request that it refuses stands before it
+abbrev pub counted : List Call → Option Failure → List Failure
+counted calls None = []
+counted calls (Some one) = if list_any (is_own_call one.identifier one.own) calls then one ∷ [] else []
+
+abbrev pub calls_in : List Sense → List Call
+calls_in said = reverse (filter_map call said)
+
+abbrev pub failure_behind : List Sense → Sense → List Failure
+failure_behind past more = counted (calls_in past) (failure more)
+
 -- the requests in what was said
 abbrev pub requests : List Sense → Requests
-requests said = record { calls = reverse (filter_map call said); queries = reverse (filter_map query said); failures = reverse (filter_map failure said) }
+requests said = record { calls = calls_in said; queries = reverse (filter_map query said); failures = reverse (given_by failure_behind said) }
 
 -- the same in one pass
 abbrev pub no_requests : Requests
@@ -89,20 +115,13 @@ requests_after asked more =
     record {
       calls = option_to_list (call more) ++ asked.calls;
       queries = option_to_list (query more) ++ asked.queries;
-      failures = option_to_list (failure more) ++ asked.failures;
+      failures = counted asked.calls (failure more) ++ asked.failures;
     }
 
+abbrev pub with_failures : Requests → List Failure → Requests
+with_failures asked more = record asked { failures = more ++ asked.failures }
+
 -- ---- which request is answered
-
-abbrev pub went : Flow → Call → Bool
-went flow one = same_flow flow one.flow
-
-abbrev pub has_source : ℕ → Option Wanted → Bool
-has_source source None = false
-has_source source (Some wanted) = wanted.source == source
-
-abbrev pub is_call : (identifier source : ℕ) → Call → Bool
-is_call identifier source one = (one.identifier == identifier) && has_source source one.wanted
 
 -- what was asked for in one direction, by the request that a response with an identifier and the requester's endpoint
 -- answers: the first of the last run of requests with both; any other request for a channel breaks a run

@@ -103,13 +103,17 @@ abbrev pub is_shown_by : Party → List ℕ → Entry → Bool
 is_shown_by party pdu entry =
     (is_some entry.setup.accepted && (entry.channel.own == channel_of pdu)) && (not (is_enhanced entry.setup.asked) || is_some (frame_in party.frame pdu))
 
-abbrev pub demand_shown : Party → Channel → List ℕ → Option Entry → List Demand
-demand_shown party channel pdu None = []
-demand_shown party channel pdu (Some entry) = if is_shown_by party pdu entry then OptionsImplied ∷ [] else []
+abbrev pub demand_of_saying : Party → Reading → Saying → Entry → List Demand
+demand_of_saying party held (Carried Into pdu) entry = if is_shown_by party pdu entry then OptionsImplied ∷ [] else []
+demand_of_saying party held saying entry = demand_of entry.channel (meant held.requests (sense saying))
+
+-- It counts while the channel is there: what was said of an earlier channel with the same endpoint of the peer is not of it.
+abbrev pub demand_at : Party → Reading → Saying → Option Entry → List Demand
+demand_at party held saying None = []
+demand_at party held saying (Some entry) = if is_there entry.life then demand_of_saying party held saying entry else []
 
 abbrev pub demand_by : Party → Channel → Reading → Saying → List Demand
-demand_by party channel held (Carried Into pdu) = demand_shown party channel pdu (find (has_own channel) held.entries)
-demand_by party channel held saying = demand_of channel (meant held.requests (sense saying))
+demand_by party channel held saying = demand_at party held saying (find (has_own channel) held.entries)
 
 abbrev pub demand : Party → Channel → List Saying → Saying → List Demand
 demand party channel past saying = demand_by party channel (reading past) saying

@@ -1,6 +1,6 @@
 //! Laws of the readings of talk.
 
-ghost use Rattle.link_talk.specs.Examples.{AreExchanged, AreAnswered, DoWait};
+ghost use Rattle.link_talk.specs.Examples.{AreExchanged, AreSilent, AreAnswered, DoWait};
 ghost use Rattle.link_talk.specs.GrowingLaws.{CallsAreAnswered, QueriesAreAnswered, ReadingGrows, StretchGrows, PassagesGrow, ModeStands, SpokenGrows, PacketsGrow};
 ghost use Rattle.link_talk.specs.ReadingLaws.{EntriesAreRead, ReadingIsRight};
 
@@ -35,6 +35,7 @@ pub fn modes_stand()
 /// of service discovery, and what a timer finds.
 pub fn small_talks_are_read()
     ensures exchanges { AreExchanged }
+    ensures silences { AreSilent }
     ensures answers { AreAnswered }
     ensures waits { DoWait }
 {}

@@ -1,9 +1,11 @@
 //! Plain readers of talk, for tests and tools: each computes a definition as it stands.
 
+mod answering;
 mod carrying;
 #[cfg(test)]
 mod enhanced_samples;
 mod entries;
+mod exchanging;
 mod joining;
 mod meaning;
 mod multiplexing;
@@ -20,9 +22,11 @@ mod sensing;
 #[cfg(test)]
 mod tests;
 
+pub use answering::{answers_in, channel_answers};
 use capture::Flow;
 pub use carrying::{mode_of, stretch};
 pub use entries::{Entry, Setup};
+pub use exchanging::{Exchange, Pending, exchanges};
 use l2cap_signal::{Signal, SignalRefusal};
 pub use meaning::Requests;
 pub use objects::{channel_objects, link_objects, objects_heard, spelled_within};

@@ -142,6 +142,13 @@ impl Assembler {
         self.refusal = None;
     }
 
+    /// The octets of a packet that is not whole yet.
+    pub fn held(&self) -> &[u8]
+        ensures { result.now ≡ self.now.held }
+    {
+        &self.buffer[..self.held]
+    }
+
     /// Takes of the piece what the next packet wants.
     ///
     /// `Packet` gives the whole packet and how many octets of the piece were used: the next call is

@@ -9,7 +9,8 @@ use Rattle.capture.specs.declared.flow.Flow.TheVariants.{Out}
 use Rattle.capture.specs.Histories.{AtEach, EachAfter}
 use Rattle.capture.specs.Entries.{Entry, Moved}
 use Rattle.capture.specs.Moves.{moves}
-use Rattle.capture.specs.Links.{Link, link_up}
+use Rattle.capture.specs.Links.{Link, links}
+use Rattle.capture.specs.Channels.{last_of}
 use Rattle.capture.specs.Buffers.{buffer_events}
 
 -- the packets that went out on a handle, and those that were said to be completed on it
@@ -32,13 +33,14 @@ all_completed side handle past = sum_by (completed_on handle) (flat_map buffer_e
 abbrev pub IsHonest : Side → List Entry → Type 0
 IsHonest side entries = AtEach (λ past. (handle : ℕ) → all_completed side handle past ≤ all_sent side handle past) entries
 
--- a packet out of a host has the handle of the link that is up for it
+-- a packet out of a host has the handle of the last link that it was told of: it may have put the packet out before it was told
+-- that the link is gone
 abbrev pub IsOnLink : ℕ → Option Link → Type 0
 IsOnLink word None = ⊥
 IsOnLink word (Some link) = word % 0x1000 ≡ link.handle
 
 abbrev pub IsOnItsLink : List Entry → Entry → Type 0
-IsOnItsLink past (Moved side Out (Acl word octets)) = IsOnLink word (link_up side past)
+IsOnItsLink past (Moved side Out (Acl word octets)) = IsOnLink word (last_of (links side past))
 IsOnItsLink past entry = Unit {0}
 
 pub record AreHonest (entries : List Entry) : Type 0 where

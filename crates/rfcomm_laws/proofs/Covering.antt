@@ -1,5 +1,5 @@
 -- The credits that each side counts for its peer cover what the peer sent and may still send.
-use Rattle.std.proofs.Common.{arith, ◌≡◌, ◌<◌, ◌≤◌, ℕ, zero, suc, ◌==◌, ◌+◌, ◌%◌, Bool, true, false, ◌&&◌, cond, List, [], ◌∷◌, ◌++◌, map, refl, sym, ap, subst, ◌∙◌}
+use Rattle.std.proofs.Common.{arith, ◌≡◌, ◌<◌, ℕ, ◌==◌, ◌+◌, ◌*◌, Bool, true, false, ◌&&◌, cond, List, [], ◌∷◌, ◌++◌, map, refl, sym, ap, subst, ◌∙◌}
 use Rattle.std.proofs.lemmas.Bool.{eq-eqb, ne_eqb}
 use Rattle.rfcomm_frames.specs.declared.frame.MuxKind.TheVariants.{Sabm, Ua}
 use Rattle.rfcomm_frames.specs.declared.connection.Role.{Role}
@@ -25,13 +25,13 @@ zero_apart : (d : ℕ) → 0 < d → (0 == d) ≡ false
 zero_apart d some = ne_eqb 0 d (λ e. omega arith)
 
 data_item : (d : ℕ) → 0 < d → (role : Role) (x : Item) (frames : List PlainFrame) → data_frames d (frame_of role d x ∷ frames) ≡ cost x + data_frames d frames
-data_item d some role (signal command address signals) frames =
-    ap (λ (b : Bool). cond (b && true) (cond (is_empty (written (msc command address signals))) 0 1) 0 + data_frames d frames) (zero_apart d some)
+data_item d some role (signal command) frames =
+    ap (λ (b : Bool). cond (b && true) (cond (is_empty (written (msc command (4 * d + 3) 0x8D))) 0 1) 0 + data_frames d frames) (zero_apart d some)
 data_item d some role (grant n) frames = ap (λ (b : Bool). cond (b && true) 0 0 + data_frames d frames) (same d)
 data_item d some role (info octet octets) frames = ap (λ (b : Bool). cond (b && true) 1 0 + data_frames d frames) (same d)
 
 grant_item : (d : ℕ) → 0 < d → (role : Role) (x : Item) (frames : List PlainFrame) → grants d (frame_of role d x ∷ frames) ≡ bonus x + grants d frames
-grant_item d some role (signal command address signals) frames = ap (λ (b : Bool). cond (b && true) 0 0 + grants d frames) (zero_apart d some)
+grant_item d some role (signal command) frames = ap (λ (b : Bool). cond (b && true) 0 0 + grants d frames) (zero_apart d some)
 grant_item d some role (grant n) frames = ap (λ (b : Bool). cond (b && true) n 0 + grants d frames) (same d)
 grant_item d some role (info octet octets) frames = ap (λ (b : Bool). cond (b && true) 0 0 + grants d frames) (same d)
 
@@ -53,12 +53,12 @@ grants_ahead d false frames = ap (λ (b : Bool). cond b 0 0 + grants d frames) (
 
 runs_cover : (d : ℕ) → 0 < d → (p : Pair) → Runs d p → Covers d p
 runs_cover d some p r =
-    let money = r.money in
+    let tally = r.tally in
     let one = data_items d some Initiator r.xs in
     let two = grant_items d some Initiator r.xs in
     let three = data_ahead d r.is_open (map (frame_of Responder d) r.ys) ∙ data_items d some Responder r.ys in
     let four = grants_ahead d r.is_open (map (frame_of Responder d) r.ys) ∙ grant_items d some Responder r.ys in
-    subst (Covers d) (sym r.is) (record { forth = omega (arith, money.forth, one, four); back = omega (arith, money.back, two, three) })
+    subst (Covers d) (sym r.is) (record { forth = omega (arith, tally.forth, one, four); back = omega (arith, tally.back, two, three) })
 
 -- ---- opening: no data and no grant is under way
 

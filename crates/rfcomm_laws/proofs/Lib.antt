@@ -3,3 +3,10 @@ pub mod Running
 pub mod Joining
 pub mod Stages
 pub mod Covering
+pub mod Falling
+pub mod Resting
+pub mod Splitting
+pub mod Spelling
+pub mod Harm
+pub mod Harmless
+pub mod Telling

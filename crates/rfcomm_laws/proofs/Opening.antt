@@ -1,21 +1,7 @@
 -- Opening, frame by frame: one frame goes at a time, until the user channel is agreed to.
-use Rattle.std.proofs.Common.{arith, ◌≡◌, ◌⊎◌, inl, inr, ◌<◌, ◌≤◌, ℕ, zero, suc, ◌==◌, ◌+◌, ◌*◌, ◌/◌, ◌%◌, ◌^◌, Bool, true, false, cond, List, [], ◌∷◌, ◌++◌, Option, Some, None, Ok, refl, sym, ap, subst, ◌∙◌}
-use Rattle.std.specs.Prelude.{nat_lt, nat_le}
-use Rattle.std.proofs.lemmas.Bool.{eq-eqb, ne_eqb, le-ltb, cases_lt, le-leb, lt-leb}
-use Rattle.rfcomm_frames.specs.declared.frame.MuxKind.TheVariants.{Sabm, Ua}
-use Rattle.rfcomm_frames.specs.declared.refusal.MuxRefusal.{MuxRefusal}
-use Rattle.rfcomm_frames.specs.declared.connection.Role.{Role}
-use Rattle.rfcomm_frames.specs.declared.connection.Role.TheVariants.{Initiator, Responder}
-use Rattle.rfcomm_frames.specs.declared.connection.Dlc.TheVariants.{Idle, Asked, Open}
-use Rattle.rfcomm_frames.specs.Frames.{PlainFrame}
-use Rattle.rfcomm_frames.specs.Controls.{PlainControl, pn, msc, written}
+use Rattle.std.proofs.Common.{arith, ◌≡◌, ◌<◌, ℕ, ◌+◌, ◌*◌, ◌/◌, ◌%◌, ◌^◌, Bool, true, false, List, [], ◌∷◌, Ok, refl, ap}
+use Rattle.rfcomm_frames.specs.Controls.{pn, msc, written}
 use Rattle.rfcomm_frames.specs.FrameReading.{message_answer, messages, messages_within, MessageAnswer}
-use Rattle.rfcomm_model.specs.declared.state.Command.TheVariants.{OpenControl, Agree, OpenUser, Signal}
-use Rattle.rfcomm_model.specs.declared.state.Asks.TheVariants.{Nothing, Due, Awaited}
-use Rattle.rfcomm_model.specs.Machine.{Mux, new_mux, first_credits}
-use Rattle.rfcomm_model.specs.Written.{command_frame, response_frame, control_frame}
-use Rattle.rfcomm_model.specs.Hearing.{lesser}
-use Rattle.rfcomm_laws.specs.Pairs.{End, new_end, Move, Speak, Give, Deliver, Pair, Turn, ByInitiator, ByResponder, turn, Terms, new_pair}
 
 -- ---- messages that were written
 

@@ -1,26 +1,25 @@
 -- Opening, frame by frame: one frame goes at a time, until the user channel is agreed to.
-use Rattle.std.proofs.Common.{arith, ◌≡◌, ◌⊎◌, inl, inr, ◌<◌, ◌≤◌, ℕ, zero, suc, ◌==◌, ◌+◌, ◌%◌, ◌^◌, Bool, true, false, ◌&&◌, cond, List, [], ◌∷◌, ◌++◌, Option, Some, None, Ok, refl, sym, ap, subst, ◌∙◌}
-use Rattle.std.specs.Prelude.{not, nat_lt, nat_le}
-use Rattle.std.proofs.lemmas.Bool.{eq-eqb, ne_eqb, le-ltb, leb-true, leb-false}
+use Rattle.std.proofs.Common.{arith, ◌≡◌, ◌<◌, ◌≤◌, ℕ, ◌==◌, ◌+◌, ◌%◌, ◌^◌, Bool, true, false, ◌&&◌, cond, List, [], ◌∷◌, None, Ok, refl, sym, ap, subst, ◌∙◌}
+use Rattle.std.specs.Prelude.{nat_lt, nat_le}
+use Rattle.std.proofs.lemmas.Bool.{eq-eqb, ne_eqb, le-ltb, leb-true}
 use Rattle.rfcomm_frames.specs.declared.frame.MuxKind.TheVariants.{Sabm, Ua}
 use Rattle.rfcomm_frames.specs.declared.connection.Role.TheVariants.{Initiator, Responder}
 use Rattle.rfcomm_frames.specs.declared.connection.Dlc.{Dlc}
 use Rattle.rfcomm_frames.specs.declared.connection.Dlc.TheVariants.{Idle, Asked, Open}
 use Rattle.rfcomm_frames.specs.Frames.{PlainFrame}
-use Rattle.rfcomm_frames.specs.Controls.{PlainControl, pn, written}
-use Rattle.rfcomm_frames.specs.FrameReading.{messages, MessageAnswer}
+use Rattle.rfcomm_frames.specs.Controls.{PlainControl, pn}
+use Rattle.rfcomm_frames.specs.FrameReading.{MessageAnswer}
 use Rattle.rfcomm_model.specs.declared.state.Command.TheVariants.{OpenControl, Agree, OpenUser, Signal}
-use Rattle.rfcomm_model.specs.declared.state.Asks.TheVariants.{Nothing, Due, Awaited}
+use Rattle.rfcomm_model.specs.declared.state.Asks.TheVariants.{Due, Awaited}
 use Rattle.rfcomm_model.specs.declared.state.Readiness.TheVariants.{Neither}
-use Rattle.rfcomm_model.specs.Machine.{Mux, new_mux, first_credits, is_ready, closes}
+use Rattle.rfcomm_model.specs.Machine.{Mux, new_mux, first_credits, is_ready}
 use Rattle.rfcomm_model.specs.Written.{command_frame, response_frame, control_frame}
 use Rattle.rfcomm_model.specs.Hearing.{lesser, hears_answer, hears_messages, hears_offer, hears_acceptance, hears_other_offer, opens_control, says_dm, news}
 use Rattle.rfcomm_model.specs.Sides.{handed}
-use Rattle.rfcomm_model.proofs.Stepping.{cond_same}
-use Rattle.rfcomm_laws.specs.Pairs.{End, new_end, Move, Speak, Give, Deliver, Pair, Turn, ByInitiator, ByResponder, turn, all_turns, Terms, new_pair, Pipes, PairsArePipes}
+use Rattle.rfcomm_laws.specs.Pairs.{End, Speak, Give, Deliver, Pair, Turn, ByInitiator, ByResponder, turn, all_turns, Terms, new_pair, Pipes, PairsArePipes}
 use Rattle.rfcomm_laws.proofs.Opening.{pn_read}
-use Rattle.rfcomm_laws.proofs.Running.{Body, none, due}
-use Rattle.rfcomm_laws.proofs.Joining.{Money, Runs, pair_at, runs_on, runs_pipe}
+use Rattle.rfcomm_laws.proofs.Running.{Body, due}
+use Rattle.rfcomm_laws.proofs.Joining.{Tally, Runs, runs_on, runs_pipe}
 
 -- ---- the sides, stage by stage
 
@@ -269,12 +268,12 @@ module _ (t : Terms) where
     frame = lesser t.own (frame_r t);
     agreed = true;
     stated = true;
-    wish = none;
+    wish = due;
     ready = Neither;
     cap = t.cap;
     held = 0 + first_credits t.cap_peer % 8;
     peer = first_credits t.cap;
-    answers = [];
+    answers = 0;
     waiting = [];
   }
 
@@ -290,15 +289,31 @@ module _ (t : Terms) where
     cap = t.cap_peer;
     held = 0 + first_credits t.cap % 8;
     peer = first_credits t.cap_peer;
-    answers = [];
+    answers = 0;
     waiting = [];
   }
 
-  at_first : Money body_i body_r [] []
+  at_first : Tally false body_i body_r [] []
   at_first =
       let one = first_small t.cap in
       let two = first_small t.cap_peer in
-      record { forth = omega arith; back = omega arith; few = omega arith; few_peer = omega arith; cap = t.cap_most; cap_peer = t.cap_peer_most }
+      record {
+        forth = omega arith;
+        back = omega arith;
+        few = omega arith;
+        few_peer = omega arith;
+        cap = t.cap_most;
+        cap_peer = t.cap_peer_most;
+        some = t.cap_least;
+        some_peer = t.cap_peer_least;
+        asked_forth = refl;
+        asked_back = refl;
+        own_forth = refl;
+        own_back = refl;
+        peer_forth = refl;
+        peer_back = refl;
+        early = λ e. refl;
+      }
 
   step_user_asked : (m : Turn) → Good t (turn m (stage t user_asked))
   step_user_asked (ByInitiator Speak) = opens user_asked refl
@@ -318,7 +333,7 @@ module _ (t : Terms) where
         gr = [];
         is = ap (λ (b : Bool). both (i_wants t) [] (record (r_agreed t) { asks = Due Signal; control = cond b Open Open; user = cond (t.dlci == t.dlci) Open Asked }) (response_frame Responder Ua t.dlci ∷ [])) not_zero
             ∙ ap (λ (b : Bool). both (i_wants t) [] (record (r_agreed t) { asks = Due Signal; user = cond b Open Asked }) (response_frame Responder Ua t.dlci ∷ [])) same;
-        money = at_first;
+        tally = at_first;
         forth = refl;
         back = refl;
       })

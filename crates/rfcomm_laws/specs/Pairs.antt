@@ -1,5 +1,5 @@
 -- The two sides of a multiplexer over a pipe of frames in each direction, which keeps its order or breaks.
-use Rattle.std.specs.Prelude.{ℕ, ◌+◌, ◌^◌, ◌<◌, ◌≤◌, ◌≡◌, ◌&&◌, not, List, [], ◌∷◌, ◌++◌, length, take, Option, Some, None, Ok, if◌then◌else◌}
+use Rattle.std.specs.Prelude.{ℕ, ◌^◌, ◌<◌, ◌≤◌, ◌≡◌, ◌&&◌, not, List, [], ◌∷◌, ◌++◌, length, take, Option, Some, None, Ok, if◌then◌else◌}
 use Rattle.rfcomm_frames.specs.declared.connection.Role.TheVariants.{Initiator, Responder}
 use Rattle.rfcomm_frames.specs.Frames.{PlainFrame}
 use Rattle.rfcomm_model.specs.Machine.{Mux, new_mux, may_pass, is_ready, taken_count, sends}
@@ -87,6 +87,8 @@ pub record Terms : Type 0 where
   pub most_peer : own_peer < 2 ^ 16
   pub cap : ℕ
   pub cap_peer : ℕ
+  pub cap_least : 1 ≤ cap
+  pub cap_peer_least : 1 ≤ cap_peer
   pub cap_most : cap ≤ 40
   pub cap_peer_most : cap_peer ≤ 40
 

@@ -1,8 +1,12 @@
 //! Laws of the two sides of a multiplexer of RFCOMM together, over a pipe in each direction.
 #![tactic(auto)]
 
+ghost use Rattle.rfcomm_laws.specs.Assembling.{PiecesAreOfOneStream};
 ghost use Rattle.rfcomm_laws.specs.Covers.{CreditsCover};
+ghost use Rattle.rfcomm_laws.specs.Happenings.{FramesAreFew};
+ghost use Rattle.rfcomm_laws.specs.Links.{SdusAreFrames, LinksArePipes, StillLinksAreDone};
 ghost use Rattle.rfcomm_laws.specs.Pairs.{PairsArePipes};
+ghost use Rattle.rfcomm_laws.specs.Rests.{StillIsDone};
 
 /// The two sides are a pipe of octets each way, and neither closes, whatever frames are under way.
 pub fn pairs_are_pipes()
@@ -13,4 +17,33 @@ pub fn pairs_are_pipes()
 /// more than what the other side counts as granted and not yet used.
 pub fn credits_cover()
     ensures { CreditsCover }
+{}
+
+/// Each frame that comes to a side lowers a number of the pair, whatever the frame and the sides; so finitely many come
+/// for all octets that are given, and for every closing.
+pub fn frames_are_few()
+    ensures { FramesAreFew }
+{}
+
+/// Where no frame is on the way and neither side has one to send, the channel is open both ways and all octets that were
+/// taken have come, if both sides grant credits and nobody closes.
+pub fn still_is_done()
+    ensures { StillIsDone }
+{}
+
+/// Octets given to an assembler in any pieces give the packets into which the whole stream falls by its lengths.
+pub fn pieces_are_of_one_stream()
+    ensures { PiecesAreOfOneStream }
+{}
+
+/// What two sides do with SDUs is what they do with the frames that these spell.
+pub fn sdus_are_frames()
+    ensures { SdusAreFrames }
+{}
+
+/// Over SDUs, in whatever spelling a side sends its frames: the two sides are a pipe of octets each way, and neither
+/// closes while none is told to.
+pub fn links_are_pipes()
+    ensures pipes { LinksArePipes }
+    ensures still { StillLinksAreDone }
 {}

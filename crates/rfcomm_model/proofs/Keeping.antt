@@ -199,7 +199,7 @@ module _ (role : Role) (dlci largest cap : ℕ) where
   frame_keeps (Some reasons.BadFrame) frame m k = k
   frame_keeps (Some reasons.CreditOverflow) frame m k = k
 
-  answer_keeps : (a : Answer) (m : Mux) → K m → K (hears_answer a m)
+  pub answer_keeps : (a : Answer) (m : Mux) → K m → K (hears_answer a m)
   answer_keeps (Ok frame) m k = frame_keeps m.closed frame m k
   answer_keeps (Err refusal) m k = stands_keeps (closes reasons.BadFrame) m.closed m k k
 
@@ -207,7 +207,7 @@ pub hears_keeps : (sdu : List ℕ) (m : Mux) → Kept m.role m.dlci m.largest m.
 hears_keeps sdu m = answer_keeps m.role m.dlci m.largest m.account.cap (frame_answer sdu) m (refl, refl, refl, refl)
 
 -- what is said
-abbrev SaysKept : Mux → Option Said → Type 0
+abbrev pub SaysKept : Mux → Option Said → Type 0
 SaysKept m None = Unit {0}
 SaysKept m (Some said) = Kept m.role m.dlci m.largest m.account.cap said.after
 
@@ -231,7 +231,7 @@ command_keeps (Due Signal) m = (refl, refl, refl, refl)
 command_keeps (Due LeaveUser) m = (refl, refl, refl, refl)
 command_keeps (Due LeaveControl) m = (refl, refl, refl, refl)
 
-answers_keep : (answers : List PlainFrame) (m : Mux) → SaysKept m (says_answer answers m)
+pub answers_keep : (answers : List PlainFrame) (m : Mux) → SaysKept m (says_answer answers m)
 answers_keep [] m = command_keeps m.asks m
 answers_keep (answer ∷ rest) m = (refl, refl, refl, refl)
 

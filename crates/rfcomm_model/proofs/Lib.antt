@@ -4,3 +4,5 @@ pub mod Stepping
 pub mod Talking
 pub mod Giving
 pub mod Reading
+pub mod Loading
+pub mod Unloading

@@ -3,3 +3,4 @@ pub mod Machine
 pub mod Hearing
 pub mod Saying
 pub mod Sides
+pub mod Loads

@@ -1,5 +1,5 @@
 -- What an answer says of its frame or its message.
-use Rattle.std.proofs.Common.{◌≡◌, ℕ, zero, suc, ◌<◌, ◌≤◌, List, length, take, Result, Ok, Err, IfOk, arith}
+use Rattle.std.proofs.Common.{ℕ, zero, suc, ◌<◌, ◌≤◌, List, length, take, Result, Ok, Err, IfOk, arith}
 use Rattle.rfcomm_frames.specs.declared.frame.MuxFrame.{MuxFrame}
 use Rattle.rfcomm_frames.specs.declared.control.Control.{Control}
 use Rattle.rfcomm_frames.specs.declared.refusal.MuxRefusal.{MuxRefusal}

@@ -1,5 +1,5 @@
 -- What is said first is sent.
-use Rattle.std.proofs.Common.{◌≡◌, ℕ, List, Option, Some, None, true, refl, sym, ap, subst, ◌∙◌}
+use Rattle.std.proofs.Common.{◌≡◌, ℕ, List, Option, Some, None, true, refl, ap, subst, ◌∙◌}
 use Rattle.rfcomm_frames.specs.declared.connection.Role.{Role}
 use Rattle.rfcomm_frames.specs.Controls.{pn}
 use Rattle.rfcomm_model.specs.declared.state.Command.TheVariants.{Agree}

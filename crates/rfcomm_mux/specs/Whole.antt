@@ -1,5 +1,5 @@
 -- A multiplexer with its parts.
-use Rattle.std.specs.Prelude.{ℕ, ◌≤◌, ◌<◌, ◌≡◌}
+use Rattle.std.specs.Prelude.{◌≤◌, ◌<◌, ◌≡◌}
 use Rattle.rfcomm_model.specs.Machine.{Mux}
 use Rattle.rfcomm_mux.specs.declared.mux.Mux.TheInside.{Inside}
 

@@ -6,11 +6,12 @@ pub mod laws;
 mod query;
 mod reading;
 mod reason;
-mod reply;
+pub mod reply;
 mod said;
 
 pub use query::Query;
 pub use reason::{Found, QueryReason};
+pub use said::Part;
 pub use sdp_elements::Target;
 
 #[cfg(test)]

@@ -8,8 +8,9 @@ use byteorder::{BigEndian, ByteOrder};
 use sdp_elements::{continuation_in, pdu_of};
 
 /// The part of an answer that parameters are: the count of its octets, the octets, the continuation
-/// state. A part without octets is the last.
-fn part_in(parameters: &[u8]) -> Option<Part<'_>>
+/// state; `None` where they are not these (Core 5.1, Volume 3 Part B, 4.7.2). A part without octets is
+/// the last.
+pub fn part_in(parameters: &[u8]) -> Option<Part<'_>>
     ensures { option_map plain_part result ≡ part_in parameters.now }
 {
     if parameters.len() < 2 {
@@ -48,7 +49,7 @@ pub(crate) fn said_in(reply: &[u8]) -> Said<'_>
 }
 
 /// Whether a reply is that to another request. One that is too short to have a transaction is not.
-pub(crate) fn is_of_another(reply: &[u8], transaction: u16) -> bool
+pub fn is_of_another(reply: &[u8], transaction: u16) -> bool
     ensures { result ≡ is_of_another reply.now transaction }
 {
     3 <= reply.len() && BigEndian::read_u16(&reply[1..]) != transaction

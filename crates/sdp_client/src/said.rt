@@ -5,8 +5,9 @@ ghost use Rattle.std.specs.Prelude.{◌≡◌, ◌≤◌, length};
 /// A part of an answer. It lies in the reply. A part without octets is the last.
 #[derive(Clone, Copy, Debug)]
 pub struct Part<'a> {
-    pub(crate) octets: &'a [u8],
-    pub(crate) continuation: &'a [u8],
+    pub octets: &'a [u8],
+    /// The continuation state behind it, none where it is the last.
+    pub continuation: &'a [u8],
     pub ghost fits: { length continuation.now ≤ 16 },
     pub ghost last: { length octets.now ≡ 0 → length continuation.now ≡ 0 },
 }

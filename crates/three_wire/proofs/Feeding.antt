@@ -14,10 +14,10 @@ use Rattle.h4_framing.specs.Stream.{Whole, Cut, Fault, Reads, IsUnfinished}
 use Rattle.h4_framing.specs.Framing.{Framing, counted}
 use Rattle.h4_framing.specs.Taking.{Takes, EndsWith}
 use Rattle.h4_framing.specs.Accounts.{Accounts}
-use Rattle.h4_framing.proofs.AccountLemmas.{taking_accounts, end_accounts, fault_more}
+use Rattle.h4_framing.proofs.AccountLemmas.{new_accounts, taking_accounts, end_accounts, fault_more}
 use Rattle.h4_framing.proofs.FaultLemmas.{fault_first}
 use Rattle.three_wire.specs.declared.feed.Feed.{Feed}
-use Rattle.three_wire.specs.Feeding.{input_limit, acl_limit, pending, HasShape, IsFeeding, IsAll, StopsAt, ReadsMore, IsPortFault}
+use Rattle.three_wire.specs.Feeding.{input_limit, acl_limit, pending, HasShape, IsFeeding, IsAll, IsFront, StopsAt, ReadsMore, IsPortFault}
 use Rattle.three_wire.specs.declared.fault.CarryFault.{CarryFault}
 use Rattle.three_wire.specs.declared.fault.CarryFault.TheVariants as fault
 
@@ -29,7 +29,7 @@ unit_bound (Sync word octets) is = omega (arith, is.1)
 unit_bound (Event code params) is = omega (arith, is.1)
 
 -- each unit has an octet
-some_octet : (p : Packet) → 1 ≤ length (spelling p)
+pub some_octet : (p : Packet) → 1 ≤ length (spelling p)
 some_octet (Command opcode params) = omega arith
 some_octet (Acl word octets) = omega arith
 some_octet (Sync word octets) = omega arith
@@ -65,9 +65,9 @@ told_more input (Some rest) used front behind both parts told =
 
 -- a unit was taken
 pub fed_whole : (input left : Option (List ℕ)) (feed feed' : Feed) (packets : List Packet) (unit : Lent) (n : ℕ) → HasShape feed → IsFeeding input left feed packets → Takes feed.framer (pending feed) (taken.Whole unit n) feed'.framer
-    → feed'.piece.items ≡ feed.piece.items → feed'.at ≡ feed.at + n → feed'.end ≡ feed.end → feed'.fed ≡ feed.fed → feed'.units ≡ min (feed.units + 1) (2 ^ 64 - 1)
+    → feed'.piece.items ≡ feed.piece.items → feed'.at ≡ feed.at + n → feed'.end ≡ feed.end → feed'.fed ≡ feed.fed
     → IsFeeding input left feed' (packets ++ packet unit ∷ []) × IsPacket acl_limit (packet unit) × (feed'.framer.limit ≡ acl_limit) × (feed'.at ≤ feed'.end)
-fed_whole input left feed feed' packets unit n shape f t piece at end fed units =
+fed_whole input left feed feed' packets unit n shape f t piece at end fed =
     let long = pending_length feed shape in
     let le : feed.at + n ≤ feed.end = omega (arith, t.3, long, shape.within) in
     let behind : pending feed' ≡ drop n (pending feed) =
@@ -78,8 +78,7 @@ fed_whole input left feed feed' packets unit n shape f t piece at end fed units 
     let more = length-append f.used (take n (pending feed)) in
     let split = ap length parts ∙ length-append (take n (pending feed)) (pending feed') in
     let sound : feed'.framer.fault ≡ None = ap (λ (g : Framing). g.fault) t.5 ∙ f.sound in
-    let limit : feed'.framer.limit ≡ acl_limit = ap (λ (g : Framing). g.limit) t.5 ∙ f.limit in
-    let few = packets_within f.used packets feed.framer f.accounts f.sound in (
+    let limit : feed'.framer.limit ≡ acl_limit = ap (λ (g : Framing). g.limit) t.5 ∙ f.limit in (
       record {
         used = f.used ++ take n (pending feed);
         accounts = accounts;
@@ -88,7 +87,6 @@ fed_whole input left feed feed' packets unit n shape f t piece at end fed units 
         told = told_more input left f.used (take n (pending feed)) (pending feed') (pending feed) parts f.told;
         count = omega (arith, fed, f.count, more, split);
         within = omega (arith, fed, f.within);
-        units = omega (arith, units, f.units, f.count, f.within, few, length-append packets (packet unit ∷ []));
       },
       subst (λ (l : ℕ). IsPacket l (packet unit)) f.limit t.1,
       limit,
@@ -97,8 +95,8 @@ fed_whole input left feed feed' packets unit n shape f t piece at end fed units 
 
 -- all was taken, and no unit is whole
 pub fed_more : (input left : Option (List ℕ)) (feed feed' : Feed) (packets : List Packet) → HasShape feed → IsFeeding input left feed packets → Takes feed.framer (pending feed) taken.More feed'.framer
-    → feed'.piece.items ≡ feed.piece.items → feed'.at ≡ feed.end → feed'.end ≡ feed.end → feed'.fed ≡ feed.fed → feed'.units ≡ feed.units → IsFeeding input left feed' packets × (pending feed' ≡ [])
-fed_more input left feed feed' packets shape f t piece at end fed units =
+    → feed'.piece.items ≡ feed.piece.items → feed'.at ≡ feed.end → feed'.end ≡ feed.end → feed'.fed ≡ feed.fed → IsFeeding input left feed' packets × (pending feed' ≡ [])
+fed_more input left feed feed' packets shape f t piece at end fed =
     let none : feed'.end - feed'.at ≡ 0 = omega (arith, at, end) in
     let empty : pending feed' ≡ [] = ap (λ (k : ℕ). take k (drop feed'.at feed'.piece.items)) none in
     let accounts = subst (λ (ps : List Packet). Accounts (f.used ++ pending feed) ps feed'.framer) (append-nil packets) (taking_accounts f.used (pending feed) packets feed.framer feed'.framer taken.More f.accounts t) in
@@ -112,7 +110,6 @@ fed_more input left feed feed' packets shape f t piece at end fed units =
         told = told_more input left f.used (pending feed) (pending feed') (pending feed) parts f.told;
         count = omega (arith, fed, f.count, more, ap length empty);
         within = omega (arith, fed, f.within);
-        units = omega (arith, units, f.units);
       },
       empty,
     )
@@ -245,8 +242,8 @@ read_told input (Some l) left' used pend pend' n told none after octets =
     ∙ ap (option_map (λ (rest : List ℕ). used ++ (pend' ++ rest))) (sym after)
 
 pub fed_read : (input left left' : Option (List ℕ)) (feed feed' : Feed) (packets : List Packet) (n : ℕ) → IsFeeding input left feed packets → pending feed ≡ [] → left' ≡ option_map (drop n) left → IfSome left (λ l. (n ≤ length l) × (pending feed' ≡ take n l))
-    → length (pending feed') ≡ n → feed'.framer ≡ feed.framer → feed'.fed ≡ feed.fed + n → feed'.fed ≤ input_limit → feed'.units ≡ feed.units → IsFeeding input left' feed' packets
-fed_read input left left' feed feed' packets n f none after octets long framer fed within units = record {
+    → length (pending feed') ≡ n → feed'.framer ≡ feed.framer → feed'.fed ≡ feed.fed + n → feed'.fed ≤ input_limit → IsFeeding input left' feed' packets
+fed_read input left left' feed feed' packets n f none after octets long framer fed within = record {
   used = f.used;
   accounts = subst (λ (g : Framing). Accounts f.used packets g) (sym framer) f.accounts;
   sound = ap (λ (g : Framing). g.fault) framer ∙ f.sound;
@@ -254,7 +251,6 @@ fed_read input left left' feed feed' packets n f none after octets long framer f
   told = read_told input left left' f.used (pending feed) (pending feed') n f.told none after octets;
   count = omega (arith, f.count, ap length none, long, fed);
   within = within;
-  units = units ∙ f.units;
 }
 
 empty_after : (left left' : Option (List ℕ)) (n : ℕ) → n ≡ 0 → left' ≡ option_map (drop n) left → IfSome left (λ rest. rest ≡ []) → IfSome left' (λ rest. rest ≡ [])
@@ -292,3 +288,34 @@ port_stops (Some all) packets (fault.TooLong place) is = absurd is
 port_stops (Some all) packets fault.ReadFault is = tt
 port_stops (Some all) packets fault.WriteFault is = tt
 port_stops (Some all) packets fault.NoMemory is = tt
+
+-- the packets are no more than the octets
+pub few_fed : (input left : Option (List ℕ)) (feed : Feed) (packets : List Packet) → IsFeeding input left feed packets → length packets ≤ input_limit
+few_fed input left feed packets f = let few = packets_within f.used packets feed.framer f.accounts f.sound in omega (arith, few, f.count, f.within)
+
+-- and stand at the front of the input
+pub front_fed : (input left : Option (List ℕ)) (feed : Feed) (packets : List Packet) → IsFeeding input left feed packets → IfSome input (λ all. IsFront packets all)
+front_fed input left feed packets f =
+    let kept = kept_none f.used packets feed.framer f.accounts f.sound in
+    let all = f.used ++ pending feed in
+    told_so (λ (octets : List ℕ). IsFront packets octets) input left all (told_joined input left f.used (pending feed) f.told)
+    (λ rest. ((feed.framer.held ++ pending feed) ++ rest, ap (λ (u : List ℕ). (u ++ pending feed) ++ rest) kept.0 ∙ ap (λ (u : List ℕ). u ++ rest) (append_assoc (spellings packets) feed.framer.held (pending feed)) ∙ append_assoc (spellings packets) (feed.framer.held ++ pending feed) rest))
+
+-- nothing was read
+pub fed_new : (feed : Feed) (input : Option (List ℕ)) → feed.framer ≡ record { limit = acl_limit; before = 0; held = []; fault = None } → feed.at ≡ 0 → feed.end ≡ 0 → feed.fed ≡ 0 → IsFeeding input input feed []
+fed_new feed input framer at end fed =
+    let zero' : feed.end - feed.at ≡ 0 = omega (arith, at, end) in
+    let none : pending feed ≡ [] = ap (λ (k : ℕ). take k (drop feed.at feed.piece.items)) zero' in
+    record {
+      used = [];
+      accounts = subst (λ (f : Framing). Accounts [] [] f) (sym framer) (new_accounts acl_limit);
+      sound = ap (λ (f : Framing). f.fault) framer;
+      limit = ap (λ (f : Framing). f.limit) framer;
+      told = told_new input (pending feed) none;
+      count = omega (arith, fed, ap length none);
+      within = omega (arith, fed);
+    }
+  where
+    told_new : (input : Option (List ℕ)) (pend : List ℕ) → pend ≡ [] → input ≡ option_map (λ rest. [] ++ (pend ++ rest)) input
+    told_new None pend is = refl
+    told_new (Some all) pend is = ap (λ (x : List ℕ). Some (x ++ all)) (sym is)

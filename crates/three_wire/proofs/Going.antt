@@ -16,7 +16,7 @@ use Rattle.wire_model.specs.declared.link.Way.{Way}
 use Rattle.wire_model.specs.declared.link.Way.TheVariants.{Forth, Back}
 use Rattle.wire_model.specs.Machine as machine
 use Rattle.wire_model.specs.Trace.{Crossing, entry, entries, unit_octets, units_octets, IsCut}
-use Rattle.wire_model.specs.Pair.{Pair, Event, Took, Crossed, Rang, Happens, Runs, Crosses, CrossesBy, crossing_of, crossings_of, got_of, got_by, accepted, speaker, GoesBy, AllGoBy, SaysAll, Passes, is_lost, is_some_event, is_calm, rings, ringing}
+use Rattle.wire_model.specs.Pair.{Pair, Event, Took, Crossed, Rang, Happens, Runs, Crosses, CrossesBy, crossing_of, crossings_of, taken_of, taken, got_of, got_by, accepted, speaker, GoesBy, AllGoBy, SaysAll, Passes, is_lost, is_some_event, is_calm, rings, ringing}
 use Rattle.wire_model.proofs.Running.{runs_then}
 use Rattle.wire_model.proofs.Saying.{says_falls}
 use Rattle.three_wire.specs.declared.ends.Said.{Said}
@@ -40,16 +40,27 @@ went_then p q r a b sink sink' sink'' trace trace' trace'' x y = record {
   gives = y.gives ∙ ap (λ (c : Option (List ℕ)). gained c (units_octets (accepted b))) x.gives ∙ gained-gained sink (units_octets (accepted a)) (units_octets (accepted b)) ∙ ap (gained sink) (sym (units_then a b));
 }
 
-pub went_broke : (p q : Pair) (a : List Event) (sink sink' sink'' trace trace' trace'' : Option (List ℕ)) → Went p q a sink sink' trace trace' → Broke q sink' sink'' trace' trace'' → Broke p sink sink'' trace trace''
-went_broke p q a sink sink' sink'' trace trace' trace'' x y = record {
+pub broke_trace : (a b : List Event) (cut : List ℕ) (trace trace' trace'' : Option (List ℕ)) → trace' ≡ gained trace (entries (crossings_of a)) → trace'' ≡ gained trace' (entries (crossings_of b) ++ cut) → trace'' ≡ gained trace (entries (crossings_of (a ++ b)) ++ cut)
+broke_trace a b cut trace trace' trace'' x y =
+    y ∙ ap (λ (c : Option (List ℕ)). gained c (entries (crossings_of b) ++ cut)) x ∙ gained-gained trace (entries (crossings_of a)) (entries (crossings_of b) ++ cut)
+    ∙ ap (gained trace) (sym (append_assoc (entries (crossings_of a)) (entries (crossings_of b)) cut) ∙ ap (λ (es : List ℕ). es ++ cut) (sym (entries_then a b)))
+
+pub broke_sink : (a b : List Event) (sink sink' sink'' : Option (List ℕ)) → sink' ≡ gained sink (units_octets (accepted a)) → GainedFront sink' sink'' (units_octets (accepted b)) → GainedFront sink sink'' (units_octets (accepted (a ++ b)))
+broke_sink a b sink sink' sink'' x y = subst (GainedFront sink sink'') (sym (units_then a b)) (front_then sink sink' sink'' (units_octets (accepted a)) (units_octets (accepted b)) x y)
+
+pub taken_then : (a b : List Event) → taken (a ++ b) ≡ taken a ++ taken b
+taken_then a b = filter_map-append taken_of a b
+
+went_broke : (p q : Pair) (a : List Event) (sink sink' sink'' trace trace' trace'' : Option (List ℕ)) → taken a ≡ [] → Went p q a sink sink' trace trace' → Broke q sink' sink'' trace' trace'' → Broke p sink sink'' trace trace''
+went_broke p q a sink sink' sink'' trace trace' trace'' none x y = record {
   events = a ++ y.events;
   last = y.last;
   cut = y.cut;
   runs = runs_then p q y.last a y.events x.runs y.runs;
+  none = taken_then a y.events ∙ ap (λ (us : List machine.Unit). us ++ taken y.events) none ∙ y.none;
   is_cut = y.is_cut;
-  writes = y.writes ∙ ap (λ (c : Option (List ℕ)). gained c (entries (crossings_of y.events) ++ y.cut)) x.writes ∙ gained-gained trace (entries (crossings_of a)) (entries (crossings_of y.events) ++ y.cut)
-      ∙ ap (gained trace) (sym (append_assoc (entries (crossings_of a)) (entries (crossings_of y.events)) y.cut) ∙ ap (λ (es : List ℕ). es ++ y.cut) (sym (entries_then a y.events)));
-  front = subst (GainedFront sink sink'') (sym (units_then a y.events)) (front_then sink sink' sink'' (units_octets (accepted a)) (units_octets (accepted y.events)) x.gives y.front);
+  writes = broke_trace a y.events y.cut trace trace' trace'' x.writes y.writes;
+  front = broke_sink a y.events sink sink' sink'' x.gives y.front;
 }
 
 -- ---- one packet
@@ -93,9 +104,9 @@ one_back p q sink sink' trace trace' lost c = record {
 -- ---- a port fails
 
 pub cut_broke : (p : Pair) (sink sink' trace trace' : Option (List ℕ)) → CutsTrace sink sink' trace trace' → Broke p sink sink' trace trace'
-cut_broke p sink sink' trace trace' c = record { events = []; last = p; cut = c.cut; runs = refl; is_cut = c.is_cut; writes = c.writes; front = subst (λ (s : Option (List ℕ)). GainedFront sink s []) (sym c.gives) (front_none sink []) }
+cut_broke p sink sink' trace trace' c = record { events = []; last = p; cut = c.cut; runs = refl; none = refl; is_cut = c.is_cut; writes = c.writes; front = subst (λ (s : Option (List ℕ)). GainedFront sink s []) (sym c.gives) (front_none sink []) }
 
-no_cut : (c : Crossing) → IsCut []
+pub no_cut : (c : Crossing) → IsCut []
 no_cut c = (c, 0, omega arith, refl)
 
 sink_broke : (way : Way) (p q : Pair) (lost : Bool) (packet : Packet) (got : Option machine.Unit) (sink sink' trace trace' : Option (List ℕ)) → CrossesBy way p lost packet got q
@@ -105,6 +116,7 @@ sink_broke way p q lost packet got sink sink' trace trace' crosses writes front 
   last = q;
   cut = [];
   runs = (q, crosses, refl);
+  none = refl;
   is_cut = no_cut (record { way = way; lost = lost; packet = packet });
   writes = writes ∙ ap (gained trace) (sym (append-nil (entry (record { way = way; lost = lost; packet = packet }) ++ []) ∙ append-nil (entry (record { way = way; lost = lost; packet = packet }))));
   front = subst (GainedFront sink sink') (sym (same_got way got (record { way = way; lost = lost; packet = packet }) refl)) front;
@@ -125,6 +137,22 @@ broke_back p sink sink' trace trace' (inr c) =
 go_then : (way : Way) (a b : List Event) → AllGoBy way a → AllGoBy way b → AllGoBy way (a ++ b)
 go_then way [] b x y = y
 go_then way (event ∷ a) b x y = (x.0, go_then way a b x.1 y)
+
+-- of these none is the taking of a unit
+pub none_taken : (way : Way) (events : List Event) → AllGoBy way events → taken events ≡ []
+none_taken way [] go = refl
+none_taken way (Took u ∷ events) go = absurd go.0
+none_taken way (Crossed c got ∷ events) go = none_taken way events go.1
+none_taken way (Rang ∷ events) go = absurd go.0
+
+no_ring : (calm : Bool) → taken (ringing calm) ≡ []
+no_ring true = refl
+no_ring false = refl
+
+pub round_takes_none : (p q : Pair) (events : List Event) → Passes p events q → taken events ≡ []
+round_takes_none p q events x =
+    ap taken x.all ∙ taken_then x.forth (x.back ++ ringing (is_calm (x.forth ++ x.back))) ∙ ap (λ (us : List machine.Unit). us ++ taken (x.back ++ ringing (is_calm (x.forth ++ x.back)))) (none_taken Forth x.forth x.forth_said.go)
+    ∙ taken_then x.back (ringing (is_calm (x.forth ++ x.back))) ∙ ap (λ (us : List machine.Unit). us ++ taken (ringing (is_calm (x.forth ++ x.back)))) (none_taken Back x.back x.back_said.go) ∙ no_ring (is_calm (x.forth ++ x.back))
 
 some_then : (a : List Event) (event : Event) → is_some_event (a ++ event ∷ []) ≡ true
 some_then [] event = refl
@@ -160,7 +188,7 @@ so_more way p q r sink sink' sink'' trace trace' trace'' said lost x y = record 
 }
 
 pub so_broke : (way : Way) (p q : Pair) (sink sink' sink'' trace trace' trace'' : Option (List ℕ)) (said : Said) → WentSo way p q sink sink' trace trace' said → Broke q sink' sink'' trace' trace'' → Broke p sink sink'' trace trace''
-so_broke way p q sink sink' sink'' trace trace' trace'' said x y = went_broke p q x.events sink sink' sink'' trace trace' trace'' x.went y
+so_broke way p q sink sink' sink'' trace trace' trace'' said x y = went_broke p q x.events sink sink' sink'' trace trace' trace'' (none_taken way x.events x.go) x.went y
 
 -- ---- a round
 

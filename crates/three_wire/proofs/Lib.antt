@@ -3,3 +3,4 @@ pub mod Hearing
 pub mod Breaking
 pub mod Going
 pub mod Feeding
+pub mod Carrying

@@ -44,7 +44,6 @@ pub record IsFeeding (input left : Option (List ℕ)) (feed : Feed) (packets : L
   pub told : input ≡ option_map (λ rest. used ++ (pending feed ++ rest)) left
   pub count : feed.fed ≡ length used + length (pending feed)
   pub within : feed.fed ≤ input_limit
-  pub units : feed.units ≡ length packets
 
 -- The next unit was found, with its octets at the front of the room for one; or none is whole; or the input is
 -- refused at a place.
@@ -96,6 +95,10 @@ StopsAt all packets (fault.TooLong place) = (place ≡ input_limit) × ((input_l
 StopsAt all packets fault.ReadFault = Unit {0}
 StopsAt all packets fault.WriteFault = Unit {0}
 StopsAt all packets fault.NoMemory = Unit {0}
+
+-- the input begins with these packets
+abbrev pub IsFront : List Packet → List ℕ → Type 0
+IsFront packets all = (rest : List ℕ) × (all ≡ spellings packets ++ rest)
 
 -- the input is these packets and no more, within the greatest length
 pub record IsAll (all : List ℕ) (packets : List Packet) : Type 0 where

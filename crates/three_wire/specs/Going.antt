@@ -5,7 +5,7 @@ use Rattle.bt_base.specs.Streams.{gained, GainedFront}
 use Rattle.wire_model.specs.declared.link.Way.{Way}
 use Rattle.wire_model.specs.Machine as machine
 use Rattle.wire_model.specs.Trace.{entries, units_octets, IsCut}
-use Rattle.wire_model.specs.Pair.{Pair, Event, Runs, crossings_of, accepted, speaker, GoesBy, AllGoBy, SaysAll, Passes, is_lost, is_some_event}
+use Rattle.wire_model.specs.Pair.{Pair, Event, Runs, crossings_of, taken, accepted, speaker, GoesBy, AllGoBy, SaysAll, Passes, is_lost, is_some_event}
 use Rattle.three_wire.specs.declared.ends.Ends.{Ends}
 use Rattle.three_wire.specs.declared.ends.Said.{Said}
 use Rattle.three_wire.specs.declared.fault.CarryFault.{CarryFault}
@@ -26,13 +26,14 @@ pub record Went (p q : Pair) (events : List Event) (sink sink' trace trace' : Op
   pub writes : trace' ≡ gained trace (entries (crossings_of events))
   pub gives : sink' ≡ gained sink (units_octets (accepted events))
 
--- These events happened, and a port failed then: behind the whole entries may stand the beginning of one, and the
+-- These events happened, of which none is the taking of a unit, and a port failed then: behind the whole entries may stand the beginning of one, and the
 -- sink has a front of what was accepted.
 pub record Broke (p : Pair) (sink sink' trace trace' : Option (List ℕ)) : Type 0 where
   pub events : List Event
   pub last : Pair
   pub cut : List ℕ
   pub runs : Runs p events last
+  pub none : taken events ≡ []
   pub is_cut : IsCut cut
   pub writes : trace' ≡ gained trace (entries (crossings_of events) ++ cut)
   pub front : GainedFront sink sink' (units_octets (accepted events))

@@ -4,3 +4,4 @@ pub mod Inside
 pub mod Crossing
 pub mod Going
 pub mod Feeding
+pub mod Carrying

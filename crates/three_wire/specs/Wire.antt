@@ -1,5 +1,5 @@
 -- What the calls of an end answer.
-use Rattle.std.specs.Prelude.{ℕ, ◌≡◌, ◌<◌, ◌++◌, Bool, true, false, List, length, drop, Option, Some, None, IsTrue}
+use Rattle.std.specs.Prelude.{ℕ, ◌≡◌, ◌<◌, ◌++◌, Bool, true, false, ◌&&◌, nat_lt, List, length, drop, Option, Some, None, IsTrue}
 use Rattle.wire_packets.specs.Packets.{Packet, IsPacket}
 use Rattle.wire_model.specs.Line.{line}
 use Rattle.wire_model.specs.Machine as machine
@@ -7,6 +7,10 @@ use Rattle.three_wire.specs.declared.wire.WireHeard.{WireHeard}
 use Rattle.three_wire.specs.declared.wire.WireHeard.TheVariants.{Unit, Reset, Nothing}
 use Rattle.three_wire.specs.declared.wire.WireSubmit.{WireSubmit}
 use Rattle.three_wire.specs.declared.wire.WireSubmit.TheVariants.{NotActive, Busy, Taken}
+
+-- a unit would be taken
+abbrev pub is_ready : machine.Wire → Bool
+is_ready w = machine.is_active w.stage && nat_lt (length w.unacked) w.window
 
 -- a unit is not taken where the end is not active, else not where as many are unacknowledged as the window says
 abbrev pub Submits : machine.Wire → machine.Unit → WireSubmit → machine.Wire → Type 0

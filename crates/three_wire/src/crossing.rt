@@ -4,14 +4,17 @@ ghost use Rattle.std.specs.Prelude.{◌≡◌, ◌≤◌, ◌∷◌, ◌++◌, l
 ghost use Rattle.bt_base.specs.Octets.{be16};
 ghost use Rattle.bt_base.specs.Streams.{gained, GainedFront};
 ghost use Rattle.wire_packets.specs.Packets.{Packet, IsPacket};
+ghost use Rattle.wire_model.specs.Draws.{draws_from};
 ghost use Rattle.wire_model.specs.Line.{line};
 ghost use Rattle.wire_model.specs.Trace.{tag_of};
 ghost use Rattle.three_wire.specs.Crossing.{IsAtRest, HearsWhole, Blames, IsOfPorts, HasRoom, CrossesSo, Steady, BlamesBoth};
 
-use crate::draws::{Draws, loses};
 use crate::fault::CarryFault;
+use crate::loss::{draws_from, loses};
 use crate::wire::{Wire, WireHeard};
-use bt_base::{PortFault, Sink};
+use bt_base::{NoMemory, PortFault, Sink};
+use draws::Draws;
+use std::alloc::Global;
 use wire_model::Way;
 use wire_packets::{Slip, SlipTaken, packet_of};
 
@@ -23,6 +26,21 @@ pub(crate) struct Medium {
     pub(crate) line: Vec<u8>,
     pub(crate) entry: Vec<u8>,
     pub(crate) unit: Vec<u8>,
+}
+
+impl Medium {
+    /// A line that loses packets by the draws of a number, or none.
+    pub(crate) fn new(alloc: Global, number: Option<u32>) -> Result<Medium, NoMemory>
+        ensures draws { IfOk result (λ medium. medium.draws ≡ draws_from number) }
+        ensures room { IfOk result HasRoom }
+    {
+        Ok(Medium {
+            draws: draws_from(number),
+            line: vec![in alloc; 0u8; 8200]?,
+            entry: Vec::with_capacity(alloc, 8203)?,
+            unit: Vec::with_capacity(alloc, 4096)?,
+        })
+    }
 }
 
 /// The tag of an entry of the trace.

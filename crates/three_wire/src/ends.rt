@@ -3,14 +3,18 @@
 ghost use Rattle.std.specs.Prelude.{◌≡◌, ◌||◌, true, IfOk};
 ghost use Rattle.three_wire.specs.Crossing.{Steady, BlamesBoth};
 ghost use Rattle.three_wire.specs.Going.{pair_of, IsSound, Goes, SaidAll, Passed, both_calm};
-ghost use Rattle.wire_model.specs.Pair.{rings};
+ghost use Rattle.wire_model.specs.Pair.{new_pair, rings};
 
 use crate::crossing::{Medium, cross};
 use crate::fault::CarryFault;
 use crate::wire::Wire;
-use bt_base::Sink;
+use bt_base::{NoMemory, Sink};
+use std::alloc::Global;
 use wire_model::Way;
 use wire_packets::Slip;
+
+/// The window of both ends.
+const WINDOW: u8 = 4;
 
 /// Two ends, the decoder of each, and the line between them.
 #[derive(Drop)]
@@ -42,6 +46,21 @@ impl Said {
 }
 
 impl Ends {
+    /// Two ends at their start, both with window 4, and a line that loses packets by the draws of a
+    /// number, or none. They reserve all that they ever need.
+    pub(crate) fn new(alloc: Global, number: Option<u32>) -> Result<Ends, NoMemory>
+        ensures pair { IfOk result (λ ends. pair_of ends ≡ new_pair number) }
+        ensures sound { IfOk result IsSound }
+    {
+        Ok(Ends {
+            first: Wire::new(alloc, WINDOW)?,
+            second: Wire::new(alloc, WINDOW)?,
+            to_first: Slip::new(alloc)?,
+            to_second: Slip::new(alloc)?,
+            medium: Medium::new(alloc, number)?,
+        })
+    }
+
     /// The next packet of an end crosses the line, if it says one. The answer is whether a packet
     /// went, and whether it was lost.
     fn cross_by<K: Sink, T: Sink>(

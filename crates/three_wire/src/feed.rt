@@ -6,17 +6,21 @@ ghost use Rattle.h4_framing.specs.Packets.{Packet};
 ghost use Rattle.three_wire.specs.Feeding.{input_limit, pending, HasShape, IsFeeding, TakesNext, ReadsMore, BlamesSource, EndsSo, IsRefusal, IsPortFault, Feeds};
 
 use crate::fault::CarryFault;
-use bt_base::{PortFault, Source};
+use bt_base::{NoMemory, PortFault, Source};
 use h4_framing::{Framer, H4Refusal, Taken, write_unit};
+use std::alloc::Global;
 
 /// How many octets are read at a time, at most.
-pub(crate) const PIECE_LENGTH: usize = 65_536;
+const PIECE_LENGTH: usize = 65_536;
+
+/// The greatest number of octets of an ACL packet, with which its payload fits a packet of the line.
+const ACL_LIMIT: u16 = 4091;
 
 /// The greatest length of an input, in octets.
 const INPUT_LIMIT: usize = 67_108_864;
 
 /// How far a source was read: what its framer holds, the octets of the last piece that are not used
-/// yet, from `at` up to `end`, how many octets were read, how many units they had, and room for one.
+/// yet, from `at` up to `end`, how many octets were read, and room for one unit.
 #[derive(Drop)]
 pub(crate) struct Feed {
     pub(crate) framer: Framer,
@@ -24,7 +28,6 @@ pub(crate) struct Feed {
     pub(crate) at: usize,
     pub(crate) end: usize,
     pub(crate) fed: usize,
-    pub(crate) units: u64,
     pub(crate) unit: Vec<u8>,
 }
 
@@ -58,6 +61,21 @@ fn read_piece<S: Source>(source: &mut S, piece: &mut [u8], room: usize) -> Resul
 }
 
 impl Feed {
+    /// A source of which nothing was read.
+    pub(crate) fn new(alloc: Global) -> Result<Feed, NoMemory>
+        ensures shape { IfOk result HasShape }
+        ensures feeding { IfOk result (λ feed. (input : Option (List ℕ)) → IsFeeding input input feed []) }
+    {
+        Ok(Feed {
+            framer: Framer::new(alloc, ACL_LIMIT)?,
+            piece: vec![in alloc; 0u8; PIECE_LENGTH]?,
+            at: 0,
+            end: 0,
+            fed: 0,
+            unit: vec![in alloc; 0u8; 4096]?,
+        })
+    }
+
     /// The next unit of the octets that were read.
     fn take_next(&mut self) -> Found
         requires shape { HasShape self.old }
@@ -69,7 +87,6 @@ impl Feed {
             Taken::Whole(unit, used) => {
                 let n = write_unit(&unit, &mut self.unit);
                 self.at += used;
-                self.units = self.units.saturating_add(1);
                 Found::Unit(n)
             }
             Taken::More => {

@@ -2,14 +2,20 @@
 //! line, and units that are carried over a line that loses packets.
 #![tactic(auto)]
 
+mod carriage;
 mod crossing;
-mod draws;
 mod ends;
 mod fault;
 mod feed;
 mod held;
 mod line;
+mod loss;
+mod rounds;
 mod wire;
 
 pub use fault::{CarryEnd, CarryFault};
+pub use rounds::carry;
 pub use wire::{Wire, WireHeard, WireSubmit};
+
+#[cfg(test)]
+mod tests;

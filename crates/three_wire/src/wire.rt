@@ -65,7 +65,7 @@ impl Wire {
     ghost use Rattle.std.specs.Prelude.{◌≡◌, ◌≤◌, IfOk, length, Some, [], true};
     ghost use Rattle.wire_packets.specs.Packets.{plain};
     ghost use Rattle.wire_model.specs.Machine.{new_wire, is_active, is_reset, ticked, waits, hears, hears_message, hears_ack, takes_unit};
-    ghost use Rattle.three_wire.specs.Wire.{Submits, Answers, Gives};
+    ghost use Rattle.three_wire.specs.Wire.{is_ready, Submits, Answers, Gives};
 
     /// An end at its start, which sends SYNC. The window is the greatest number of units that are
     /// unacknowledged, 1 to 7. It reserves all that it ever needs.
@@ -113,6 +113,14 @@ impl Wire {
         ensures { result ≡ length self.now.unacked }
     {
         self.count
+    }
+
+    /// Whether a unit would be taken: the end is active, and fewer units than its window says are
+    /// unacknowledged.
+    pub fn ready(&self) -> bool
+        ensures { result ≡ is_ready self.now }
+    {
+        self.active() && self.count < self.window
     }
 
     /// Takes a unit to be sent, of a type from 1 to 4 and with at most 4,095 octets.

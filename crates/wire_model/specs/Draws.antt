@@ -1,17 +1,6 @@
--- Which packets a line loses: the draws of a linear congruential generator (this project's own, the same as those of
--- generated scenarios).
-use Rattle.std.specs.Prelude.{ℕ, ◌+◌, ◌*◌, ◌/◌, ◌%◌, ◌==◌, Bool, false, List, [], ◌∷◌, Option, Some, None}
-
--- the state that a number begins with, and the one behind another
-abbrev pub first_state : ℕ → ℕ
-first_state number = number % 2147483648
-
-abbrev pub next_state : ℕ → ℕ
-next_state state = (1103515245 * state + 12345) % 2147483648
-
--- what is drawn: the upper bits of the new state
-abbrev pub drawn : ℕ → ℕ
-drawn state = state / 65536
+-- Which packets a line loses: one draw each (this project's own).
+use Rattle.std.specs.Prelude.{ℕ, ◌%◌, ◌==◌, Bool, false, Option, Some, None}
+use Rattle.draws.specs.Generator.{first_state, next_state, drawn}
 
 -- the next packet is lost; without a number none is
 abbrev pub loses : Option ℕ → Bool

@@ -3,4 +3,5 @@ pub mod Line
 pub mod Draws
 pub mod Trace
 pub mod Pair
+pub mod Rounds
 pub mod Laws

@@ -3,7 +3,7 @@
 ghost use Rattle.std.specs.Prelude.{◌≡◌, ◌++◌, ◌==◌, ◌&&◌, nat_le, nat_lt, not, Bool, List, IfOk, OnOk, filter, map, reverse, option_map, option_to_list};
 ghost use Rattle.std.specs.List.{list_any};
 ghost use Rattle.l2cap_config.specs.Reading.{options_read};
-ghost use Rattle.link_talk.specs.Requests.{last_run, no_requests, requests_after, went, has_source, is_call, answered_call, has_identifier, answered_query, is_failure, has_failed, called, queried, failed, call, query, failure, call_wanted, query_terms};
+ghost use Rattle.link_talk.specs.Requests.{last_run, no_requests, requests_after, went, has_source, is_call, answered_call, has_identifier, answered_query, is_failure, has_failed, is_own_call, counted, with_failures, called, queried, failed, call, query, failure, call_wanted, query_terms};
 ghost use Rattle.link_talk.specs.Meanings.{granted, made, answered, is_read, settled, replied, wished, meant};
 ghost use Rattle.link_talk.specs.Lent.{plain_sense, plain_question, plain_reply, plain_terms, plain_query, plain_meaning, plain_requests};
 
@@ -239,6 +239,17 @@ fn is_among(failures: &[Failure], identifier: u8, own: u16) -> bool
     false
 }
 
+fn is_own_among(calls: &[Call], identifier: u8, own: u16) -> bool
+    ensures { result ≡ list_any (is_own_call identifier own) calls.now }
+{
+    for one in calls {
+        if one.flow == Flow::Out && is_call(identifier, own, one) {
+            return true;
+        }
+    }
+    false
+}
+
 impl<'a> Requests<'a> {
     pub(crate) fn new(alloc: Global) -> Requests<'a>
         ensures { plain_requests result ≡ no_requests }
@@ -362,18 +373,37 @@ impl<'a> Requests<'a> {
         }
     }
 
+    /// Whether the request stands here that a refusal is for.
+    #[tactic(auto, using(crate::proofs::Runs::any_reverse))]
+    fn is_asked(&self, one: &Failure) -> bool
+        ensures { result ≡ list_any (is_own_call one.now.identifier one.now.own) (plain_requests self.now).calls }
+    {
+        is_own_among(&self.calls, one.identifier, one.own)
+    }
+
+    /// Adds a refusal, where its request stands here.
+    fn push_failure(&mut self, found: Option<Failure>) -> Result<(), NoMemory>
+        ensures { OnOk result (plain_requests self.new ≡ with_failures (plain_requests self.old) (counted (plain_requests self.old).calls found)) }
+    {
+        let Some(one) = found else {
+            return Ok(());
+        };
+        if self.is_asked(&one) {
+            self.failures.push(one)?;
+        }
+        Ok(())
+    }
+
     /// Adds what a saying asks for, or what came to nothing by it.
     pub(crate) fn hear(&mut self, sense: &Sense<'a>) -> Result<(), NoMemory>
         ensures { OnOk result (plain_requests self.new ≡ requests_after (plain_requests self.old) (plain_sense sense.now)) }
     {
+        self.push_failure(failure_in(sense))?;
         if let Some(one) = call_in(sense) {
             self.calls.push(one)?;
         }
         if let Some(one) = query_in(sense) {
             self.queries.push(one)?;
-        }
-        if let Some(one) = failure_in(sense) {
-            self.failures.push(one)?;
         }
         Ok(())
     }

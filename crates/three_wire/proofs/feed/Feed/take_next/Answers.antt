@@ -20,7 +20,7 @@ returns-in-Whole-clause-takes c = λ input left packets f.
     let feed = c.args.self.now in
     let whole = subst (λ (t : Taken). Takes feed.framer (take (feed.end - feed.at) (drop feed.at c.deref.result.now)) t c.take.follows.lender-at-none) c.in-Whole.is c.take.follows.holds-at-none in
     let takes = subst (λ (xs : List ℕ). Takes feed.framer (take (feed.end - feed.at) (drop feed.at xs)) (Whole c.in-Whole.unit c.in-Whole.used) c.take.follows.lender-at-none) c.deref.ensures.value whole in
-    let next = fed_whole input left feed _ packets c.in-Whole.unit c.in-Whole.used c.requires.shape f takes refl refl refl refl c.saturating_add-self.ensures in
+    let next = fed_whole input left feed _ packets c.in-Whole.unit c.in-Whole.used c.requires.shape f takes refl refl refl refl in
     let same = with_items_is c.args.self.now.unit c.write_unit-n.new.into (omega (arith, c.write_unit-n.auto.into, c.deref_mut.ensures.len)) in (
       packet c.in-Whole.unit,
       next.0,
@@ -34,7 +34,7 @@ returns-in-More-clause-takes c = λ input left packets f.
     let feed = c.args.self.now in
     let more = subst (λ (t : Taken). Takes feed.framer (take (feed.end - feed.at) (drop feed.at c.deref.result.now)) t c.take.follows.lender-at-none) c.in-More.is c.take.follows.holds-at-none in
     let takes = subst (λ (xs : List ℕ). Takes feed.framer (take (feed.end - feed.at) (drop feed.at xs)) More c.take.follows.lender-at-none) c.deref.ensures.value more in
-    fed_more input left feed _ packets c.requires.shape f takes refl refl refl refl refl
+    fed_more input left feed _ packets c.requires.shape f takes refl refl refl refl
 
 pub returns-in-Refused-clause-takes : goal.returns-in-Refused-clause-takes
 returns-in-Refused-clause-takes c = λ input left packets f.

@@ -1,0 +1,17 @@
+pub mod Waiting
+pub mod Knowing
+pub mod Tying
+pub mod Sending
+pub mod Arriving
+pub mod Following
+pub mod Turning
+pub mod Resting
+pub mod Obeying
+pub mod Ending
+pub mod Marking
+pub mod Counting
+pub mod Owing
+pub mod Accounting
+pub mod Booking
+pub mod Balancing
+pub mod Exampling

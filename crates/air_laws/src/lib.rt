@@ -1,0 +1,40 @@
+//! Laws of the capture of two hosts with any upper machines, whatever their ports answer: what
+//! the air did, and how pushes follow one another.
+#![tactic(auto)]
+
+ghost use Rattle.air_laws.specs.Accounts.{BuffersAreKept, CompletionsAreHonest};
+ghost use Rattle.air_laws.specs.AirLaws.{AirIsKept, AirIsObeyed, PushesAreMarked};
+ghost use Rattle.air_laws.specs.Example.{ExampleRuns};
+ghost use Rattle.world_model.specs.Machines.{Upper};
+
+/// What comes into the hosts is what the words hand over, in each run, wherever it broke off.
+pub fn air_is_kept<S, T, G, H>()
+    ensures { (U : Upper S G) (V : Upper T H) → AirIsKept U V }
+{}
+
+/// A run that is at rest obeyed its words: those without an entry found nothing to act on.
+pub fn air_is_obeyed<S, T, G, H>()
+    ensures { (U : Upper S G) (V : Upper T H) → AirIsObeyed U V }
+{}
+
+/// Pushes are in turn, and the links of each lie within it.
+pub fn pushes_are_marked<S, T, G, H>()
+    ensures { (U : Upper S G) (V : Upper T H) → PushesAreMarked U V }
+{}
+
+/// At each moment a host has no more packets outstanding than its controller takes, and no more
+/// than 64.
+pub fn buffers_are_kept<S, T, G, H>()
+    ensures { (U : Upper S G) (V : Upper T H) → BuffersAreKept U V }
+{}
+
+/// A controller says of no handle that more packets were completed than went out on it.
+pub fn completions_are_honest<S, T, G, H>()
+    ensures { (U : Upper S G) (V : Upper T H) → CompletionsAreHonest U V }
+{}
+
+/// The laws say something: two machines that they hold of, and a whole run of them.
+#[tactic(auto, using(crate::proofs::Exampling::example_runs))]
+pub fn an_example_runs()
+    ensures { ExampleRuns }
+{}

@@ -1,0 +1,82 @@
+-- The words of the command line: what each form is spelled by (this project's own).
+use Rattle.std.specs.Prelude.{ℕ, ◌≡◌, ◌<◌, ◌^◌, Bool, true, false, List, [], ◌∷◌, Option, Some, None, codes, decimal}
+use Rattle.std.specs.Str.{bytes_eq}
+use Rattle.clap.specs.Words.{App, Row, Rule, Text, fault_of, first_of, matches_of, new_app, new_rule, with_rule}
+use Rattle.clap.specs.declared.builder.action.ArgAction.TheVariants.{SetTrue}
+use Rattle.command_words.specs.declared.form.Form.{Form}
+use Rattle.command_words.specs.declared.form.Form.TheVariants.{Decode, DecodeTagged, Push, Receive, Make}
+
+-- ---- the command: one required word, a flag and an option
+
+abbrev pub form_argument : Rule
+form_argument = record (new_rule (codes "form")) { required = true }
+
+abbrev pub tagged_argument : Rule
+tagged_argument = record (new_rule (codes "tagged")) { long = Some (codes "tagged"); action = Some SetTrue }
+
+abbrev pub number_argument : Rule
+number_argument = record (new_rule (codes "number")) { long = Some (codes "number") }
+
+abbrev pub the_command : App
+the_command = with_rule (with_rule (with_rule (new_app (codes "btpush")) form_argument) tagged_argument) number_argument
+
+-- ---- what a command line gives
+
+pub record Given : Type 0 where
+  -- the word of the form
+  pub form : Option Text
+  -- the flag `--tagged` stands there
+  pub tagged : Bool
+  -- what stands behind `--number`
+  pub number : Option Text
+
+-- what stands there for a flag
+abbrev pub is_set : Option Text → Bool
+is_set (Some text) = bytes_eq text (codes "true")
+is_set None = false
+
+abbrev pub given_by : List Row → Given
+given_by rows = record {
+  form = first_of (codes "form") rows;
+  tagged = is_set (first_of (codes "tagged") rows);
+  number = first_of (codes "number") rows;
+}
+
+-- what is given where a form is asked for
+abbrev pub spelled : Form → Given
+spelled Decode = record { form = Some (codes "decode"); tagged = false; number = None }
+spelled DecodeTagged = record { form = Some (codes "decode"); tagged = true; number = None }
+spelled Push = record { form = Some (codes "push"); tagged = false; number = None }
+spelled Receive = record { form = Some (codes "receive"); tagged = false; number = None }
+spelled (Make number) = record { form = Some (codes "make"); tagged = false; number = Some (decimal number) }
+
+-- a number has 32 bits
+abbrev pub IsInRange : Form → Type 0
+IsInRange (Make number) = number < 2 ^ 32
+IsInRange _ = Unit {0}
+
+-- The words ask for that form: `clap` takes them for the command, and what it finds is the form's word, its flag and its
+-- option, in any order that `clap` takes.
+pub record AsksFor (words : List Text) (form : Form) : Type 0 where
+  pub taken : fault_of the_command words ≡ []
+  pub given : given_by (matches_of the_command words) ≡ spelled form
+  pub range : IsInRange form
+
+-- the words ask for no form
+abbrev pub AsksForNone : List Text → Type 0
+AsksForNone words = (form : Form) → AsksFor words form → ⊥
+
+-- what is given spells that form, or no form
+abbrev pub IsSpelled : Given → Option Form → Type 0
+IsSpelled given (Some form) = (given ≡ spelled form) × IsInRange form
+IsSpelled given None = (form : Form) → IsInRange form → given ≡ spelled form → ⊥
+
+-- what the words ask for, or that it is no form
+abbrev pub IsAnswered : List Text → Option Form → Type 0
+IsAnswered words (Some form) = AsksFor words form
+IsAnswered words None = AsksForNone words
+
+-- the number of 32 bits whose decimal text that is, or that there is none
+abbrev pub IsNumberOf : Text → Option ℕ → Type 0
+IsNumberOf text (Some number) = (text ≡ decimal number) × (number < 2 ^ 32)
+IsNumberOf text None = (number : ℕ) → number < 2 ^ 32 → text ≡ decimal number → ⊥

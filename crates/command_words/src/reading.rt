@@ -1,0 +1,103 @@
+//! The form that the words of a command line ask for.
+
+ghost use Rattle.std.specs.Prelude.{◌≡◌, IfOk, Some, None, codes, map, string_bytes};
+ghost use Rattle.std.specs.Option.{option_map};
+ghost use Rattle.clap.specs.Words.{first_of, found_of, rows_of};
+ghost use Rattle.command_words.specs.Forms.{IsAnswered, IsNumberOf, IsSpelled, given_by, is_set};
+
+use crate::command::the_command;
+use crate::form::Form;
+use clap::ArgMatches;
+use clap::error::ErrorKind;
+use itoa::Buffer;
+use std::alloc::Global;
+
+/// Memory ran out while the words were read.
+#[derive(Clone, Copy, Debug, PartialEq, Eq)]
+pub struct NoMemory;
+
+/// The number whose decimal text this is.
+fn number_of(text: &str) -> Option<u32>
+    ensures { IsNumberOf text.now result }
+{
+    let Ok(number) = text.parse::<u32>() else {
+        return None
+    };
+    let mut buffer = Buffer::new();
+    if buffer.format(number) == text {
+        Some(number)
+    } else {
+        None
+    }
+}
+
+/// The form with that word and flag, where no number is given.
+fn plain_form(word: &str, tagged: bool) -> Option<Form>
+    ensures { IsSpelled (record { form = Some word.now; tagged = tagged; number = None }) result }
+{
+    match (word, tagged) {
+        ("decode", false) => Some(Form::Decode),
+        ("decode", true) => Some(Form::DecodeTagged),
+        ("push", false) => Some(Form::Push),
+        ("receive", false) => Some(Form::Receive),
+        _ => None,
+    }
+}
+
+/// The form with that word and flag, and a number.
+fn numbered_form(word: &str, tagged: bool, number: &str) -> Option<Form>
+    ensures { IsSpelled (record { form = Some word.now; tagged = tagged; number = Some number.now }) result }
+{
+    match (word, tagged) {
+        ("make", false) => number_of(number).map(Form::Make),
+        _ => None,
+    }
+}
+
+/// The text that was found under a name.
+fn text_found<'a>(found: &ArgMatches<'a>, name: &str) -> Option<&'a str>
+    ensures { option_map (λ text. text.now) result ≡ first_of name.now (rows_of (found_of found.now)) }
+{
+    found.get_str(name)
+}
+
+/// Whether `--tagged` was found.
+fn is_tagged(found: &ArgMatches<'_>) -> bool
+    ensures { result ≡ is_set (first_of (codes "tagged") (rows_of (found_of found.now))) }
+{
+    match text_found(found, "tagged") {
+        Some(text) => text == "true",
+        None => false,
+    }
+}
+
+/// The form that was found.
+fn form_found(found: &ArgMatches<'_>) -> Option<Form>
+    ensures { IsSpelled (given_by (rows_of (found_of found.now))) result }
+{
+    let tagged = is_tagged(found);
+    let Some(word) = text_found(found, "form") else {
+        return None
+    };
+    match text_found(found, "number") {
+        None => plain_form(word, tagged),
+        Some(number) => numbered_form(word, tagged, number),
+    }
+}
+
+/// The form that the words ask for, the program's name first, which is not looked at. None where they
+/// ask for none; a wish for help is none.
+pub fn form_of<'a>(alloc: Global, words: &'a [String]) -> Result<Option<Form>, NoMemory>
+    ensures { IfOk result (IsAnswered (map string_bytes words.now)) }
+{
+    let Ok(command) = the_command(alloc) else {
+        return Err(NoMemory)
+    };
+    match command.try_get_matches_from(words) {
+        Ok(found) => Ok(form_found(&found)),
+        Err(fault) => match fault.kind() {
+            ErrorKind::OutOfMemory => Err(NoMemory),
+            _ => Ok(None),
+        },
+    }
+}

@@ -1,0 +1,16 @@
+use Rattle.std.proofs.Common.{◌<◌, length, subst, sym, ap}
+use Rattle.channel_model.specs.Value.{Held, no_setup}
+use Rattle.l2cap_channels.specs.Machine.{Machine}
+use Rattle.l2cap_channels.specs.Places.{stage_value}
+use Rattle.l2cap_channels.proofs.Changed.{sound_set, set_machine}
+use Rattle.l2cap_channels.proofs.channels.Channels.hide.Goals as goal
+
+pub invariant_of-self : goal.invariant_of-self
+invariant_of-self c =
+    sound_set c.self.inside c.args.at c.index_mut-place.result.now c.hide.new.self c.self.invariant
+    (subst (λ (x : Machine). c.args.at < length x.channels.held) (sym c.self.view_is) c.requires.place) c.index_mut-place.ensures.value (ap (λ (k : Held). k.own) c.hide.ensures)
+
+pub returns : goal.returns
+returns c =
+    set_machine c.self.inside c.args.self.now c.args.at c.index_mut-place.result.now c.hide.new.self (λ k. stage_value c.args.stage no_setup) c.self.view_is c.self.invariant c.requires.place
+    c.index_mut-place.ensures.value c.hide.ensures

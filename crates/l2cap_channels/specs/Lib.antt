@@ -1,0 +1,15 @@
+pub mod Parts
+pub mod Heads
+pub mod Responses
+pub mod Queues
+pub mod Lines
+pub mod Places
+pub mod Memories
+pub mod Machine
+pub mod Sound
+pub mod Whole
+pub mod Finding
+pub mod Sending
+pub mod Given
+pub mod Timers
+pub mod Repeating

@@ -1,0 +1,25 @@
+//! The channels of a link, as one of its hosts keeps them (Bluetooth Core Specification 5.1, Volume 3
+//! Part A, sections 2.1, 3, 4, 6 and 7): signalling, basic channels, and channels in enhanced
+//! retransmission mode.
+#![tactic(auto)]
+
+mod answers;
+mod channels;
+mod hearing;
+mod identifier;
+mod line;
+mod memory;
+mod place;
+mod queue;
+mod request;
+mod response;
+mod setup;
+mod stage;
+mod timing;
+mod writing;
+
+pub use answers::SendAnswer;
+pub use channels::Channels;
+
+#[cfg(test)]
+mod tests;

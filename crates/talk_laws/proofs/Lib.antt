@@ -1,0 +1,9 @@
+pub mod Passes
+pub mod Setups
+pub mod Exchanges
+pub mod ServiceAnswers
+pub mod Sdus
+pub mod Accounts
+pub mod Owning
+pub mod Waits
+pub mod Objects

@@ -1,0 +1,237 @@
+-- Packets and objects with more of them.
+use Rattle.std.proofs.Common.{◌≡◌, ℕ, List, [], ◌∷◌, ◌++◌, length, drop, map, Bool, true, false, cond, ◌||◌, ◌&&◌, Option, Some, None, Ok, Err, inl, arith, refl, sym, ap, ◌∙◌, append_assoc, append-nil}
+use Rattle.std.specs.List.{flat_map, filter_map, cons_option, AllByRecursion}
+use Rattle.std.proofs.lemmas.List.{map-append}
+use Rattle.std.proofs.lemmas.List.Elements.{filter_map-append}
+use Rattle.std.proofs.lemmas.Grind.{flat_map-append}
+use Rattle.bt_base.specs.Objects.{Object}
+use Rattle.capture.specs.declared.flow.Flow.{Flow}
+use Rattle.capture.specs.declared.flow.Flow.TheVariants.{Out, Into}
+use Rattle.capture.specs.Histories.{each_after, given_by}
+use Rattle.capture.proofs.HistoryLaws.{each_after-append, given_by-more}
+use Rattle.obex_headers.specs.Packets.{PlainPacket}
+use Rattle.obex_headers.specs.Runs.{is_final, run_headers, breaks, lacks, object_of, objects_from}
+use Rattle.rfcomm_frames.specs.declared.connection.Role.{Role}
+use Rattle.rfcomm_frames.specs.declared.connection.Role.TheVariants.{Initiator, Responder}
+use Rattle.rfcomm_frames.specs.Answers.{Answer}
+use Rattle.rfcomm_frames.specs.Connections.{other_role}
+use Rattle.rfcomm_frames.specs.FrameReading.{frame_answer}
+use Rattle.rfcomm_frames.specs.Multiplexing.{Passed, Framed, framed, frames, no_connections, carries_on, information, carried, user_octets}
+use Rattle.rfcomm_frames.specs.LookingBack.{connections}
+use Rattle.rfcomm_frames.specs.ObexPackets.{IsPacket, AreObexPackets, obex_packets}
+use Rattle.rfcomm_frames.proofs.LookingBack.{looks-back}
+use Rattle.rfcomm_frames.proofs.ObexSplits.{obex_packets-right, obex_packets-one}
+use Rattle.link_talk.specs.declared.channel.Channel.{Channel}
+use Rattle.link_talk.specs.declared.party.Party.{Party}
+use Rattle.link_talk.specs.Sayings.{Saying}
+use Rattle.link_talk.specs.Gains.{beyond, gained}
+use Rattle.link_talk.specs.Sdus.{Spoken, spoken, spoken_as, spoken_way, spoken_one_way}
+use Rattle.link_talk.specs.Packets.{OverRfcomm, carrier, role_of, passed, packets_over_rfcomm, packet_with, packets, packets_heard}
+use Rattle.link_talk.specs.ObjectsHeard.{put_within, spelled_within, channel_objects}
+use Rattle.link_talk.specs.Carriages.{is_heard, carried as heard, stretch, mode_of}
+use Rattle.talk_laws.specs.Sdus.{ears_so_far, spoken_from}
+use Rattle.talk_laws.specs.Objects.{GrowsTo, ObjectsGrow}
+use Rattle.talk_laws.proofs.Passes.{from_end}
+use Rattle.talk_laws.proofs.Waits.{spoken-more}
+
+-- ---- streams
+
+all_both : {X : Type 0} (P : X → Type 0) (xs ys : List X) → AllByRecursion P xs → AllByRecursion P ys → AllByRecursion P (xs ++ ys)
+all_both P [] ys first second = second
+all_both P (x ∷ xs) ys (now, first) second = (now, all_both P xs ys first second)
+
+stream-grows : (xs ys : List ℕ) → GrowsTo (obex_packets xs) (obex_packets (xs ++ ys))
+stream-grows xs ys =
+    let before = obex_packets-right xs in
+    let later = obex_packets-right (before.rest ++ ys) in
+    let old = obex_packets xs in
+    let new = obex_packets (before.rest ++ ys) in
+    let all : AreObexPackets (xs ++ ys) (old ++ new) = record {
+      rest = later.rest;
+      whole =
+          ap (λ zs. zs ++ ys) before.whole
+          ∙ (append_assoc (flat_map (λ packet. packet) old) before.rest ys
+          ∙ (ap (λ zs. flat_map (λ (packet : List ℕ). packet) old ++ zs) later.whole
+          ∙ (sym (append_assoc (flat_map (λ packet. packet) old) (flat_map (λ packet. packet) new) later.rest)
+          ∙ ap (λ zs. zs ++ later.rest) (sym (flat_map-append (λ (packet : List ℕ). packet) old new)))));
+      each = all_both IsPacket old new before.each later.each;
+      no_more = later.no_more;
+    } in
+    record { more = new; grown = sym (obex_packets-one (xs ++ ys) (old ++ new) all) }
+
+-- ---- octets on the user channel
+
+-- what a frame brings behind those before it
+abbrev brought : ℕ → Role → List Framed → Option Framed → List ℕ
+brought dlci way fs None = []
+brought dlci way fs (Some f) = cond (carries_on (connections dlci fs)) (information dlci way f) []
+
+carried_option : (dlci : ℕ) (way : Role) (fs : List Framed) (frame : Option Framed) → carried dlci way no_connections (fs ++ cons_option frame []) ≡ carried dlci way no_connections fs ++ brought dlci way fs frame
+carried_option dlci way fs None = ap (carried dlci way no_connections) (append-nil fs) ∙ sym (append-nil (carried dlci way no_connections fs))
+carried_option dlci way fs (Some f) = looks-back.brings dlci way fs f
+
+abbrev framed_by : Party → Spoken → Option Framed
+framed_by party sdu = framed (role_of party sdu.flow) (frame_answer sdu.octets)
+
+abbrev all_frames : Party → List Spoken → List Framed
+all_frames party sdus = frames (map (passed party) sdus)
+
+frames_more : (party : Party) (past : List Spoken) (more : Spoken) → all_frames party (past ++ more ∷ []) ≡ all_frames party past ++ cons_option (framed_by party more) []
+frames_more party past more =
+    ap frames (map-append (passed party) past (more ∷ []))
+    ∙ filter_map-append (λ (p : Passed). framed p.from (frame_answer p.sdu)) (map (passed party) past) (passed party more ∷ [])
+
+abbrev stream : Party → Flow → List Spoken → List ℕ
+stream party flow sdus = user_octets party.dlci (role_of party flow) (map (passed party) sdus)
+
+stream_more : (party : Party) (flow : Flow) (past : List Spoken) (more : Spoken)
+    → stream party flow (past ++ more ∷ []) ≡ stream party flow past ++ brought party.dlci (role_of party flow) (all_frames party past) (framed_by party more)
+stream_more party flow past more =
+    ap (carried party.dlci (role_of party flow) no_connections) (frames_more party past more)
+    ∙ carried_option party.dlci (role_of party flow) (all_frames party past) (framed_by party more)
+
+none_either : (b : Bool) → cond b [] [] ≡ (let none : List ℕ = [] in none)
+none_either true = refl
+none_either false = refl
+
+-- a frame of the other side brings nothing
+other_brings : (dlci : ℕ) (role : Role) (fs : List Framed) (given : Answer) → brought dlci role fs (framed (other_role role) given) ≡ []
+other_brings dlci Initiator fs (Ok frame) = none_either (carries_on (connections dlci fs))
+other_brings dlci Responder fs (Ok frame) = none_either (carries_on (connections dlci fs))
+other_brings dlci role fs (Err refusal) = refl
+
+brings_other : (dlci : ℕ) (role : Role) (fs : List Framed) (given : Answer) → brought dlci (other_role role) fs (framed role given) ≡ []
+brings_other dlci Initiator fs (Ok frame) = none_either (carries_on (connections dlci fs))
+brings_other dlci Responder fs (Ok frame) = none_either (carries_on (connections dlci fs))
+brings_other dlci role fs (Err refusal) = refl
+
+-- ---- packets over RFCOMM
+
+packets-grow : (party : Party) (flow : Flow) (past : List Spoken) (more : Spoken) → GrowsTo (packets_over_rfcomm party flow past) (packets_over_rfcomm party flow (past ++ more ∷ []))
+packets-grow party flow past more =
+    let grows = stream-grows (stream party flow past) (brought party.dlci (role_of party flow) (all_frames party past) (framed_by party more)) in
+    record { more = grows.more; grown = ap obex_packets (stream_more party flow past more) ∙ grows.grown }
+
+drop_front : {X : Type 0} (xs ys : List X) → drop (length xs) (xs ++ ys) ≡ ys
+drop_front [] ys = refl
+drop_front (x ∷ xs) ys = drop_front xs ys
+
+same_way : (flow : Flow) (list : List (List ℕ)) → spoken_one_way flow (map (spoken_as flow) list) ≡ list
+same_way Out [] = refl
+same_way Into [] = refl
+same_way Out (octets ∷ list) = ap (λ xs. octets ∷ xs) (same_way Out list)
+same_way Into (octets ∷ list) = ap (λ xs. octets ∷ xs) (same_way Into list)
+
+into_out : (list : List (List ℕ)) → spoken_one_way Into (map (spoken_as Out) list) ≡ []
+into_out [] = refl
+into_out (octets ∷ list) = into_out list
+
+out_into : (list : List (List ℕ)) → spoken_one_way Out (map (spoken_as Into) list) ≡ []
+out_into [] = refl
+out_into (octets ∷ list) = out_into list
+
+abbrev sdu : Flow → List ℕ → Spoken
+sdu flow octets = record { flow = flow; octets = octets }
+
+unchanged : (party : Party) (flow : Flow) (past : List Spoken) (more : Spoken) → brought party.dlci (role_of party flow) (all_frames party past) (framed_by party more) ≡ []
+    → packets_over_rfcomm party flow (past ++ more ∷ []) ≡ packets_over_rfcomm party flow past
+unchanged party flow past more none = ap obex_packets (stream_more party flow past more ∙ (ap (λ xs. stream party flow past ++ xs) none ∙ append-nil (stream party flow past)))
+
+gained_is : (party : Party) (flow : Flow) (past : List Spoken) (octets : List ℕ)
+    → packets_over_rfcomm party flow past ++ gained (packets_over_rfcomm party flow) past (sdu flow octets) ≡ packets_over_rfcomm party flow (past ++ sdu flow octets ∷ [])
+gained_is party flow past octets =
+    let grows = packets-grow party flow past (sdu flow octets) in
+    let old = packets_over_rfcomm party flow past in
+    ap (λ new. old ++ beyond old new) grows.grown ∙ (ap (λ more. old ++ more) (drop_front old grows.more) ∙ sym grows.grown)
+
+-- what a packet more says one way
+way_by : (party : Party) (flow way : Flow) (past : List Spoken) (octets : List ℕ)
+    → packets_over_rfcomm party flow past ++ spoken_one_way flow (map (spoken_as way) (gained (packets_over_rfcomm party way) past (sdu way octets))) ≡ packets_over_rfcomm party flow (past ++ sdu way octets ∷ [])
+way_by party Out Out past octets = ap (λ xs. packets_over_rfcomm party Out past ++ xs) (same_way Out (gained (packets_over_rfcomm party Out) past (sdu Out octets))) ∙ gained_is party Out past octets
+way_by party Into Into past octets = ap (λ xs. packets_over_rfcomm party Into past ++ xs) (same_way Into (gained (packets_over_rfcomm party Into) past (sdu Into octets))) ∙ gained_is party Into past octets
+way_by party Out Into past octets =
+    ap (λ xs. packets_over_rfcomm party Out past ++ xs) (out_into (gained (packets_over_rfcomm party Into) past (sdu Into octets)))
+    ∙ (append-nil (packets_over_rfcomm party Out past) ∙ sym (unchanged party Out past (sdu Into octets) (other_brings party.dlci party.role (all_frames party past) (frame_answer octets))))
+way_by party Into Out past octets =
+    ap (λ xs. packets_over_rfcomm party Into past ++ xs) (into_out (gained (packets_over_rfcomm party Out) past (sdu Out octets)))
+    ∙ (append-nil (packets_over_rfcomm party Into past) ∙ sym (unchanged party Into past (sdu Out octets) (brings_other party.dlci party.role (all_frames party past) (frame_answer octets))))
+
+abbrev Whole : Party → Flow → List Spoken → Type 0
+Whole party flow past = spoken_one_way flow (given_by (packet_with party OverRfcomm) past) ≡ packets_over_rfcomm party flow past
+
+whole_more : (party : Party) (flow : Flow) (past : List Spoken) (more : Spoken) → Whole party flow past → Whole party flow (past ++ more ∷ [])
+whole_more party flow past more held =
+    ap (spoken_one_way flow) (given_by-more (packet_with party OverRfcomm) past more)
+    ∙ (filter_map-append (spoken_way flow) (given_by (packet_with party OverRfcomm) past) (packet_with party OverRfcomm past more)
+    ∙ (ap (λ xs. xs ++ spoken_one_way flow (packet_with party OverRfcomm past more)) held
+    ∙ way_by party flow more.flow past more.octets))
+
+no_packets : (party : Party) (flow : Flow) → [] ≡ packets_over_rfcomm party flow []
+no_packets party flow = obex_packets-one [] [] (record { rest = []; whole = refl; each = tt; no_more = inl (omega arith) })
+
+-- ---- objects
+
+-- the run behind packets
+abbrev is_refused : List PlainPacket → PlainPacket → Bool
+is_refused run put = breaks (run_headers (run ++ put ∷ [])) || (is_final put && lacks (run_headers (run ++ put ∷ [])))
+
+abbrev run_after : List PlainPacket → List (Option PlainPacket) → List PlainPacket
+run_after run [] = run
+run_after run (None ∷ rest) = run_after [] rest
+run_after run (Some put ∷ rest) = cond (is_refused run put) (run_after [] rest) (cond (is_final put) (run_after [] rest) (run_after (run ++ put ∷ []) rest))
+
+chosen : (refused final : Bool) (object : Object) (old_none old_on more_none more_on : List Object)
+    → cond refused (old_none ++ more_none) (cond final (object ∷ (old_none ++ more_none)) (old_on ++ more_on))
+    ≡ cond refused old_none (cond final (object ∷ old_none) old_on) ++ cond refused more_none (cond final more_none more_on)
+chosen true final object old_none old_on more_none more_on = refl
+chosen false true object old_none old_on more_none more_on = refl
+chosen false false object old_none old_on more_none more_on = refl
+
+from_chosen : (refused final : Bool) (none on : List PlainPacket) (more : List (Option PlainPacket))
+    → cond refused (objects_from none more) (cond final (objects_from none more) (objects_from on more)) ≡ objects_from (cond refused none (cond final none on)) more
+from_chosen true final none on more = refl
+from_chosen false true none on more = refl
+from_chosen false false none on more = refl
+
+objects_append : (run : List PlainPacket) (packets more : List (Option PlainPacket)) → objects_from run (packets ++ more) ≡ objects_from run packets ++ objects_from (run_after run packets) more
+objects_append run [] more = refl
+objects_append run (None ∷ packets) more = objects_append [] packets more
+objects_append run (Some put ∷ packets) more =
+    let next = run ++ put ∷ [] in
+    let object = object_of (run_headers next) in
+    ap (λ xs. cond (is_refused run put) xs (cond (is_final put) (object ∷ xs) (objects_from next (packets ++ more)))) (objects_append [] packets more)
+    ∙ (ap (λ xs. cond (is_refused run put) (objects_from [] packets ++ objects_from (run_after [] packets) more) (cond (is_final put) (object ∷ (objects_from [] packets ++ objects_from (run_after [] packets) more)) xs)) (objects_append next packets more)
+    ∙ (chosen (is_refused run put) (is_final put) object (objects_from [] packets) (objects_from next packets) (objects_from (run_after [] packets) more) (objects_from (run_after next packets) more)
+    ∙ ap (λ xs. objects_from run (Some put ∷ packets) ++ xs) (from_chosen (is_refused run put) (is_final put) (run_after [] packets) (run_after next packets) more)))
+
+-- ---- one saying more
+
+packets_growing : (party : Party) (channel : Channel) (said : List Saying) (more : Saying) → GrowsTo (packets party channel said) (packets party channel (said ++ more ∷ []))
+packets_growing party channel said more =
+    let given = packet_with party (carrier channel.psm) in
+    let now = spoken_from party (mode_of channel said) (ears_so_far party (stretch channel said)) (heard is_heard channel said more) in
+    record { more = each_after given (spoken party channel said) now; grown = ap (given_by given) (spoken-more party channel said more) ∙ each_after-append given [] (spoken party channel said) now }
+
+heard_growing : (party : Party) (channel : Channel) (said : List Saying) (more : Saying) → GrowsTo (packets_heard party channel said) (packets_heard party channel (said ++ more ∷ []))
+heard_growing party channel said more =
+    let grows = packets_growing party channel said more in
+    record { more = spoken_one_way Into grows.more; grown = ap (spoken_one_way Into) grows.grown ∙ filter_map-append (spoken_way Into) (packets party channel said) grows.more }
+
+objects_growing : (party : Party) (channel : Channel) (said : List Saying) (more : Saying) → GrowsTo (channel_objects party channel said) (channel_objects party channel (said ++ more ∷ []))
+objects_growing party channel said more =
+    let grows = heard_growing party channel said more in
+    let old = map (put_within party.packet) (packets_heard party channel said) in
+    let new = map (put_within party.packet) grows.more in
+    record {
+      more = objects_from (run_after [] old) new;
+      grown = ap (objects_from []) (ap (map (put_within party.packet)) grows.grown ∙ map-append (put_within party.packet) (packets_heard party channel said) grows.more) ∙ objects_append [] old new;
+    }
+
+pub objects-grow : ObjectsGrow
+objects-grow = record {
+  streams = stream-grows;
+  whole_streams = λ party flow sdus. from_end (Whole party flow) (no_packets party flow) (whole_more party flow) sdus;
+  spoken = λ party channel said more. record { more = _; grown = spoken-more party channel said more };
+  packets = packets_growing;
+  objects = objects_growing;
+}

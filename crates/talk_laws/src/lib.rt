@@ -1,0 +1,51 @@
+//! Laws of what a link says: what one pass over a talk holds is what looking back over all of it
+//! finds, for every talk; and what one thing more adds.
+#![tactic(auto)]
+
+ghost use Rattle.talk_laws.specs.Accounts.{AccountsGrow, AccountsLookBack};
+ghost use Rattle.talk_laws.specs.Exchanges.{ExchangesGrow, ExchangesLookBack};
+ghost use Rattle.talk_laws.specs.Objects.{ObjectsGrow};
+ghost use Rattle.talk_laws.specs.Sdus.{SdusGrow, SdusLookBack};
+ghost use Rattle.talk_laws.specs.ServiceAnswers.{ServiceAnswersLookBack};
+ghost use Rattle.talk_laws.specs.Setups.{SetupsLookBack};
+ghost use Rattle.talk_laws.specs.Waits.{CountsGrow, WaitsLookBack};
+
+/// What both sides agree on of a channel is what they asked for and accepted last before it opened.
+pub fn setups_look_back()
+    ensures { SetupsLookBack }
+{}
+
+/// A response answers the first request that waits behind the packets before it; and without an
+/// ABORT no packet of a request is lost.
+pub fn exchanges_look_back()
+    ensures back { ExchangesLookBack }
+    ensures grow { ExchangesGrow }
+{}
+
+/// The answers of service discovery are those of the first replies to the requests before them.
+pub fn service_answers_look_back()
+    ensures { ServiceAnswersLookBack }
+{}
+
+/// The SDUs on a channel are found PDU by PDU.
+pub fn sdus_look_back()
+    ensures back { SdusLookBack }
+    ensures grow { SdusGrow }
+{}
+
+/// So are the frames that are not acknowledged, and the credits.
+pub fn accounts_look_back()
+    ensures back { AccountsLookBack }
+    ensures grow { AccountsGrow }
+{}
+
+/// So is what a timer finds.
+pub fn waits_look_back()
+    ensures back { WaitsLookBack }
+    ensures grow { CountsGrow }
+{}
+
+/// The packets and objects on a channel only gain, over RFCOMM too.
+pub fn objects_only_grow()
+    ensures { ObjectsGrow }
+{}
