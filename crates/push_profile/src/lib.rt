@@ -4,7 +4,10 @@
 
 mod causes;
 mod course;
+mod listener;
+mod octets;
 mod service;
 mod sessions;
+mod stream;
 
 pub use push_model::CloseCause;
