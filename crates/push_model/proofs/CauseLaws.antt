@@ -362,7 +362,7 @@ steps_keep client parts =
 
 done_keeps : (deed : Deed) (client : Client) → Keeps client (done deed client)
 done_keeps (laws.Hears news) client = news_keeps news client
-done_keeps (laws.Asked parts) client = steps_keep client parts
+done_keeps (laws.Asks parts) client = steps_keep client parts
 done_keeps laws.Finishes client = λ first e. e
 done_keeps laws.Cancels client = cancelled_keeps client
 

@@ -1,1 +1,3 @@
 pub mod CauseLaws
+pub mod LinkLaws
+pub mod StreamLaws

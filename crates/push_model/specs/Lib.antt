@@ -2,6 +2,7 @@ pub mod Causes
 pub mod Streams
 pub mod Sessions
 pub mod Service
+pub mod Listening
 pub mod Server
 pub mod Client
 pub mod Responding

@@ -1,8 +1,9 @@
 -- What a server of Object Push makes of packets: its sessions, and the response that waits (this project's own).
-use Rattle.std.specs.Prelude.{◌||◌, ◌&&◌, not, ℕ, Bool, List, [], ◌∷◌, if◌then◌else◌}
+use Rattle.std.specs.Prelude.{◌||◌, ◌&&◌, not, ℕ, Bool, false, List, [], ◌∷◌, drop, if◌then◌else◌}
 use Rattle.bt_base.specs.declared.settings.Transport.{Transport}
 use Rattle.bt_base.specs.declared.settings.Transport.TheVariants.{L2cap, Rfcomm}
 use Rattle.rfcomm_frames.specs.FrameReading.{is_empty}
+use Rattle.obex_session.specs.declared.course.Course.TheVariants.{Rests}
 use Rattle.obex_session.specs.Views.{is_silent}
 use Rattle.push_model.specs.Sessions.{Sessions, Gift, Parted, Heard, session_of, lets_go, hears}
 
@@ -54,3 +55,24 @@ hears_packet transport packet service gift =
 -- the session over a transport lets go of its object
 abbrev pub parts : Transport → Service → Gift → Served
 parts transport service gift = after_parted service (lets_go transport service.sessions gift)
+
+-- ---- what waits
+
+abbrev pub without_response : Service → Service
+without_response service = record service { response = [] }
+
+abbrev pub without_answer : Service → Service
+without_answer service = record service { answer = [] }
+
+-- so many octets of the response over RFCOMM were taken
+abbrev pub answer_cut : ℕ → Service → Service
+answer_cut count service = record service { answer = drop count service.answer }
+
+-- Nothing was heard. The session over L2CAP alone may offer single response mode.
+abbrev pub new_service : (direct carried : ℕ) → Bool → Service
+new_service direct carried offered = record {
+  sessions = record { direct = record { maximum = direct; offered = offered; course = Rests }; carried = record { maximum = carried; offered = false; course = Rests } };
+  response = [];
+  answer = [];
+  failed = false;
+}

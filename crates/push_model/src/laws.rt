@@ -1,8 +1,20 @@
 //! Laws of the course of a push, for every list of what may happen to a client.
 
-ghost use Rattle.push_model.specs.Laws.{FirstCausesStay};
+ghost use Rattle.push_model.specs.Laws.{AsksForOneLink, FirstCausesStay};
+ghost use Rattle.push_model.specs.Streams.{FrontsAreRight};
 
 /// The first cause of a push stays, whatever comes and whatever is asked of the client afterwards.
 pub fn first_causes_stay()
     ensures { FirstCausesStay }
+{}
+
+/// From a begin to the next one a client asks for one link at most, and for none where the shelf did
+/// not give the object's size.
+pub fn asks_for_one_link()
+    ensures { AsksForOneLink }
+{}
+
+/// What stands at the front of a stream of packets is what an assembler answers there.
+pub fn fronts_are_right()
+    ensures { FrontsAreRight }
 {}

@@ -1,7 +1,6 @@
 -- A packet is heard over one of two transports.
-use Rattle.std.proofs.Common.{◌≡◌, ℕ, ◌<◌, ◌≤◌, Bool, true, false, ◌||◌, ◌&&◌, List, [], ◌∷◌, ◌++◌, length, drop, Option, Some, None, is_none, IfSome, IfOk, Result, Ok, Err, refl, sym, ap, subst, ◌∙◌, if◌then◌else◌, IsTrue, is_ok, is_err, inl, inr, arith, append_assoc}
-use Rattle.std.proofs.lemmas.Bool.{cases_lt}
-use Rattle.bt_base.specs.Counts.{HasRisen, last_count}
+use Rattle.std.proofs.Common.{◌≡◌, ℕ, ◌≤◌, Bool, true, false, ◌||◌, ◌&&◌, List, [], ◌++◌, length, drop, Option, Some, is_none, IfSome, IfOk, Result, Ok, Err, refl, sym, ap, subst, ◌∙◌, if◌then◌else◌, IsTrue, is_err, inl, inr, arith, append_assoc}
+use Rattle.bt_base.specs.Counts.{HasRisen}
 use Rattle.bt_base.specs.Objects.{Contents}
 use Rattle.bt_base.specs.declared.no_memory.NoMemory.{NoMemory}
 use Rattle.bt_base.specs.declared.settings.Transport.{Transport}
@@ -10,7 +9,7 @@ use Rattle.obex_session.specs.declared.server.Reply.{Reply}
 use Rattle.obex_session.specs.InboxCalls.{Answer}
 use Rattle.obex_session.specs.Past.{Serving}
 use Rattle.obex_session.specs.Serving as serving
-use Rattle.obex_session.specs.Views.{Viewed, viewed, count_in, IsAnswered}
+use Rattle.obex_session.specs.Views.{Viewed, count_in}
 use Rattle.obex_session.proofs.ViewLaws.{answered}
 use Rattle.push_model.specs.Sessions.{Sessions, Gift, Parted, Heard, session_of, other_of, with_session, has_object, is_naming, lets_go, answers_to, hears_after, hears}
 use Rattle.push_profile.specs.Reactions.{given, LetsGo, AnswersTo, HearsPacket}

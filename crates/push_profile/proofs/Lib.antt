@@ -1,3 +1,6 @@
 pub mod PartingLaws
 pub mod HearingLaws
 pub mod ServiceLaws
+pub mod ListeningLaws
+pub mod StreamSteps
+pub mod StreamEnds

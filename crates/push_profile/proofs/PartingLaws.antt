@@ -1,17 +1,14 @@
 -- An object is let go.
-use Rattle.std.proofs.Common.{◌≡◌, ℕ, Bool, true, false, List, [], ◌∷◌, ◌++◌, Option, Some, None, Result, Ok, Err, refl, sym, ap, subst, ◌∙◌, if◌then◌else◌, IsTrue, is_ok, is_err}
+use Rattle.std.proofs.Common.{◌≡◌, ℕ, Bool, true, false, List, [], ◌∷◌, ◌++◌, Option, Some, None, Result, Ok, Err, refl, sym, ap, ◌∙◌, if◌then◌else◌, is_ok, is_err}
 use Rattle.std.specs.Option.{option_map}
-use Rattle.bt_base.specs.Counts.{HasRisen}
-use Rattle.bt_base.specs.Objects.{Contents, aborted}
+use Rattle.bt_base.specs.Objects.{Contents}
 use Rattle.bt_base.specs.declared.no_memory.NoMemory.{NoMemory}
 use Rattle.bt_base.specs.declared.ports.PortFault.TheVariants as fault
 use Rattle.bt_base.specs.declared.settings.Transport.{Transport}
-use Rattle.obex_session.specs.InboxCalls.{InboxCall, Abort, Answer, come_of, left_by, all_done, held_after}
+use Rattle.obex_session.specs.InboxCalls.{Abort, Answer, come_of, left_by, all_done, held_after}
 use Rattle.obex_session.specs.Past.{Serving}
-use Rattle.obex_session.specs.Rules.{is_under_way, progress_in}
 use Rattle.obex_session.specs.Serving as serving
-use Rattle.obex_session.specs.Views.{rested}
-use Rattle.push_model.specs.Sessions.{Sessions, Gift, Parted, session_of, with_session, has_object, is_short, after_calls}
+use Rattle.push_model.specs.Sessions.{Sessions, Gift, Parted, session_of, with_session, has_object, is_short}
 use Rattle.push_profile.specs.Reactions.{given, LetsGo}
 
 pub parted_is : (sessions sessions' : Sessions) (short short' : Bool) (gift gift' : Gift) → sessions ≡ sessions' → short ≡ short' → gift ≡ gift'

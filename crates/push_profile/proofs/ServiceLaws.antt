@@ -1,11 +1,10 @@
 -- What a server makes of a packet.
-use Rattle.std.proofs.Common.{◌≡◌, ℕ, ◌+◌, ◌-◌, ◌<◌, ◌≤◌, Bool, true, false, ◌||◌, ◌&&◌, List, [], ◌∷◌, ◌++◌, length, take, drop, Option, IfOk, Result, Ok, Err, refl, sym, ap, subst, ◌∙◌, if◌then◌else◌, IsTrue, is_err, arith, length-append, length-drop}
+use Rattle.std.proofs.Common.{◌≡◌, ℕ, ◌≤◌, Bool, true, false, ◌||◌, List, ◌++◌, length, drop, Option, Result, sym, ap, subst, ◌∙◌, if◌then◌else◌, IsTrue, is_err, arith, length-append}
 use Rattle.bt_base.specs.Objects.{Contents}
 use Rattle.bt_base.specs.declared.no_memory.NoMemory.{NoMemory}
 use Rattle.bt_base.specs.declared.settings.Transport.{Transport}
-use Rattle.obex_session.specs.InboxCalls.{Answer}
-use Rattle.push_model.specs.Sessions.{Sessions, Parted, Heard, lets_go, hears, has_object}
-use Rattle.push_model.specs.Service.{Service, Served, after_parted, after_heard, is_ignored, response_over, parts, hears_packet}
+use Rattle.push_model.specs.Sessions.{Sessions, lets_go, hears}
+use Rattle.push_model.specs.Service.{Service, Served, after_parted, after_heard, is_ignored, response_over}
 use Rattle.push_profile.specs.Reactions.{given, LetsGo, HearsPacket, ServiceParts, ServiceHears}
 
 -- the service with other sessions

@@ -1,1 +1,3 @@
 pub mod Reactions
+pub mod Courses
+pub mod Hearing

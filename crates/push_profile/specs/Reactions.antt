@@ -1,15 +1,23 @@
 -- What the calls of a server do: the pure machine goes from what was to what is, whatever answers of the inbox are left over.
-use Rattle.std.specs.Prelude.{◌≡◌, ℕ, ◌≤◌, Bool, List, [], ◌++◌, length, take, drop, Option, Result, IsTrue, IfOk, is_err}
+use Rattle.std.specs.Prelude.{◌≡◌, ℕ, ◌≤◌, Bool, List, [], ◌++◌, length, drop, Option, Result, IsTrue, IfOk, is_err}
 use Rattle.bt_base.specs.Counts.{HasRisen}
 use Rattle.bt_base.specs.Objects.{Contents}
 use Rattle.bt_base.specs.declared.no_memory.NoMemory.{NoMemory}
 use Rattle.bt_base.specs.declared.settings.Transport.{Transport}
 use Rattle.obex_session.specs.InboxCalls.{Answer}
-use Rattle.push_model.specs.Sessions.{Sessions, Gift, Parted, Heard, lets_go, answers_to, hears}
+use Rattle.push_model.specs.Sessions.{Sessions, Gift, lets_go, answers_to, hears}
 use Rattle.push_model.specs.Service.{Service, hears_packet, parts}
 
 abbrev pub given : Option Contents → List Answer → Gift
 given content answers = record { content = content; answers = answers }
+
+-- a reaction with some answers of the inbox comes to an end with those that are left over, whichever they are; want of
+-- memory is answered where the inbox had none
+pub record Comes {R : Type 0} (reaction end : Gift → R) (content content' : Option Contents) (shortages shortages' : ℕ) (lacks : Bool) : Type 0 where
+  pub used : List Answer
+  pub comes : (rest : List Answer) → reaction (given content (used ++ rest)) ≡ end (given content' rest)
+  pub short : IsTrue lacks → HasRisen shortages shortages'
+  pub stays : shortages ≤ shortages'
 
 -- an object is let go
 pub record LetsGo (transport : Transport) (old new : Sessions) (content content' : Option Contents) (shortages shortages' : ℕ) (result : Result (Unit {0}) NoMemory) : Type 0 where

@@ -2,7 +2,12 @@
 //! stores objects over two transports, and the client that pushes.
 #![tactic(auto)]
 
+mod causes;
+mod course;
+mod listener;
+mod octets;
 mod service;
 mod sessions;
+mod stream;
 
 pub use push_model::CloseCause;

@@ -2,9 +2,10 @@
 
 ghost use Rattle.std.specs.Prelude.{◌≡◌, ◌≤◌, true, false, length};
 ghost use Rattle.push_model.specs.Sessions.{is_pending};
-ghost use Rattle.push_model.specs.Service.{has_response, is_ignored, response_over};
+ghost use Rattle.push_model.specs.Service.{has_response, is_ignored, response_over, without_response, without_answer, new_service};
 ghost use Rattle.push_profile.specs.Reactions.{ServiceParts, ServiceHears};
 
+use crate::octets::put;
 use crate::sessions::Sessions;
 use arrayvec::ArrayVec;
 use bt_base::{Inbox, NoMemory, Transport};
@@ -33,21 +34,41 @@ impl Model for Service {
     ghost view = { λ service. record { sessions = service.sessions; response = service.response.items; answer = service.answer.items; failed = service.failed } };
 }
 
-/// Puts octets in place of those that wait.
-fn put(waiting: &mut Response, octets: &[u8])
-    requires { length octets.now ≤ 7 }
-    ensures { waiting.new.items ≡ octets.now }
-{
-    waiting.clear();
-    let _there_is_room = waiting.try_extend_from_slice(octets);
-}
-
 impl Service {
+    /// A service that heard nothing, with sessions that take packets of at most so many octets. The one over L2CAP offers
+    /// single response mode or does not.
+    pub(crate) fn new(direct: u16, carried: u16, offered: bool) -> Service
+        requires direct { (255 ≤ direct) × (direct ≤ 32767) }
+        requires carried { (255 ≤ carried) × (carried ≤ 32767) }
+        ensures { result ≡ new_service direct carried offered }
+    {
+        Service {
+            sessions: Sessions::new(direct, carried, offered),
+            response: ArrayVec::new(),
+            answer: ArrayVec::new(),
+            failed: false,
+        }
+    }
+
     /// Whether a response waits, over either transport.
     fn has_response(&self) -> bool
         ensures { result ≡ has_response self.now }
     {
         !self.response.is_empty() || !self.answer.is_empty()
+    }
+
+    /// No response over L2CAP waits any more.
+    pub(crate) fn clear_response(&mut self)
+        ensures { self.new ≡ without_response self.old }
+    {
+        self.response.clear();
+    }
+
+    /// No response over RFCOMM waits any more.
+    pub(crate) fn clear_answer(&mut self)
+        ensures { self.new ≡ without_answer self.old }
+    {
+        self.answer.clear();
     }
 
     /// Whether a packet is ignored, since its response would be one too many.

@@ -2,6 +2,7 @@
 
 ghost use Rattle.std.specs.Prelude.{◌≡◌, ◌≤◌, true, false, length, Some, IfOk, is_err, is_none};
 ghost use Rattle.push_model.specs.Sessions.{session_of, other_of, is_pending, is_naming, has_object};
+ghost use Rattle.push_model.specs.Service.{new_service};
 ghost use Rattle.obex_session.specs.Views.{is_silent, count_in};
 ghost use Rattle.push_profile.specs.Reactions.{LetsGo, AnswersTo, HearsPacket};
 
@@ -49,6 +50,19 @@ fn count_of(answer: Reply) -> Result<usize, NoMemory>
 }
 
 impl Sessions {
+    /// Sessions that heard nothing and take packets of at most so many octets. The one over L2CAP offers single response
+    /// mode or does not.
+    pub(crate) fn new(direct: u16, carried: u16, offered: bool) -> Sessions
+        requires direct { (255 ≤ direct) × (direct ≤ 32767) }
+        requires carried { (255 ≤ carried) × (carried ≤ 32767) }
+        ensures { result ≡ (new_service direct carried offered).sessions }
+    {
+        Sessions {
+            direct: ServerSession::new(direct, offered),
+            carried: ServerSession::new(carried, false),
+        }
+    }
+
     /// Whether the octets are a PUT with a Name.
     fn is_naming(&self, transport: Transport, packet: &[u8]) -> bool
         ensures { result ≡ is_naming transport packet.now self.now }

@@ -1,4 +1,4 @@
-use Rattle.std.proofs.Common.{◌≡◌, ℕ, List, true, false, Result, Ok, Err, refl, ap, ◌∙◌, subst, sym}
+use Rattle.std.proofs.Common.{ℕ, List, true, Result, Err, refl, ap, ◌∙◌, subst, sym}
 use Rattle.bt_base.specs.declared.no_memory.NoMemory.{NoMemory}
 use Rattle.push_model.specs.Service.{Service, is_ignored, response_over}
 use Rattle.push_profile.specs.Reactions.{HearsPacket, ServiceHears}

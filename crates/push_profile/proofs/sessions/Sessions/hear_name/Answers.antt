@@ -1,7 +1,7 @@
 use Rattle.std.proofs.Common.{Result, Ok, Err, ap, ◌∙◌, subst, sym}
 use Rattle.bt_base.specs.declared.no_memory.NoMemory.{NoMemory}
 use Rattle.bt_base.specs.declared.settings.Transport.{Transport}
-use Rattle.push_model.specs.Sessions.{other_of, has_object, session_of}
+use Rattle.push_model.specs.Sessions.{has_object, session_of}
 use Rattle.push_profile.specs.Reactions.{LetsGo}
 use Rattle.push_profile.proofs.HearingLaws.{free, named, named_short}
 use Rattle.push_profile.proofs.sessions.Sessions.hear_name.Goals as goal
