@@ -24,7 +24,7 @@ use Rattle.channel_model.specs.Closing.{closes_at, closes}
 use Rattle.channel_model.specs.Responses.{connects, hears_connected, hears_grant, hears_grant_at}
 use Rattle.channel_laws.specs.OwnTalk.{asked_between}
 use Rattle.channel_laws.specs.Views.{peer_of, life_of, channel_by, read_at}
-use Rattle.channel_laws.proofs.Lookups.{own_of, any-finds, found-distinct, placed-distinct, found-placed, find-placed, found-has, eqb-away, eqb-same}
+use Rattle.channel_laws.proofs.Lookups.{own_of, any-finds, found-distinct, placed-distinct, found-placed, find-placed, found-has, eqb-away, eqb-same, or_on}
 use Rattle.channel_laws.proofs.Entries.{nothing-same, makes-fresh, found-passes}
 use Rattle.channel_laws.proofs.Sound.{ReadsBy, Reads, has_called, wanted_by, Awaits, WantsAt, Wants, IsPlaced, requested-unread, Sound, IsSome}
 use Rattle.channel_laws.proofs.Steps.{less-apart}
@@ -160,10 +160,6 @@ read_live : (policy : Policy) (h : Held) (entry : Entry) (peer : ℕ) → Reads 
 read_live policy h entry peer reads there at =
     let so : ReadsBy policy h (Some peer) (Some entry) = subst (λ p. ReadsBy policy h p (Some entry)) at reads in
     there_live h.stage peer at (sym (ap is_there so.0.life_is) ∙ there)
-
-or_on : (b : Bool) → (b || true) ≡ true
-or_on true = refl
-or_on false = refl
 
 -- the peer's endpoint is that of a channel that is there
 owned : (policy : Policy) (r : Reading) (v : Channels) (channel : Channel) → list_any (has_live_peer channel.peer) v.held ≡ true → Sound policy r v → list_any (is_owner channel) r.entries ≡ true
