@@ -18,7 +18,7 @@ use Rattle.channel_model.specs.Value.{Request, Asking, Setup, Held, Memory, Chan
 use Rattle.channel_model.specs.Policies.{Policy}
 use Rattle.channel_model.specs.Changing.{has_own, setup_of}
 use Rattle.channel_laws.specs.Views.{peer_of, life_of, channel_by, IsThere, read_at}
-use Rattle.channel_laws.proofs.Lookups.{own_of, Distinct, eqb-same}
+use Rattle.channel_laws.proofs.Lookups.{own_of, Distinct, eqb-same, off_and}
 use Rattle.channel_laws.proofs.Entries.{entry-same, read-own}
 use Rattle.channel_laws.proofs.Sound.{Agrees, AgreesIf, states_mode, ReadsBy, Reads, Core, RepeatsIn, Repeats, QueriesKept, Wants, Kept, Sound, at_each, moved, IsPlaced, Uncalled, placed-held}
 use Rattle.channel_laws.proofs.Steps.{core-one, kept-one, calls-on, ends-on, lasts-after, away-stays, outgoing-after}
@@ -85,13 +85,10 @@ core-alters policy entries all all' next held after peer setup setup' more one a
 
 -- ---- an answer of the host
 
-both_off : (a b : Bool) → a ≡ false → (a && b) ≡ false
-both_off a b is = ap (λ t. t && b) is
-
 answers_other : (part : Part) (n : ℕ) (found : Option Entry) → eqb part.own n ≡ false → ((e : Entry) → found ≡ Some e → e.channel.own ≡ n) → option_map (entry_after (Answers part)) found ≡ found
 answers_other part n None apart at = refl
 answers_other part n (Some e) apart at =
-    ap Some (entry-same (Answers part) e refl (ap (λ t. cond t (Some (Answered part)) None) (both_off (eqb part.own e.channel.own) (eqb part.peer e.channel.peer) (ap (eqb part.own) (at e refl) ∙ apart))))
+    ap Some (entry-same (Answers part) e refl (ap (λ t. cond t (Some (Answered part)) None) (off_and (eqb part.own e.channel.own) (eqb part.peer e.channel.peer) (ap (eqb part.own) (at e refl) ∙ apart))))
 
 pub answers-others : (part : Part) (entries : List Entry) (n : ℕ) → eqb part.own n ≡ false → moved (Answers part) n entries ≡ read_at n entries
 answers-others part entries n apart = answers_other part n (read_at n entries) apart (λ e is. read-own n entries e is)

@@ -1,5 +1,5 @@
 -- Own requests for channels: one is said, or comes to nothing.
-use Rattle.std.proofs.Common.{◌≡◌, ℕ, ◌+◌, ◌≤◌, ◌<◌, List, [], ◌∷◌, ◌++◌, fold, Bool, true, false, cond, ◌&&◌, ◌||◌, eqb, not, Option, Some, None, refl, sym, ap, subst, ◌∙◌, arith}
+use Rattle.std.proofs.Common.{◌≡◌, ℕ, ◌≤◌, ◌<◌, List, [], ◌∷◌, ◌++◌, fold, Bool, true, false, cond, ◌&&◌, ◌||◌, eqb, not, Option, Some, None, refl, sym, ap, subst, ◌∙◌, arith}
 use Rattle.std.specs.Prelude.{find, filter}
 use Rattle.std.specs.List.{list_any}
 use Rattle.std.proofs.lemmas.Bool.{eqb-true}
@@ -24,7 +24,7 @@ use Rattle.channel_model.specs.Giving.{on_held, connection_at}
 use Rattle.channel_laws.specs.OwnTalk.{spoken, command_with, asked_between}
 use Rattle.channel_laws.specs.Runs.{forgone_at, forgone_between}
 use Rattle.channel_laws.specs.Views.{read_at}
-use Rattle.channel_laws.proofs.Lookups.{own_of, Distinct, distinct-append, distinct-filter, find-gone, find-others, found-has, eqb-same}
+use Rattle.channel_laws.proofs.Lookups.{own_of, Distinct, distinct-append, distinct-filter, find-gone, find-others, found-has, eqb-same, and_off}
 use Rattle.channel_laws.proofs.Entries.{nothing-same, or_left, or_right}
 use Rattle.channel_laws.proofs.Sound.{Reads, Core, QueriesKept, Repeats, has_called, wanted_by, Awaits, WantsAt, Wants, IsPlaced, Uncalled, placed-held, requested-unread, Kept, Sound, at_each}
 use Rattle.channel_laws.proofs.Steps.{less-apart, queries-on}
@@ -33,10 +33,6 @@ use Rattle.channel_laws.proofs.Questions.{asked-none}
 use Rattle.channel_laws.proofs.Granting.{no_repeats}
 use Rattle.channel_laws.proofs.Inviting.{queries-same, held_others, held_here}
 use Rattle.channel_laws.proofs.Asking.{asked-one, newest-asks}
-
-pub and_off : (b : Bool) → (b && false) ≡ false
-and_off true = refl
-and_off false = refl
 
 -- ---- one is said
 

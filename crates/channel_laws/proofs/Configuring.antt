@@ -22,6 +22,7 @@ use Rattle.channel_laws.proofs.Steps.{core-one, kept-one}
 use Rattle.channel_laws.proofs.Agreeing.{Answers as AnswersSo, answer-agrees, refused-answers, part-answers, set-stays}
 use Rattle.channel_laws.proofs.Answering.{answers-others}
 use Rattle.channel_laws.proofs.Questions.{heard, IsNew}
+use Rattle.channel_laws.proofs.Granting.{no_repeats}
 
 -- ---- a request is heard
 
@@ -135,14 +136,10 @@ repeats_still held None part other repeats = repeats
 repeats_still None (Some entry) part other repeats = tt
 repeats_still (Some held) (Some entry) part other repeats = repeats_again (setup_of held.stage) entry.setup part other (is_there entry.life) (eqb part.own entry.channel.own && eqb part.peer entry.channel.peer) repeats
 
-no_entry : (held : Option Held) (part : Part) → Repeats held None part → ⊥
-no_entry None part is = is
-no_entry (Some h) part is = is
-
 repeats-below : (policy : Policy) (entries : List Entry) (held : List Held) (next : ℕ) (part : Part) → Core policy entries held next → Repeats (find (has_own part.own) held) (read_at part.own entries) part → (b : Bool) → nat_lt part.own next ≡ b → part.own < next
 repeats-below policy entries held next part core repeats true is = ltb-true part.own next is
 repeats-below policy entries held next part core repeats false is =
-    elim (no_entry (find (has_own part.own) held) part (subst (λ e. Repeats (find (has_own part.own) held) e part) (core.read_below part.own (ltb-false part.own next is)) repeats)) [ ]
+    elim (no_repeats (find (has_own part.own) held) part (subst (λ e. Repeats (find (has_own part.own) held) e part) (core.read_below part.own (ltb-false part.own next is)) repeats)) [ ]
 
 placed_repeats : (more : Meaning) (held : Option Held) (found : Option Entry) (part : Part) → Repeats held found part → IsPlaced held (option_map (entry_after more) found)
 placed_repeats more None None part repeats = repeats

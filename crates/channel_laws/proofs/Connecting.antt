@@ -10,7 +10,7 @@ use Rattle.l2cap_config.specs.Items.{no_options}
 use Rattle.link_talk.specs.declared.channel.Channel.{Channel}
 use Rattle.link_talk.specs.Sayings.{Saying}
 use Rattle.link_talk.specs.Senses.{Opens, OnChannel, sense}
-use Rattle.link_talk.specs.Requests.{Requests, requests_after, counted, is_failure, has_failed, answered_call}
+use Rattle.link_talk.specs.Requests.{Requests, requests_after, counted, has_failed, answered_call}
 use Rattle.link_talk.specs.Meanings.{Nothing, granted, meant}
 use Rattle.link_talk.specs.Channels.{is_there, Entry, fresh, is_owner, entries_after, Reading, read_on}
 use Rattle.channel_model.specs.declared.errand.Errand.TheVariants.{Connection}
@@ -19,14 +19,14 @@ use Rattle.channel_model.specs.declared.event.CloseReason.TheVariants.{Refused}
 use Rattle.channel_model.specs.Value.{Request, Asking, Setup, no_setup, Stage, Requested, Connected, Leaving, Closing, Crossed, Held, Channels}
 use Rattle.channel_model.specs.Policies.{Policy}
 use Rattle.channel_model.specs.Changing.{has_own, held_at, in_place_of, is_live_peer, has_live_peer, forgets}
-use Rattle.channel_model.specs.Asking.{new_request, first_options, asks_options}
+use Rattle.channel_model.specs.Asking.{new_request, first_options}
 use Rattle.channel_model.specs.Closing.{closes_at, closes}
 use Rattle.channel_model.specs.Responses.{connects, hears_connected, hears_grant, hears_grant_at}
 use Rattle.channel_laws.specs.OwnTalk.{asked_between}
-use Rattle.channel_laws.specs.Views.{peer_of, life_of, channel_by, IsThere, read_at}
-use Rattle.channel_laws.proofs.Lookups.{own_of, any-finds, found-distinct, placed-distinct, found-placed, find-placed, found-has, eqb-away, eqb-same}
+use Rattle.channel_laws.specs.Views.{peer_of, life_of, channel_by, read_at}
+use Rattle.channel_laws.proofs.Lookups.{own_of, any-finds, found-distinct, placed-distinct, found-placed, find-placed, found-has, eqb-away, eqb-same, or_on}
 use Rattle.channel_laws.proofs.Entries.{nothing-same, makes-fresh, found-passes}
-use Rattle.channel_laws.proofs.Sound.{ReadsBy, Reads, has_called, wanted_by, Awaits, WantsAt, Wants, IsPlaced, requested-unread, Kept, Sound, IsSome}
+use Rattle.channel_laws.proofs.Sound.{ReadsBy, Reads, has_called, wanted_by, Awaits, WantsAt, Wants, IsPlaced, requested-unread, Sound, IsSome}
 use Rattle.channel_laws.proofs.Steps.{less-apart}
 use Rattle.channel_laws.proofs.Moves.{Found, found-there, is-below}
 use Rattle.channel_laws.proofs.Granting.{Comes, core-fresh, kept-fresh}
@@ -35,7 +35,7 @@ use Rattle.channel_laws.proofs.Inviting.{granted-again, free-by, queries-same}
 use Rattle.channel_laws.proofs.Agreeing.{requested-states}
 use Rattle.channel_laws.proofs.Hearing.{talks-connected}
 use Rattle.channel_laws.proofs.Settling.{asks-sound, nothing-follows}
-use Rattle.channel_laws.proofs.Calling.{and_off, failing, failure_of, failed_reading, failed-before, awaits-failing, fail-kept, fail-uncalled, lost-call, no-answer}
+use Rattle.channel_laws.proofs.Calling.{failing, failure_of, failed_reading, failed-before, awaits-failing, fail-kept, fail-uncalled, lost-call, no-answer}
 
 -- what is heard, and what is held then
 abbrev Heard : Policy → Reading → Channels → Channels → Type 0
@@ -160,10 +160,6 @@ read_live : (policy : Policy) (h : Held) (entry : Entry) (peer : ℕ) → Reads 
 read_live policy h entry peer reads there at =
     let so : ReadsBy policy h (Some peer) (Some entry) = subst (λ p. ReadsBy policy h p (Some entry)) at reads in
     there_live h.stage peer at (sym (ap is_there so.0.life_is) ∙ there)
-
-or_on : (b : Bool) → (b || true) ≡ true
-or_on true = refl
-or_on false = refl
 
 -- the peer's endpoint is that of a channel that is there
 owned : (policy : Policy) (r : Reading) (v : Channels) (channel : Channel) → list_any (has_live_peer channel.peer) v.held ≡ true → Sound policy r v → list_any (is_owner channel) r.entries ≡ true

@@ -1,6 +1,6 @@
 -- What a meaning does to the channels that were read.
 use Rattle.std.proofs.Common.{◌≡◌, ℕ, List, [], ◌∷◌, ◌++◌, fold, map, Bool, true, false, cond, ◌||◌, eqb, Option, Some, None, refl, sym, ap, subst, ◌∙◌}
-use Rattle.std.specs.Prelude.{find, option_map, option_to_list}
+use Rattle.std.specs.Prelude.{option_map, option_to_list}
 use Rattle.std.specs.Option.{option_or}
 use Rattle.std.specs.List.{list_any}
 use Rattle.link_talk.specs.declared.channel.Channel.{Channel}
@@ -12,7 +12,7 @@ use Rattle.link_talk.specs.Meanings.{Meaning, Makes, Settles, Nothing}
 use Rattle.link_talk.specs.Setups.{Setup, setup_after, term}
 use Rattle.link_talk.specs.Channels.{word, life_after, is_there, Entry, fresh, entry_after, is_owner, with_fresh, made_by, entries_after}
 use Rattle.channel_laws.specs.Views.{is_own, read_at}
-use Rattle.channel_laws.proofs.Lookups.{Distinct, distinct-map, found-distinct, find-map, find-append, found-has, any-finds}
+use Rattle.channel_laws.proofs.Lookups.{Distinct, distinct-map, found-distinct, find-map, find-append, found-has, any-finds, or_on}
 
 abbrev pub own_read : Entry → ℕ
 own_read entry = entry.channel.own
@@ -100,10 +100,6 @@ found-fails channel own (entry ∷ entries) found none is =
     by true now later some = let same : entry ≡ found = cc in ap (is_owner channel) (sym same) ∙ now
     by false now later some = later some
 
-or_true : (b : Bool) → (b || true) ≡ true
-or_true true = refl
-or_true false = refl
-
 pub found-passes : (channel : Channel) (own : ℕ) (entries : List Entry) (found : Entry) → read_at own entries ≡ Some found → is_owner channel found ≡ true → list_any (is_owner channel) entries ≡ true
 found-passes channel own [] found is passes = cc
 found-passes channel own (entry ∷ entries) found is passes =
@@ -111,7 +107,7 @@ found-passes channel own (entry ∷ entries) found is passes =
   where
     by : (test : Bool) → (read_at own entries ≡ Some found → list_any (is_owner channel) entries ≡ true) → cond test (Some entry) (read_at own entries) ≡ Some found → (is_owner channel entry || list_any (is_owner channel) entries) ≡ true
     by true later some = let same : entry ≡ found = cc in ap (λ e. is_owner channel e || list_any (is_owner channel) entries) same ∙ ap (λ t. t || list_any (is_owner channel) entries) passes
-    by false later some = ap (λ t. is_owner channel entry || t) (later some) ∙ or_true (is_owner channel entry)
+    by false later some = ap (λ t. is_owner channel entry || t) (later some) ∙ or_on (is_owner channel entry)
 
 -- ---- each endpoint is that of one channel
 

@@ -29,7 +29,7 @@ use Rattle.channel_model.specs.Giving.{on_held, features_command, command_of, co
 use Rattle.channel_laws.specs.OwnTalk.{spoken, command_with, said_of, asked_between}
 use Rattle.channel_laws.specs.Runs.{forgone_at, forgone_between, given_up, features_given_up, said_again, said_on_firing, said_by_channel, fired_channel, said_by_channels}
 use Rattle.channel_laws.specs.Views.{peer_of, life_of, read_at}
-use Rattle.channel_laws.proofs.Lookups.{own_of, find-gone, found-placed, found-has, eqb-same}
+use Rattle.channel_laws.proofs.Lookups.{own_of, find-gone, found-placed, found-has, eqb-same, or_on, and_off}
 use Rattle.channel_laws.proofs.Sound.{states_mode, OwnStates, Sound}
 use Rattle.channel_laws.proofs.Moves.{quiet, SetupsTo, PartsTo, Found, found-there}
 use Rattle.channel_laws.proofs.Ending.{Leads, leads-said, ends-leads}
@@ -40,13 +40,9 @@ use Rattle.channel_laws.proofs.Consenting.{Talks}
 use Rattle.channel_laws.proofs.Hearing.{talks-connected, talks-leaving}
 use Rattle.channel_laws.proofs.Carrying.{carried-by}
 use Rattle.channel_laws.proofs.Giving.{forgone_none, still_held}
-use Rattle.channel_laws.proofs.Calling.{and_off, call-again, forgone-on}
+use Rattle.channel_laws.proofs.Calling.{call-again, forgone-on}
 
 -- ---- what waits to be given
-
-or_on : (b : Bool) → (b || true) ≡ true
-or_on true = refl
-or_on false = refl
 
 due_kept : (errand : Errand) (passes : Queued → Bool) (queue : List Queued) → list_any (is_copy errand) (filter passes queue) ≡ true → list_any (is_copy errand) queue ≡ true
 due_kept errand passes [] is = is

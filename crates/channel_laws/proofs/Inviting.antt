@@ -23,17 +23,13 @@ use Rattle.channel_model.specs.Answers.{connection_result, connection_answer}
 use Rattle.channel_model.specs.Following.{remembers, says, hears_kind, follows_connection, with_channel}
 use Rattle.channel_laws.specs.OwnTalk.{spoken, command_with, response_by, command_if, exchanged, asked_between}
 use Rattle.channel_laws.specs.Views.{peer_of, channel_by, read_at}
-use Rattle.channel_laws.proofs.Lookups.{own_of, find-append, eqb-same, distinct-append}
+use Rattle.channel_laws.proofs.Lookups.{own_of, find-append, eqb-same, distinct-append, or_on}
 use Rattle.channel_laws.proofs.Entries.{nothing-same, makes-fresh, found-passes, any-found, read-own}
 use Rattle.channel_laws.proofs.Sound.{ReadsBy, Reads, Core, BeginsWith, IsSome, IsKnown, CallsKept, QueriesKept, EndsKept, HarmlessKept, WantsAt, Wants, identifier_of, Kept, Sound}
 use Rattle.channel_laws.proofs.Granting.{Comes, core-fresh, kept-fresh, fresh-here}
 use Rattle.channel_laws.proofs.Questions.{heard, exchange, asked-none, question-by, IsNew}
 
 -- ---- what is granted already is granted again
-
-or_true : (b : Bool) → (b || true) ≡ true
-or_true true = refl
-or_true false = refl
 
 pub granted-again : (entries : List Entry) (own peer : ℕ) (wanted : Option Wanted) → IsSome (read_at own entries) → entries_after entries (granted own peer wanted) ≡ entries
 granted-again entries own peer None is = nothing-same entries
@@ -189,7 +185,7 @@ found_any q own (h ∷ held) found is passes = by (has_own own h) (λ some. foun
   where
     by : (t : Bool) → (find (has_own own) held ≡ Some found → list_any q held ≡ true) → cond t (Some h) (find (has_own own) held) ≡ Some found → (q h || list_any q held) ≡ true
     by true later some = let same : h ≡ found = cc in ap (λ e. q e || list_any q held) same ∙ ap (λ t. t || list_any q held) passes
-    by false later some = ap (λ t. q h || t) (later some) ∙ or_true (q h)
+    by false later some = ap (λ t. q h || t) (later some) ∙ or_on (q h)
 
 peers : (stage : Stage) (peer endpoint : ℕ) → peer_of stage ≡ Some peer → endpoint ≡ peer → is_peer endpoint stage ≡ true
 peers (Requested request) peer endpoint at is = cc

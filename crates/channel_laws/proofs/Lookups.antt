@@ -1,11 +1,22 @@
 -- Members of a list by a number that each has.
-use Rattle.std.proofs.Common.{◌≡◌, ℕ, List, [], ◌∷◌, ◌++◌, map, Bool, true, false, cond, ◌||◌, eqb, not, Option, Some, None, refl, sym, ap, ◌∙◌}
+use Rattle.std.proofs.Common.{◌≡◌, ℕ, List, [], ◌∷◌, ◌++◌, map, Bool, true, false, cond, ◌&&◌, ◌||◌, eqb, not, Option, Some, None, refl, sym, ap, ◌∙◌}
 use Rattle.std.specs.Prelude.{find, filter, option_map}
 use Rattle.std.specs.Option.{option_or}
 use Rattle.std.specs.List.{list_any}
 use Rattle.std.proofs.lemmas.Bool.{eqb-true, eq-eqb}
 use Rattle.channel_model.specs.Value.{Held}
 use Rattle.channel_model.specs.Changing.{in_place_of, has_own}
+
+pub or_on : (b : Bool) → (b || true) ≡ true
+or_on true = refl
+or_on false = refl
+
+pub and_off : (b : Bool) → (b && false) ≡ false
+and_off true = refl
+and_off false = refl
+
+pub off_and : (a b : Bool) → a ≡ false → (a && b) ≡ false
+off_and a b is = ap (λ t. t && b) is
 
 -- the number of a member
 abbrev pub has : {X : Type 0} → (X → ℕ) → ℕ → X → Bool

@@ -16,7 +16,7 @@ use Rattle.channel_model.specs.Value.{Setup, Stage, Requested, Connected, Leavin
 use Rattle.channel_model.specs.Policies.{Policy}
 use Rattle.channel_model.specs.Changing.{has_own, setup_of}
 use Rattle.channel_laws.specs.Views.{peer_of, life_of, channel_by, IsThere, read_at}
-use Rattle.channel_laws.proofs.Lookups.{own_of, Distinct, eqb-same}
+use Rattle.channel_laws.proofs.Lookups.{own_of, Distinct, eqb-same, off_and}
 use Rattle.channel_laws.proofs.Entries.{entry-same, either_same, nothing-same, read-own}
 use Rattle.channel_laws.proofs.Sound.{AgreesIf, ReadsBy, Reads, Core, Repeats, RepeatsIn, WantsAt, Wants, Kept, Sound, moved, IsPlaced, placed-read}
 use Rattle.channel_laws.proofs.Steps.{core-one, kept-one}
@@ -85,14 +85,11 @@ sound-one policy asked entries all all' next memory more held entry is at none c
 
 -- ---- a word on the end of a channel
 
-and_false : (a b : Bool) → a ≡ false → (a && b) ≡ false
-and_false a b is = ap (λ t. t && b) is
-
 parts_other : (said : Word) (own peer n : ℕ) (found : Option Entry) → eqb own n ≡ false → ((e : Entry) → found ≡ Some e → e.channel.own ≡ n) → option_map (entry_after (Parts said own peer)) found ≡ found
 parts_other said own peer n None apart at = refl
 parts_other said own peer n (Some e) apart at =
     ap Some (entry-same (Parts said own peer) e
-    (ap (λ t. cond t (Some said) None) (and_false (eqb own e.channel.own) (eqb peer e.channel.peer) (ap (eqb own) (at e refl) ∙ apart))) refl)
+    (ap (λ t. cond t (Some said) None) (off_and (eqb own e.channel.own) (eqb peer e.channel.peer) (ap (eqb own) (at e refl) ∙ apart))) refl)
 
 pub parts-others : (said : Word) (own peer : ℕ) (entries : List Entry) (n : ℕ) → eqb own n ≡ false → moved (Parts said own peer) n entries ≡ read_at n entries
 parts-others said own peer entries n apart = parts_other said own peer n (read_at n entries) apart (λ e is. read-own n entries e is)

@@ -1,31 +1,26 @@
 -- What the peer responds.
-use Rattle.std.proofs.Common.{◌≡◌, ℕ, List, [], ◌∷◌, fold, Bool, true, false, cond, ◌&&◌, eqb, not, Option, Some, None, refl, sym, ap, subst, ◌∙◌}
-use Rattle.std.specs.Prelude.{find, filter, nat_le, is_some}
-use Rattle.capture.specs.declared.flow.Flow.TheVariants.{Out, Into}
+use Rattle.std.proofs.Common.{◌≡◌, ℕ, List, Bool, true, false, cond, ◌&&◌, eqb, not, Some, refl, sym, ap, subst, ◌∙◌}
+use Rattle.std.specs.Prelude.{find, is_some}
+use Rattle.capture.specs.declared.flow.Flow.TheVariants.{Into}
 use Rattle.l2cap_config.specs.declared.options.Options.{Options}
 use Rattle.l2cap_config.specs.declared.wish.Wish.{Wish}
 use Rattle.l2cap_config.specs.Reading.{options_read}
 use Rattle.link_talk.specs.Sayings.{Saying}
-use Rattle.link_talk.specs.Senses.{Opens, OnChannel, OnOptions, sense}
-use Rattle.link_talk.specs.Requests.{Requests, requests_after, went, is_call, last_run, call_wanted, answered_call, has_failed}
-use Rattle.link_talk.specs.declared.call.Call.{Call}
-use Rattle.link_talk.specs.declared.call.Failure.{Failure}
-use Rattle.link_talk.specs.Meanings.{Nothing, Settles, granted, meant, is_read}
-use Rattle.link_talk.specs.Channels.{Entry, entries_after, Reading, read_on}
-use Rattle.channel_model.specs.Value.{Own, Unasked, Asking, Granted, Setup, Stage, Requested, Connected, Leaving, Closing, Crossed, Held, Memory, Channels}
+use Rattle.link_talk.specs.Senses.{Opens, OnOptions, sense}
+use Rattle.link_talk.specs.Requests.{requests_after}
+use Rattle.link_talk.specs.Meanings.{Nothing, Settles, meant, is_read}
+use Rattle.link_talk.specs.Channels.{entries_after, Reading, read_on}
+use Rattle.channel_model.specs.Value.{Own, Unasked, Asking, Granted, Setup, Held, Channels}
 use Rattle.channel_model.specs.Policies.{Policy}
-use Rattle.channel_model.specs.Changing.{has_own, held_at, to_setup, with_setup}
+use Rattle.channel_model.specs.Changing.{has_own, to_setup, with_setup}
 use Rattle.channel_model.specs.Configuring.{grants, granted_setup, opens_if}
-use Rattle.channel_model.specs.Responses.{hears_grant, hears_grant_at, is_asked}
-use Rattle.channel_laws.specs.OwnTalk.{asked_between}
+use Rattle.channel_model.specs.Responses.{is_asked}
 use Rattle.channel_laws.specs.Views.{asked_mode}
-use Rattle.channel_laws.proofs.Lookups.{own_of, found-has, found-placed, find-placed, Distinct, placed-distinct}
+use Rattle.channel_laws.proofs.Lookups.{own_of, found-placed, find-placed, Distinct, placed-distinct}
 use Rattle.channel_laws.proofs.Entries.{nothing-same, settles-same}
-use Rattle.channel_laws.proofs.Sound.{Agrees, AgreesIf, Core, IsAgain, RepeatsIn, WantsAt, Wants, Kept, Sound}
+use Rattle.channel_laws.proofs.Sound.{Agrees, AgreesIf, Core, IsAgain, RepeatsIn, Kept, Sound}
 use Rattle.channel_laws.proofs.Silent.{Turns}
-use Rattle.channel_laws.proofs.Questions.{asked-none}
 use Rattle.channel_laws.proofs.Consenting.{Talks}
-use Rattle.channel_laws.proofs.Inviting.{queries-same}
 
 -- ---- the options that the host asked for
 

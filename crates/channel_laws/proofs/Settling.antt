@@ -34,7 +34,7 @@ use Rattle.channel_model.specs.Responses.{hears_response, hears_response_on, hea
 use Rattle.channel_model.specs.Giving.{on_held, configuration_at}
 use Rattle.channel_laws.specs.OwnTalk.{spoken, command_with, asked_between}
 use Rattle.channel_laws.specs.Views.{peer_of, read_at, asked_mode}
-use Rattle.channel_laws.proofs.Lookups.{own_of, found-has, found-placed, find-placed, placed-again}
+use Rattle.channel_laws.proofs.Lookups.{own_of, found-has, found-placed, find-placed, placed-again, and_off}
 use Rattle.channel_laws.proofs.Entries.{entry-is, entry-same, either_same}
 use Rattle.channel_laws.proofs.Sound.{Agrees, states_mode, Reads, Sound, moved, at_each, requested-unread}
 use Rattle.channel_laws.proofs.Moves.{Found, found-there, parts-others}
@@ -181,10 +181,6 @@ other_peer : (own peer endpoint : ℕ) (entry : Entry) → entry.channel.peer �
 other_peer own peer endpoint entry is apart =
     entry-same (Parts EndAnswered own endpoint) entry
     (ap (λ t. cond t (Some EndAnswered) None) (ap (λ t. eqb own entry.channel.own && t) (ap (eqb endpoint) is ∙ apart) ∙ and_off (eqb own entry.channel.own))) refl
-  where
-    and_off : (b : Bool) → (b && false) ≡ false
-    and_off true = refl
-    and_off false = refl
 
 unnamed : (policy : Policy) (r : Reading) (v : Channels) (said : Saying) (own endpoint : ℕ) → sense said ≡ Ends EndAnswered own endpoint → option_map (entry_after (Parts EndAnswered own endpoint)) (read_at own r.entries) ≡ read_at own r.entries
     → Sound policy r v → Sound policy (read_on r said) v

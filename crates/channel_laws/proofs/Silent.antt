@@ -12,7 +12,7 @@ use Rattle.channel_laws.specs.Views.{peer_of, life_of, channel_by, IsThere, read
 use Rattle.channel_laws.proofs.Lookups.{own_of, Distinct}
 use Rattle.channel_laws.proofs.Steps.{less-apart, queries-on}
 use Rattle.channel_laws.proofs.Sound.{AgreesIf, ReadsBy, Reads, Core, Repeats, RepeatsIn, Wants, Kept, Sound, at_each, IsPlaced, Uncalled, placed-held}
-use Rattle.channel_laws.proofs.Moves.{wants-there, is-below, Found, found-there}
+use Rattle.channel_laws.proofs.Moves.{wants-there, is-below}
 
 -- how one channel is held changes
 pub record Turns (policy : Policy) (v w : Channels) (held after : Held) (peer : ℕ) : Type 0 where
