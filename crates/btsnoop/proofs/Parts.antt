@@ -1,0 +1,83 @@
+-- Octets written one part after the other, and parts of octets put together again.
+use Rattle.std.proofs.Common.{◌≡◌, ℕ, ◌+◌, ◌*◌, ◌/◌, ◌%◌, ◌<◌, ◌≤◌, List, [], ◌∷◌, ◌++◌, length, take, drop, refl, sym, ap, ◌∙◌, append_assoc, length-append, arith}
+use Rattle.std.proofs.lemmas.List.{take_at, take_all, take-append-drop, drop-drop, length-drop}
+use Rattle.std.proofs.Math.Seq.{drop-append-add, take-add}
+use Rattle.byteorder.specs.Endian.{big_bytes, big_number}
+use Rattle.bt_base.specs.Octets.{IsOctets}
+use Rattle.btsnoop.specs.Writing.{Writes}
+
+pub writes_none : (origin : List ℕ) → Writes origin origin 0 []
+writes_none origin = (refl, refl)
+
+-- one part more, which is known to be these octets
+pub writes_more : (origin old new front octets known : List ℕ) (at end : ℕ) → Writes origin old at front → end ≡ at + length octets
+    → new ≡ take at old ++ (octets ++ drop (at + length octets) old) → octets ≡ known → Writes origin new end (front ++ known)
+writes_more origin old new front octets known at end so_far end-is new-is is =
+    let n : at ≡ length front = so_far.0 in
+    let kept : take at old ≡ front = ap (take at) so_far.1 ∙ take_at front (drop (length front) origin) at (sym n) in
+    let after : drop (at + length octets) old ≡ drop (length front + length octets) origin =
+    ap (λ (k : ℕ). drop (k + length octets) old) n
+    ∙ ap (drop (length front + length octets)) so_far.1
+    ∙ drop-append-add front (drop (length front) origin) (length octets)
+    ∙ drop-drop (length octets) (length front) origin in
+    let size : length octets ≡ length known = ap length is in
+    let count : end ≡ length (front ++ known) = omega (arith, length-append front known) in
+    let whole : new ≡ front ++ (octets ++ drop (length front + length octets) origin) = rw (new-is, kept, after) refl in
+    let there : length front + length octets ≡ length (front ++ known) = omega (arith, length-append front known) in
+    (count, whole ∙ ap (λ (xs : List ℕ). front ++ (xs ++ drop (length front + length octets) origin)) is ∙ sym (append_assoc front known (drop (length front + length octets) origin)) ∙ ap (λ (k : ℕ). (front ++ known) ++ drop k origin) there)
+
+pub three_parts : (a b c : List ℕ) → (a ++ b) ++ c ≡ a ++ (b ++ c)
+three_parts a b c = append_assoc a b c
+
+pub six_parts : (a b c d e f : List ℕ) → ((((a ++ b) ++ c) ++ d) ++ e) ++ f ≡ a ++ (b ++ (c ++ (d ++ (e ++ f))))
+six_parts a b c d e f = simp append_assoc
+
+-- a part, and what stands behind it
+pub next_part : (a p : ℕ) (xs : List ℕ) → take a (drop p xs) ++ drop (p + a) xs ≡ drop p xs
+next_part a p xs = ap (λ (t : List ℕ). take a (drop p xs) ++ t) (sym (drop-drop a p xs)) ∙ take-append-drop a (drop p xs)
+
+-- two parts that stand side by side
+pub joined : (a b p : ℕ) (xs : List ℕ) → take a (drop p xs) ++ take b (drop (p + a) xs) ≡ take (a + b) (drop p xs)
+joined a b p xs = ap (λ (t : List ℕ). take a (drop p xs) ++ take b t) (sym (drop-drop a p xs)) ∙ sym (take-add a b (drop p xs))
+
+-- the fields of a file header
+pub header_parts : (xs : List ℕ) → take 8 xs ++ (take 4 (drop 8 xs) ++ take 4 (drop 12 xs)) ≡ take 16 xs
+header_parts xs =
+    let back : take 4 (drop 8 xs) ++ take 4 (drop 12 xs) ≡ take 8 (drop 8 xs) = joined 4 4 8 xs in
+    ap (λ (t : List ℕ). take 8 xs ++ t) back ∙ joined 8 8 0 xs
+
+-- the fields of a record and its octets
+pub record_parts : (n : ℕ) (xs : List ℕ) → length xs ≡ 24 + n → take 4 xs ++ (take 4 (drop 4 xs) ++ (take 4 (drop 8 xs) ++ (take 4 (drop 12 xs) ++ (take 8 (drop 16 xs) ++ take n (drop 24 xs))))) ≡ xs
+record_parts n xs size =
+    let rest : take n (drop 24 xs) ≡ drop 24 xs = take_all n (drop 24 xs) (omega (arith, length-drop 24 xs)) in
+    let e : take 8 (drop 16 xs) ++ take n (drop 24 xs) ≡ drop 16 xs = ap (λ (t : List ℕ). take 8 (drop 16 xs) ++ t) rest ∙ next_part 8 16 xs in
+    let d : take 4 (drop 12 xs) ++ (take 8 (drop 16 xs) ++ take n (drop 24 xs)) ≡ drop 12 xs = ap (λ (t : List ℕ). take 4 (drop 12 xs) ++ t) e ∙ next_part 4 12 xs in
+    let c : take 4 (drop 8 xs) ++ (take 4 (drop 12 xs) ++ (take 8 (drop 16 xs) ++ take n (drop 24 xs))) ≡ drop 8 xs = ap (λ (t : List ℕ). take 4 (drop 8 xs) ++ t) d ∙ next_part 4 8 xs in
+    let b : take 4 (drop 4 xs) ++ (take 4 (drop 8 xs) ++ (take 4 (drop 12 xs) ++ (take 8 (drop 16 xs) ++ take n (drop 24 xs)))) ≡ drop 4 xs = ap (λ (t : List ℕ). take 4 (drop 4 xs) ++ t) c ∙ next_part 4 4 xs in
+    ap (λ (t : List ℕ). take 4 xs ++ t) b ∙ take-append-drop 4 xs
+
+-- eight octets again from their number
+long_again : (a b c d e f g h : ℕ) (rest : List ℕ) → a < 256 → b < 256 → c < 256 → d < 256 → e < 256 → f < 256 → g < 256 → h < 256
+    → big_bytes 8 (big_number 8 (a ∷ b ∷ c ∷ d ∷ e ∷ f ∷ g ∷ h ∷ rest)) ≡ a ∷ b ∷ c ∷ d ∷ e ∷ f ∷ g ∷ h ∷ []
+long_again a b c d e f g h rest p q r s t u v w =
+    let n : ℕ = a * 72057594037927936 + (b * 281474976710656 + (c * 1099511627776 + (d * 4294967296 + (e * 16777216 + (f * 65536 + (g * 256 + (h * 1 + 0))))))) in
+    let o1 : n / 72057594037927936 % 256 ≡ a = omega arith in
+    let o2 : n / 281474976710656 % 256 ≡ b = omega arith in
+    let o3 : n / 1099511627776 % 256 ≡ c = omega arith in
+    let o4 : n / 4294967296 % 256 ≡ d = omega arith in
+    let o5 : n / 16777216 % 256 ≡ e = omega arith in
+    let o6 : n / 65536 % 256 ≡ f = omega arith in
+    let o7 : n / 256 % 256 ≡ g = omega arith in
+    let o8 : n % 256 ≡ h = omega arith in
+    rw (o1, o2, o3, o4, o5, o6, o7, o8) refl
+
+pub long_front : (octets : List ℕ) → IsOctets octets → 8 ≤ length octets → big_bytes 8 (big_number 8 octets) ≡ take 8 octets
+long_front [] fits long = absurd (omega arith)
+long_front (a ∷ []) fits long = absurd (omega arith)
+long_front (a ∷ b ∷ []) fits long = absurd (omega arith)
+long_front (a ∷ b ∷ c ∷ []) fits long = absurd (omega arith)
+long_front (a ∷ b ∷ c ∷ d ∷ []) fits long = absurd (omega arith)
+long_front (a ∷ b ∷ c ∷ d ∷ e ∷ []) fits long = absurd (omega arith)
+long_front (a ∷ b ∷ c ∷ d ∷ e ∷ f ∷ []) fits long = absurd (omega arith)
+long_front (a ∷ b ∷ c ∷ d ∷ e ∷ f ∷ g ∷ []) fits long = absurd (omega arith)
+long_front (a ∷ b ∷ c ∷ d ∷ e ∷ f ∷ g ∷ h ∷ rest) fits long = long_again a b c d e f g h rest (fits 0) (fits 1) (fits 2) (fits 3) (fits 4) (fits 5) (fits 6) (fits 7)

@@ -1,0 +1,15 @@
+//! The captures that phones and analysers write: btsnoop files, read in any pieces and written.
+#![tactic(auto)]
+
+mod fields;
+mod gathering;
+pub mod laws;
+mod reader;
+mod record;
+mod refusal;
+mod writing;
+
+pub use reader::{Reader, SnoopTaken};
+pub use record::Record;
+pub use refusal::SnoopRefusal;
+pub use writing::{put_header, put_record};
