@@ -322,15 +322,18 @@ order_goes size count side ReadBuffers radio sizes right =
     let size_fits = sizes.size_fits in
     let count_fits = sizes.count_fits in
     answered size count side (Returned 0x1005 (0 ∷ (le16 radio.size ++ (0 ∷ (le16 radio.count ++ le16 0))))) radio right
-    (inr (inr (inr (refl, record {
-      size = radio.size;
-      count = radio.count;
-      long = omega arith;
-      some = omega arith;
-      size_fits = omega arith;
-      count_fits = omega arith;
-      are = refl;
-    }))))
+    (inr (inr (inr (
+      refl,
+      record {
+        size = radio.size;
+        count = radio.count;
+        long = omega arith;
+        some = omega arith;
+        size_fits = omega arith;
+        count_fits = omega arith;
+        are = refl;
+      },
+    ))))
 order_goes size count side ReadAddress radio sizes right =
     answered size count side (Returned 0x1009 (0 ∷ address side)) radio right (inr (inr (inl (refl, address side, address_length side, refl))))
 order_goes size count side Scan radio sizes right =
