@@ -21,7 +21,7 @@ use Rattle.radio_world.proofs.Moving.{written_then}
 use Rattle.radio_world.proofs.Entering.{tryings, tries, silent}
 use Rattle.radio_world.proofs.Lifting.{plays_a, no_words, advances_a, advances_b}
 
-plays_then : {S T G H : Type 0} (U : Upper S G) (V : Upper T H) (xs ys : List Happening) (old mid new : Moment S T) → Plays U V xs old mid → Plays U V ys mid new → Plays U V (xs ++ ys) old new
+pub plays_then : {S T G H : Type 0} (U : Upper S G) (V : Upper T H) (xs ys : List Happening) (old mid new : Moment S T) → Plays U V xs old mid → Plays U V ys mid new → Plays U V (xs ++ ys) old new
 plays_then {S} {T} U V [] ys old mid new first second = subst (λ (m : Moment S T). Plays U V ys m new) first second
 plays_then U V (x ∷ xs) ys old mid new first second = (first.0, first.1, plays_then U V xs ys first.0 mid new first.2 second)
 
@@ -96,7 +96,7 @@ and_first : (a b : Bool) → (a && b) ≡ true → a ≡ true
 and_first true b is = refl
 and_first false b is = cc
 
-and_second : (a b : Bool) → (a && b) ≡ true → b ≡ true
+pub and_second : (a b : Bool) → (a && b) ≡ true → b ≡ true
 and_second true b is = is
 and_second false b is = cc
 

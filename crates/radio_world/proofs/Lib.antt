@@ -6,3 +6,7 @@ mod Lifting
 mod Advancing
 mod Settling
 mod Reacting
+mod Turned
+pub mod Standing
+mod Runs
+mod Closing

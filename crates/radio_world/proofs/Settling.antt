@@ -9,11 +9,11 @@ use Rattle.radio_world.specs.Hosts.{Asking, answering, IsStopped}
 use Rattle.radio_world.specs.Halves.{IsStillIn, StaysPut}
 use Rattle.radio_world.specs.Scenes.{Scene, moment, may_end, IsSettled}
 
-and_both : (a b : Bool) → a ≡ true → b ≡ true → (a && b) ≡ true
+pub and_both : (a b : Bool) → a ≡ true → b ≡ true → (a && b) ≡ true
 and_both true b one two = two
 and_both false b one two = cc
 
-idle_of : (c : Controller) → (c.coming ≡ []) × (c.owed ≡ []) → is_idle c ≡ true
+pub idle_of : (c : Controller) → (c.coming ≡ []) × (c.owed ≡ []) → is_idle c ≡ true
 idle_of c still = and_both (is_empty c.coming) (is_empty c.owed) (ap is_empty still.0) (ap is_empty still.1)
 
 pub settles :

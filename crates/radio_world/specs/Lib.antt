@@ -3,4 +3,5 @@ pub mod Leaving
 pub mod Halves
 pub mod Scenes
 pub mod Turning
+pub mod Standing
 pub mod Both

@@ -112,3 +112,30 @@ pub trait Client<P>: Host<P> {
         ensures held { OnOk result (Self.held self.new ≡ Self.held self.old) }
         ensures sound { OnOk result (Self.is_sound self.new port.new) };
 }
+
+/// A host that notes how far it came with what its channels limit.
+pub trait Measured {
+    /// The most frames of one enhanced channel that were sent and not acknowledged, so far.
+    ghost frames_sent: { Self → ℕ };
+
+    /// The most credits of one RFCOMM channel that were held, so far.
+    ghost credits_held: { Self → ℕ };
+
+    /// How many frames of an enhanced channel it had sent, at most, that were not acknowledged.
+    fn greatest_window(&self) -> u8
+        ensures { result ≡ frames_sent self.now };
+
+    /// How many credits of an RFCOMM channel it held at most.
+    fn greatest_credits(&self) -> u16
+        ensures { result ≡ credits_held self.now };
+}
+
+/// A host that stores objects.
+pub trait Keeps {
+    /// How many objects were stored so far, and the greatest number where there were more.
+    ghost stored: { Self → ℕ };
+
+    /// How many objects it stored. The number stands still at the greatest one.
+    fn kept(&self) -> u32
+        ensures { result ≡ stored self.now };
+}

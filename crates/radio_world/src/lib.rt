@@ -7,11 +7,12 @@ mod feeding;
 mod host;
 mod medium;
 mod ordering;
+mod playing;
 mod recording;
 mod scene;
 mod turning;
 mod world;
 
 pub use fault::WorldFault;
-pub use host::{Client, Host};
+pub use host::{Client, Host, Keeps, Measured};
 pub use world::World;

@@ -67,7 +67,7 @@ impl Scene {
     }
 
     /// Ends the push that goes on, with what came of it. It needs one.
-    fn end<T: Sink>(&mut self, outcome: Outcome, trace: &mut T) -> Result<(), WorldFault>
+    pub(crate) fn end<T: Sink>(&mut self, outcome: Outcome, trace: &mut T) -> Result<(), WorldFault>
         requires { self.old.pushes.going ≡ true }
         ensures scene { OnOk result (self.new ≡ record self.old { pushes = one_ended outcome self.old.pushes }) }
         ensures written { OnOk result (T.content trace.new ≡ gained (T.content trace.old) (entry_octets (Ended self.old.pushes.begun outcome))) }

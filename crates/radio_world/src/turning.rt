@@ -1,14 +1,17 @@
 //! Words of a script, turned where all is at rest.
 
-ghost use Rattle.std.specs.Prelude.{◌≡◌, ◌+◌, ◌<◌, ◌^◌, true, List, OnOk};
+ghost use Rattle.std.specs.Prelude.{◌≡◌, ◌+◌, ◌<◌, ◌^◌, ◌∷◌, [], true, List, OnOk};
 ghost use Rattle.bt_base.specs.Streams.{gained};
 ghost use Rattle.push_script.specs.Runs.{IsWord};
 ghost use Rattle.capture.specs.Entries.{Acted, entry_octets};
+ghost use Rattle.radio_air.specs.Owed.{IsMet};
 ghost use Rattle.radio_air.specs.Radio.{found, after_deed, is_quiet};
-ghost use Rattle.world_model.specs.Worlds.{fired};
-ghost use Rattle.radio_world.specs.Hosts.{Reacts};
+ghost use Rattle.push_terms.specs.declared.word.Side.TheVariants as sides;
+ghost use Rattle.world_model.specs.Worlds.{fired, IsAtRest};
+ghost use Rattle.radio_world.specs.Hosts.{answering, Reacts};
 ghost use Rattle.radio_world.specs.Leaving.{in_radio};
-ghost use Rattle.radio_world.specs.Turning.{can_be_done, is_checked};
+ghost use Rattle.radio_world.specs.Scenes.{stage, moment, world_at, Advances};
+ghost use Rattle.radio_world.specs.Turning.{can_be_done, fires, cancels, done_by, is_checked};
 
 use crate::fault::WorldFault;
 use crate::host::{Client, Host};
@@ -31,6 +34,67 @@ fn fire<P, H: Host<P>>(host: &mut H, port: &mut P) -> Result<(), NoMemory>
         return Ok(());
     }
     host.on_timer(port)?;
+    Ok(())
+}
+
+/// Whether what a word finds fires the timer of a host, if it is armed.
+fn fires(deed: Deed, side: Side) -> bool
+    ensures { result ≡ fires side deed }
+{
+    match deed {
+        Deed::Fires(Side::A) => match side {
+            Side::A => true,
+            Side::B => false,
+        },
+        Deed::Fires(Side::B) => match side {
+            Side::A => false,
+            Side::B => true,
+        },
+        Deed::FiresBoth => true,
+        Deed::Nothing | Deed::Meets(..) | Deed::Breaks | Deed::Cancels => false,
+    }
+}
+
+/// Whether what a word finds cancels the push of host a.
+fn cancels(deed: Deed) -> bool
+    ensures { result ≡ cancels sides.A deed }
+{
+    match deed {
+        Deed::Cancels => true,
+        Deed::Nothing | Deed::Meets(..) | Deed::Fires(_) | Deed::FiresBoth | Deed::Breaks => false,
+    }
+}
+
+/// Host a does of a word what it has to, beside the air. It needs that this can be done.
+fn client_acts<P, A: Client<P>>(deed: Deed, a: &mut A, shelf: &mut P) -> Result<(), NoMemory>
+    requires cancelled { cancels sides.A deed ≡ true → (rest : List A.Host.Answer) → A.Host.machine.may_cancel ((A.Host.station a.old).upper rest) ≡ true }
+    requires sound { A.Host.is_sound a.old shelf.old }
+    ensures reacts { OnOk result (Reacts A.Host.machine A.Host.side A.Host.answers (done_by A.Host.machine sides.A deed) (A.Host.station a.old) (A.Host.station a.new) shelf.old shelf.new) }
+    ensures held { OnOk result (A.Host.held a.new ≡ A.Host.held a.old) }
+    ensures sound { OnOk result (A.Host.is_sound a.new shelf.new) }
+{
+    if fires(deed, Side::A) {
+        fire(a, shelf)?;
+        return Ok(());
+    }
+    if !cancels(deed) {
+        return Ok(());
+    }
+    a.cancel(shelf)?;
+    Ok(())
+}
+
+/// Host b does of a word what it has to, beside the air.
+fn server_acts<Q, B: Host<Q>>(deed: Deed, b: &mut B, inbox: &mut Q) -> Result<(), NoMemory>
+    requires sound { B.is_sound b.old inbox.old }
+    ensures reacts { OnOk result (Reacts B.machine B.side B.answers (done_by B.machine sides.B deed) (B.station b.old) (B.station b.new) inbox.old inbox.new) }
+    ensures held { OnOk result (B.held b.new ≡ B.held b.old) }
+    ensures sound { OnOk result (B.is_sound b.new inbox.new) }
+{
+    if !fires(deed, Side::B) {
+        return Ok(());
+    }
+    fire(b, inbox)?;
     Ok(())
 }
 
@@ -59,6 +123,28 @@ impl Scene {
             Deed::FiresBoth => a.armed() | b.armed(),
             Deed::Cancels => self.pushes.going() && a.may_cancel(),
         }
+    }
+
+    /// What a word finds.
+    ///
+    /// It needs that nothing is on its way to either host.
+    fn found(&self, word: Word) -> Deed
+        requires { is_quiet self.now.medium.radio ≡ true }
+        ensures deed { result ≡ found word self.now.medium.radio }
+        ensures met { IsMet result self.now.medium.radio }
+    {
+        self.medium.radio.found(word)
+    }
+
+    /// Whether a word finds something that can be done.
+    ///
+    /// It needs that nothing is on its way to either host.
+    pub(crate) fn finds<P, A: Client<P>, Q, B: Host<Q>>(&self, word: Word, a: &A, b: &B) -> bool
+        requires { is_quiet self.now.medium.radio ≡ true }
+        ensures { (rest_a : List A.Host.Answer) (rest_b : List B.Answer) → result ≡ can_be_done A.Host.machine B.machine (found word self.now.medium.radio) self.now.pushes ((A.Host.station a.now).upper rest_a) ((B.station b.now).upper rest_b) }
+    {
+        let deed = self.found(word);
+        self.can_be_done(deed, a, b)
     }
 
     /// Whether the receiver of the frame that meets its fate has a check word for its channel.
@@ -92,6 +178,37 @@ impl Scene {
         record(&Entry::Acted { ordinal, word }, trace)?;
         self.medium.act(word, checked);
         self.turned = ordinal;
+        Ok(())
+    }
+
+    /// A word acts on the air, and then on both hosts. It stands in the trace first.
+    ///
+    /// It needs that all is at rest, and that the word finds something that can be done.
+    pub(crate) fn do_word<P, A: Client<P>, Q, B: Host<Q>, T: Sink>(
+        &mut self,
+        word: Word,
+        a: &mut A,
+        shelf: &mut P,
+        b: &mut B,
+        inbox: &mut Q,
+        trace: &mut T,
+    ) -> Result<(), WorldFault>
+        requires rest { (rest_a : List A.Host.Answer) (rest_b : List B.Answer) → IsAtRest A.Host.machine B.machine (world_at (moment self.old (answering rest_a (A.Host.station a.old)) (answering rest_b (B.station b.old)))) }
+        requires quiet { is_quiet self.old.medium.radio ≡ true }
+        requires finds { (rest_a : List A.Host.Answer) (rest_b : List B.Answer) → can_be_done A.Host.machine B.machine (found word self.old.medium.radio) self.old.pushes ((A.Host.station a.old).upper rest_a) ((B.station b.old).upper rest_b) ≡ true }
+        requires word { IsWord word }
+        requires few { self.old.turned + 1 < 2 ^ 64 }
+        requires sides { (A.Host.side ≡ sides.A) × (B.side ≡ sides.B) }
+        requires sound { A.Host.is_sound a.old shelf.old × B.is_sound b.old inbox.old }
+        ensures advances { OnOk result (Advances A.Host.machine B.machine A.Host.answers B.answers (word ∷ []) (stage self.old (A.Host.station a.old) (B.station b.old) shelf.old inbox.old (T.content trace.old)) (stage self.new (A.Host.station a.new) (B.station b.new) shelf.new inbox.new (T.content trace.new))) }
+        ensures held { OnOk result ((A.Host.held a.new ≡ A.Host.held a.old) × (B.held b.new ≡ B.held b.old)) }
+        ensures sound { OnOk result (A.Host.is_sound a.new shelf.new × B.is_sound b.new inbox.new) }
+    {
+        let deed = self.found(word);
+        let checked = self.is_checked(deed, a, b);
+        self.act(word, checked, trace)?;
+        client_acts(deed, a, shelf)?;
+        server_acts(deed, b, inbox)?;
         Ok(())
     }
 }

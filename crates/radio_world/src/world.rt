@@ -1,18 +1,23 @@
 //! The simulated world: two hosts, their controllers and the air between them.
 
-ghost use Rattle.std.specs.Prelude.{◌≡◌, [], List, min, IfOk, OnOk};
+ghost use Rattle.std.specs.Prelude.{◌≡◌, ◌∷◌, [], List, length, min, IfOk, OnOk};
+ghost use Rattle.bt_base.specs.Streams.{gained};
+ghost use Rattle.push_script.specs.Runs.{IsWord};
+ghost use Rattle.capture.specs.Air.{words_of};
+ghost use Rattle.capture.specs.Entries.{capture_octets};
 ghost use Rattle.push_terms.specs.declared.word.Side.TheVariants as sides;
 ghost use Rattle.radio_world.specs.Hosts.{answering};
-ghost use Rattle.radio_world.specs.Scenes.{first_scene, stage, moment, Advances, IsSettled};
+ghost use Rattle.radio_world.specs.Scenes.{first_scene, stage, moment, Advances};
+ghost use Rattle.radio_world.specs.Standing.{IsReached, SettledRests, Stands, last_ended, last_entries, all_outcomes};
 
 use crate::fault::WorldFault;
-use crate::host::{Client, Host};
+use crate::host::{Client, Host, Keeps, Measured};
 use crate::medium::Medium;
 use crate::ordering::Pushes;
 use crate::scene::Scene;
 use bt_base::{NoMemory, Sink};
-use push_script::Scenario;
-use push_terms::Outcome;
+use push_script::{Runs, Scenario};
+use push_terms::{Outcome, Peaks, Word};
 use std::alloc::Global;
 use std::marker::Model;
 
@@ -66,10 +71,41 @@ impl<A: Drop, B: Drop> World<A, B> {
         self.scene.pushes.outcomes()
     }
 
+    /// How many objects host b stored. The number stands still at the greatest one.
+    pub fn kept(&self) -> u32
+    where
+        B: Keeps,
+        ensures { result ≡ B.stored self.now.b }
+    {
+        self.b.kept()
+    }
+
+    /// The greatest numbers that were reached so far. Those of the buffers stand still at 65,535.
+    pub fn peaks(&self) -> Peaks
+    where
+        A: Measured,
+        B: Measured,
+        ensures buffers_a { result.buffers_a ≡ min self.now.scene.medium.peak_a 65535 }
+        ensures buffers_b { result.buffers_b ≡ min self.now.scene.medium.peak_b 65535 }
+        ensures windows { (result.window_a ≡ A.frames_sent self.now.a) × (result.window_b ≡ B.frames_sent self.now.b) }
+        ensures credits { (result.credits_a ≡ A.credits_held self.now.a) × (result.credits_b ≡ B.credits_held self.now.b) }
+    {
+        Peaks {
+            buffers_a: self.scene.medium.peak_a.min(u64::from(u16::MAX)) as u16,
+            buffers_b: self.scene.medium.peak_b.min(u64::from(u16::MAX)) as u16,
+            window_a: self.a.greatest_window(),
+            window_b: self.b.greatest_window(),
+            credits_a: self.a.greatest_credits(),
+            credits_b: self.b.greatest_credits(),
+        }
+    }
+
     /// Lets both hosts start and begins the first push: all moves that can. It comes once and first.
     ///
-    /// It is a run of the pure world, as the trace gained it, after which all is settled. `TraceFault`
-    /// where the trace fails, and `NoMemory` where none could be had: then the world goes on no more.
+    /// It is a run of the pure world, as the trace gained it, after which the world stands where its
+    /// script goes on. It needs what a run of the pure world led to, as `new` does with two hosts to
+    /// which nothing has happened. `TraceFault` where the trace fails, and `NoMemory` where none could
+    /// be had: then the world goes on no more.
     pub fn start<P, Q, T: Sink>(
         &mut self,
         trace: &mut T,
@@ -79,16 +115,94 @@ impl<A: Drop, B: Drop> World<A, B> {
     where
         A: Client<P>,
         B: Host<Q>,
+        requires reached { (rest_a : List A.Host.Answer) (rest_b : List B.Answer) → IsReached A.Host.machine B.machine (moment self.old.scene (answering rest_a (A.Host.station self.old.a)) (answering rest_b (B.station self.old.b))) }
         requires sides { (A.Host.side ≡ sides.A) × (B.side ≡ sides.B) }
         requires none_held { (A.Host.held self.old.a ≡ []) × (B.held self.old.b ≡ []) }
         requires sound { A.Host.is_sound self.old.a shelf.old × B.is_sound self.old.b inbox.old }
         ensures advances { OnOk result (Advances A.Host.machine B.machine A.Host.answers B.answers [] (stage self.old.scene (A.Host.station self.old.a) (B.station self.old.b) shelf.old inbox.old (T.content trace.old)) (stage self.new.scene (A.Host.station self.new.a) (B.station self.new.b) shelf.new inbox.new (T.content trace.new))) }
-        ensures settled { OnOk result ((rest_a : List A.Host.Answer) (rest_b : List B.Answer) → IsSettled A.Host.machine B.machine (moment self.new.scene (answering rest_a (A.Host.station self.new.a)) (answering rest_b (B.station self.new.b)))) }
+        ensures stands { OnOk result (Stands A.Host.machine B.machine self.new.scene (A.Host.station self.new.a) (B.station self.new.b)) }
         ensures none_held { OnOk result ((A.Host.held self.new.a ≡ []) × (B.held self.new.b ≡ [])) }
         ensures sound { OnOk result (A.Host.is_sound self.new.a shelf.new × B.is_sound self.new.b inbox.new) }
     {
         self.scene
-            .settle(&mut self.a, shelf, &mut self.b, inbox, trace)?;
+            .start(&mut self.a, shelf, &mut self.b, inbox, trace)?;
+        Ok(())
+    }
+
+    /// Turns the next word of a script: a run of the pure world, in which that word is turned. A word
+    /// that finds something to do stands in the trace first, then it acts, and all moves that can; one
+    /// that finds nothing is counted alone.
+    ///
+    /// It needs a word as a line of a scenario can say it, a world that stands, as `start` and `turn`
+    /// leave it, and machines with which all is at rest where all is settled. It refuses as `start`
+    /// does; `NoMemory` also where more than 2^64 - 1 words would have been turned.
+    pub fn turn<P, Q, T: Sink>(
+        &mut self,
+        word: Word,
+        trace: &mut T,
+        shelf: &mut P,
+        inbox: &mut Q,
+    ) -> Result<(), WorldFault>
+    where
+        A: Client<P>,
+        B: Host<Q>,
+        requires rests { SettledRests A.Host.machine B.machine }
+        requires stands { Stands A.Host.machine B.machine self.old.scene (A.Host.station self.old.a) (B.station self.old.b) }
+        requires word { IsWord word }
+        requires sides { (A.Host.side ≡ sides.A) × (B.side ≡ sides.B) }
+        requires none_held { (A.Host.held self.old.a ≡ []) × (B.held self.old.b ≡ []) }
+        requires sound { A.Host.is_sound self.old.a shelf.old × B.is_sound self.old.b inbox.old }
+        ensures turns { OnOk result (Advances A.Host.machine B.machine A.Host.answers B.answers (word ∷ []) (stage self.old.scene (A.Host.station self.old.a) (B.station self.old.b) shelf.old inbox.old (T.content trace.old)) (stage self.new.scene (A.Host.station self.new.a) (B.station self.new.b) shelf.new inbox.new (T.content trace.new))) }
+        ensures stands { OnOk result (Stands A.Host.machine B.machine self.new.scene (A.Host.station self.new.a) (B.station self.new.b)) }
+        ensures none_held { OnOk result ((A.Host.held self.new.a ≡ []) × (B.held self.new.b ≡ [])) }
+        ensures sound { OnOk result (A.Host.is_sound self.new.a shelf.new × B.is_sound self.new.b inbox.new) }
+    {
+        self.scene
+            .turn_times(1, word, &mut self.a, shelf, &mut self.b, inbox, trace)?;
+        Ok(())
+    }
+
+    /// Turns all words of a script, in their order. From where a word that stands many times finds
+    /// nothing to do on, it is counted at once. It needs, and refuses, as `turn` does.
+    pub fn turn_all<P, Q, T: Sink>(
+        &mut self,
+        script: &Runs,
+        trace: &mut T,
+        shelf: &mut P,
+        inbox: &mut Q,
+    ) -> Result<(), WorldFault>
+    where
+        A: Client<P>,
+        B: Host<Q>,
+        requires rests { SettledRests A.Host.machine B.machine }
+        requires stands { Stands A.Host.machine B.machine self.old.scene (A.Host.station self.old.a) (B.station self.old.b) }
+        requires sides { (A.Host.side ≡ sides.A) × (B.side ≡ sides.B) }
+        requires none_held { (A.Host.held self.old.a ≡ []) × (B.held self.old.b ≡ []) }
+        requires sound { A.Host.is_sound self.old.a shelf.old × B.is_sound self.old.b inbox.old }
+        ensures turns { OnOk result (Advances A.Host.machine B.machine A.Host.answers B.answers (words_of script.now) (stage self.old.scene (A.Host.station self.old.a) (B.station self.old.b) shelf.old inbox.old (T.content trace.old)) (stage self.new.scene (A.Host.station self.new.a) (B.station self.new.b) shelf.new inbox.new (T.content trace.new))) }
+        ensures stands { OnOk result (Stands A.Host.machine B.machine self.new.scene (A.Host.station self.new.a) (B.station self.new.b)) }
+        ensures none_held { OnOk result ((A.Host.held self.new.a ≡ []) × (B.held self.new.b ≡ [])) }
+        ensures sound { OnOk result (A.Host.is_sound self.new.a shelf.new × B.is_sound self.new.b inbox.new) }
+    {
+        self.scene
+            .turn_all(script, &mut self.a, shelf, &mut self.b, inbox, trace)?;
+        Ok(())
+    }
+
+    /// Ends the push that goes on, if one does: with what came of it already, or else with the script.
+    /// All objects that were not begun end with the script. Each object then has its outcome. It comes
+    /// once and last. It refuses as `start` does. The shelf is not asked.
+    pub fn finish<P, T: Sink>(&mut self, trace: &mut T, _shelf: &P) -> Result<(), WorldFault>
+    where
+        A: Client<P>,
+        ensures outcomes { OnOk result ((rest : List A.Host.Answer) → self.new.scene.pushes.outcomes ≡ all_outcomes (last_ended (A.Host.machine.outcome ((A.Host.station self.old.a).upper rest)) self.old.scene.pushes)) }
+        ensures each { OnOk result (length self.new.scene.pushes.outcomes ≡ length self.old.scene.pushes.names) }
+        ensures written { OnOk result ((rest : List A.Host.Answer) → T.content trace.new ≡ gained (T.content trace.old) (capture_octets (last_entries (A.Host.machine.outcome ((A.Host.station self.old.a).upper rest)) self.old.scene.pushes))) }
+        ensures hosts { (self.new.a ≡ self.old.a) × (self.new.b ≡ self.old.b) }
+        ensures medium { OnOk result (self.new.scene.medium ≡ self.old.scene.medium) }
+    {
+        let came = self.a.outcome();
+        self.scene.finish(came, trace)?;
         Ok(())
     }
 }

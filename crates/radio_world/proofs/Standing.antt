@@ -1,0 +1,155 @@
+-- Where a world stands, and words that find nothing there.
+use Rattle.std.proofs.Common.{◌≡◌, ℕ, zero, suc, ◌+◌, ◌≤◌, ◌&&◌, Bool, true, false, List, [], ◌∷◌, ◌++◌, length, replicate, Option, refl, sym, ap, subst, ◌∙◌, arith}
+use Rattle.bt_base.specs.Streams.{gained}
+use Rattle.bt_base.proofs.PortLaws.{gained-nil}
+use Rattle.push_terms.specs.declared.word.Side.TheVariants.{A, B}
+use Rattle.push_terms.specs.declared.word.Word.{Word}
+use Rattle.capture.specs.Entries.{capture_octets}
+use Rattle.radio_air.specs.Queues.{IsSize}
+use Rattle.radio_air.specs.Radio.{found, is_idle, is_quiet}
+use Rattle.world_model.specs.Machines.{Upper}
+use Rattle.world_model.specs.Stations.{Station, first_station}
+use Rattle.world_model.specs.Turns.{FindsNothing}
+use Rattle.world_model.specs.Worlds.{Misses, IsAtRest, all_entries, all_words}
+use Rattle.radio_world.specs.Hosts.{Asking, answering, JoinAnswers}
+use Rattle.radio_world.specs.Scenes.{Scene, first_scene, Moment, moment, world_at, Plays, Stage, stage, moment_of, Advances, IsSettled}
+use Rattle.radio_world.specs.Standing.{IsCount, IsReached, SettledRests, Stands}
+use Rattle.radio_world.specs.Turning.{can_be_done}
+use Rattle.radio_world.proofs.Advancing.{plays_then}
+use Rattle.radio_world.proofs.Settling.{and_both, idle_of}
+use Rattle.radio_world.proofs.Turned.{nothing_found}
+
+pub reached_then :
+    {S T G H P Q : Type 0} (U : Upper S G) (V : Upper T H) (RA : P → List G → P → Type 0) (RB : Q → List H → Q → Type 0) (words : List Word) (old new : Stage S T G H P Q)
+    → Advances U V RA RB words old new → ((rest_a : List G) (rest_b : List H) → IsReached U V (moment_of old rest_a rest_b))
+    → (rest_a : List G) (rest_b : List H) → IsReached U V (moment_of new rest_a rest_b)
+reached_then U V RA RB words old new advances reached rest_a rest_b =
+    let before = reached (advances.used_a ++ rest_a) (advances.used_b ++ rest_b) in
+    record {
+      size = before.size;
+      count = before.count;
+      names = before.names;
+      sized = before.sized;
+      counted = before.counted;
+      few = before.few;
+      happenings = before.happenings ++ advances.happenings;
+      plays = plays_then U V before.happenings advances.happenings _ (moment_of old (advances.used_a ++ rest_a) (advances.used_b ++ rest_b)) (moment_of new rest_a rest_b) before.plays (advances.plays rest_a rest_b);
+    }
+
+-- where nothing has happened to either host
+pub first_reached :
+    {S T G H : Type 0} (U : Upper S G) (V : Upper T H) (size count : ℕ) (names : List (List ℕ)) (a : Asking S G) (b : Asking T H) → IsSize size → IsCount count → length names ≤ 64
+    → ((rest : List G) → answering rest a ≡ first_station U A) → ((rest : List H) → answering rest b ≡ first_station V B)
+    → (rest_a : List G) (rest_b : List H) → IsReached U V (moment (first_scene size count names) (answering rest_a a) (answering rest_b b))
+first_reached {S} {T} U V size count names a b sized counted few fresh_a fresh_b rest_a rest_b = record {
+  size = size;
+  count = count;
+  names = names;
+  sized = sized;
+  counted = counted;
+  few = few;
+  happenings = [];
+  plays = ap (λ (s : Station S). moment (first_scene size count names) s (answering rest_b b)) (fresh_a rest_a)
+      ∙ ap (λ (s : Station T). moment (first_scene size count names) (first_station U A) s) (fresh_b rest_b);
+}
+
+pub stands_then :
+    {S T G H P Q : Type 0} (U : Upper S G) (V : Upper T H) (RA : P → List G → P → Type 0) (RB : Q → List H → Q → Type 0) (words : List Word)
+    (old new : Scene) (a a' : Asking S G) (b b' : Asking T H) (shelf shelf' : P) (inbox inbox' : Q) (trace trace' : Option (List ℕ))
+    → Advances U V RA RB words (stage old a b shelf inbox trace) (stage new a' b' shelf' inbox' trace')
+    → ((rest_a : List G) (rest_b : List H) → IsReached U V (moment old (answering rest_a a) (answering rest_b b)))
+    → ((rest_a : List G) (rest_b : List H) → IsSettled U V (moment new (answering rest_a a') (answering rest_b b'))) → Stands U V new a' b'
+stands_then U V RA RB words old new a a' b b' shelf shelf' inbox inbox' trace trace' advances reached settled = record {
+  reached = reached_then U V RA RB words (stage old a b shelf inbox trace) (stage new a' b' shelf' inbox' trace') advances reached;
+  settled = settled;
+}
+
+pub at_rest :
+    {S T G H : Type 0} (U : Upper S G) (V : Upper T H) (scene : Scene) (a : Asking S G) (b : Asking T H) → SettledRests U V → Stands U V scene a b
+    → (rest_a : List G) (rest_b : List H) → IsAtRest U V (world_at (moment scene (answering rest_a a) (answering rest_b b)))
+at_rest U V scene a b rests stands rest_a rest_b = rests (moment scene (answering rest_a a) (answering rest_b b)) (stands.reached rest_a rest_b) (stands.settled rest_a rest_b)
+
+-- nothing is on its way to a host
+pub stands_quiet : {S T G H : Type 0} (U : Upper S G) (V : Upper T H) (scene : Scene) (a : Asking S G) (b : Asking T H) → Stands U V scene a b → is_quiet scene.medium.radio ≡ true
+stands_quiet U V scene a b stands =
+    let settled = stands.settled [] [] in
+    and_both (is_idle scene.medium.radio.a) (is_idle scene.medium.radio.b) (idle_of scene.medium.radio.a settled.still_a) (idle_of scene.medium.radio.b settled.still_b)
+
+-- ---- words that find nothing
+
+abbrev pub turned_to : Scene → ℕ → Scene
+turned_to scene n = record scene { turned = n }
+
+-- how many words were turned is nothing to what rests
+still_at_rest :
+    {S T G H : Type 0} (U : Upper S G) (V : Upper T H) (scene : Scene) (a : Station S) (b : Station T) (n : ℕ) → IsAtRest U V (world_at (moment scene a b)) → IsAtRest U V (world_at (moment (turned_to scene n) a b))
+still_at_rest U V scene a b n rest = record { still_a = rest.still_a; still_b = rest.still_b; paged = rest.paged; calm = rest.calm }
+
+still_settled : {S T G H : Type 0} (U : Upper S G) (V : Upper T H) (scene : Scene) (a : Station S) (b : Station T) (n : ℕ) → IsSettled U V (moment scene a b) → IsSettled U V (moment (turned_to scene n) a b)
+still_settled U V scene a b n settled = record {
+  out_a = settled.out_a;
+  out_b = settled.out_b;
+  stopped_a = settled.stopped_a;
+  stopped_b = settled.stopped_b;
+  still_a = settled.still_a;
+  still_b = settled.still_b;
+  returned_a = settled.returned_a;
+  returned_b = settled.returned_b;
+  no_begin = settled.no_begin;
+  no_end = settled.no_end;
+}
+
+misses_play :
+    {S T G H : Type 0} (U : Upper S G) (V : Upper T H) (word : Word) (scene : Scene) (a : Station S) (b : Station T) → IsAtRest U V (world_at (moment scene a b))
+    → FindsNothing U V (found word scene.medium.radio) scene.pushes a.upper b.upper → (count n m : ℕ) → m ≡ n + count
+    → Plays U V (replicate count (Misses word)) (moment (turned_to scene n) a b) (moment (turned_to scene m) a b)
+misses_play U V word scene a b rest none zero n m is =
+    let same : m ≡ n = omega (arith, is) in
+    ap (λ (k : ℕ). moment (turned_to scene k) a b) same
+misses_play U V word scene a b rest none (suc count) n m is =
+    let next : m ≡ (n + 1) + count = omega (arith, is) in (
+      moment (turned_to scene (n + 1)) a b,
+      record { does = (still_at_rest U V scene a b n rest, none, refl); notes = refl },
+      misses_play U V word scene a b rest none count (n + 1) m next,
+    )
+
+miss_words : (word : Word) (count : ℕ) → all_words (replicate count (Misses word)) ≡ replicate count word
+miss_words word zero = refl
+miss_words word (suc count) = ap (λ ws. word ∷ ws) (miss_words word count)
+
+miss_entries : (word : Word) (count : ℕ) → all_entries (replicate count (Misses word)) ≡ []
+miss_entries word zero = refl
+miss_entries word (suc count) = miss_entries word count
+
+-- a word that finds nothing finds nothing any more, however often it is turned
+pub misses_advance :
+    {S T G H P Q : Type 0} (U : Upper S G) (V : Upper T H) (RA : P → List G → P → Type 0) (RB : Q → List H → Q → Type 0) (word : Word) (count : ℕ)
+    (scene new : Scene) (a : Asking S G) (b : Asking T H) (shelf : P) (inbox : Q) (trace : Option (List ℕ)) → JoinAnswers RA → JoinAnswers RB
+    → new ≡ turned_to scene (scene.turned + count)
+    → ((rest_a : List G) (rest_b : List H) → IsAtRest U V (world_at (moment scene (answering rest_a a) (answering rest_b b))))
+    → ((rest_a : List G) (rest_b : List H) → can_be_done U V (found word scene.medium.radio) scene.pushes (a.upper rest_a) (b.upper rest_b) ≡ false)
+    → Advances U V RA RB (replicate count word) (stage scene a b shelf inbox trace) (stage new a b shelf inbox trace)
+misses_advance {S} {T} U V RA RB word count scene new a b shelf inbox trace joins_a joins_b is rests none = record {
+  happenings = replicate count (Misses word);
+  words_are = miss_words word count;
+  used_a = [];
+  used_b = [];
+  answered_a = joins_a.none shelf;
+  answered_b = joins_b.none inbox;
+  plays = λ rest_a rest_b.
+      subst (λ (s : Scene). Plays U V (replicate count (Misses word)) (moment scene (answering rest_a a) (answering rest_b b)) (moment s (answering rest_a a) (answering rest_b b))) (sym is)
+      (misses_play U V word scene (answering rest_a a) (answering rest_b b) (rests rest_a rest_b)
+      (nothing_found U V (found word scene.medium.radio) scene.pushes (a.upper rest_a) (b.upper rest_b) (none rest_a rest_b)) count scene.turned (scene.turned + count) refl);
+  written = sym (ap (λ es. gained trace (capture_octets es)) (miss_entries word count) ∙ gained-nil trace);
+}
+
+-- and what stands, stands
+pub misses_stand :
+    {S T G H : Type 0} (U : Upper S G) (V : Upper T H) (scene new : Scene) (a : Asking S G) (b : Asking T H) (n : ℕ) → new ≡ turned_to scene n
+    → ((rest_a : List G) (rest_b : List H) → IsReached U V (moment new (answering rest_a a) (answering rest_b b))) → Stands U V scene a b → Stands U V new a b
+misses_stand U V scene new a b n is reached stands = record {
+  reached = reached;
+  settled = λ rest_a rest_b.
+      subst (λ (s : Scene). IsSettled U V (moment s (answering rest_a a) (answering rest_b b))) (sym is)
+      (still_settled U V scene (answering rest_a a) (answering rest_b b) n (stands.settled rest_a rest_b));
+}

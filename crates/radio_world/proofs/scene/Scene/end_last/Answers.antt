@@ -1,0 +1,23 @@
+use Rattle.std.proofs.Common.{rules, ◌≡◌, true, false}
+use Rattle.radio_world.proofs.Closing.{none_ends, none_written, one_ends, one_written}
+use Rattle.radio_world.proofs.scene.Scene.end_last.Goals as goal
+
+pub returns-then-not-going-clause-scene : goal.returns-then-not-going-clause-scene
+returns-then-not-going-clause-scene g c =
+    let none : c.args.self.now.pushes.going ≡ false = search rules in
+    none_ends c.args.came c.args.self.now none
+
+pub returns-then-not-going-clause-written : goal.returns-then-not-going-clause-written
+returns-then-not-going-clause-written g c =
+    let none : c.args.self.now.pushes.going ≡ false = search rules in
+    none_written c.args.came c.args.self.now.pushes (g.T.Sink.content c.args.trace.now) none
+
+pub returns-clause-scene : goal.returns-clause-scene
+returns-clause-scene g c =
+    let going : c.args.self.now.pushes.going ≡ true = search rules in
+    one_ends c.args.came c.args.self.now c.end.new.self c.unwrap_or-outcome.result going c.unwrap_or-outcome.ensures c.in_ok-end.ensures.scene
+
+pub returns-clause-written : goal.returns-clause-written
+returns-clause-written g c =
+    let going : c.args.self.now.pushes.going ≡ true = search rules in
+    one_written c.args.came c.args.self.now.pushes c.unwrap_or-outcome.result (g.T.Sink.content c.args.trace.now) (g.T.Sink.content c.end.new.trace) going c.unwrap_or-outcome.ensures c.in_ok-end.ensures.written

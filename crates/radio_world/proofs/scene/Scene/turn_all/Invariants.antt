@@ -1,0 +1,15 @@
+use Rattle.std.proofs.Common.{◌≡◌, [], take}
+use Rattle.capture.specs.Air.{words_of}
+use Rattle.radio_world.specs.Scenes.{stage, Advances}
+use Rattle.radio_world.specs.Standing.{Stands}
+use Rattle.radio_world.proofs.scene.Scene.turn_all.Given as goal
+
+abbrev pub invariant-loop-i : goal.invariant-loop-i
+invariant-loop-i g l =
+    let one = g.A.Host in
+    let two = g.B.Host in
+    Advances one.machine two.machine one.answers two.answers (words_of (take l.i l.script)) (stage l.fn.self (one.station l.fn.a) (two.station l.fn.b) l.fn.shelf l.fn.inbox (g.T.Sink.content l.fn.trace))
+    (stage l.self (one.station l.a) (two.station l.b) l.shelf l.inbox (g.T.Sink.content l.trace))
+    × Stands one.machine two.machine l.self (one.station l.a) (two.station l.b)
+    × ((one.held l.a ≡ []) × (two.held l.b ≡ []))
+    × (one.is_sound l.a l.shelf × two.is_sound l.b l.inbox)

@@ -1,0 +1,197 @@
+//! A script, word by word.
+
+ghost use Rattle.std.specs.Prelude.{◌≡◌, ◌≤◌, ◌+◌, ◌^◌, ◌∷◌, [], true, false, ◌<◌, List, replicate, length, OnOk, OnErr};
+ghost use Rattle.bt_base.specs.Streams.{gained};
+ghost use Rattle.push_script.specs.Runs.{IsWord};
+ghost use Rattle.push_terms.specs.declared.word.Side.TheVariants as sides;
+ghost use Rattle.capture.specs.Entries.{capture_octets};
+ghost use Rattle.capture.specs.Air.{words_of};
+ghost use Rattle.radio_world.specs.Hosts.{answering};
+ghost use Rattle.radio_world.specs.Scenes.{stage, moment, Advances};
+ghost use Rattle.radio_air.specs.Radio.{found};
+ghost use Rattle.radio_world.specs.Turning.{can_be_done};
+ghost use Rattle.radio_world.specs.Standing.{IsReached, SettledRests, Stands, last_ended, last_entries, all_outcomes};
+
+use crate::fault::WorldFault;
+use crate::host::{Client, Host};
+use crate::scene::Scene;
+use bt_base::{NoMemory, Sink};
+use push_script::Runs;
+use push_terms::{Outcome, Word};
+
+impl Scene {
+    /// Lets both hosts start and begins the first push: all moves that can, and the world stands then.
+    ///
+    /// It needs what a run of the pure world led to. `TraceFault` where the trace fails, and
+    /// `NoMemory` where none could be had.
+    pub(crate) fn start<P, A: Client<P>, Q, B: Host<Q>, T: Sink>(
+        &mut self,
+        a: &mut A,
+        shelf: &mut P,
+        b: &mut B,
+        inbox: &mut Q,
+        trace: &mut T,
+    ) -> Result<(), WorldFault>
+        requires reached { (rest_a : List A.Host.Answer) (rest_b : List B.Answer) → IsReached A.Host.machine B.machine (moment self.old (answering rest_a (A.Host.station a.old)) (answering rest_b (B.station b.old))) }
+        requires sides { (A.Host.side ≡ sides.A) × (B.side ≡ sides.B) }
+        requires none_held { (A.Host.held a.old ≡ []) × (B.held b.old ≡ []) }
+        requires sound { A.Host.is_sound a.old shelf.old × B.is_sound b.old inbox.old }
+        ensures advances { OnOk result (Advances A.Host.machine B.machine A.Host.answers B.answers [] (stage self.old (A.Host.station a.old) (B.station b.old) shelf.old inbox.old (T.content trace.old)) (stage self.new (A.Host.station a.new) (B.station b.new) shelf.new inbox.new (T.content trace.new))) }
+        ensures stands { OnOk result (Stands A.Host.machine B.machine self.new (A.Host.station a.new) (B.station b.new)) }
+        ensures none_held { OnOk result ((A.Host.held a.new ≡ []) × (B.held b.new ≡ [])) }
+        ensures sound { OnOk result (A.Host.is_sound a.new shelf.new × B.is_sound b.new inbox.new) }
+    {
+        self.settle(a, shelf, b, inbox, trace)?;
+        Ok(())
+    }
+
+    /// Whether as many words were turned as can be counted.
+    fn is_count_full(&self) -> bool
+        ensures full { result ≡ true → self.now.turned + 1 ≡ 2 ^ 64 }
+        ensures room { result ≡ false → self.now.turned + 1 < 2 ^ 64 }
+    {
+        self.turned == u64::MAX
+    }
+
+    /// So many words are turned that find nothing to do. `NoMemory` where more than 2^64 - 1 words
+    /// would have been turned: then all is as it was.
+    fn pass_over(&mut self, count: u32) -> Result<(), NoMemory>
+        ensures ok { OnOk result (self.new ≡ record self.old { turned = self.old.turned + count }) }
+        ensures full { OnErr result (2 ^ 64 ≤ self.old.turned + count) }
+    {
+        let Some(turned) = self.turned.checked_add(u64::from(count)) else {
+            return Err(NoMemory);
+        };
+        self.turned = turned;
+        Ok(())
+    }
+
+    /// Turns a word that finds something to do: it acts, and all moves that can.
+    ///
+    /// It needs what stands, and that the word finds something that can be done. It refuses as
+    /// `turn_times` does.
+    fn turn_found<P, A: Client<P>, Q, B: Host<Q>, T: Sink>(
+        &mut self,
+        word: Word,
+        a: &mut A,
+        shelf: &mut P,
+        b: &mut B,
+        inbox: &mut Q,
+        trace: &mut T,
+    ) -> Result<(), WorldFault>
+        requires rests { SettledRests A.Host.machine B.machine }
+        requires stands { Stands A.Host.machine B.machine self.old (A.Host.station a.old) (B.station b.old) }
+        requires finds { (rest_a : List A.Host.Answer) (rest_b : List B.Answer) → can_be_done A.Host.machine B.machine (found word self.old.medium.radio) self.old.pushes ((A.Host.station a.old).upper rest_a) ((B.station b.old).upper rest_b) ≡ true }
+        requires word { IsWord word }
+        requires sides { (A.Host.side ≡ sides.A) × (B.side ≡ sides.B) }
+        requires none_held { (A.Host.held a.old ≡ []) × (B.held b.old ≡ []) }
+        requires sound { A.Host.is_sound a.old shelf.old × B.is_sound b.old inbox.old }
+        ensures advances { OnOk result (Advances A.Host.machine B.machine A.Host.answers B.answers (word ∷ []) (stage self.old (A.Host.station a.old) (B.station b.old) shelf.old inbox.old (T.content trace.old)) (stage self.new (A.Host.station a.new) (B.station b.new) shelf.new inbox.new (T.content trace.new))) }
+        ensures stands { OnOk result (Stands A.Host.machine B.machine self.new (A.Host.station a.new) (B.station b.new)) }
+        ensures none_held { OnOk result ((A.Host.held a.new ≡ []) × (B.held b.new ≡ [])) }
+        ensures sound { OnOk result (A.Host.is_sound a.new shelf.new × B.is_sound b.new inbox.new) }
+    {
+        if self.is_count_full() {
+            return Err(WorldFault::NoMemory);
+        }
+        self.do_word(word, a, shelf, b, inbox, trace)?;
+        self.settle(a, shelf, b, inbox, trace)?;
+        Ok(())
+    }
+
+    /// Turns the same word so many times. Where it finds something to do it stands in the trace
+    /// first, then it acts, and all moves that can; from where it finds nothing on it is counted
+    /// alone, and at once.
+    ///
+    /// It needs what stands: `settle` leaves it so, and each turn. `TraceFault` where the trace fails,
+    /// `NoMemory` where none could be had, and where more than 2^64 - 1 words would have been turned.
+    pub(crate) fn turn_times<P, A: Client<P>, Q, B: Host<Q>, T: Sink>(
+        &mut self,
+        count: u32,
+        word: Word,
+        a: &mut A,
+        shelf: &mut P,
+        b: &mut B,
+        inbox: &mut Q,
+        trace: &mut T,
+    ) -> Result<(), WorldFault>
+        requires rests { SettledRests A.Host.machine B.machine }
+        requires stands { Stands A.Host.machine B.machine self.old (A.Host.station a.old) (B.station b.old) }
+        requires word { IsWord word }
+        requires sides { (A.Host.side ≡ sides.A) × (B.side ≡ sides.B) }
+        requires none_held { (A.Host.held a.old ≡ []) × (B.held b.old ≡ []) }
+        requires sound { A.Host.is_sound a.old shelf.old × B.is_sound b.old inbox.old }
+        ensures turns { OnOk result (Advances A.Host.machine B.machine A.Host.answers B.answers (replicate count word) (stage self.old (A.Host.station a.old) (B.station b.old) shelf.old inbox.old (T.content trace.old)) (stage self.new (A.Host.station a.new) (B.station b.new) shelf.new inbox.new (T.content trace.new))) }
+        ensures stands { OnOk result (Stands A.Host.machine B.machine self.new (A.Host.station a.new) (B.station b.new)) }
+        ensures none_held { OnOk result ((A.Host.held a.new ≡ []) × (B.held b.new ≡ [])) }
+        ensures sound { OnOk result (A.Host.is_sound a.new shelf.new × B.is_sound b.new inbox.new) }
+    {
+        for done in 0..count {
+            if !self.finds(word, a, b) {
+                self.pass_over(count - done)?;
+                return Ok(());
+            }
+            self.turn_found(word, a, shelf, b, inbox, trace)?;
+        }
+        Ok(())
+    }
+
+    /// Turns all words of a script. It needs, and refuses, as `turn_times`.
+    pub(crate) fn turn_all<P, A: Client<P>, Q, B: Host<Q>, T: Sink>(
+        &mut self,
+        script: &Runs,
+        a: &mut A,
+        shelf: &mut P,
+        b: &mut B,
+        inbox: &mut Q,
+        trace: &mut T,
+    ) -> Result<(), WorldFault>
+        requires rests { SettledRests A.Host.machine B.machine }
+        requires stands { Stands A.Host.machine B.machine self.old (A.Host.station a.old) (B.station b.old) }
+        requires sides { (A.Host.side ≡ sides.A) × (B.side ≡ sides.B) }
+        requires none_held { (A.Host.held a.old ≡ []) × (B.held b.old ≡ []) }
+        requires sound { A.Host.is_sound a.old shelf.old × B.is_sound b.old inbox.old }
+        ensures turns { OnOk result (Advances A.Host.machine B.machine A.Host.answers B.answers (words_of script.now) (stage self.old (A.Host.station a.old) (B.station b.old) shelf.old inbox.old (T.content trace.old)) (stage self.new (A.Host.station a.new) (B.station b.new) shelf.new inbox.new (T.content trace.new))) }
+        ensures stands { OnOk result (Stands A.Host.machine B.machine self.new (A.Host.station a.new) (B.station b.new)) }
+        ensures none_held { OnOk result ((A.Host.held a.new ≡ []) × (B.held b.new ≡ [])) }
+        ensures sound { OnOk result (A.Host.is_sound a.new shelf.new × B.is_sound b.new inbox.new) }
+    {
+        for i in 0..script.len() {
+            let Some((count, word)) = script.at(i) else {
+                unreachable!()
+            };
+            self.turn_times(count, word, a, shelf, b, inbox, trace)?;
+        }
+        Ok(())
+    }
+
+    /// Ends the push that goes on, if one does: with what came of it, or else with the script.
+    fn end_last<T: Sink>(&mut self, came: Option<Outcome>, trace: &mut T) -> Result<(), WorldFault>
+        ensures scene { OnOk result (self.new ≡ record self.old { pushes = last_ended came self.old.pushes }) }
+        ensures written { OnOk result (T.content trace.new ≡ gained (T.content trace.old) (capture_octets (last_entries came self.old.pushes))) }
+    {
+        if !self.pushes.going() {
+            return Ok(());
+        }
+        let outcome = came.unwrap_or(Outcome::ScriptEnded);
+        self.end(outcome, trace)?;
+        Ok(())
+    }
+
+    /// The script has ended: so has the push that goes on, with what came of it already or else with
+    /// the script, and all that did not begin.
+    pub(crate) fn finish<T: Sink>(
+        &mut self,
+        came: Option<Outcome>,
+        trace: &mut T,
+    ) -> Result<(), WorldFault>
+        ensures outcomes { OnOk result (self.new.pushes.outcomes ≡ all_outcomes (last_ended came self.old.pushes)) }
+        ensures each { OnOk result (length self.new.pushes.outcomes ≡ length self.old.pushes.names) }
+        ensures medium { OnOk result (self.new.medium ≡ self.old.medium) }
+        ensures written { OnOk result (T.content trace.new ≡ gained (T.content trace.old) (capture_octets (last_entries came self.old.pushes))) }
+    {
+        self.end_last(came, trace)?;
+        self.pushes.close();
+        Ok(())
+    }
+}
