@@ -3,7 +3,7 @@ use Rattle.std.proofs.Common.{◌≡◌, ◌∙◌, ℕ, zero, suc, Bool, true, 
 use Rattle.std.specs.List.{find, fold}
 use Rattle.std.specs.Prelude.{max, slice_get, Option, Some, None, cond}
 
-found : {X : Type 0} (test : X → Bool) (x : X) (rest : Option X) (b : Bool) → test x ≡ b → b ≡ true → cond (test x) (Some x) rest ≡ Some x
+pub found : {X : Type 0} (test : X → Bool) (x : X) (rest : Option X) (b : Bool) → test x ≡ b → b ≡ true → cond (test x) (Some x) rest ≡ Some x
 found test x rest b is holds = rw (is ∙ holds) refl
 
 pub passed : {X : Type 0} (test : X → Bool) (x : X) (rest : Option X) → test x ≡ false → cond (test x) (Some x) rest ≡ rest

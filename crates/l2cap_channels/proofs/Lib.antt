@@ -10,3 +10,8 @@ pub mod Sizes
 pub mod Framing
 pub mod Giving
 pub mod Firing
+pub mod Agreeing
+pub mod Following
+pub mod Responding
+pub mod Granting
+mod Questions

@@ -13,3 +13,4 @@ pub mod Sending
 pub mod Given
 pub mod Timers
 pub mod Repeating
+pub mod Steps

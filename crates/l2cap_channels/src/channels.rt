@@ -33,7 +33,7 @@ use std::alloc::Global;
 use std::marker::Model;
 
 /// How many channels a link has at most (this project's own).
-const PLACES: usize = 4;
+pub(crate) const PLACES: usize = 4;
 
 /// The own endpoint of the first channel of a link (Core 5.1, Volume 3 Part A, 2.1).
 const FIRST_ENDPOINT: u32 = 0x0040;
@@ -211,9 +211,16 @@ impl Channels {
         self.places.len() < PLACES && self.next <= 0xFFFF
     }
 
+    /// The own endpoint that is given next, where there is one.
+    pub(crate) fn next_endpoint(&self) -> u32
+        ensures { result ≡ self.now.channels.next }
+    {
+        self.next
+    }
+
     /// A channel is there, where one may be added: the answer is its own endpoint, which is never given
     /// again on the link.
-    fn add(&mut self, psm: Psm, stage: Stage) -> Option<Cid>
+    pub(crate) fn add(&mut self, psm: Psm, stage: Stage) -> Option<Cid>
         ensures answer { result ≡ calls.connect_answer self.old.channels }
         ensures after { self.new ≡ with_channels self.old (added (calls.can_connect self.old.channels) psm (stage_value stage no_setup) self.old.channels) }
     {
@@ -474,7 +481,7 @@ impl Channels {
     }
 
     /// How many channels count.
-    fn count(&self) -> usize
+    pub(crate) fn count(&self) -> usize
         ensures count { result ≡ length self.now.channels.held }
         ensures few { result ≤ 4 }
     {

@@ -42,7 +42,7 @@ fn information_answer(kind: u16) -> Response
 }
 
 /// That there is no such channel, with both endpoints as the request named them.
-fn no_such_channel(own: u16, peer: u16) -> Response
+pub(crate) fn no_such_channel(own: u16, peer: u16) -> Response
     ensures { response_value result ≡ table.no_such_channel own peer }
 {
     let [own_low, own_high] = own.to_le_bytes();
@@ -64,7 +64,7 @@ impl Channels {
 
     /// Gives the response of the last request of a kind again, where this one has its identifier and there
     /// is room; and whether it has.
-    fn repeats(&mut self, kind: RequestKind, identifier: Identifier) -> bool
+    pub(crate) fn repeats(&mut self, kind: RequestKind, identifier: Identifier) -> bool
         ensures repeated { result ≡ is_repeated (table.remembered kind self.old.channels.memory) identifier }
         ensures after { self.new ≡ with_channels self.old (again (table.remembered kind self.old.channels.memory) identifier self.old.channels) }
     {
@@ -85,7 +85,7 @@ impl Channels {
 
     /// A request is the last of its kind, and its response waits, where there is room for it; and whether
     /// there is.
-    fn admits(
+    pub(crate) fn admits(
         &mut self,
         kind: RequestKind,
         identifier: Identifier,
@@ -111,7 +111,7 @@ impl Channels {
     }
 
     /// An echo is asked for, with at most 668 octets.
-    fn hear_echo(&mut self, identifier: Identifier, octets: &[u8])
+    pub(crate) fn hear_echo(&mut self, identifier: Identifier, octets: &[u8])
         requires { length octets.now ≤ 668 }
         ensures { self.new ≡ with_channels self.old (following.hears_question (policy_of self.old) kinds.Echo identifier (echo_request octets.now) self.old.channels) }
     {
@@ -123,7 +123,7 @@ impl Channels {
     }
 
     /// Information is asked for.
-    fn hear_question(&mut self, identifier: Identifier, kind: u16)
+    pub(crate) fn hear_question(&mut self, identifier: Identifier, kind: u16)
         ensures { self.new ≡ with_channels self.old (following.hears_question (policy_of self.old) kinds.Information identifier (information_request kind) self.old.channels) }
     {
         if self.repeats(RequestKind::Information, identifier) {
@@ -135,7 +135,7 @@ impl Channels {
 
     /// An information response or a reject comes: it answers the question for the features that has its
     /// identifier.
-    fn hear_features(&mut self, identifier: Identifier, features: Option<u32>)
+    pub(crate) fn hear_features(&mut self, identifier: Identifier, features: Option<u32>)
         requires { length self.old.channels.events < 168 }
         ensures after { self.new ≡ with_channels self.old (responses.hears_features identifier features self.old.channels) }
         ensures few { length self.new.channels.events ≤ length self.old.channels.events + 1 }
@@ -152,7 +152,7 @@ impl Channels {
     }
 
     /// The response to the host's request for the end of a channel comes.
-    fn hear_end(&mut self, own: u16, peer: u16)
+    pub(crate) fn hear_end(&mut self, own: u16, peer: u16)
         requires { length self.old.channels.events < 168 }
         ensures after { self.new ≡ with_channels self.old (responses.hears_end (held_at own self.old.channels) peer self.old.channels) }
         ensures few { length self.new.channels.events ≤ length self.old.channels.events + 1 }
@@ -251,7 +251,7 @@ impl Channels {
     }
 
     /// The end of the channel of an own endpoint is asked for.
-    fn hear_disconnection(&mut self, identifier: Identifier, own: u16, peer: u16)
+    pub(crate) fn hear_disconnection(&mut self, identifier: Identifier, own: u16, peer: u16)
         requires { length self.old.channels.events < 168 }
         ensures after { self.new ≡ with_channels self.old (following.hears_question (policy_of self.old) kinds.Disconnection identifier (disconnection_request own peer) self.old.channels) }
         ensures few { length self.new.channels.events ≤ length self.old.channels.events + 1 }
@@ -266,7 +266,7 @@ impl Channels {
     }
 
     /// Whether a PSM is offered to the peer.
-    fn offers(&self, psm: u16) -> bool
+    pub(crate) fn offers(&self, psm: u16) -> bool
         ensures { result ≡ (policy_of self.now).offers psm }
     {
         self.server
@@ -279,7 +279,7 @@ impl Channels {
     }
 
     /// A malformed request of a kind is answered, since it was not understood.
-    fn hear_malformed(&mut self, kind: RequestKind, identifier: Identifier)
+    pub(crate) fn hear_malformed(&mut self, kind: RequestKind, identifier: Identifier)
         ensures { self.new ≡ with_channels self.old (hearing.hears_malformed (Some kind) identifier self.old.channels) }
     {
         if self.repeats(kind, identifier) {
@@ -290,7 +290,7 @@ impl Channels {
     }
 
     /// A command with an unknown code is answered, since it was not understood.
-    fn hear_unknown(&mut self, identifier: Identifier)
+    pub(crate) fn hear_unknown(&mut self, identifier: Identifier)
         ensures { self.new ≡ with_channels self.old (following.hears_again identifier (Some table.not_understood) self.old.channels) }
     {
         if self.queue.has_room() {
@@ -302,7 +302,7 @@ impl Channels {
     }
 
     /// A payload that is too long is answered with the longest that is read.
-    fn hear_too_long(&mut self, identifier: Identifier)
+    pub(crate) fn hear_too_long(&mut self, identifier: Identifier)
         ensures { self.new ≡ with_channels self.old (following.hears_again identifier (Some table.too_long) self.old.channels) }
     {
         if self.queue.has_room() {

@@ -5,17 +5,22 @@
 
 mod answers;
 mod channels;
+mod configuration;
+mod connection;
 mod hearing;
 mod identifier;
 mod line;
 mod memory;
 mod place;
+mod progress;
 mod queue;
 mod request;
 mod response;
 mod setup;
 mod stage;
 mod timing;
+mod verdict;
+mod wish;
 mod writing;
 
 pub use answers::SendAnswer;

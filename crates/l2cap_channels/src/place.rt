@@ -1,10 +1,10 @@
 //! A channel.
 
-ghost use Rattle.std.specs.Prelude.{◌≡◌, ◌≤◌, ◌+◌, ◌++◌, drop, length, IfSome, None, Some, true, option_map};
+ghost use Rattle.std.specs.Prelude.{◌≡◌, ◌≤◌, ◌+◌, ◌++◌, drop, length, IfSome, None, Some, true, is_some, option_map};
 ghost use Rattle.std.specs.Option.{option_to_list};
 ghost use Rattle.channel_model.specs.declared.event.ChannelEvent.TheVariants.{Closed};
 ghost use Rattle.channel_model.specs.Value as value;
-ghost use Rattle.channel_model.specs.Changing.{is_peer, setup_of, stage_with, is_open};
+ghost use Rattle.channel_model.specs.Changing.{is_peer, is_live_peer, setup_of, stage_with, is_open};
 ghost use Rattle.l2cap_signal.specs.Commands.{configuration_request, spelling};
 ghost use Rattle.l2cap_config.specs.Writing.{written};
 ghost use Rattle.channel_model.specs.Calls as calls;
@@ -28,9 +28,9 @@ use std::marker::Model;
 pub(crate) struct Place {
     psm: Psm,
     own: Cid,
-    stage: Stage,
-    setup: Setup,
-    line: Line,
+    pub(crate) stage: Stage,
+    pub(crate) setup: Setup,
+    pub(crate) line: Line,
 }
 
 impl Model for Place {
@@ -126,6 +126,13 @@ impl Place {
             Some(line) => line.waits(),
             None => false,
         }
+    }
+
+    /// Whether it is there and was not closed, so that it has options.
+    pub(crate) fn is_there(&self) -> bool
+        ensures { result ≡ is_some (setup_of self.now.stage) }
+    {
+        matches!(self.stage, Stage::Connected(_) | Stage::Leaving(_, _))
     }
 
     /// The carrier, where the peer's request for options was accepted.
@@ -383,6 +390,18 @@ impl Place {
             Stage::Closing(peer, _) => endpoint == peer.get(),
             Stage::Crossed(peer, _) => endpoint == peer.get(),
             Stage::Requested(_) => false,
+        }
+    }
+
+    /// Whether this is the peer's endpoint of it, and the peer did not ask for its end.
+    pub(crate) fn is_live_peer(&self, endpoint: u16) -> bool
+        ensures { result ≡ is_live_peer endpoint self.now.stage }
+    {
+        match self.stage {
+            Stage::Connected(peer) => endpoint == peer.get(),
+            Stage::Leaving(peer, _) => endpoint == peer.get(),
+            Stage::Closing(peer, _) => endpoint == peer.get(),
+            Stage::Requested(_) | Stage::Crossed(_, _) => false,
         }
     }
 }

@@ -28,8 +28,16 @@ pub(crate) struct Setup {
 
 impl Own {
     ghost use Rattle.std.specs.Prelude.{◌≡◌};
+    ghost use Rattle.channel_model.specs.Changing.{is_granted};
     ghost use Rattle.channel_model.specs.Giving.{own_given};
     ghost use Rattle.l2cap_channels.specs.Places.{own_value};
+
+    /// Whether it was accepted.
+    pub(crate) fn is_granted(&self) -> bool
+        ensures { result ≡ is_granted (own_value self.now) }
+    {
+        matches!(self, Own::Granted)
+    }
 
     /// It was given once more.
     pub(crate) fn count(&mut self)

@@ -162,7 +162,7 @@ impl Channels {
     }
 
     /// The own request for options that waits, of the channel at a place.
-    fn asked(&self, at: usize) -> Option<Request>
+    pub(crate) fn asked(&self, at: usize) -> Option<Request>
         requires { at < length self.now.channels.held }
         ensures { option_map request_value result ≡ asked_on (place_setup (slice_get self.now.channels.held at)) }
     {
@@ -170,7 +170,7 @@ impl Channels {
     }
 
     /// The own endpoint and the multiplexer of the channel at a place.
-    fn names(&self, at: usize) -> (Cid, Psm)
+    pub(crate) fn names(&self, at: usize) -> (Cid, Psm)
         requires { at < length self.now.channels.held }
         ensures own { option_map (λ held. held.own) (slice_get self.now.channels.held at) ≡ Some result.0 }
         ensures psm { option_map (λ held. held.psm) (slice_get self.now.channels.held at) ≡ Some result.1 }

@@ -1,0 +1,144 @@
+//! What is done to the options of a channel.
+
+ghost use Rattle.std.specs.Prelude.{◌≡◌, ◌≤◌, ◌<◌};
+ghost use Rattle.channel_model.specs.Changing.{setup_of};
+ghost use Rattle.channel_model.specs.Configuring.{granted_setup, refused_setup};
+ghost use Rattle.l2cap_channels.specs.Lines.{IsFor};
+ghost use Rattle.l2cap_channels.specs.Parts.{request_value};
+ghost use Rattle.l2cap_channels.specs.Steps.{asking_stage, with_change, noted, accepted, asked_anew, refused_on, renewed_on, carries_on, acceptance_on, verdict_value, IsJudgedBy};
+ghost use Rattle.channel_model.specs.Configuring.{judged_stage};
+
+use crate::place::Place;
+use crate::request::Request;
+use crate::setup::{Own, Setup};
+use crate::stage::Stage;
+use crate::verdict::{Verdict, judged};
+use bt_base::Cid;
+use l2cap_config::{Agreed, Options, Wish};
+
+/// What the host does once it accepted the peer's options.
+#[derive(Clone, Copy)]
+pub(crate) enum Acceptance {
+    /// It asks for its own for the first time.
+    Asks,
+    /// Its own request waits for its response.
+    Waits,
+    /// Its own were accepted already, so the channel is open.
+    Opens,
+}
+
+impl Place {
+    /// The peer granted it, with this endpoint, and its options are asked for.
+    pub(crate) fn connect(&mut self, peer: Cid, request: Request, options: Options)
+        ensures { self.new ≡ record self.old { stage = asking_stage peer (request_value request) options } }
+    {
+        self.stage = Stage::Connected(peer);
+        self.setup = Setup::new();
+        self.setup.own = Own::Asking(request, options);
+        self.line.clear();
+    }
+
+    /// These are the options of the parts so far of a request of the peer.
+    pub(crate) fn note(&mut self, options: Options)
+        ensures { self.new ≡ record self.old { stage = with_change (noted options) self.old.stage } }
+    {
+        self.setup.parts = options;
+    }
+
+    /// How many requests of the peer were answered as unacceptable.
+    pub(crate) fn refused(&self) -> u8
+        ensures { result ≡ refused_on (setup_of self.now.stage) }
+    {
+        if self.is_there() {
+            self.setup.refused
+        } else {
+            0
+        }
+    }
+
+    /// A request of the peer is answered as unacceptable.
+    pub(crate) fn refuse(&mut self)
+        requires { refused_on (setup_of self.old.stage) < 2 }
+        ensures { self.new ≡ record self.old { stage = with_change refused_setup self.old.stage } }
+    {
+        if self.is_there() {
+            self.setup.parts = Options::none();
+            self.setup.refused += 1;
+        }
+    }
+
+    /// How many own requests were answered as unacceptable by the peer.
+    pub(crate) fn renewed(&self) -> u8
+        ensures { result ≡ renewed_on (setup_of self.now.stage) }
+    {
+        if self.is_there() {
+            self.setup.renewed
+        } else {
+            0
+        }
+    }
+
+    /// These options are asked for, in place of those that the peer answered as unacceptable.
+    pub(crate) fn renew(&mut self, request: Request, options: Options)
+        requires { renewed_on (setup_of self.old.stage) < 2 }
+        ensures { self.new ≡ record self.old { stage = with_change (asked_anew (request_value request) options) self.old.stage } }
+    {
+        if self.is_there() {
+            self.setup.own = Own::Asking(request, options);
+            self.setup.renewed += 1;
+        }
+    }
+
+    /// A request of the peer is accepted, and these options are asked for, where none were before; the
+    /// answer is what follows.
+    pub(crate) fn accept(
+        &mut self,
+        agreed: &Agreed,
+        request: Request,
+        options: Options,
+    ) -> Acceptance
+        requires mode { IsFor agreed.now.mode agreed.now }
+        requires mtu { agreed.now.receive_mtu ≤ 32767 }
+        ensures follows { result ≡ acceptance_on (setup_of self.old.stage) }
+        ensures after { self.new ≡ record self.old { stage = with_change (accepted agreed.now (request_value request) options) self.old.stage } }
+    {
+        if !self.is_there() {
+            return Acceptance::Waits;
+        }
+        self.setup.parts = Options::none();
+        self.line.agree(agreed);
+        match self.setup.own {
+            Own::Unasked => {
+                self.setup.own = Own::Asking(request, options);
+                Acceptance::Asks
+            }
+            Own::Asking(_, _) => Acceptance::Waits,
+            Own::Granted => Acceptance::Opens,
+        }
+    }
+
+    /// The own request for options is accepted; whether the channel is open now.
+    pub(crate) fn grant(&mut self) -> bool
+        ensures opens { result ≡ carries_on (setup_of self.old.stage) }
+        ensures after { self.new ≡ record self.old { stage = with_change granted_setup self.old.stage } }
+    {
+        self.setup.own = Own::Granted;
+        self.is_there() && self.line.carries()
+    }
+
+    /// How a request for its options is judged.
+    pub(crate) fn judge(&self, wish: &Wish, flags: u16, octets: &[u8]) -> Verdict
+        ensures verdict { verdict_value result ≡ judged_stage self.now.stage wish.now flags octets.now }
+        ensures judged { IsJudgedBy wish.now (verdict_value result) }
+    {
+        let stage = self.stage;
+        let peer = match stage {
+            Stage::Requested(_) => return Verdict::NoChannel,
+            Stage::Closing(peer, _) => return Verdict::TooLate(peer.get()),
+            Stage::Crossed(peer, _) => return Verdict::TooLate(peer.get()),
+            Stage::Connected(peer) => peer.get(),
+            Stage::Leaving(peer, _) => peer.get(),
+        };
+        judged(peer, flags, wish, &self.setup, &self.line, octets)
+    }
+}
