@@ -9,3 +9,4 @@ pub mod Owing
 pub mod Pending
 pub mod Running
 pub mod Stopping
+pub mod Happening

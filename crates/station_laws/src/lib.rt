@@ -3,7 +3,7 @@
 #![tactic(auto)]
 
 ghost use Rattle.station_laws.specs.Laws.{AnswersAreHeard, BeginsAsFirst, CommandsAreOrders, CommandsGo, CommandsStop, LinksAreAsked, LinksAreEnded, MachinesChange, OctetsDepart, PdusGo, PiecesAreHeard, PiecesAreOrders, PiecesGo, PiecesStop, StartsAsFirst};
-ghost use Rattle.station_laws.specs.WorldLaws.{WorldsAnswer};
+ghost use Rattle.station_laws.specs.WorldLaws.{EffortsHappen, OrdersHappen, WorldsAnswer};
 ghost use Rattle.world_model.specs.Machines.{Upper};
 
 /// The packets of a host's commands and of the pieces of its PDUs are those of the orders of its station.
@@ -71,4 +71,10 @@ pub fn links_are_asked_and_ended<S, G>()
 /// What comes into the hosts of the pure world, whatever happens in it, is what `answers_are_heard` and `pieces_are_heard` ask for.
 pub fn worlds_answer<S, T, G, H>()
     ensures { (U : Upper S G) (V : Upper T H) → WorldsAnswer U V }
+{}
+
+/// The efforts of a host happen in its world, and so do the orders that move from it, one after the other.
+pub fn hosts_happen<S, T, G, H>()
+    ensures efforts { (U : Upper S G) (V : Upper T H) → EffortsHappen U V }
+    ensures orders { (U : Upper S G) (V : Upper T H) → OrdersHappen U V }
 {}
