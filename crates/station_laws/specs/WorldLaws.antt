@@ -53,6 +53,6 @@ abbrev pub OrdersHappen : {S T G H : Type 0} → Upper S G → Upper T H → Typ
 OrdersHappen {S} {T} U V =
     (moved rest : List Order) (old : World S T)
     → (old.a.out ≡ moved ++ rest
-      → Runs U V (map (λ order. Departure A order) moved) old (record old { radio = after_orders A moved old.radio; a = record old.a { out = rest } }))
+    → Runs U V (map (λ order. Departure A order) moved) old (record old { radio = after_orders A moved old.radio; a = record old.a { out = rest } }))
     × (old.b.out ≡ moved ++ rest
-      → Runs U V (map (λ order. Departure B order) moved) old (record old { radio = after_orders B moved old.radio; b = record old.b { out = rest } }))
+    → Runs U V (map (λ order. Departure B order) moved) old (record old { radio = after_orders B moved old.radio; b = record old.b { out = rest } }))
