@@ -7,6 +7,8 @@ pub mod laws;
 mod reader;
 mod record;
 mod refusal;
+#[cfg(test)]
+mod tests;
 mod writing;
 
 pub use reader::{Reader, SnoopTaken};
