@@ -19,6 +19,7 @@ ghost use Rattle.l2cap_channels.specs.Machine.{new_machine, policy_of, with_chan
 use crate::answers::SendAnswer;
 use crate::identifier::Identifier;
 use crate::line::Line;
+use crate::lines::{four_lines, release};
 use crate::memory::Memory;
 use crate::place::Place;
 use crate::queue::{Queue, Queued};
@@ -70,32 +71,6 @@ impl Model for Channels {
     ghost view = { machine_of };
 
     ghost invariant = { IsSound };
-}
-
-/// The memory of four channels.
-fn four_lines(alloc: Global) -> Result<Vec<Line>, NoMemory>
-    ensures four { IfOk result (λ lines. length lines.items ≡ 4) }
-    ensures room { IfOk result (λ lines. 4 ≤ vec_capacity lines) }
-{
-    let mut lines = Vec::with_capacity(alloc, PLACES)?;
-    for _ in 0..PLACES {
-        lines.push(Line::new(alloc)?)?;
-    }
-    Ok(lines)
-}
-
-/// Takes the memory of channels back.
-fn release(places: &mut Vec<Place>, free: &mut Vec<Line>)
-    requires four { length places.old.items + length free.old.items ≡ 4 }
-    requires room { 4 ≤ vec_capacity free.old }
-    ensures none { places.new.items ≡ [] }
-    ensures all { length free.new.items ≡ 4 }
-    ensures room { 4 ≤ vec_capacity free.new }
-    ensures places_room { vec_capacity places.old ≤ vec_capacity places.new }
-{
-    while let Some(place) = places.pop() {
-        let _room_was_reserved = free.push(place.into_line());
-    }
 }
 
 impl Channels {

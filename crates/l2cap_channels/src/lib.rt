@@ -10,6 +10,7 @@ mod connection;
 mod hearing;
 mod identifier;
 mod line;
+mod lines;
 mod memory;
 mod place;
 mod progress;

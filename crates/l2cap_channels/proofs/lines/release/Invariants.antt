@@ -1,5 +1,5 @@
 use Rattle.std.proofs.Common.{◌≡◌, ◌+◌, ◌≤◌, length, vec_capacity, vec_len}
-use Rattle.l2cap_channels.proofs.channels.release.Given as goal
+use Rattle.l2cap_channels.proofs.lines.release.Given as goal
 
 abbrev pub invariant-loop-place : goal.invariant-loop-place
 invariant-loop-place l = (length l.places.items + length l.free.items ≡ 4) × (4 ≤ vec_capacity l.free) × (vec_capacity l.fn.places ≤ vec_capacity l.places)
