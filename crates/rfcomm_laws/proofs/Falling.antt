@@ -51,7 +51,7 @@ far_falls (Give octets) queue e = omega arith
 far_falls Deliver [] e = omega arith
 far_falls Deliver (frame ∷ queue) e = let less = answer_load (Ok frame) e.mux in omega (arith, less)
 
-falls : (p : Pair) (h : Happening) → 0 < p.initiator.mux.dlci → 0 < p.responder.mux.dlci → came h p + number (happens h p) ≤ number p + raised h
+pub falls : (p : Pair) (h : Happening) → 0 < p.initiator.mux.dlci → 0 < p.responder.mux.dlci → came h p + number (happens h p) ≤ number p + raised h
 falls p (Moves (ByInitiator move)) some also =
     let mine = near_falls move p.initiator some in
     let other = far_falls move p.initiator.queue p.responder in
@@ -100,10 +100,10 @@ far_user Deliver (frame ∷ queue) e some = hearing_user frame e.mux some
 leaves_user : (m : Mux) → OnUser m → OnUser (leaves m)
 leaves_user m some = user_if (is_none m.closed && not (is_leaving m.asks)) (record m { asks = Due LeaveUser }) m some some
 
-abbrev BothUsers : Pair → Type 0
+abbrev pub BothUsers : Pair → Type 0
 BothUsers p = OnUser p.initiator.mux × OnUser p.responder.mux
 
-users_stay : (h : Happening) (p : Pair) → BothUsers p → BothUsers (happens h p)
+pub users_stay : (h : Happening) (p : Pair) → BothUsers p → BothUsers (happens h p)
 users_stay (Moves (ByInitiator move)) p users = (near_user move p.initiator users.0, far_user move p.initiator.queue p.responder users.1)
 users_stay (Moves (ByResponder move)) p users = (far_user move p.responder.queue p.initiator users.0, near_user move p.responder users.1)
 users_stay (Closes Initiator) p users = (leaves_user p.initiator.mux users.0, users.1)

@@ -15,3 +15,4 @@ pub mod Ways
 pub mod Crossings
 pub mod Summing
 pub mod Turning
+pub mod Coming

@@ -7,7 +7,7 @@ ghost use Rattle.rfcomm_laws.specs.Covers.{CreditsCover};
 ghost use Rattle.rfcomm_laws.specs.Happenings.{FramesAreFew};
 ghost use Rattle.rfcomm_laws.specs.Links.{SdusAreFrames, LinksArePipes, StillLinksAreDone, LinksCloseInOrder};
 ghost use Rattle.rfcomm_laws.specs.Pairs.{PairsArePipes};
-ghost use Rattle.rfcomm_laws.specs.Rests.{StillIsDone};
+ghost use Rattle.rfcomm_laws.specs.Rests.{OctetsCome, StillIsDone};
 ghost use Rattle.rfcomm_laws.specs.Totals.{NoneIsOverdrawn};
 
 /// The two sides are a pipe of octets each way, and neither closes, whatever frames are under way.
@@ -31,6 +31,12 @@ pub fn frames_are_few()
 /// taken have come, if both sides grant credits and nobody closes.
 pub fn still_is_done()
     ensures { StillIsDone }
+{}
+
+/// In whatever order frames are said and come: they are finitely many for all octets that are given, and while nobody
+/// closes they go on until the channel is open and each octet that was taken has come.
+pub fn octets_come()
+    ensures { OctetsCome }
 {}
 
 /// Octets given to an assembler in any pieces give the packets into which the whole stream falls by its lengths.
