@@ -12,3 +12,4 @@ pub mod Ending
 pub mod Ended
 pub mod Walking
 pub mod Taking
+pub mod Captured

@@ -7,3 +7,4 @@ pub mod Loads
 pub mod Closed
 pub mod ClosedSides
 pub mod Taken
+pub mod Captured

@@ -1,5 +1,6 @@
 //! Laws of the multiplexer, for every list of what may be done.
 
+ghost use Rattle.rfcomm_model.specs.Captured.{CapturesRead, UnfloodedCapturesRead};
 ghost use Rattle.rfcomm_model.specs.Closed.{EndingsLookBack};
 ghost use Rattle.rfcomm_model.specs.ClosedSides.{ClosedSidesRead, UnfloodedClosedSidesRead};
 ghost use Rattle.rfcomm_model.specs.Loads.{LoadFalls};
@@ -18,6 +19,13 @@ pub fn sides_read()
 pub fn closed_sides_read()
     ensures room { ClosedSidesRead }
     ensures unflooded { UnfloodedClosedSidesRead }
+{}
+
+/// The SDUs that passed on its L2CAP channel, whatever spelling its own frames had, carry the octets that it handed up and
+/// grant the credits that it holds, through a closing in order.
+pub fn captures_read()
+    ensures room { CapturesRead }
+    ensures unflooded { UnfloodedCapturesRead }
 {}
 
 /// A multiplexer that was closed stays so, and hands nothing up.
