@@ -1,5 +1,5 @@
 -- Frames are said and come until all octets have come, and they are few.
-use Rattle.std.proofs.Common.{arith, ◌≡◌, ◌⊎◌, ◌≤◌, ℕ, ◌+◌, ◌*◌, Bool, true, false, cond, inl, inr, length, List, [], ◌∷◌, ◌++◌, Option, Some, None, refl, ap, length-append}
+use Rattle.std.proofs.Common.{arith, ◌≡◌, ◌⊎◌, ◌≤◌, ℕ, ◌+◌, ◌*◌, Bool, true, false, cond, inl, inr, length, List, [], ◌∷◌, Option, Some, None, refl, ap, length-append}
 use Rattle.rfcomm_frames.specs.declared.connection.Role.TheVariants.{Initiator, Responder}
 use Rattle.rfcomm_frames.specs.Frames.{PlainFrame}
 use Rattle.rfcomm_model.specs.Machine.{may_pass}
@@ -7,7 +7,7 @@ use Rattle.rfcomm_model.specs.Saying.{Said, next}
 use Rattle.rfcomm_model.specs.Loads.{weights}
 use Rattle.rfcomm_model.proofs.Unloading.{load-falls}
 use Rattle.rfcomm_laws.specs.Pairs.{End, Move, Speak, Give, Deliver, spoken, taking, near, far, Pair, Turn, ByInitiator, ByResponder, all_turns, Terms, new_pair}
-use Rattle.rfcomm_laws.specs.Happenings.{Happening, Moves, Closes, happens, all_happen, number, comes, came, raised, all_raised}
+use Rattle.rfcomm_laws.specs.Happenings.{Happening, Moves, Closes, happens, all_happen, number, comes, came, all_raised}
 use Rattle.rfcomm_laws.specs.Rests.{IsStill, IsDone, is_said, acted, acts, all_acts, CanAct, OctetsCome}
 use Rattle.rfcomm_laws.proofs.Falling.{falls, BothUsers, users_stay}
 use Rattle.rfcomm_laws.proofs.Resting.{still-is_done}

@@ -1,6 +1,5 @@
 -- Where nothing is on the way and nobody has anything to send, all is done.
 use Rattle.std.specs.Prelude.{ℕ, ◌+◌, ◌*◌, ◌≤◌, ◌≡◌, ◌⊎◌, true, List, [], ◌∷◌, Option, Some, None}
-use Rattle.rfcomm_frames.specs.declared.connection.Role.{Role}
 use Rattle.rfcomm_model.specs.Machine.{is_ready}
 use Rattle.rfcomm_model.specs.Saying.{Said, next}
 use Rattle.rfcomm_laws.specs.Pairs.{End, Move, Speak, Give, Deliver, Pair, Turn, ByInitiator, ByResponder, all_turns, Terms, new_pair}

@@ -5,7 +5,7 @@ use Rattle.rfcomm_frames.specs.declared.frame.MuxKind.TheVariants.{Sabm, Ua, Dm,
 use Rattle.rfcomm_frames.specs.declared.connection.Role.{Role}
 use Rattle.rfcomm_frames.specs.declared.connection.Role.TheVariants.{Initiator, Responder}
 use Rattle.rfcomm_frames.specs.declared.connection.Dlc.{Dlc}
-use Rattle.rfcomm_frames.specs.declared.connection.Dlc.TheVariants.{Idle, Asked, Open, Ended}
+use Rattle.rfcomm_frames.specs.declared.connection.Dlc.TheVariants.{Idle, Ended}
 use Rattle.rfcomm_frames.specs.Frames.{PlainFrame}
 use Rattle.rfcomm_frames.specs.Answers.{Answer}
 use Rattle.rfcomm_frames.specs.Controls.{PlainControl, pn, msc, test, rpn, rls, nsc, other, written}
