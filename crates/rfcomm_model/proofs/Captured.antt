@@ -1,5 +1,5 @@
 -- The SDUs that passed show what a side holds.
-use Rattle.std.proofs.Common.{arith, ◌≡◌, ℕ, ◌+◌, List, [], ◌∷◌, ◌++◌, Option, Some, None, Ok, Err, refl, sym, ap, ◌∙◌, append_assoc, append-nil}
+use Rattle.std.proofs.Common.{arith, ◌≡◌, ℕ, ◌<◌, ◌+◌, List, [], ◌∷◌, ◌++◌, Option, Some, None, Ok, Err, refl, sym, ap, ◌∙◌, append_assoc, append-nil}
 use Rattle.std.specs.Prelude.{pos, ◌-ℤ◌}
 use Rattle.std.specs.List.{cons_option}
 use Rattle.std.proofs.Math.IntN.{pos-+ℤ-pos, +ℤ-neg_ℤ_cancel}
@@ -12,10 +12,14 @@ use Rattle.rfcomm_frames.specs.Multiplexing.{Passed, Framed, framed, frames, no_
 use Rattle.rfcomm_frames.specs.Ending.{no_course, to_closing}
 use Rattle.rfcomm_frames.proofs.FrameReading.{spelled_answered}
 use Rattle.rfcomm_model.specs.Saying.{Said, next}
-use Rattle.rfcomm_model.specs.Sides.{Deed, Hears, Says, Sends, Leaves, Side, heard_frame, said_by, done, all_done, new_side}
+use Rattle.rfcomm_model.specs.Sides.{Deed, Hears, Says, Sends, Leaves, Side, heard_frame, said_by, done, all_done, new_side, AlwaysRoom}
 use Rattle.rfcomm_model.specs.ClosedSides.{ReadsToClosing}
 use Rattle.rfcomm_model.specs.Captured.{sdu_from, Goes, Passes, AllPass, CaptureReads, CapturesRead, UnfloodedCapturesRead}
-use Rattle.rfcomm_model.proofs.Ended.{closed-sides_read, unflooded-closed_sides_read}
+use Rattle.rfcomm_model.specs.Taken.{all_taken, SendsTaken}
+use Rattle.rfcomm_model.proofs.Taking.{taken-is_sent}
+use Rattle.rfcomm_model.proofs.Flooding.{all_find}
+use Rattle.rfcomm_model.proofs.Owning.{Owns, all_own}
+use Rattle.rfcomm_model.proofs.Ended.{closed-sides_read}
 
 -- ---- the frames of the SDUs are those that were heard and said
 
@@ -53,8 +57,9 @@ all_talk (deed ∷ deeds) side passed (new, rest, parts, one, others) =
 left_over : (s h : ℕ) → pos (s + h) -ℤ pos s ≡ pos h
 left_over s h = ap (λ n. pos n -ℤ pos s) (omega arith) ∙ (ap (λ m. m -ℤ pos s) (sym (pos-+ℤ-pos h s)) ∙ +ℤ-neg_ℤ_cancel (pos h) (pos s))
 
-talk_reads : (d : ℕ) (role : Role) (side : Side) (passed : List Passed) → side.talk ≡ frames passed → ReadsToClosing d role side → CaptureReads d role side passed
-talk_reads d role side passed is reads =
+talk_reads : (d : ℕ) (role : Role) (side : Side) (taken : List ℕ) (passed : List Passed) → side.talk ≡ frames passed → ReadsToClosing d role side → SendsTaken d role side taken → Owns d role side.talk
+    → CaptureReads d role side taken passed
+talk_reads d role side taken passed is reads sends owns =
     let live : List Framed = to_closing d role no_course side.talk in
     let same : to_closing d role no_course (frames passed) ≡ live = ap (to_closing d role no_course) (sym is) in
     record {
@@ -62,14 +67,22 @@ talk_reads d role side passed is reads =
       credits =
           ap (λ (fs : List Framed). pos (granted d role no_connections fs) -ℤ pos (spent d role fs)) same
           ∙ (ap (λ n. pos n -ℤ pos (spent d role live)) reads.credits ∙ left_over (spent d role live) side.mux.account.held);
+      rest = sends.rest;
+      own = sends.front ∙ ap (λ (xs : List ℕ). xs ++ sends.rest) (sym owns ∙ sym (ap (carried d role no_connections) same));
     }
+
+run_reads : (role : Role) (dlci largest own cap : ℕ) (deeds : List Deed) (passed : List Passed) → 0 < dlci →
+    let new = new_side role dlci largest own cap in
+    let side = all_done deeds new in
+    AllPass deeds new passed → AlwaysRoom deeds new → ReadsToClosing dlci role side → CaptureReads dlci role side (all_taken deeds new) passed
+run_reads role dlci largest own cap deeds passed some pass room reads =
+    let new = new_side role dlci largest own cap in
+    talk_reads dlci role (all_done deeds new) (all_taken deeds new) passed (all_talk deeds new passed pass) reads (taken-is_sent role dlci largest own cap deeds some) (all_own role dlci largest own cap deeds some room)
 
 pub captures-read : CapturesRead
 captures-read role dlci largest own cap deeds passed some pass orderly room =
-    let new = new_side role dlci largest own cap in
-    talk_reads dlci role (all_done deeds new) passed (all_talk deeds new passed pass) (closed-sides_read role dlci largest own cap deeds some orderly room)
+    run_reads role dlci largest own cap deeds passed some pass room (closed-sides_read role dlci largest own cap deeds some orderly room)
 
 pub unflooded-captures_read : UnfloodedCapturesRead
 unflooded-captures_read role dlci largest own cap deeds passed some pass orderly few =
-    let new = new_side role dlci largest own cap in
-    talk_reads dlci role (all_done deeds new) passed (all_talk deeds new passed pass) (unflooded-closed_sides_read role dlci largest own cap deeds some orderly few)
+    captures-read role dlci largest own cap deeds passed some pass orderly (all_find 0 deeds (new_side role dlci largest own cap) (omega arith) few)

@@ -80,14 +80,14 @@ over_more d role c [] more over = let never : false ≡ true = over in cc
 over_more d role c (g ∷ fs) more over =
     or_later (is_last d role c g) (has_last d role (course_after d role c g) fs) (has_last d role (course_after d role c g) (fs ++ more)) over (over_more d role (course_after d role c g) fs more)
 
-to_all : (d : ℕ) (role : Role) (c : Course) (fs : List Framed) → has_last d role c fs ≡ false → to_closing d role c fs ≡ fs
+pub to_all : (d : ℕ) (role : Role) (c : Course) (fs : List Framed) → has_last d role c fs ≡ false → to_closing d role c fs ≡ fs
 to_all d role c [] none = refl
 to_all d role c (g ∷ fs) none =
     let here = not_first (is_last d role c g) (has_last d role (course_after d role c g) fs) none in
     let rest = not_second (is_last d role c g) (has_last d role (course_after d role c g) fs) none in
     ap (λ (b : Bool). g ∷ cond b [] (to_closing d role (course_after d role c g) fs)) here ∙ ap (λ (xs : List Framed). g ∷ xs) (to_all d role (course_after d role c g) fs rest)
 
-to_more : (d : ℕ) (role : Role) (c : Course) (fs : List Framed) (f : Framed) → has_last d role c fs ≡ false → to_closing d role c (fs ++ f ∷ []) ≡ fs ++ f ∷ []
+pub to_more : (d : ℕ) (role : Role) (c : Course) (fs : List Framed) (f : Framed) → has_last d role c fs ≡ false → to_closing d role c (fs ++ f ∷ []) ≡ fs ++ f ∷ []
 to_more d role c [] f none = ap (λ (xs : List Framed). f ∷ xs) (cond_same (is_last d role c f) [])
 to_more d role c (g ∷ fs) f none =
     let here = not_first (is_last d role c g) (has_last d role (course_after d role c g) fs) none in
@@ -98,7 +98,7 @@ same_rest : (b x : Bool) (xs ys : List Framed) → (b || x) ≡ true → (x ≡ 
 same_rest true x xs ys is same = refl
 same_rest false x xs ys is same = same is
 
-to_over : (d : ℕ) (role : Role) (c : Course) (fs more : List Framed) → has_last d role c fs ≡ true → to_closing d role c (fs ++ more) ≡ to_closing d role c fs
+pub to_over : (d : ℕ) (role : Role) (c : Course) (fs more : List Framed) → has_last d role c fs ≡ true → to_closing d role c (fs ++ more) ≡ to_closing d role c fs
 to_over d role c [] more over = let never : false ≡ true = over in cc
 to_over d role c (g ∷ fs) more over =
     ap (λ (xs : List Framed). g ∷ xs)
@@ -107,18 +107,18 @@ to_over d role c (g ∷ fs) more over =
 
 -- ---- a side that is open, and one that was closed in order
 
-record Follows (d : ℕ) (role : Role) (side : Side) : Type 0 where
-  reads : Reads d role side
-  quiet : AllQuiet d side.mux.answers
-  closing : (course_of d role no_course side.talk).closing ≡ far_of side.mux.asks
-  none : has_last d role no_course side.talk ≡ false
+pub record Follows (d : ℕ) (role : Role) (side : Side) : Type 0 where
+  pub reads : Reads d role side
+  pub quiet : AllQuiet d side.mux.answers
+  pub closing : (course_of d role no_course side.talk).closing ≡ far_of side.mux.asks
+  pub none : has_last d role no_course side.talk ≡ false
 
-record IsOver (d : ℕ) (role : Role) (side : Side) : Type 0 where
+pub record IsOver (d : ℕ) (role : Role) (side : Side) : Type 0 where
   over : has_last d role no_course side.talk ≡ true
   octets : side.got ≡ carried d (other_role role) no_connections (to_closing d role no_course side.talk)
   credits : granted d role no_connections (to_closing d role no_course side.talk) ≡ spent d role (to_closing d role no_course side.talk) + side.mux.account.held
 
-abbrev StateAs : Option MuxReason → ℕ → Role → Side → Type 0
+abbrev pub StateAs : Option MuxReason → ℕ → Role → Side → Type 0
 StateAs None d role side = Follows d role side
 StateAs (Some reasons.Dm) d role side = IsOver d role side
 StateAs (Some reasons.Disc) d role side = IsOver d role side
@@ -448,7 +448,7 @@ open_next Leaves side some standing room w = called Leaves side (search rules) (
 closed_next : (reason : MuxReason) (deed : Deed) (side : Side) → side.mux.closed ≡ Some reason → (d : ℕ) (role : Role) → StateAs (Some reason) d role (done deed side) → StateAs (done deed side).mux.closed d role (done deed side)
 closed_next reason deed side is d role s = subst (λ (c : Option MuxReason). StateAs c d role (done deed side)) (sym (done_shut reason deed side is)) s
 
-next_as : (deed : Deed) (side : Side) (closed : Option MuxReason) → side.mux.closed ≡ closed → 0 < side.mux.dlci → DeedFindsRoom deed side.mux → StateAs closed side.mux.dlci side.mux.role side
+pub next_as : (deed : Deed) (side : Side) (closed : Option MuxReason) → side.mux.closed ≡ closed → 0 < side.mux.dlci → DeedFindsRoom deed side.mux → StateAs closed side.mux.dlci side.mux.role side
     → StateAs (done deed side).mux.closed side.mux.dlci side.mux.role (done deed side)
 next_as deed side None is some room s = open_next deed side some is room s
 next_as deed side (Some reasons.Dm) is some room s = closed_next reasons.Dm deed side is side.mux.dlci side.mux.role (over_next reasons.Dm deed side.mux.dlci side.mux.role side is s)
@@ -495,16 +495,19 @@ read_out d role side (Some reasons.Overdrawn) is orderly s = absurd orderly
 read_out d role side (Some reasons.BadFrame) is orderly s = absurd orderly
 read_out d role side (Some reasons.CreditOverflow) is orderly s = absurd orderly
 
+pub new_follows : (role : Role) (dlci largest own cap : ℕ) → Follows dlci role (new_side role dlci largest own cap)
+new_follows role dlci largest own cap = record { reads = record { connections = refl; octets = refl; credits = refl }; quiet = tt; closing = closing_new role; none = refl }
+  where
+    closing_new : (r : Role) → (course_of dlci r no_course []).closing ≡ far_of (new_side r dlci largest own cap).mux.asks
+    closing_new Initiator = refl
+    closing_new Responder = refl
+
 pub closed-sides_read : ClosedSidesRead
 closed-sides_read role dlci largest own cap deeds some orderly room =
     let new : Side = new_side role dlci largest own cap in
     let side : Side = all_done deeds new in
     read_out dlci role side side.mux.closed refl orderly
-    (follow dlci role deeds new refl refl some room (record { reads = record { connections = refl; octets = refl; credits = refl }; quiet = tt; closing = closing_new role; none = refl }))
-  where
-    closing_new : (r : Role) → (course_of dlci r no_course []).closing ≡ far_of (new_side r dlci largest own cap).mux.asks
-    closing_new Initiator = refl
-    closing_new Responder = refl
+    (follow dlci role deeds new refl refl some room (new_follows role dlci largest own cap))
 
 pub unflooded-closed_sides_read : UnfloodedClosedSidesRead
 unflooded-closed_sides_read role dlci largest own cap deeds some orderly none =

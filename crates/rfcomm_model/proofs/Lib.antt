@@ -12,4 +12,5 @@ pub mod Ending
 pub mod Ended
 pub mod Walking
 pub mod Taking
+pub mod Owning
 pub mod Captured

@@ -8,7 +8,7 @@ use Rattle.rfcomm_frames.specs.Frames.{PlainFrame, carries}
 use Rattle.rfcomm_frames.specs.Answers.{Answer}
 use Rattle.rfcomm_frames.specs.FrameReading.{frame_answer, is_empty}
 use Rattle.rfcomm_frames.specs.Connections.{other_role, is_open, is_ended}
-use Rattle.rfcomm_frames.specs.Multiplexing.{Framed, is_role, is_data, information}
+use Rattle.rfcomm_frames.specs.Multiplexing.{Framed, is_role, is_data, information, carries_on}
 use Rattle.rfcomm_credits.specs.Accounts.{grant_of}
 use Rattle.rfcomm_model.specs.declared.state.MuxReason.{MuxReason}
 use Rattle.rfcomm_model.specs.declared.state.Command.{Command}
@@ -22,7 +22,7 @@ use Rattle.rfcomm_model.specs.Saying.{Said, says, says_data, says_grant, first_o
 use Rattle.rfcomm_model.specs.Sides.{Deed, Hears, Says, Sends, Leaves, Side, heard_frame, said_by, done, all_done, new_side}
 use Rattle.rfcomm_model.specs.Taken.{taken_of, all_taken, all_sent, SendsTaken, TakenIsSent}
 use Rattle.rfcomm_model.proofs.Stepping.{AllQuiet, IsQuiet, IsReply, all_more, and_false, cond_same}
-use Rattle.rfcomm_model.proofs.Talking.{same_role}
+use Rattle.rfcomm_model.proofs.Talking.{lines_of, same_role}
 use Rattle.rfcomm_model.proofs.Walking.{answer_walks}
 use Rattle.rfcomm_model.proofs.Giving.{on_control}
 use Rattle.rfcomm_model.proofs.Ended.{done_keeps}
@@ -43,7 +43,7 @@ heard_waits d some a m quiet =
     (λ control user asks ready held peer frame agreed stated x w. record { quiet = w.quiet; kept = w.kept })
     a m (record { quiet = quiet; kept = λ e. (e, refl) })
 
-sent_more : (d : ℕ) (role : Role) (fs : List Framed) (f : Framed) → all_sent d role (fs ++ f ∷ []) ≡ all_sent d role fs ++ information d role f
+pub sent_more : (d : ℕ) (role : Role) (fs : List Framed) (f : Framed) → all_sent d role (fs ++ f ∷ []) ≡ all_sent d role fs ++ information d role f
 sent_more d role [] f = append-nil (information d role f)
 sent_more d role (g ∷ fs) f = ap (λ (xs : List ℕ). information d role g ++ xs) (sent_more d role fs f) ∙ sym (append_assoc (information d role g) (all_sent d role fs) (information d role f))
 
@@ -51,7 +51,7 @@ quiet_sends : (d : ℕ) (role from : Role) (frame : PlainFrame) → IsQuiet d fr
 quiet_sends d role from frame quiet =
     ap (λ (b : Bool). cond (is_role role from && b) frame.octets []) quiet ∙ ap (λ (b : Bool). cond b frame.octets []) (and_false (is_role role from))
 
-peer_sends : (d : ℕ) (role : Role) (f : PlainFrame) → information d role (record { from = other_role role; frame = f }) ≡ []
+pub peer_sends : (d : ℕ) (role : Role) (f : PlainFrame) → information d role (record { from = other_role role; frame = f }) ≡ []
 peer_sends d role f = ap (λ (b : Bool). cond (b && ((f.dlci == d) && carries f.kind)) f.octets []) (not_other role)
 
 heard_sends : (d : ℕ) (role : Role) (a : Answer) (fs : List Framed) → all_sent d role (fs ++ heard_frame (other_role role) a) ≡ all_sent d role fs
@@ -60,14 +60,14 @@ heard_sends d role (Err refusal) fs = ap (all_sent d role) (append-nil fs)
 
 -- ---- a frame is sent
 
--- it has none of the octets that wait, or all of them
-record Passes (m : Mux) (said : Said) : Type 0 where
-  quiet : AllQuiet m.dlci said.after.answers
-  closed_is : said.after.closed ≡ m.closed
-  flow : ((information m.dlci m.role (record { from = m.role; frame = said.frame }) ≡ []) × (said.after.waiting ≡ m.waiting))
-      ⊎ ((m.closed ≡ None) × (information m.dlci m.role (record { from = m.role; frame = said.frame }) ≡ m.waiting) × (said.after.waiting ≡ []))
+-- it has none of the octets that wait, or all of them where octets pass
+pub record Passes (m : Mux) (said : Said) : Type 0 where
+  pub quiet : AllQuiet m.dlci said.after.answers
+  pub closed_is : said.after.closed ≡ m.closed
+  pub flow : ((information m.dlci m.role (record { from = m.role; frame = said.frame }) ≡ []) × (said.after.waiting ≡ m.waiting))
+      ⊎ ((m.closed ≡ None) × (information m.dlci m.role (record { from = m.role; frame = said.frame }) ≡ m.waiting) × (said.after.waiting ≡ []) × (carries_on (lines_of m) ≡ true))
 
-abbrev SaysPasses : Mux → Option Said → Type 0
+abbrev pub SaysPasses : Mux → Option Said → Type 0
 SaysPasses m None = Unit {0}
 SaysPasses m (Some said) = Passes m said
 
@@ -95,6 +95,13 @@ was_ready a b x None is = refl
 was_ready true b x (Some reason) is = let never : false ≡ true = is in cc
 was_ready false b x (Some reason) is = let never : false ≡ true = is in cc
 
+was_carrying : (a b x : Bool) (closed : Option MuxReason) → ((a && (is_none closed && b)) && x) ≡ true → b ≡ true
+was_carrying true true x None is = refl
+was_carrying true false x None is = let never : false ≡ true = is in cc
+was_carrying false b x None is = let never : false ≡ true = is in cc
+was_carrying true b x (Some reason) is = let never : false ≡ true = is in cc
+was_carrying false b x (Some reason) is = let never : false ≡ true = is in cc
+
 free_passes : (m : Mux) → AllQuiet m.dlci m.answers → SaysPasses m (first_of (says_grant m) (says_data m))
 free_passes m all =
     let due : Bool = not (is_empty m.waiting) && nat_lt 0 m.account.held in
@@ -105,7 +112,12 @@ free_passes m all =
     (if_passes m (is_ready m && due) _ (λ t. record {
       quiet = all;
       closed_is = refl;
-      flow = inr (was_ready (is_both m.ready) (is_open m.user && not (is_ended m.control)) due m.closed t, ap (λ (b : Bool). cond b m.waiting []) here, refl);
+      flow = inr (
+        was_ready (is_both m.ready) (is_open m.user && not (is_ended m.control)) due m.closed t,
+        ap (λ (b : Bool). cond b m.waiting []) here,
+        refl,
+        was_carrying (is_both m.ready) (is_open m.user && not (is_ended m.control)) due m.closed t,
+      );
     }))
 
 asks_passes : (asks : Asks) (m : Mux) → 0 < m.dlci → AllQuiet m.dlci m.answers → SaysPasses m (says_command asks m)
@@ -113,15 +125,15 @@ asks_passes Nothing m some all = free_passes m all
 asks_passes (Due command) m some all = command_passes command m some all
 asks_passes (Awaited command) m some all = free_passes m all
 
-says_passes : (answers : List PlainFrame) (m : Mux) → 0 < m.dlci → AllQuiet m.dlci m.answers → AllQuiet m.dlci answers → SaysPasses m (says_answer answers m)
+pub says_passes : (answers : List PlainFrame) (m : Mux) → 0 < m.dlci → AllQuiet m.dlci m.answers → AllQuiet m.dlci answers → SaysPasses m (says_answer answers m)
 says_passes [] m some all these = asks_passes m.asks m some all
 says_passes (answer ∷ rest) m some all these = plain m (says answer (record m { answers = rest })) these.0.0 these.1 refl refl
 
 -- ---- a side
 
-record Goes (d : ℕ) (role : Role) (side : Side) (taken : List ℕ) : Type 0 where
-  quiet : AllQuiet d side.mux.answers
-  sends : SendsTaken d role side taken
+pub record Goes (d : ℕ) (role : Role) (side : Side) (taken : List ℕ) : Type 0 where
+  pub quiet : AllQuiet d side.mux.answers
+  pub sends : SendsTaken d role side taken
 
 heard_goes : (sdu : List ℕ) (side : Side) (taken : List ℕ) → 0 < side.mux.dlci → Goes side.mux.dlci side.mux.role side taken → Goes side.mux.dlci side.mux.role (done (Hears sdu) side) taken
 heard_goes sdu side taken some g =
@@ -211,7 +223,7 @@ left_goes side taken g = left_if (is_none side.mux.closed && not (is_leaving sid
 none_taken : (d : ℕ) (role : Role) (side : Side) (taken : List ℕ) → Goes d role side taken → Goes d role side (taken ++ [])
 none_taken d role side taken g = subst (Goes d role side) (sym (append-nil taken)) g
 
-next_goes : (deed : Deed) (side : Side) (taken : List ℕ) → 0 < side.mux.dlci → Goes side.mux.dlci side.mux.role side taken → Goes side.mux.dlci side.mux.role (done deed side) (taken ++ taken_of deed side.mux)
+pub next_goes : (deed : Deed) (side : Side) (taken : List ℕ) → 0 < side.mux.dlci → Goes side.mux.dlci side.mux.role side taken → Goes side.mux.dlci side.mux.role (done deed side) (taken ++ taken_of deed side.mux)
 next_goes (Hears sdu) side taken some g = none_taken side.mux.dlci side.mux.role (done (Hears sdu) side) taken (heard_goes sdu side taken some g)
 next_goes Says side taken some g =
     none_taken side.mux.dlci side.mux.role (done Says side) taken (said_goes side (next side.mux) taken (says_passes side.mux.answers side.mux some g.quiet g.quiet) g)
