@@ -11,3 +11,6 @@ pub mod Worked
 pub mod Waiting
 pub mod Answering
 pub mod Windows
+pub mod Waits
+pub mod Accounting
+pub mod Silencing
