@@ -10,7 +10,8 @@ use Rattle.capture.proofs.HistoryLaws.{front-more}
 use Rattle.rfcomm_frames.specs.declared.connection.Role.{Role}
 use Rattle.rfcomm_frames.specs.Answers.{Answer, IsAnswer}
 use Rattle.rfcomm_frames.specs.FrameReading.{frame_answer}
-use Rattle.rfcomm_frames.specs.Multiplexing.{Framed, framed, frames, Connections, carried}
+use Rattle.rfcomm_frames.specs.Multiplexing.{Framed, framed, frames, carried}
+use Rattle.rfcomm_frames.specs.Ending.{Course, to_closing}
 use Rattle.rfcomm_frames.specs.ObexPackets.{IsPacket, HasNoPacket, obex_packets}
 use Rattle.rfcomm_frames.proofs.OneAnswer.{one-answer}
 use Rattle.rfcomm_frames.proofs.FrameReading.{frame_answered}
@@ -20,36 +21,20 @@ use Rattle.link_talk.specs.declared.readers.Spoken.{Spoken as LentSpoken}
 use Rattle.link_talk.specs.Gains.{beyond, gained}
 use Rattle.link_talk.specs.Sdus.{Spoken, spoken_as}
 use Rattle.link_talk.specs.Packets.{OverL2cap, OverRfcomm, OverNothing, role_of, passed, packets_over_rfcomm, packet_with, packets_spoken}
-use Rattle.link_talk.specs.Frames.{frame_in, octets_heard, connected}
+use Rattle.link_talk.specs.Frames.{frame_in}
 use Rattle.link_talk.specs.Lent.{plain_spoken}
 
 -- a frame that was read is the one that is defined
 pub frame_is : (from : Role) (sdu : List ℕ) (given : Answer) → IsOctets sdu → IsAnswer sdu given → framed from given ≡ frame_in from sdu
 frame_is from sdu given octets is = ap (framed from) (one-answer sdu given (frame_answer sdu) is (frame_answered sdu octets))
 
-pub carried-next : (dlci : ℕ) (way : Role) (now : Connections) (frame : Option Framed) (rest : List Framed)
-    → carried dlci way now (cons_option frame rest) ≡ octets_heard dlci way now frame ++ carried dlci way (connected dlci now frame) rest
-carried-next dlci way now None rest = refl
-carried-next dlci way now (Some f) rest = refl
-
-abbrev left_of : Party → List LentSpoken → List Framed
+-- the frames of SDUs that are still to be gone over
+abbrev pub left_of : Party → List LentSpoken → List Framed
 left_of party raw = frames (map (passed party) (map plain_spoken raw))
 
-pub carried_turn : (party : Party) (way : Role) (raw : List LentSpoken) (i : ℕ) (d : LentSpoken) (now then_ : Connections) (found after all : List ℕ) → i < length raw
-    → after ≡ found ++ octets_heard party.dlci way now (frame_in (role_of party (get_or raw i d).flow) (get_or raw i d).octets.items)
-    → then_ ≡ connected party.dlci now (frame_in (role_of party (get_or raw i d).flow) (get_or raw i d).octets.items)
-    → found ++ carried party.dlci way now (left_of party (drop i raw)) ≡ all
-    → after ++ carried party.dlci way then_ (left_of party (drop (i + 1) raw)) ≡ all
-carried_turn party way raw i d now then_ found after all below grown turned before =
-    let frame = frame_in (role_of party (get_or raw i d).flow) (get_or raw i d).octets.items in
-    let rest = left_of party (drop (i + 1) raw) in
-    let step : left_of party (drop i raw) ≡ cons_option frame rest = ap (left_of party) (drop-cons raw i d below) ∙ ap (λ n. cons_option frame (left_of party (drop n raw))) (sym (add-one i)) in
-    ap (λ xs. xs ++ carried party.dlci way then_ rest) grown
-    ∙ (ap (λ c. (found ++ octets_heard party.dlci way now frame) ++ carried party.dlci way c rest) turned
-    ∙ (append_assoc found (octets_heard party.dlci way now frame) (carried party.dlci way (connected party.dlci now frame) rest)
-    ∙ (ap (λ xs. found ++ xs) (sym (carried-next party.dlci way now frame rest))
-    ∙ (ap (λ fs. found ++ carried party.dlci way now fs) (sym step)
-    ∙ before))))
+-- the octets that they bring
+abbrev pub still_carried : ℕ → (side way : Role) → Course → List Framed → List ℕ
+still_carried dlci side way course fs = carried dlci way course.lines (to_closing dlci side course fs)
 
 -- ---- a stream in packets
 

@@ -10,7 +10,7 @@ use Rattle.ertm_frames.specs.Reading.{frame_in}
 use Rattle.ertm_frames.specs.Picking.{Passage, Out, In, outs, ins, unacknowledged}
 use Rattle.l2cap_config.specs.declared.wish.Mode.{Mode}
 use Rattle.l2cap_config.specs.declared.wish.Mode.TheVariants.{Basic, Enhanced}
-use Rattle.rfcomm_frames.specs.Multiplexing.{credits_held}
+use Rattle.rfcomm_frames.specs.UserChannel.{credits_held}
 use Rattle.link_talk.specs.declared.channel.Channel.{Channel}
 use Rattle.link_talk.specs.Sayings.{Saying}
 use Rattle.link_talk.specs.Channels.{Entry, is_alive, reading}

@@ -3,8 +3,10 @@ use Rattle.std.specs.Prelude.{ℕ, List, [], Option, Some, None, if◌then◌els
 use Rattle.rfcomm_frames.specs.declared.connection.Role.{Role}
 use Rattle.rfcomm_frames.specs.Frames.{plain}
 use Rattle.rfcomm_frames.specs.FrameReading.{frame_answer}
-use Rattle.rfcomm_frames.specs.Multiplexing.{Framed, framed, Connections, carries_on, connections_after, information}
+use Rattle.rfcomm_frames.specs.Multiplexing.{Framed, framed, Connections, carries_on, information}
+use Rattle.rfcomm_frames.specs.Ending.{Course}
 use Rattle.link_talk.specs.declared.readers.multiplexing.Connections.{Connections as LentConnections}
+use Rattle.link_talk.specs.declared.readers.multiplexing.Course.{Course as LentCourse}
 use Rattle.link_talk.specs.declared.readers.multiplexing.Framed.{Framed as LentFramed}
 
 -- the frame that it is
@@ -16,13 +18,11 @@ abbrev pub octets_heard : ℕ → Role → Connections → Option Framed → Lis
 octets_heard dlci way now None = []
 octets_heard dlci way now (Some f) = if carries_on now then information dlci way f else []
 
--- and what the connections are behind it
-abbrev pub connected : ℕ → Connections → Option Framed → Connections
-connected dlci now None = now
-connected dlci now (Some f) = connections_after dlci now f
-
 abbrev pub plain_connections : LentConnections → Connections
 plain_connections now = record { control = now.control; user = now.user }
+
+abbrev pub plain_course : LentCourse → Course
+plain_course course = record { lines = plain_connections course.connections; closing = course.closing }
 
 abbrev pub plain_framed : LentFramed → Framed
 plain_framed f = record { from = f.from; frame = plain f.frame }

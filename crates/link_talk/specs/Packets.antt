@@ -5,7 +5,8 @@ use Rattle.capture.specs.declared.flow.Flow.TheVariants.{Out, Into}
 use Rattle.capture.specs.Histories.{given_by}
 use Rattle.rfcomm_frames.specs.declared.connection.Role.{Role}
 use Rattle.rfcomm_frames.specs.Connections.{other_role}
-use Rattle.rfcomm_frames.specs.Multiplexing.{Passed, user_octets}
+use Rattle.rfcomm_frames.specs.Multiplexing.{Passed}
+use Rattle.rfcomm_frames.specs.UserChannel.{user_octets}
 use Rattle.rfcomm_frames.specs.ObexPackets.{obex_packets}
 use Rattle.link_talk.specs.declared.channel.Channel.{Channel}
 use Rattle.link_talk.specs.Sayings.{Saying}
@@ -37,7 +38,7 @@ abbrev pub passed : Party → Spoken → Passed
 passed party one = record { from = role_of party one.flow; sdu = one.octets }
 
 abbrev pub packets_over_rfcomm : Party → Flow → List Spoken → List (List ℕ)
-packets_over_rfcomm party flow sdus = obex_packets (user_octets party.dlci (role_of party flow) (map (passed party) sdus))
+packets_over_rfcomm party flow sdus = obex_packets (user_octets party.dlci party.role (role_of party flow) (map (passed party) sdus))
 
 -- ---- both ways, in their order
 

@@ -13,3 +13,4 @@ pub mod FrameReading
 pub mod MessageReading
 pub mod ObexSplits
 pub mod LookingBack
+pub mod Ending

@@ -34,6 +34,14 @@ left Responder Asked = Asked
 left from Open = Ended
 left from Ended = Ended
 
+-- DISC of this side closes the connection
+abbrev pub is_left : Role → Dlc → Bool
+is_left from Idle = false
+is_left Initiator Asked = true
+is_left Responder Asked = false
+is_left from Open = true
+is_left from Ended = false
+
 -- what it is after a frame of a kind with the P/F bit; without that bit none of these frames counts
 abbrev pub turned : Role → MuxKind → Dlc → Dlc
 turned Initiator Sabm dlc = asked dlc

@@ -8,5 +8,7 @@ pub mod Laws
 pub mod FrameReading
 pub mod Connections
 pub mod Multiplexing
+pub mod Ending
+pub mod UserChannel
 pub mod ObexPackets
 pub mod LookingBack

@@ -1,5 +1,5 @@
 -- What the SDUs on an L2CAP channel of PSM 0x0003 carry for one user channel (RFCOMM 1.2, 5 and 6.5; TS 07.10, 5.4).
-use Rattle.std.specs.Prelude.{ℕ, ℤ, pos, ◌-ℤ◌, ◌+◌, ◌/◌, ◌%◌, ◌==◌, ◌&&◌, ◌||◌, not, Bool, true, false, List, [], ◌∷◌, ◌++◌, sum_by, Option, Some, None, Result, Ok, Err, if◌then◌else◌}
+use Rattle.std.specs.Prelude.{ℕ, ◌+◌, ◌/◌, ◌%◌, ◌==◌, ◌&&◌, ◌||◌, not, Bool, true, false, List, [], ◌∷◌, ◌++◌, sum_by, Option, Some, None, Result, Ok, Err, if◌then◌else◌}
 use Rattle.std.specs.List.{filter_map, flat_map}
 use Rattle.rfcomm_frames.specs.declared.frame.MuxKind.{MuxKind}
 use Rattle.rfcomm_frames.specs.declared.frame.MuxKind.TheVariants.{Sabm, Ua, Dm, Disc, Uih}
@@ -79,10 +79,6 @@ abbrev pub carried : ℕ → Role → Connections → List Framed → List ℕ
 carried dlci from c [] = []
 carried dlci from c (f ∷ fs) = (if carries_on c then information dlci from f else []) ++ carried dlci from (connections_after dlci c f) fs
 
--- the octets that a side sent on the user channel
-abbrev pub user_octets : ℕ → Role → List Passed → List ℕ
-user_octets dlci from passed = carried dlci from no_connections (frames passed)
-
 -- ---- the credits, in one pass
 
 -- what a PN message for the user channel grants: the low three bits of its last octet (RFCOMM 1.2, 5.5.3). It is for
@@ -118,7 +114,3 @@ spent_by dlci side f = if is_empty (information dlci side f) then 0 else 1
 
 abbrev pub spent : ℕ → Role → List Framed → ℕ
 spent dlci side fs = sum_by (spent_by dlci side) fs
-
--- the credits that a side holds: a whole number, which a side that sends without a credit brings below 0
-abbrev pub credits_held : ℕ → Role → List Passed → ℤ
-credits_held dlci side passed = pos (granted dlci side no_connections (frames passed)) -ℤ pos (spent dlci side (frames passed))

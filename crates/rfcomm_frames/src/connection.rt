@@ -1,7 +1,7 @@
 //! How far a data link connection of the multiplexer is.
 
 ghost use Rattle.std.specs.Prelude.{◌≡◌};
-ghost use Rattle.rfcomm_frames.specs.Connections.{other_role, turned};
+ghost use Rattle.rfcomm_frames.specs.Connections.{other_role, turned, is_left};
 
 use crate::frame::MuxKind;
 
@@ -49,6 +49,18 @@ impl Dlc {
             (Role::Initiator, MuxKind::Disc, Dlc::Asked) => Dlc::Ended,
             (_, MuxKind::Disc, Dlc::Open) => Dlc::Ended,
             _ => self,
+        }
+    }
+
+    /// Whether DISC of this side closes the connection: one that is open, and from the initiator also
+    /// one that was asked for.
+    pub fn is_left(self, from: Role) -> bool
+        ensures { result ≡ is_left from self }
+    {
+        match self {
+            Dlc::Open => true,
+            Dlc::Asked => matches!(from, Role::Initiator),
+            Dlc::Idle | Dlc::Ended => false,
         }
     }
 }

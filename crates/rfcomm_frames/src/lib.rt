@@ -2,6 +2,7 @@
 //! subset of TS 07.10).
 #![tactic(auto)]
 
+mod closing;
 mod connection;
 mod control;
 mod control_reading;
@@ -15,6 +16,7 @@ mod refusal;
 mod writing;
 
 pub use check_words::fcs8;
+pub use closing::Closing;
 pub use connection::{Dlc, Role};
 pub use control::Control;
 pub use control_reading::control_of;

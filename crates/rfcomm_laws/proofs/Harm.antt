@@ -14,7 +14,7 @@ use Rattle.rfcomm_model.specs.declared.state.Command.TheVariants.{OpenControl, A
 use Rattle.rfcomm_model.specs.declared.state.Asks.{Asks}
 use Rattle.rfcomm_model.specs.declared.state.Asks.TheVariants.{Nothing, Due, Awaited}
 use Rattle.rfcomm_model.specs.Machine.{Mux, closes}
-use Rattle.rfcomm_model.specs.Ending.{IsOrderly}
+use Rattle.rfcomm_model.specs.ClosedSides.{IsOrderly}
 use Rattle.rfcomm_model.specs.Hearing.{answering, own_credits}
 use Rattle.rfcomm_laws.specs.Totals.{bonus_of, cost_of}
 

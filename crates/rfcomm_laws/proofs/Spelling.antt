@@ -8,7 +8,7 @@ use Rattle.rfcomm_frames.specs.Answers.{Answer}
 use Rattle.rfcomm_frames.specs.FrameReading.{frame_answer}
 use Rattle.rfcomm_frames.proofs.FrameReading.{spelled_answered}
 use Rattle.rfcomm_model.specs.Machine.{Mux, may_pass, is_ready}
-use Rattle.rfcomm_model.specs.Ending.{IsOrderly}
+use Rattle.rfcomm_model.specs.ClosedSides.{IsOrderly}
 use Rattle.rfcomm_model.specs.Hearing.{hears_answer, news, read_data}
 use Rattle.rfcomm_model.specs.Saying.{Said, next, after_said}
 use Rattle.rfcomm_model.specs.Sides.{handed}

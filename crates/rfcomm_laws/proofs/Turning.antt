@@ -10,7 +10,7 @@ use Rattle.rfcomm_frames.specs.declared.connection.Dlc.{Dlc}
 use Rattle.rfcomm_frames.specs.declared.connection.Dlc.TheVariants.{Idle, Asked, Open, Ended}
 use Rattle.rfcomm_frames.specs.Frames.{PlainFrame}
 use Rattle.rfcomm_frames.specs.FrameReading.{is_empty}
-use Rattle.rfcomm_frames.specs.Connections.{other_role, turned, asked, agreed, is_ended}
+use Rattle.rfcomm_frames.specs.Connections.{other_role, turned, asked, agreed, is_ended, is_left}
 use Rattle.rfcomm_frames.specs.Multiplexing.{credit_octet}
 use Rattle.rfcomm_model.specs.declared.state.MuxReason.{MuxReason}
 use Rattle.rfcomm_model.specs.declared.state.MuxReason.TheVariants as reasons
@@ -19,7 +19,7 @@ use Rattle.rfcomm_model.specs.declared.state.Asks.{Asks}
 use Rattle.rfcomm_model.specs.declared.state.Asks.TheVariants.{Nothing, Due, Awaited}
 use Rattle.rfcomm_model.specs.Machine.{Mux, closes}
 use Rattle.rfcomm_model.specs.Written.{response_frame}
-use Rattle.rfcomm_model.specs.Hearing.{has_room, answering, says_dm, signals_next, opens_control, opens_user, hears_sabm, control_answered, user_answered, hears_ua, control_refused, user_refused, hears_dm, is_left, ends, hears_disc, credited, charged, if_stands, with_credits, hears_data, own_credits}
+use Rattle.rfcomm_model.specs.Hearing.{has_room, answering, says_dm, signals_next, opens_control, opens_user, hears_sabm, control_answered, user_answered, hears_ua, control_refused, user_refused, hears_dm, ends, hears_disc, credited, charged, if_stands, with_credits, hears_data, own_credits}
 use Rattle.rfcomm_laws.proofs.Harm.{bonuses_of, rank, SoundAsks, all_later, is_far, Word, Step, step_same, step_then, step_more, step_if, step_closes, step_answers}
 
 -- what never changes of a side

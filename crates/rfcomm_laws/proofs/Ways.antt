@@ -13,7 +13,7 @@ use Rattle.rfcomm_frames.specs.declared.connection.Dlc.TheVariants.{Idle, Asked,
 use Rattle.rfcomm_frames.specs.Frames.{PlainFrame}
 use Rattle.rfcomm_frames.specs.FrameReading.{messages}
 use Rattle.rfcomm_model.specs.Machine.{Mux, may_pass}
-use Rattle.rfcomm_model.specs.Ending.{IsOrderly}
+use Rattle.rfcomm_model.specs.ClosedSides.{IsOrderly}
 use Rattle.rfcomm_model.specs.Hearing.{own_credits, hears_answer}
 use Rattle.rfcomm_laws.specs.Pairs.{End, handed_by, IsFront}
 use Rattle.rfcomm_laws.specs.Totals.{}

@@ -1,6 +1,6 @@
 -- Two sides that may be told to close at any moment, one or both, also while the channel opens.
 use Rattle.std.specs.Prelude.{List}
-use Rattle.rfcomm_model.specs.Ending.{IsOrderly}
+use Rattle.rfcomm_model.specs.ClosedSides.{IsOrderly}
 use Rattle.rfcomm_laws.specs.Pairs.{Pair, Terms, new_pair, IsFront}
 use Rattle.rfcomm_laws.specs.Happenings.{Happening, all_happen}
 

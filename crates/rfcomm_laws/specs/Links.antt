@@ -7,7 +7,7 @@ use Rattle.rfcomm_frames.specs.declared.connection.Role.TheVariants.{Initiator, 
 use Rattle.rfcomm_frames.specs.Frames.{PlainFrame, Spells}
 use Rattle.rfcomm_frames.specs.FrameReading.{frame_answer}
 use Rattle.rfcomm_model.specs.Machine.{Mux, new_mux, may_pass, is_ready, taken_count, sends, leaves}
-use Rattle.rfcomm_model.specs.Ending.{IsOrderly}
+use Rattle.rfcomm_model.specs.ClosedSides.{IsOrderly}
 use Rattle.rfcomm_model.specs.Hearing.{hears, up}
 use Rattle.rfcomm_model.specs.Saying.{Said, next, after_next}
 use Rattle.rfcomm_model.specs.Sides.{handed}

@@ -11,7 +11,7 @@ use Rattle.rfcomm_frames.specs.declared.connection.Dlc.TheVariants.{Ended}
 use Rattle.rfcomm_frames.specs.Frames.{PlainFrame, carries}
 use Rattle.rfcomm_frames.specs.Answers.{Answer}
 use Rattle.rfcomm_frames.specs.FrameReading.{frame_answer, is_empty}
-use Rattle.rfcomm_frames.specs.Connections.{other_role, is_open, is_ended}
+use Rattle.rfcomm_frames.specs.Connections.{other_role, is_open, is_ended, is_left}
 use Rattle.rfcomm_frames.specs.Multiplexing.{Framed, Connections, no_connections, carries_on, information, carried, granted_by, granted, spent_by, spent}
 use Rattle.rfcomm_credits.specs.Accounts.{grant_of}
 use Rattle.rfcomm_model.specs.declared.state.MuxReason.{MuxReason}
@@ -22,9 +22,12 @@ use Rattle.rfcomm_model.specs.declared.state.Asks.{Asks}
 use Rattle.rfcomm_model.specs.declared.state.Asks.TheVariants.{Nothing, Due, Awaited}
 use Rattle.rfcomm_model.specs.Machine.{Mux, is_both, may_pass, is_ready, is_leaving, taken_count, closes}
 use Rattle.rfcomm_model.specs.Written.{response_frame}
-use Rattle.rfcomm_model.specs.Hearing.{has_room, answering, is_left, says_dm, ends, if_stands, hears_disc, hears_settled, hears_frame, hears_answer, news, Up, data_of, read_data}
+use Rattle.rfcomm_model.specs.Hearing.{has_room, answering, says_dm, ends, if_stands, hears_disc, hears_settled, hears_frame, hears_answer, news, Up, data_of, read_data}
 use Rattle.rfcomm_model.specs.Saying.{Said, says, says_data, says_grant, first_of, frame_of_command, commanded, says_command, says_answer, next}
-use Rattle.rfcomm_model.specs.Ending.{IsOrderly, Closing, leaving_control, leaving_user, closing_said, closing_heard, is_closed_by, Course, no_course, course_after, is_last, has_last, to_closing}
+use Rattle.rfcomm_frames.specs.declared.closing.Closing.{Closing}
+use Rattle.rfcomm_frames.specs.declared.closing.Closing.TheVariants.{LeavingUser, LeavingControl}
+use Rattle.rfcomm_model.specs.ClosedSides.{IsOrderly}
+use Rattle.rfcomm_frames.specs.Ending.{closing_said, closing_heard, is_closed_by, Course, no_course, course_after, is_last, has_last, to_closing}
 use Rattle.rfcomm_model.specs.Sides.{Deed, Hears, Says, Sends, Leaves, Side, handed, heard_frame, said_by, done, all_done, new_side, AnswerFindsRoom, DeedFindsRoom, AlwaysRoom, connections_of, Reads}
 use Rattle.rfcomm_model.specs.ClosedSides.{ReadsToClosing, ClosedSidesRead, UnfloodedClosedSidesRead}
 use Rattle.rfcomm_model.proofs.Closing.{keep_cond, done_shut, closed-for_good}
@@ -349,7 +352,7 @@ command_far OpenUser m some is = (sym (ap far_of is), refl)
 command_far Signal m some is = (sym (ap far_of is), refl)
 command_far LeaveUser m some is =
     let other : (m.dlci == 0) ≡ false = ne_eqb m.dlci 0 (λ e. omega (arith, some, e)) in
-    (sym (ap (λ (b : Bool). cond b leaving_control (cond (m.dlci == m.dlci) leaving_user (far_of m.asks))) other ∙ ap (λ (b : Bool). cond b leaving_user (far_of m.asks)) (eq-eqb m.dlci m.dlci refl)), refl)
+    (sym (ap (λ (b : Bool). cond b LeavingControl (cond (m.dlci == m.dlci) LeavingUser (far_of m.asks))) other ∙ ap (λ (b : Bool). cond b LeavingUser (far_of m.asks)) (eq-eqb m.dlci m.dlci refl)), refl)
 command_far LeaveControl m some is = (refl, refl)
 
 first_far : (m : Mux) (a b : Option Said) → SaysFar m a → SaysFar m b → SaysFar m (first_of a b)

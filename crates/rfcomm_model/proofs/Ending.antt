@@ -10,7 +10,7 @@ use Rattle.rfcomm_frames.specs.declared.connection.Dlc.TheVariants.{Idle, Asked,
 use Rattle.rfcomm_frames.specs.Frames.{PlainFrame}
 use Rattle.rfcomm_frames.specs.Controls.{PlainControl, pn, msc, test, rpn, rls, nsc, other, written}
 use Rattle.rfcomm_frames.specs.FrameReading.{MessageAnswer, messages}
-use Rattle.rfcomm_frames.specs.Connections.{other_role, turned, is_ended}
+use Rattle.rfcomm_frames.specs.Connections.{other_role, turned, is_ended, is_left}
 use Rattle.rfcomm_model.specs.declared.state.MuxReason.{MuxReason}
 use Rattle.rfcomm_model.specs.declared.state.MuxReason.TheVariants as reasons
 use Rattle.rfcomm_model.specs.declared.state.Command.TheVariants.{OpenControl, Agree, OpenUser, Signal, LeaveUser, LeaveControl}
@@ -18,27 +18,29 @@ use Rattle.rfcomm_model.specs.declared.state.Asks.{Asks}
 use Rattle.rfcomm_model.specs.declared.state.Asks.TheVariants.{Nothing, Due, Awaited}
 use Rattle.rfcomm_model.specs.Machine.{Mux, may_pass, closes}
 use Rattle.rfcomm_model.specs.Written.{response_frame, control_frame}
-use Rattle.rfcomm_model.specs.Hearing.{has_room, answering, says_dm, tells, signals_next, opens_control, opens_user, hears_sabm, control_answered, user_answered, control_refused, user_refused, is_left, ends, credited, charged, if_stands, with_credits, hears_data, counts, pn_credited, lesser, own_credits, hears_offer, terms_agreed, hears_acceptance, hears_other_offer, hears_pn, peer_answered, signals_answered, hears_msc, settings_of, hears_control, hears_message, hears_messages, hears_uih, hears_kind, hears_answer, hears_frame}
-use Rattle.rfcomm_model.specs.Ending.{Closing, not_begun, leaving_user, user_left, leaving_control, once_answered, closing_heard, awaits_user, awaits_control, is_closed_by}
+use Rattle.rfcomm_model.specs.Hearing.{has_room, answering, says_dm, tells, signals_next, opens_control, opens_user, hears_sabm, control_answered, user_answered, control_refused, user_refused, ends, credited, charged, if_stands, with_credits, hears_data, counts, pn_credited, lesser, own_credits, hears_offer, terms_agreed, hears_acceptance, hears_other_offer, hears_pn, peer_answered, signals_answered, hears_msc, settings_of, hears_control, hears_message, hears_messages, hears_uih, hears_kind, hears_answer, hears_frame}
+use Rattle.rfcomm_frames.specs.declared.closing.Closing.{Closing}
+use Rattle.rfcomm_frames.specs.declared.closing.Closing.TheVariants.{NotBegun, LeavingUser, UserLeft, LeavingControl}
+use Rattle.rfcomm_frames.specs.Ending.{once_answered, closing_heard, awaits_user, awaits_control, is_closed_by}
 use Rattle.rfcomm_model.specs.Sides.{FindsRoom}
 use Rattle.rfcomm_model.proofs.Closing.{keep_cond}
 use Rattle.rfcomm_model.proofs.Talking.{lines_of}
 
 -- how far a multiplexer is in closing
 abbrev pub far_of : Asks → Closing
-far_of Nothing = not_begun
-far_of (Due OpenControl) = not_begun
-far_of (Due Agree) = not_begun
-far_of (Due OpenUser) = not_begun
-far_of (Due Signal) = not_begun
-far_of (Due LeaveUser) = not_begun
-far_of (Due LeaveControl) = user_left
-far_of (Awaited OpenControl) = not_begun
-far_of (Awaited Agree) = not_begun
-far_of (Awaited OpenUser) = not_begun
-far_of (Awaited Signal) = not_begun
-far_of (Awaited LeaveUser) = leaving_user
-far_of (Awaited LeaveControl) = leaving_control
+far_of Nothing = NotBegun
+far_of (Due OpenControl) = NotBegun
+far_of (Due Agree) = NotBegun
+far_of (Due OpenUser) = NotBegun
+far_of (Due Signal) = NotBegun
+far_of (Due LeaveUser) = NotBegun
+far_of (Due LeaveControl) = UserLeft
+far_of (Awaited OpenControl) = NotBegun
+far_of (Awaited Agree) = NotBegun
+far_of (Awaited OpenUser) = NotBegun
+far_of (Awaited Signal) = NotBegun
+far_of (Awaited LeaveUser) = LeavingUser
+far_of (Awaited LeaveControl) = LeavingControl
 
 -- it is open and so far, or a frame of the peer was refused
 abbrev MildAs : Option MuxReason → Closing → Closing → Type 0

@@ -17,7 +17,7 @@ use Rattle.rfcomm_frames.specs.Controls.{PlainControl, pn, msc, test, rpn, rls, 
 use Rattle.rfcomm_frames.specs.Reading.{message}
 use Rattle.rfcomm_frames.specs.ControlAnswers.{ControlAnswer}
 use Rattle.rfcomm_frames.specs.FrameReading.{MessageAnswer, messages, messages_within, messages_from, message_answer, used_by, with_value, with_message, second_length, is_empty}
-use Rattle.rfcomm_frames.specs.Connections.{other_role, turned, asked, agreed, is_ended}
+use Rattle.rfcomm_frames.specs.Connections.{other_role, turned, asked, agreed, is_ended, is_left}
 use Rattle.rfcomm_credits.specs.Accounts.{Credits, grant_of}
 use Rattle.rfcomm_model.specs.declared.state.MuxReason.{MuxReason}
 use Rattle.rfcomm_model.specs.declared.state.MuxReason.TheVariants as reasons
@@ -26,7 +26,7 @@ use Rattle.rfcomm_model.specs.declared.state.Asks.{Asks}
 use Rattle.rfcomm_model.specs.declared.state.Asks.TheVariants.{Nothing, Due, Awaited}
 use Rattle.rfcomm_model.specs.Machine.{Mux, closes, may_pass}
 use Rattle.rfcomm_model.specs.Written.{response_frame, control_frame}
-use Rattle.rfcomm_model.specs.Hearing.{has_room, answering, says_dm, tells, signals_next, opens_control, opens_user, hears_sabm, control_answered, user_answered, hears_ua, control_refused, user_refused, hears_dm, is_left, ends, hears_disc, credited, charged, if_stands, with_credits, hears_data, counts, pn_credited, lesser, own_credits, hears_offer, terms_agreed, hears_acceptance, hears_other_offer, hears_pn, peer_answered, signals_answered, hears_msc, settings_of, hears_control, hears_message, hears_messages, hears_uih, hears_kind, hears_settled, hears_frame, hears_answer}
+use Rattle.rfcomm_model.specs.Hearing.{has_room, answering, says_dm, tells, signals_next, opens_control, opens_user, hears_sabm, control_answered, user_answered, hears_ua, control_refused, user_refused, hears_dm, ends, hears_disc, credited, charged, if_stands, with_credits, hears_data, counts, pn_credited, lesser, own_credits, hears_offer, terms_agreed, hears_acceptance, hears_other_offer, hears_pn, peer_answered, signals_answered, hears_msc, settings_of, hears_control, hears_message, hears_messages, hears_uih, hears_kind, hears_settled, hears_frame, hears_answer}
 use Rattle.rfcomm_model.specs.Loads.{answered_once, answers_to, comes_of, weight, weights, weight_of, asks_load, signal_load, grant_load, load}
 
 -- ---- messages that are written

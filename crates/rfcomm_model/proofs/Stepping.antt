@@ -10,7 +10,7 @@ use Rattle.rfcomm_frames.specs.declared.connection.Role.TheVariants.{Initiator, 
 use Rattle.rfcomm_frames.specs.declared.connection.Dlc.{Dlc}
 use Rattle.rfcomm_frames.specs.declared.connection.Dlc.TheVariants.{Idle, Asked, Open, Ended}
 use Rattle.rfcomm_frames.specs.Frames.{PlainFrame, carries}
-use Rattle.rfcomm_frames.specs.Connections.{other_role, turned, is_ended}
+use Rattle.rfcomm_frames.specs.Connections.{other_role, turned, is_ended, is_left}
 use Rattle.rfcomm_model.specs.declared.state.MuxReason.{MuxReason}
 use Rattle.rfcomm_model.specs.declared.state.MuxReason.TheVariants as reasons
 use Rattle.rfcomm_model.specs.declared.state.Command.TheVariants.{OpenControl, Agree, OpenUser, Signal, LeaveUser, LeaveControl}
@@ -18,7 +18,7 @@ use Rattle.rfcomm_model.specs.declared.state.Asks.{Asks}
 use Rattle.rfcomm_model.specs.declared.state.Asks.TheVariants.{Nothing, Due, Awaited}
 use Rattle.rfcomm_model.specs.Machine.{Mux, closes}
 use Rattle.rfcomm_model.specs.Written.{response_frame}
-use Rattle.rfcomm_model.specs.Hearing.{has_room, answering, signals_next, says_dm, opens_control, opens_user, hears_sabm, hears_ua, hears_disc, hears_kind, control_answered, user_answered, control_refused, user_refused, is_left, ends}
+use Rattle.rfcomm_model.specs.Hearing.{has_room, answering, signals_next, says_dm, opens_control, opens_user, hears_sabm, hears_ua, hears_disc, hears_kind, control_answered, user_answered, control_refused, user_refused, ends}
 use Rattle.rfcomm_model.specs.Sides.{FindsRoom}
 
 -- it carries no information on the user channel

@@ -12,7 +12,7 @@ use Rattle.rfcomm_frames.specs.Frames.{PlainFrame}
 use Rattle.rfcomm_frames.specs.Answers.{Answer}
 use Rattle.rfcomm_frames.specs.Controls.{PlainControl, pn, msc, test, rpn, rls, nsc, other, written}
 use Rattle.rfcomm_frames.specs.FrameReading.{MessageAnswer, messages}
-use Rattle.rfcomm_frames.specs.Connections.{other_role, turned, is_ended}
+use Rattle.rfcomm_frames.specs.Connections.{other_role, turned, is_ended, is_left}
 use Rattle.rfcomm_credits.specs.Accounts.{Credits}
 use Rattle.rfcomm_model.specs.declared.state.MuxReason.{MuxReason}
 use Rattle.rfcomm_model.specs.declared.state.MuxReason.TheVariants as reasons
@@ -22,7 +22,7 @@ use Rattle.rfcomm_model.specs.declared.state.Asks.TheVariants.{Nothing, Due, Awa
 use Rattle.rfcomm_model.specs.declared.state.Readiness.{Readiness}
 use Rattle.rfcomm_model.specs.Machine.{Mux, may_pass, closes}
 use Rattle.rfcomm_model.specs.Written.{response_frame, control_frame}
-use Rattle.rfcomm_model.specs.Hearing.{has_room, answering, says_dm, tells, signals_next, opens_control, opens_user, hears_sabm, control_answered, user_answered, hears_ua, control_refused, user_refused, hears_dm, is_left, ends, hears_disc, credited, charged, if_stands, with_credits, hears_data, counts, pn_credited, lesser, own_credits, hears_offer, terms_agreed, hears_acceptance, hears_other_offer, hears_pn, peer_answered, own_answered, signals_answered, hears_msc, settings_of, hears_control, hears_message, hears_messages, hears_uih, hears_kind, hears_settled, hears_frame, hears_answer}
+use Rattle.rfcomm_model.specs.Hearing.{has_room, answering, says_dm, tells, signals_next, opens_control, opens_user, hears_sabm, control_answered, user_answered, hears_ua, control_refused, user_refused, hears_dm, ends, hears_disc, credited, charged, if_stands, with_credits, hears_data, counts, pn_credited, lesser, own_credits, hears_offer, terms_agreed, hears_acceptance, hears_other_offer, hears_pn, peer_answered, own_answered, signals_answered, hears_msc, settings_of, hears_control, hears_message, hears_messages, hears_uih, hears_kind, hears_settled, hears_frame, hears_answer}
 use Rattle.rfcomm_model.proofs.Closing.{keep_cond}
 use Rattle.rfcomm_model.proofs.Stepping.{IsReply, and_false}
 

@@ -1,10 +1,22 @@
 -- What a side of a multiplexer holds and handed up through a closing in order.
-use Rattle.std.specs.Prelude.{ℕ, ◌+◌, ◌<◌, ◌≡◌, List, is_some}
+use Rattle.std.specs.Prelude.{ℕ, ◌+◌, ◌<◌, ◌≡◌, List, Option, Some, None, is_some}
 use Rattle.rfcomm_frames.specs.declared.connection.Role.{Role}
 use Rattle.rfcomm_frames.specs.Connections.{other_role}
 use Rattle.rfcomm_frames.specs.Multiplexing.{no_connections, carried, granted, spent}
-use Rattle.rfcomm_model.specs.Ending.{IsOrderly, no_course, has_last, to_closing}
+use Rattle.rfcomm_frames.specs.Ending.{no_course, has_last, to_closing}
+use Rattle.rfcomm_model.specs.declared.state.MuxReason.{MuxReason}
+use Rattle.rfcomm_model.specs.declared.state.MuxReason.TheVariants as reasons
 use Rattle.rfcomm_model.specs.Sides.{Deed, Side, all_done, new_side, AlwaysRoom, NoFlood}
+
+-- not closed, or closed by DISC or DM: nothing that the peer sent was refused
+abbrev pub IsOrderly : Option MuxReason → Type 0
+IsOrderly None = Unit {0}
+IsOrderly (Some reasons.Dm) = Unit {0}
+IsOrderly (Some reasons.Disc) = Unit {0}
+IsOrderly (Some reasons.NoCreditFlow) = ⊥
+IsOrderly (Some reasons.Overdrawn) = ⊥
+IsOrderly (Some reasons.BadFrame) = ⊥
+IsOrderly (Some reasons.CreditOverflow) = ⊥
 
 -- The frames say whether it is closed, and what it handed up and holds is what the frames up to its closing say. What comes
 -- behind that brings and grants nothing.

@@ -10,7 +10,7 @@ use Rattle.rfcomm_frames.specs.Frames.{PlainFrame}
 use Rattle.rfcomm_frames.specs.Answers.{Answer}
 use Rattle.rfcomm_frames.specs.Controls.{PlainControl, pn, msc, test, rpn, rls, nsc, other, written}
 use Rattle.rfcomm_frames.specs.FrameReading.{MessageAnswer, messages, frame_answer}
-use Rattle.rfcomm_frames.specs.Connections.{other_role, turned, is_ended}
+use Rattle.rfcomm_frames.specs.Connections.{other_role, turned, is_left, is_ended}
 use Rattle.rfcomm_model.specs.declared.state.MuxReason.{MuxReason}
 use Rattle.rfcomm_model.specs.declared.state.MuxReason.TheVariants as reasons
 use Rattle.rfcomm_model.specs.declared.state.Command.TheVariants.{OpenControl, Agree, OpenUser, Signal, LeaveUser, LeaveControl}
@@ -101,14 +101,6 @@ abbrev pub hears_dm : ℕ → Mux → Mux
 hears_dm dlci m = if dlci == 0 then control_refused m.asks m else if dlci == m.dlci then user_refused m.asks m else m
 
 -- ---- DISC
-
--- DISC of this side closes the connection
-abbrev pub is_left : Role → Dlc → Bool
-is_left from Idle = false
-is_left Initiator Asked = true
-is_left Responder Asked = false
-is_left from Open = true
-is_left from Ended = false
 
 -- it is closed by a DISC, where it was not closed yet
 abbrev pub ends : Option MuxReason → Mux → Mux

@@ -5,6 +5,5 @@ pub mod Saying
 pub mod Sides
 pub mod Loads
 pub mod Closed
-pub mod Ending
 pub mod ClosedSides
 pub mod Taken

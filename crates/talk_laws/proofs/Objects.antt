@@ -16,9 +16,12 @@ use Rattle.rfcomm_frames.specs.declared.connection.Role.TheVariants.{Initiator, 
 use Rattle.rfcomm_frames.specs.Answers.{Answer}
 use Rattle.rfcomm_frames.specs.Connections.{other_role}
 use Rattle.rfcomm_frames.specs.FrameReading.{frame_answer}
-use Rattle.rfcomm_frames.specs.Multiplexing.{Passed, Framed, framed, frames, no_connections, carries_on, information, carried, user_octets}
+use Rattle.rfcomm_frames.specs.Multiplexing.{Passed, Framed, framed, frames, no_connections, carries_on, information, carried}
+use Rattle.rfcomm_frames.specs.Ending.{no_course, has_last, to_closing}
+use Rattle.rfcomm_frames.specs.UserChannel.{user_octets}
 use Rattle.rfcomm_frames.specs.LookingBack.{connections}
 use Rattle.rfcomm_frames.specs.ObexPackets.{IsPacket, AreObexPackets, obex_packets}
+use Rattle.rfcomm_frames.proofs.Ending.{counting, to_closing-more}
 use Rattle.rfcomm_frames.proofs.LookingBack.{looks-back}
 use Rattle.rfcomm_frames.proofs.ObexSplits.{obex_packets-right, obex_packets-one}
 use Rattle.link_talk.specs.declared.channel.Channel.{Channel}
@@ -61,14 +64,28 @@ stream-grows xs ys =
 
 -- ---- octets on the user channel
 
--- what a frame brings behind those before it
-abbrev brought : ℕ → Role → List Framed → Option Framed → List ℕ
-brought dlci way fs None = []
-brought dlci way fs (Some f) = cond (carries_on (connections dlci fs)) (information dlci way f) []
+-- the frames of the own multiplexer up to its closing
+abbrev live : Party → List Framed → List Framed
+live party fs = to_closing party.dlci party.role no_course fs
 
-carried_option : (dlci : ℕ) (way : Role) (fs : List Framed) (frame : Option Framed) → carried dlci way no_connections (fs ++ cons_option frame []) ≡ carried dlci way no_connections fs ++ brought dlci way fs frame
+-- what a frame brings behind those before it
+abbrev brought_live : ℕ → Role → List Framed → Option Framed → List ℕ
+brought_live dlci way fs None = []
+brought_live dlci way fs (Some f) = cond (carries_on (connections dlci fs)) (information dlci way f) []
+
+abbrev brought : Party → Role → List Framed → Option Framed → List ℕ
+brought party way fs frame = brought_live party.dlci way (live party fs) (counting (has_last party.dlci party.role no_course fs) frame)
+
+carried_option : (dlci : ℕ) (way : Role) (fs : List Framed) (frame : Option Framed)
+    → carried dlci way no_connections (fs ++ cons_option frame []) ≡ carried dlci way no_connections fs ++ brought_live dlci way fs frame
 carried_option dlci way fs None = ap (carried dlci way no_connections) (append-nil fs) ∙ sym (append-nil (carried dlci way no_connections fs))
 carried_option dlci way fs (Some f) = looks-back.brings dlci way fs f
+
+live_more : (party : Party) (way : Role) (fs : List Framed) (frame : Option Framed)
+    → carried party.dlci way no_connections (live party (fs ++ cons_option frame [])) ≡ carried party.dlci way no_connections (live party fs) ++ brought party way fs frame
+live_more party way fs frame =
+    ap (carried party.dlci way no_connections) (to_closing-more party.dlci party.role no_course fs frame)
+    ∙ carried_option party.dlci way (live party fs) (counting (has_last party.dlci party.role no_course fs) frame)
 
 abbrev framed_by : Party → Spoken → Option Framed
 framed_by party sdu = framed (role_of party sdu.flow) (frame_answer sdu.octets)
@@ -82,34 +99,42 @@ frames_more party past more =
     ∙ filter_map-append (λ (p : Passed). framed p.from (frame_answer p.sdu)) (map (passed party) past) (passed party more ∷ [])
 
 abbrev stream : Party → Flow → List Spoken → List ℕ
-stream party flow sdus = user_octets party.dlci (role_of party flow) (map (passed party) sdus)
+stream party flow sdus = user_octets party.dlci party.role (role_of party flow) (map (passed party) sdus)
 
 stream_more : (party : Party) (flow : Flow) (past : List Spoken) (more : Spoken)
-    → stream party flow (past ++ more ∷ []) ≡ stream party flow past ++ brought party.dlci (role_of party flow) (all_frames party past) (framed_by party more)
+    → stream party flow (past ++ more ∷ []) ≡ stream party flow past ++ brought party (role_of party flow) (all_frames party past) (framed_by party more)
 stream_more party flow past more =
-    ap (carried party.dlci (role_of party flow) no_connections) (frames_more party past more)
-    ∙ carried_option party.dlci (role_of party flow) (all_frames party past) (framed_by party more)
+    ap (λ fs. carried party.dlci (role_of party flow) no_connections (live party fs)) (frames_more party past more)
+    ∙ live_more party (role_of party flow) (all_frames party past) (framed_by party more)
 
 none_either : (b : Bool) → cond b [] [] ≡ (let none : List ℕ = [] in none)
 none_either true = refl
 none_either false = refl
 
 -- a frame of the other side brings nothing
-other_brings : (dlci : ℕ) (role : Role) (fs : List Framed) (given : Answer) → brought dlci role fs (framed (other_role role) given) ≡ []
-other_brings dlci Initiator fs (Ok frame) = none_either (carries_on (connections dlci fs))
-other_brings dlci Responder fs (Ok frame) = none_either (carries_on (connections dlci fs))
-other_brings dlci role fs (Err refusal) = refl
+other_live : (dlci : ℕ) (role : Role) (closed : Bool) (fs : List Framed) (given : Answer) → brought_live dlci role fs (counting closed (framed (other_role role) given)) ≡ []
+other_live dlci Initiator false fs (Ok frame) = none_either (carries_on (connections dlci fs))
+other_live dlci Responder false fs (Ok frame) = none_either (carries_on (connections dlci fs))
+other_live dlci role true fs (Ok frame) = refl
+other_live dlci role closed fs (Err refusal) = refl
 
-brings_other : (dlci : ℕ) (role : Role) (fs : List Framed) (given : Answer) → brought dlci (other_role role) fs (framed role given) ≡ []
-brings_other dlci Initiator fs (Ok frame) = none_either (carries_on (connections dlci fs))
-brings_other dlci Responder fs (Ok frame) = none_either (carries_on (connections dlci fs))
-brings_other dlci role fs (Err refusal) = refl
+live_other : (dlci : ℕ) (role : Role) (closed : Bool) (fs : List Framed) (given : Answer) → brought_live dlci (other_role role) fs (counting closed (framed role given)) ≡ []
+live_other dlci Initiator false fs (Ok frame) = none_either (carries_on (connections dlci fs))
+live_other dlci Responder false fs (Ok frame) = none_either (carries_on (connections dlci fs))
+live_other dlci role true fs (Ok frame) = refl
+live_other dlci role closed fs (Err refusal) = refl
+
+other_brings : (party : Party) (fs : List Framed) (given : Answer) → brought party party.role fs (framed (other_role party.role) given) ≡ []
+other_brings party fs given = other_live party.dlci party.role (has_last party.dlci party.role no_course fs) (live party fs) given
+
+brings_other : (party : Party) (fs : List Framed) (given : Answer) → brought party (other_role party.role) fs (framed party.role given) ≡ []
+brings_other party fs given = live_other party.dlci party.role (has_last party.dlci party.role no_course fs) (live party fs) given
 
 -- ---- packets over RFCOMM
 
 packets-grow : (party : Party) (flow : Flow) (past : List Spoken) (more : Spoken) → GrowsTo (packets_over_rfcomm party flow past) (packets_over_rfcomm party flow (past ++ more ∷ []))
 packets-grow party flow past more =
-    let grows = stream-grows (stream party flow past) (brought party.dlci (role_of party flow) (all_frames party past) (framed_by party more)) in
+    let grows = stream-grows (stream party flow past) (brought party (role_of party flow) (all_frames party past) (framed_by party more)) in
     record { more = grows.more; grown = ap obex_packets (stream_more party flow past more) ∙ grows.grown }
 
 drop_front : {X : Type 0} (xs ys : List X) → drop (length xs) (xs ++ ys) ≡ ys
@@ -133,7 +158,7 @@ out_into (octets ∷ list) = out_into list
 abbrev sdu : Flow → List ℕ → Spoken
 sdu flow octets = record { flow = flow; octets = octets }
 
-unchanged : (party : Party) (flow : Flow) (past : List Spoken) (more : Spoken) → brought party.dlci (role_of party flow) (all_frames party past) (framed_by party more) ≡ []
+unchanged : (party : Party) (flow : Flow) (past : List Spoken) (more : Spoken) → brought party (role_of party flow) (all_frames party past) (framed_by party more) ≡ []
     → packets_over_rfcomm party flow (past ++ more ∷ []) ≡ packets_over_rfcomm party flow past
 unchanged party flow past more none = ap obex_packets (stream_more party flow past more ∙ (ap (λ xs. stream party flow past ++ xs) none ∙ append-nil (stream party flow past)))
 
@@ -151,10 +176,10 @@ way_by party Out Out past octets = ap (λ xs. packets_over_rfcomm party Out past
 way_by party Into Into past octets = ap (λ xs. packets_over_rfcomm party Into past ++ xs) (same_way Into (gained (packets_over_rfcomm party Into) past (sdu Into octets))) ∙ gained_is party Into past octets
 way_by party Out Into past octets =
     ap (λ xs. packets_over_rfcomm party Out past ++ xs) (out_into (gained (packets_over_rfcomm party Into) past (sdu Into octets)))
-    ∙ (append-nil (packets_over_rfcomm party Out past) ∙ sym (unchanged party Out past (sdu Into octets) (other_brings party.dlci party.role (all_frames party past) (frame_answer octets))))
+    ∙ (append-nil (packets_over_rfcomm party Out past) ∙ sym (unchanged party Out past (sdu Into octets) (other_brings party (all_frames party past) (frame_answer octets))))
 way_by party Into Out past octets =
     ap (λ xs. packets_over_rfcomm party Into past ++ xs) (into_out (gained (packets_over_rfcomm party Out) past (sdu Out octets)))
-    ∙ (append-nil (packets_over_rfcomm party Into past) ∙ sym (unchanged party Into past (sdu Out octets) (brings_other party.dlci party.role (all_frames party past) (frame_answer octets))))
+    ∙ (append-nil (packets_over_rfcomm party Into past) ∙ sym (unchanged party Into past (sdu Out octets) (brings_other party (all_frames party past) (frame_answer octets))))
 
 abbrev Whole : Party → Flow → List Spoken → Type 0
 Whole party flow past = spoken_one_way flow (given_by (packet_with party OverRfcomm) past) ≡ packets_over_rfcomm party flow past

@@ -1,8 +1,10 @@
 -- Frames that are not acknowledged, and credits, in one pass (Core 5.1, Volume 3 Part A, 8.3 and 8.6; RFCOMM 1.2, 6.5).
-use Rattle.std.specs.Prelude.{ℕ, ℤ, pos, ◌≡◌, ◌+◌, ◌-◌, ◌%◌, ◌-ℤ◌, List, [], ◌∷◌, ◌++◌, length, fold}
+use Rattle.std.specs.Prelude.{ℕ, ℤ, pos, ◌≡◌, ◌+◌, ◌-◌, ◌%◌, ◌-ℤ◌, Bool, false, List, [], ◌∷◌, ◌++◌, length, fold, if◌then◌else◌}
 use Rattle.ertm_frames.specs.Picking.{Passage, Out, In, outs, ins, req_of, unacknowledged}
 use Rattle.rfcomm_frames.specs.declared.connection.Role.{Role}
-use Rattle.rfcomm_frames.specs.Multiplexing.{Passed, Framed, frames, Connections, no_connections, connections_after, granted_by, spent_by, credits_held}
+use Rattle.rfcomm_frames.specs.Multiplexing.{Passed, Framed, frames, granted_by, spent_by}
+use Rattle.rfcomm_frames.specs.Ending.{Course, no_course, course_after, is_last}
+use Rattle.rfcomm_frames.specs.UserChannel.{credits_held}
 use Rattle.link_talk.specs.Picks.{pick}
 
 -- ---- I-frames
@@ -28,22 +30,27 @@ used window = (window.given + 64 - window.awaited) % 64
 
 -- ---- credits
 
--- how far the connections are, what the peer granted, and what was spent of it
+-- how far the connections and the closing are, whether the multiplexer was closed, what the peer granted, and what was spent
+-- of it
 pub record Credits : Type 0 where
-  pub connections : Connections
+  pub course : Course
+  pub closed : Bool
   pub granted : ℕ
   pub spent : ℕ
 
 abbrev pub no_credits : Credits
-no_credits = record { connections = no_connections; granted = 0; spent = 0 }
+no_credits = record { course = no_course; closed = false; granted = 0; spent = 0 }
 
+-- behind a closing nothing counts
 abbrev pub credits_after : ℕ → Role → Credits → Framed → Credits
 credits_after dlci side credits f =
-    record {
-      connections = connections_after dlci credits.connections f;
-      granted = credits.granted + granted_by dlci side credits.connections f;
+    if credits.closed then credits else
+    (record {
+      course = course_after dlci side credits.course f;
+      closed = is_last dlci side credits.course f;
+      granted = credits.granted + granted_by dlci side credits.course.lines f;
       spent = credits.spent + spent_by dlci side f;
-    }
+    })
 
 abbrev pub credits_of : ℕ → Role → List Framed → Credits
 credits_of dlci side fs = fold (credits_after dlci side) no_credits fs

@@ -1,20 +1,22 @@
 //! The OBEX packets that a multiplexer carries.
 
-ghost use Rattle.std.specs.Prelude.{◌≡◌, ◌++◌, ◌≤◌, Some, OnOk, IfOk, MatchOption, length, map, option_map, take, drop};
+ghost use Rattle.std.specs.Prelude.{◌≡◌, ◌==◌, ◌&&◌, ◌||◌, ◌++◌, ◌≤◌, Some, OnOk, IfOk, MatchOption, length, map, option_map, take, drop};
 ghost use Rattle.rfcomm_frames.specs.Frames.{plain};
-ghost use Rattle.rfcomm_frames.specs.Connections.{dlc_after};
-ghost use Rattle.rfcomm_frames.specs.Multiplexing.{passing, carries_on, connections_after, is_data, user_octets};
+ghost use Rattle.rfcomm_frames.specs.Connections.{dlc_after, is_left};
+ghost use Rattle.rfcomm_frames.specs.Multiplexing.{passing, carries_on, connections_after, is_role, is_data};
+ghost use Rattle.rfcomm_frames.specs.Ending.{course_after, is_closed_by, is_last};
+ghost use Rattle.rfcomm_frames.specs.UserChannel.{user_octets};
 ghost use Rattle.rfcomm_frames.specs.ObexPackets.{IsPacket, HasNoPacket, obex_packets};
 ghost use Rattle.obex_headers.specs.Reader.{octets_of_all};
 ghost use Rattle.link_talk.specs.Packets.{role_of, passed, packets_over_rfcomm};
-ghost use Rattle.link_talk.specs.Frames.{frame_in, octets_heard, connected, plain_connections, plain_framed};
+ghost use Rattle.link_talk.specs.Frames.{frame_in, octets_heard, plain_connections, plain_course, plain_framed};
 ghost use Rattle.link_talk.specs.Lent.{plain_spoken};
 
 use crate::Party;
 use crate::readers::Spoken;
 use bt_base::NoMemory;
 use capture::Flow;
-use rfcomm_frames::{Dlc, MuxFrame, MuxKind, Role, frame_of};
+use rfcomm_frames::{Closing, Dlc, MuxFrame, MuxKind, Role, frame_of};
 use std::alloc::Global;
 
 /// How far the control channel and the user channel are.
@@ -22,6 +24,13 @@ use std::alloc::Global;
 pub(crate) struct Connections {
     control: Dlc,
     user: Dlc,
+}
+
+/// The connections, and how far a side is in closing its multiplexer.
+#[derive(Clone, Copy, Debug)]
+pub(crate) struct Course {
+    connections: Connections,
+    closing: Closing,
 }
 
 /// A frame, and the side that it came from.
@@ -59,15 +68,21 @@ fn dlc_after(framed: &Framed<'_>, dlci: u8, dlc: Dlc) -> Dlc
     dlc
 }
 
+/// Whether a side sent a frame.
+fn is_from(side: Role, framed: &Framed<'_>) -> bool
+    ensures { result ≡ is_role side framed.now.from }
+{
+    matches!(
+        (side, framed.from),
+        (Role::Initiator, Role::Initiator) | (Role::Responder, Role::Responder)
+    )
+}
+
 /// Whether a side sends information on a channel with a frame.
 fn is_data(dlci: u8, way: Role, framed: &Framed<'_>) -> bool
     ensures { result ≡ is_data dlci way (plain_framed framed.now) }
 {
-    let sent = matches!(
-        (way, framed.from),
-        (Role::Initiator, Role::Initiator) | (Role::Responder, Role::Responder)
-    );
-    sent && framed.frame.dlci == dlci && matches!(framed.frame.kind, MuxKind::Uih)
+    is_from(way, framed) && framed.frame.dlci == dlci && matches!(framed.frame.kind, MuxKind::Uih)
 }
 
 impl Connections {
@@ -77,11 +92,50 @@ impl Connections {
         matches!(self.user, Dlc::Open) && !matches!(self.control, Dlc::Ended)
     }
 
+    /// Whether DISC of a side on a channel closes one of the two.
+    fn are_left(&self, dlci: u8, from: Role, on: u8) -> bool
+        ensures { result ≡ (((on == 0) && is_left from self.now.control) || ((on == dlci) && is_left from self.now.user)) }
+    {
+        on == 0 && self.control.is_left(from) || on == dlci && self.user.is_left(from)
+    }
+
     fn hear(&mut self, dlci: u8, framed: &Framed<'_>)
         ensures { plain_connections self.new ≡ connections_after dlci (plain_connections self.old) (plain_framed framed.now) }
     {
         self.control = dlc_after(framed, 0, self.control);
         self.user = dlc_after(framed, dlci, self.user);
+    }
+}
+
+impl Course {
+    fn hear(&mut self, dlci: u8, side: Role, framed: &Framed<'_>)
+        ensures { plain_course self.new ≡ course_after dlci side (plain_course self.old) (plain_framed framed.now) }
+    {
+        self.connections.hear(dlci, framed);
+        self.closing = if is_from(side, framed) {
+            self.closing.said(dlci, &framed.frame)
+        } else {
+            self.closing.heard(dlci, &framed.frame)
+        };
+    }
+
+    /// Whether a frame closes the multiplexer of a side in order.
+    fn is_last(&self, dlci: u8, side: Role, framed: &Framed<'_>) -> bool
+        ensures { result ≡ is_last dlci side (plain_course self.now) (plain_framed framed.now) }
+    {
+        !is_from(side, framed) && self.is_closed_by(dlci, framed.from, &framed.frame)
+    }
+
+    fn is_closed_by(&self, dlci: u8, peer: Role, frame: &MuxFrame<'_>) -> bool
+        ensures { result ≡ is_closed_by dlci peer (plain_connections self.now.connections) self.now.closing frame.now.kind frame.now.dlci frame.now.pf }
+    {
+        match frame.kind {
+            MuxKind::Ua => frame.pf && frame.dlci == 0 && self.closing.awaits_control(),
+            MuxKind::Dm if frame.dlci == 0 => true,
+            MuxKind::Dm => frame.dlci == dlci && !self.closing.awaits_user(),
+            MuxKind::Disc => frame.pf && self.connections.are_left(dlci, peer, frame.dlci),
+            MuxKind::Sabm | MuxKind::Uih => false,
+        }
     }
 }
 
@@ -101,24 +155,30 @@ fn push_octets(
     Ok(())
 }
 
-/// The octets that a side sent on the user channel.
+/// The octets that a side sent on the user channel, up to the closing of the own multiplexer.
 fn user_octets(
     alloc: Global,
     party: &Party,
     way: Role,
     sdus: &[Spoken],
 ) -> Result<Vec<u8>, NoMemory>
-    ensures { IfOk result (λ found. found.items ≡ user_octets party.now.dlci way (map (passed party.now) (map plain_spoken sdus.now))) }
+    ensures { IfOk result (λ found. found.items ≡ user_octets party.now.dlci party.now.role way (map (passed party.now) (map plain_spoken sdus.now))) }
 {
     let mut found = Vec::new(alloc);
-    let mut connections = Connections {
-        control: Dlc::Idle,
-        user: Dlc::Idle,
+    let mut course = Course {
+        connections: Connections {
+            control: Dlc::Idle,
+            user: Dlc::Idle,
+        },
+        closing: Closing::NotBegun,
     };
     for sdu in sdus {
         if let Some(framed) = frame_in(role_of(party, sdu.flow), &sdu.octets) {
-            push_octets(&mut found, &connections, party.dlci, way, &framed)?;
-            connections.hear(party.dlci, &framed);
+            push_octets(&mut found, &course.connections, party.dlci, way, &framed)?;
+            if course.is_last(party.dlci, party.role, &framed) {
+                return Ok(found);
+            }
+            course.hear(party.dlci, party.role, &framed);
         }
     }
     Ok(found)

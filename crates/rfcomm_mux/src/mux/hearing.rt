@@ -2,7 +2,7 @@
 
 ghost use Rattle.std.specs.Prelude.{◌≡◌, ◌<◌};
 ghost use Rattle.rfcomm_frames.specs.Frames.{plain};
-ghost use Rattle.rfcomm_model.specs.Hearing.{has_room, says_dm, opens_control, opens_user, signals_next, hears_sabm, control_answered, user_answered, hears_ua, hears_dm, is_left, hears_disc, with_credits, credited, charged, hears_data, hears_uih, hears_kind, hears_settled, hears_frame, hears, data_of, read_data, ends, up};
+ghost use Rattle.rfcomm_model.specs.Hearing.{has_room, says_dm, opens_control, opens_user, signals_next, hears_sabm, control_answered, user_answered, hears_ua, hears_dm, hears_disc, with_credits, credited, charged, hears_data, hears_uih, hears_kind, hears_settled, hears_frame, hears, data_of, read_data, ends, up};
 ghost use Rattle.rfcomm_frames.specs.FrameReading.{frame_answer};
 ghost use Rattle.rfcomm_mux.specs.Ups.{up_of};
 
@@ -213,13 +213,13 @@ impl Mux {
         ensures { self.new ≡ hears_disc dlci self.old }
     {
         let peer = self.answers.role().other();
-        if dlci == 0 && is_left(peer, self.control) {
+        if dlci == 0 && self.control.is_left(peer) {
             if self.answers.has_room() {
                 self.control = Dlc::Ended;
                 self.is_left_by_peer();
                 self.answers.agree(0);
             }
-        } else if dlci == self.dlci && is_left(peer, self.user) {
+        } else if dlci == self.dlci && self.user.is_left(peer) {
             if self.answers.has_room() {
                 self.user = Dlc::Ended;
                 self.is_left_by_peer();
@@ -298,15 +298,5 @@ fn user_answered(asks: Asks) -> Asks
         Asks::Awaited(Command::OpenUser) => Asks::Due(Command::Signal),
         Asks::Awaited(Command::LeaveUser) => Asks::Due(Command::LeaveControl),
         _ => asks,
-    }
-}
-
-/// Whether DISC of a side closes the connection.
-fn is_left(from: Role, dlc: Dlc) -> bool
-    ensures { result ≡ is_left from dlc }
-{
-    match (from, dlc) {
-        (Role::Initiator, Dlc::Asked) | (_, Dlc::Open) => true,
-        _ => false,
     }
 }

@@ -1,47 +1,29 @@
 -- Where the multiplexer of a side is closed in order, read off the frames that the side heard and sent (TS 07.10, 5.4.2;
 -- RFCOMM 1.2, 5.2): by DISC of the peer on an open channel, by DM that is no answer to an own DISC, or by the answer to
 -- the own DISC on the control channel.
-use Rattle.std.specs.Prelude.{ℕ, ◌==◌, ◌&&◌, ◌||◌, not, Bool, true, false, List, [], ◌∷◌, Option, Some, None, if◌then◌else◌}
+use Rattle.std.specs.Prelude.{ℕ, ◌==◌, ◌&&◌, ◌||◌, not, Bool, true, false, List, [], ◌∷◌, if◌then◌else◌}
 use Rattle.rfcomm_frames.specs.declared.frame.MuxKind.{MuxKind}
 use Rattle.rfcomm_frames.specs.declared.frame.MuxKind.TheVariants.{Sabm, Ua, Dm, Disc, Uih}
 use Rattle.rfcomm_frames.specs.declared.connection.Role.{Role}
+use Rattle.rfcomm_frames.specs.declared.closing.Closing.{Closing}
+use Rattle.rfcomm_frames.specs.declared.closing.Closing.TheVariants.{NotBegun, LeavingUser, UserLeft, LeavingControl}
+use Rattle.rfcomm_frames.specs.Connections.{is_left}
 use Rattle.rfcomm_frames.specs.Multiplexing.{Framed, Connections, no_connections, connections_after, is_role}
-use Rattle.rfcomm_model.specs.declared.state.MuxReason.{MuxReason}
-use Rattle.rfcomm_model.specs.declared.state.MuxReason.TheVariants as reasons
-use Rattle.rfcomm_model.specs.Hearing.{is_left}
-
--- not closed, or closed by DISC or DM: nothing that the peer sent was refused
-abbrev pub IsOrderly : Option MuxReason → Type 0
-IsOrderly None = Unit {0}
-IsOrderly (Some reasons.Dm) = Unit {0}
-IsOrderly (Some reasons.Disc) = Unit {0}
-IsOrderly (Some reasons.NoCreditFlow) = ⊥
-IsOrderly (Some reasons.Overdrawn) = ⊥
-IsOrderly (Some reasons.BadFrame) = ⊥
-IsOrderly (Some reasons.CreditOverflow) = ⊥
-
--- how far a side is in closing: its DISC on the user channel waits for the answer, has it, and the one on the control
--- channel waits for its answer
-pub data Closing : Type 0 where
-  not_begun : Closing
-  leaving_user : Closing
-  user_left : Closing
-  leaving_control : Closing
 
 -- the own DISC goes out, with P
 abbrev pub closing_said : ℕ → MuxKind → ℕ → Bool → Closing → Closing
 closing_said dlci Sabm n pf c = c
 closing_said dlci Ua n pf c = c
 closing_said dlci Dm n pf c = c
-closing_said dlci Disc n pf c = if pf then (if n == 0 then leaving_control else if n == dlci then leaving_user else c) else c
+closing_said dlci Disc n pf c = if pf then (if n == 0 then LeavingControl else if n == dlci then LeavingUser else c) else c
 closing_said dlci Uih n pf c = c
 
 -- the own DISC on the user channel is answered
 abbrev pub once_answered : Closing → Closing
-once_answered not_begun = not_begun
-once_answered leaving_user = user_left
-once_answered user_left = user_left
-once_answered leaving_control = leaving_control
+once_answered NotBegun = NotBegun
+once_answered LeavingUser = UserLeft
+once_answered UserLeft = UserLeft
+once_answered LeavingControl = LeavingControl
 
 abbrev pub answered_on : ℕ → ℕ → Closing → Closing
 answered_on dlci n c = if n == 0 then c else if n == dlci then once_answered c else c
@@ -55,16 +37,16 @@ closing_heard dlci Disc n pf c = c
 closing_heard dlci Uih n pf c = c
 
 abbrev pub awaits_user : Closing → Bool
-awaits_user not_begun = false
-awaits_user leaving_user = true
-awaits_user user_left = false
-awaits_user leaving_control = false
+awaits_user NotBegun = false
+awaits_user LeavingUser = true
+awaits_user UserLeft = false
+awaits_user LeavingControl = false
 
 abbrev pub awaits_control : Closing → Bool
-awaits_control not_begun = false
-awaits_control leaving_user = false
-awaits_control user_left = false
-awaits_control leaving_control = true
+awaits_control NotBegun = false
+awaits_control LeavingUser = false
+awaits_control UserLeft = false
+awaits_control LeavingControl = true
 
 -- a frame of the peer closes the multiplexer
 abbrev pub is_closed_by : ℕ → Role → Connections → Closing → MuxKind → ℕ → Bool → Bool
@@ -80,7 +62,7 @@ pub record Course : Type 0 where
   pub closing : Closing
 
 abbrev pub no_course : Course
-no_course = record { lines = no_connections; closing = not_begun }
+no_course = record { lines = no_connections; closing = NotBegun }
 
 abbrev pub course_after : ℕ → Role → Course → Framed → Course
 course_after dlci side c f = record {
