@@ -14,3 +14,4 @@ pub mod Windows
 pub mod Waits
 pub mod Accounting
 pub mod Silencing
+pub mod Crediting

@@ -3,6 +3,7 @@
 mod accounting;
 mod answering;
 mod carrying;
+mod crediting;
 mod demanding;
 #[cfg(test)]
 mod enhanced_samples;
@@ -39,6 +40,7 @@ pub use accounting::{widest, window_peak};
 pub use answering::{answers_in, channel_answers, service_answers};
 use capture::Flow;
 pub use carrying::{mode_of, passages, stretch};
+pub use crediting::{Credits, link_credits};
 pub use entries::{Entry, Setup};
 pub use exchanging::{Exchange, Pending, exchanges};
 use l2cap_signal::{Signal, SignalRefusal};

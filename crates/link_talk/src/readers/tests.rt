@@ -38,7 +38,7 @@ fn push_entry(octets: &mut Vec<u8>, tag: u8, parts: &[&[u8]]) -> Result<(), Fail
 }
 
 /// The octets of a capture: a link of host b comes up, these PDUs move, and it ends.
-pub(crate) fn octets_of(alloc: Global, said: &[(Flow, &[u8])]) -> Result<Vec<u8>, Fail> {
+pub(crate) fn octets_of(alloc: Global, said: Said) -> Result<Vec<u8>, Fail> {
     let mut octets = Vec::new(alloc);
     push_entry(
         &mut octets,

@@ -1,6 +1,7 @@
 //! What waits at a moment of a talk, and what the other readings of one channel say.
 
 use super::enhanced_samples::{ENHANCED, SEGMENTS};
+use super::rfcomm_samples::{RFCOMM, RFCOMM_CLOSED};
 use super::samples::{BASIC, LEFT, OLD_ANSWER, Said, UNOPENED};
 use super::tests::{SERVER, octets_of, spoken};
 use super::waiting_samples::{DISCOVERY, POLLED, REFUSED};
@@ -95,6 +96,28 @@ fn one_channel_is_read(rt: HostRuntime) -> Result<(), Fail> {
     for (said, frames, used, checked, answers) in PASSED {
         let found = passed(rt.alloc(), said)?;
         assert!(rt; found == Some((frames, used, checked, answers)));
+    }
+    Ok(())
+}
+
+/// Captures, and the credits that host b was granted and those that it spent.
+const CREDITED: [(Said, u128, u128); 3] = [(BASIC, 0, 0), (RFCOMM, 10, 1), (RFCOMM_CLOSED, 7, 0)];
+
+/// The credits of a capture.
+fn credited(alloc: Global, said: Said) -> Result<Credits, Fail> {
+    let octets = octets_of(alloc, said)?;
+    let entries = entries_of(alloc, &octets).ok().ok_or("a capture")?;
+    let links = links(alloc, &entries, Side::B)?;
+    let pdus = pdus(alloc, links.first().ok_or("a link")?)?;
+    let said = sayings_of(alloc, &pdus)?;
+    Ok(link_credits(alloc, &SERVER, &said)?.ok_or("few credits")?)
+}
+
+#[test]
+fn credits_are_granted_and_spent(rt: HostRuntime) -> Result<(), Fail> {
+    for (said, granted, spent) in CREDITED {
+        let found = credited(rt.alloc(), said)?;
+        assert!(rt; found.granted == granted && found.spent == spent);
     }
     Ok(())
 }
