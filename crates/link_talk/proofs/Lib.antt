@@ -11,3 +11,7 @@ pub mod Worked
 pub mod Waiting
 pub mod Answering
 pub mod Windows
+pub mod Waits
+pub mod Accounting
+pub mod Silencing
+pub mod Crediting

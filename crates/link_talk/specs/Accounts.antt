@@ -3,6 +3,7 @@
 use Rattle.std.specs.Prelude.{ℕ, ℤ, pos, ◌==◌, ◌&&◌, List, [], ◌∷◌, map, fold, max, Option, Some, None, if◌then◌else◌}
 use Rattle.std.specs.List.{filter_map}
 use Rattle.std.specs.Option.{option_map}
+use Rattle.capture.specs.Channels.{last_of}
 use Rattle.capture.specs.declared.flow.Flow.{Flow}
 use Rattle.capture.specs.declared.flow.Flow.TheVariants as ways
 use Rattle.ertm_frames.specs.Frames.{PlainFrame}
@@ -46,14 +47,13 @@ widest party said = fold max 0 (map (λ (entry : Entry). window_used party said 
 
 -- ---- credits
 
--- credits count on the channel of RFCOMM that came to be last, of those that its host has not closed
+-- a channel of RFCOMM that its host has not closed
+abbrev pub carries_rfcomm : Entry → Option Channel
+carries_rfcomm entry = if (entry.channel.psm == 0x0003) && is_alive entry.life then Some entry.channel else None
+
+-- credits count on the one of these that came to be last
 abbrev pub multiplexed : List Entry → Option Channel
-multiplexed [] = None
-multiplexed (entry ∷ entries) = multiplexed_or (multiplexed entries) (if (entry.channel.psm == 0x0003) && is_alive entry.life then Some entry.channel else None)
-  where
-    multiplexed_or : Option Channel → Option Channel → Option Channel
-    multiplexed_or (Some later) before = Some later
-    multiplexed_or None before = before
+multiplexed entries = last_of (filter_map carries_rfcomm entries)
 
 abbrev pub credits_on : Party → List Saying → Option Channel → ℤ
 credits_on party said None = pos 0

@@ -24,3 +24,4 @@ pub mod Frames
 pub mod Shortening
 pub mod GrowingLaws
 pub mod Examples
+pub mod Crediting

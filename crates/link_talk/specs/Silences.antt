@@ -1,6 +1,6 @@
 -- Which requests of OBEX are answered: in single response mode a server passes over the PUTs behind one that it refused
 -- (IrOBEX 1.5, 3.1, 3.2 and 3.4.3.7). What a server says there is this project's own choice.
-use Rattle.std.specs.Prelude.{ℕ, ◌==◌, ◌&&◌, nat_lt, Bool, true, false, List, [], ◌∷◌, ◌++◌, length, Option, Some, None, Result, Ok, Err, if◌then◌else◌}
+use Rattle.std.specs.Prelude.{ℕ, ◌==◌, ◌&&◌, not, Bool, false, List, [], ◌∷◌, ◌++◌, Option, Some, None, is_some, Result, Ok, Err, if◌then◌else◌}
 use Rattle.std.specs.List.{list_any}
 use Rattle.capture.specs.declared.flow.Flow.{Flow}
 use Rattle.capture.specs.Pdus.{same_flow}
@@ -8,28 +8,15 @@ use Rattle.obex_headers.specs.declared.fault.ObexRefusal.{ObexRefusal}
 use Rattle.obex_headers.specs.declared.packet.Phase.TheVariants.{Request, Response}
 use Rattle.obex_headers.specs.Packets.{PlainValue, Text, Octets, One, Four, PlainHeader, PlainPacket}
 use Rattle.obex_headers.specs.Reading.{packet_in}
-use Rattle.obex_headers.specs.Runs.{is_final, names, put_of}
+use Rattle.obex_headers.specs.Runs.{is_final, name_text, put_of}
+use Rattle.link_talk.specs.declared.course.Asked.{Asked}
+use Rattle.link_talk.specs.declared.course.Asked.TheVariants.{Put, Other, Refused}
+use Rattle.link_talk.specs.declared.course.Course.{Course}
+use Rattle.link_talk.specs.declared.course.Course.TheVariants.{Resting, Offered, Singly, Together, Silent}
 use Rattle.link_talk.specs.Sdus.{Spoken}
 use Rattle.link_talk.specs.Exchanges.{code_of, Exchange, exchanges}
 
 -- ---- packets
-
--- a request as a server that takes so many octets hears it: a PUT, another packet, or one that it refuses
-pub data Asked : Type 0 where
-  Put : (packet : PlainPacket) → Asked
-  Other : Asked
-  Refused : Asked
-
-abbrev pub asked_with : Option PlainPacket → Asked
-asked_with None = Other
-asked_with (Some put) = Put put
-
-abbrev pub asked_by : Result PlainPacket ObexRefusal → Asked
-asked_by (Ok packet) = asked_with (put_of (Ok packet))
-asked_by (Err refusal) = Refused
-
-abbrev pub asked_in : ℕ → List ℕ → Asked
-asked_in most octets = asked_by (packet_in Request most octets)
 
 abbrev pub is_one : PlainValue → Bool
 is_one (Text octets) = false
@@ -41,42 +28,47 @@ is_one (Four number) = false
 abbrev pub is_single : PlainHeader → Bool
 is_single header = (header.id == 0x97) && is_one header.value
 
-abbrev pub says_single : PlainPacket → Bool
-says_single packet = list_any is_single packet.headers
+-- a Name (01)
+abbrev pub is_name : PlainHeader → Bool
+is_name header = is_some (name_text header)
+
+-- a packet has such a header
+abbrev pub says_single : List PlainHeader → Bool
+says_single headers = list_any is_single headers
+
+abbrev pub is_named : List PlainHeader → Bool
+is_named headers = list_any is_name headers
 
 abbrev pub answers_single : Result PlainPacket ObexRefusal → Bool
-answers_single (Ok packet) = says_single packet
+answers_single (Ok packet) = says_single packet.headers
 answers_single (Err refusal) = false
 
-abbrev pub is_named : PlainPacket → Bool
-is_named put = nat_lt 0 (length (names put.headers))
+-- a request as a server that takes so many octets hears it
+abbrev pub asked_with : Option PlainPacket → Asked
+asked_with None = Other
+asked_with (Some put) = Put (is_final put) (is_named put.headers) (says_single put.headers)
+
+abbrev pub asked_by : Result PlainPacket ObexRefusal → Asked
+asked_by (Ok packet) = asked_with (put_of (Ok packet))
+asked_by (Err refusal) = Refused
+
+abbrev pub asked_in : ℕ → List ℕ → Asked
+asked_in most octets = asked_by (packet_in Request most octets)
 
 -- ---- how far an object is
 
-pub data Course : Type 0 where
-  -- no object is under way
-  Resting : Course
-  -- its first PUT asked for single response mode
-  Offered : Course
-  -- each PUT is answered
-  Singly : Course
-  -- its PUTs are answered together
-  Together : Course
-  -- one of them was refused: those behind it are passed over
-  Silent : Course
+abbrev pub begins : (final single : Bool) → Course
+begins final single = if final then Resting else (if single then Offered else Singly)
 
-abbrev pub begins : PlainPacket → Course
-begins put = if is_final put then Resting else (if says_single put then Offered else Singly)
+abbrev pub goes_on : (final : Bool) → Course → Course
+goes_on final course = if final then Resting else course
 
-abbrev pub goes_on : PlainPacket → Course → Course
-goes_on put course = if is_final put then Resting else course
-
-abbrev pub after_put : Course → PlainPacket → Course
-after_put Resting put = begins put
-after_put Offered put = goes_on put Offered
-after_put Singly put = goes_on put Singly
-after_put Together put = goes_on put Together
-after_put Silent put = if is_named put then begins put else goes_on put Silent
+abbrev pub after_put : Course → (final named single : Bool) → Course
+after_put Resting final named single = begins final single
+after_put Offered final named single = goes_on final Offered
+after_put Singly final named single = goes_on final Singly
+after_put Together final named single = goes_on final Together
+after_put Silent final named single = if named then begins final single else goes_on final Silent
 
 -- what is refused ends an object, but in the mode it is the answer that does
 abbrev pub after_refused : Course → Course
@@ -87,7 +79,7 @@ after_refused Together = Together
 after_refused Silent = Silent
 
 abbrev pub after_asked : Course → Asked → Course
-after_asked course (Put put) = after_put course put
+after_asked course (Put final named single) = after_put course final named single
 after_asked course Other = Resting
 after_asked course Refused = after_refused course
 
@@ -108,7 +100,7 @@ course_after requests most course more =
 -- ---- what is answered
 
 abbrev pub passed_over : Course → Asked → Bool
-passed_over Silent (Put put) = if is_named put then false else true
+passed_over Silent (Put final named single) = not named
 passed_over course asked = false
 
 abbrev pub heard_at : Flow → ℕ → Course → Spoken → List Spoken

@@ -4,6 +4,7 @@
 
 mod call;
 mod channel;
+mod course;
 pub mod laws;
 mod life;
 mod party;
@@ -12,6 +13,7 @@ mod word;
 
 pub use call::{Call, Failure, Wanted};
 pub use channel::Channel;
+pub use course::{Asked, Course};
 pub use life::Life;
 pub use party::Party;
 pub use word::Word;

@@ -1,10 +1,10 @@
 -- Requests and responses, looking back and in one pass.
-use Rattle.std.proofs.Common.{◌≡◌, ℕ, List, [], ◌∷◌, ◌++◌, map, Bool, true, false, cond, ◌||◌, Some, None, refl, sym, ap, ◌∙◌, append_assoc, append-nil}
-use Rattle.std.specs.List.{flat_map, list_any, cons_option}
+use Rattle.std.proofs.Common.{◌≡◌, ℕ, ◌+◌, List, [], ◌∷◌, ◌++◌, map, Bool, true, false, cond, ◌||◌, ◌&&◌, Some, None, refl, sym, ap, ◌∙◌, append_assoc, append-nil, arith}
+use Rattle.std.specs.List.{flat_map, list_any, cons_option, count_by}
 use Rattle.std.proofs.lemmas.List.{map-append}
 use Rattle.std.proofs.lemmas.List.Elements.{filter_map-append}
 use Rattle.std.proofs.lemmas.List.Folds.{list_any-append}
-use Rattle.std.proofs.lemmas.List.Sums.{fold-append}
+use Rattle.std.proofs.lemmas.List.Sums.{fold-append, sum_by-append}
 use Rattle.std.proofs.lemmas.Grind.{flat_map-append}
 use Rattle.capture.specs.declared.flow.Flow.{Flow}
 use Rattle.capture.specs.Histories.{each_after, given_by}
@@ -12,7 +12,7 @@ use Rattle.capture.specs.Pdus.{same_flow}
 use Rattle.capture.proofs.HistoryLaws.{given_by-more}
 use Rattle.link_talk.specs.Sdus.{Spoken, spoken_way, spoken_one_way}
 use Rattle.link_talk.specs.Exchanges.{Pending, fresh, is_abort, joins, with_request, Exchange, without_first, answered_first, pending_after, exchanges_from, exchanges}
-use Rattle.talk_laws.specs.Exchanges.{pending, answered_behind, packets_of, requests_made, ExchangesLookBack, ExchangesGrow}
+use Rattle.talk_laws.specs.Exchanges.{pending, answered_behind, packets_of, requests_made, last_waiting, displaced_behind, displaced, ExchangesLookBack, ExchangesGrow}
 use Rattle.talk_laws.proofs.Passes.{from_end}
 
 -- ---- looking back
@@ -98,10 +98,84 @@ complete_more requests past more held none =
     ∙ (complete_by requests past more (same_flow requests more.flow) refl held (ap (list_any is_abort) (sym (way_more requests past more)) ∙ none)
     ∙ sym (way_more requests past more)))
 
+-- ---- with ABORTs
+
+abbrev counted : (List ℕ → Bool) → List (List ℕ) → ℕ
+counted passes packets = count_by passes packets
+
+counted_both : (passes : List ℕ → Bool) (xs ys : List (List ℕ)) → counted passes (xs ++ ys) ≡ counted passes xs + counted passes ys
+counted_both passes xs ys = sum_by-append (λ x. cond (passes x) 1 0) xs ys
+
+abbrev weight : (List ℕ → Bool) → List Pending → ℕ
+weight passes waiting = counted passes (all_packets waiting)
+
+weight_both : (passes : List ℕ → Bool) (xs ys : List Pending) → weight passes (xs ++ ys) ≡ weight passes xs + weight passes ys
+weight_both passes xs ys = ap (counted passes) (flat_map-append packets_of xs ys) ∙ counted_both passes (all_packets xs) (all_packets ys)
+
+-- an ABORT comes, and the last request goes
+aborted_more : (passes : List ℕ → Bool) (waiting : List Pending) (packet : List ℕ) → is_abort packet ≡ true
+    → weight passes (with_request waiting packet) + weight passes (last_waiting waiting) ≡ weight passes waiting + counted passes (packet ∷ [])
+aborted_more passes [] packet is = omega arith
+aborted_more passes (waits ∷ []) packet is =
+    ap (λ b. weight passes (cond b (fresh packet ∷ []) (cond (joins waits packet) (record { first = waits.first; behind = waits.behind ++ packet ∷ [] } ∷ []) (waits ∷ fresh packet ∷ []))) + weight passes (waits ∷ [])) is
+    ∙ omega arith
+aborted_more passes (waits ∷ next ∷ others) packet is =
+    let rest = aborted_more passes (next ∷ others) packet is in
+    let left = counted_both passes (packets_of waits) (all_packets (with_request (next ∷ others) packet)) in
+    let right = counted_both passes (packets_of waits) (all_packets (next ∷ others)) in
+    omega (arith, rest, left, right)
+
+request_more : (passes : List ℕ → Bool) (waiting : List Pending) (packet : List ℕ) (abort : Bool) → is_abort packet ≡ abort
+    → weight passes (with_request waiting packet) + weight passes (cond abort (last_waiting waiting) []) ≡ weight passes waiting + counted passes (packet ∷ [])
+request_more passes waiting packet true is = aborted_more passes waiting packet is
+request_more passes waiting packet false is =
+    let more = ap (counted passes) (packets_more waiting packet is) ∙ counted_both passes (all_packets waiting) (packet ∷ []) in
+    omega (arith, more)
+
+abbrev Once : (List ℕ → Bool) → Flow → List Spoken → Type 0
+Once passes requests packets = counted passes (all_packets (requests_made requests packets ++ displaced requests packets)) ≡ counted passes (spoken_one_way requests packets)
+
+once_by : (passes : List ℕ → Bool) (requests : Flow) (past : List Spoken) (more : Spoken) (same : Bool) → same_flow requests more.flow ≡ same → Once passes requests past
+    → counted passes
+    (all_packets
+    ((map (λ (one : Exchange). one.request) (exchanges requests past ++ cond same [] (answered_first more.octets (pending requests past))) ++ cond same (with_request (pending requests past) more.octets) (without_first (pending requests past)))
+    ++ (displaced requests past ++ cond (same && is_abort more.octets) (last_waiting (pending requests past)) [])))
+    ≡ counted passes (spoken_one_way requests past ++ cons_option (cond same (Some more.octets) None) [])
+once_by passes requests past more true is held =
+    let answered = map (λ (one : Exchange). one.request) (exchanges requests past) in
+    let waiting = pending requests past in
+    let gone = displaced requests past in
+    let now = with_request waiting more.octets in
+    let lost = cond (is_abort more.octets) (last_waiting waiting) [] in
+    let before = weight_both passes (answered ++ waiting) gone in
+    let apart = weight_both passes answered waiting in
+    let step = request_more passes waiting more.octets (is_abort more.octets) refl in
+    let parts = weight_both passes (answered ++ now) (gone ++ lost) in
+    let first = weight_both passes answered now in
+    let second = weight_both passes gone lost in
+    let spoken = counted_both passes (spoken_one_way requests past) (more.octets ∷ []) in
+    ap (λ es. weight passes ((map (λ (one : Exchange). one.request) es ++ now) ++ (gone ++ lost))) (append-nil (exchanges requests past))
+    ∙ omega (arith, held, before, apart, step, parts, first, second, spoken)
+once_by passes requests past more false is held =
+    let answered = exchanges requests past in
+    let waiting = pending requests past in
+    ap (λ ps. weight passes (ps ++ (displaced requests past ++ []))) (first_goes answered more.octets waiting)
+    ∙ (ap (λ gone. weight passes (requests_made requests past ++ gone)) (append-nil (displaced requests past))
+    ∙ (held ∙ ap (counted passes) (sym (append-nil (spoken_one_way requests past)))))
+
+once_more : (passes : List ℕ → Bool) (requests : Flow) (past : List Spoken) (more : Spoken) → Once passes requests past → Once passes requests (past ++ more ∷ [])
+once_more passes requests past more held =
+    ap (λ es. weight passes ((map (λ (one : Exchange). one.request) es ++ pending requests (past ++ more ∷ [])) ++ displaced requests (past ++ more ∷ []))) (exchanges-more requests past more)
+    ∙ (ap (λ ps. weight passes ((map (λ (one : Exchange). one.request) (exchanges requests past ++ answered_behind requests past more) ++ ps) ++ displaced requests (past ++ more ∷ []))) (pending-more requests past more)
+    ∙ (ap (λ gone. weight passes ((map (λ (one : Exchange). one.request) (exchanges requests past ++ answered_behind requests past more) ++ pending_after requests (pending requests past) more) ++ gone)) (given_by-more (displaced_behind requests) past more)
+    ∙ (once_by passes requests past more (same_flow requests more.flow) refl held
+    ∙ ap (counted passes) (sym (way_more requests past more)))))
+
 pub exchanges-look_back : ExchangesLookBack
 exchanges-look_back = record {
   answered = exchanges-answered;
   complete = λ requests packets. from_end (Complete requests) (λ none. refl) (complete_more requests) packets;
+  once = λ requests packets passes. from_end (Once passes requests) refl (once_more passes requests) packets;
 }
 
 pub exchanges-grow : ExchangesGrow

@@ -7,3 +7,6 @@ pub mod Accounts
 pub mod Owning
 pub mod Waits
 pub mod Objects
+pub mod CheckWords
+pub mod Captures
+pub mod Silences

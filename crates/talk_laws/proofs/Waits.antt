@@ -12,7 +12,7 @@ use Rattle.l2cap_config.specs.declared.wish.Mode.TheVariants.{Basic, Enhanced}
 use Rattle.link_talk.specs.declared.channel.Channel.{Channel}
 use Rattle.link_talk.specs.declared.party.Party.{Party}
 use Rattle.link_talk.specs.Sayings.{Saying}
-use Rattle.link_talk.specs.Channels.{Entry, is_there, waits_for_end, reading}
+use Rattle.link_talk.specs.Channels.{Entry, is_there, waits_for_end, Reading, reading, read_on}
 use Rattle.link_talk.specs.Carriages.{is_heard, is_passed, carried, carried_by, stretch, passages, has_own, mode_of}
 use Rattle.link_talk.specs.Sdus.{Spoken, spoken, spoken_with}
 use Rattle.link_talk.specs.ServiceAnswers.{waiting_after}
@@ -23,7 +23,7 @@ use Rattle.link_talk.proofs.OnePass.{reading-more}
 use Rattle.link_talk.proofs.Growing.{mode-stands, stretch-grows, passages-grow, spoken-grows}
 use Rattle.talk_laws.specs.Sdus.{Ears, no_ears, ears_after, ears_so_far, spoken_from}
 use Rattle.talk_laws.specs.Accounts.{Window, nothing_given, window_after, window_of, used}
-use Rattle.talk_laws.specs.Waits.{Counts, no_counts, mode_held, counts_with, with_options, counts_after, Tracked, nothing_tracked, track, tracked_of, noticed_after, frames_wait_by, counts_wait, entry_waits_by, waits_by, counts_of, WaitsLookBack, CountsGrow}
+use Rattle.talk_laws.specs.Waits.{Counts, no_counts, mode_held, counts_with, with_options, counts_after, Tracked, nothing_tracked, track, tracked_of, noticed_after, frames_wait_by, counts_wait, entry_waits_by, waits_by, counts_of, WaitsLookBack, CountsGrow, WaitsGrow}
 use Rattle.talk_laws.proofs.Passes.{from_end}
 use Rattle.talk_laws.proofs.Owning.{alone, none-before, not-found, nothing-carried, unopened-carries}
 use Rattle.talk_laws.proofs.Sdus.{spoken-behind}
@@ -162,3 +162,21 @@ waits_same party said =
 
 pub waits-look_back : WaitsLookBack
 waits-look_back = record { tracked = tracked-is; waiting = waits_same; before = counts-before }
+
+-- the same counts find the same
+counts_same : (held : Reading) (first second : Channel → Counts) (entry : Entry) → first entry.channel ≡ second entry.channel → entry_waits_by held first entry ≡ entry_waits_by held second entry
+counts_same held first second entry same = ap (λ counts. waits_for_end entry.life || (is_there entry.life && counts_wait entry.channel (mode_held entry.channel held) counts)) same
+
+pub waits-grow : WaitsGrow
+waits-grow party said more =
+    let now = said ++ more ∷ [] in
+    let held = read_on (reading said) more in
+    let information = noticed_after (fold noticed_after None said) more in
+    let after : Channel → Counts = λ channel. counts_after party channel (reading said) more (counts_of party channel said) in
+    let counted : Channel → Counts = λ channel. (tracked_of party channel now).counts in
+    waits_same party now
+    ∙ (ap (λ r. waits_by r (fold noticed_after None now) counted) (reading-more said more)
+    ∙ (ap (λ o. waits_by held o counted) (fold-append noticed_after None said (more ∷ []))
+    ∙ ap (λ b. list_any (call_waits held) held.requests.calls || (is_some information || b))
+    (any_same (entry_waits_by held counted) (entry_waits_by held after) held.entries
+    (λ entry. counts_same held counted after entry (ap (λ (t : Tracked). t.counts) (tracked-is party entry.channel now) ∙ counts-grow party entry.channel said more)))))

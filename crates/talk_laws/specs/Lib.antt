@@ -6,3 +6,6 @@ pub mod Sdus
 pub mod Accounts
 pub mod Waits
 pub mod Objects
+pub mod CheckWords
+pub mod Captures
+pub mod Silences

@@ -112,3 +112,9 @@ pub record WaitsLookBack : Type 0 where
 -- one saying more
 abbrev pub CountsGrow : Type 0
 CountsGrow = (party : Party) (channel : Channel) (said : List Saying) (more : Saying) → counts_of party channel (said ++ more ∷ []) ≡ counts_after party channel (reading said) more (counts_of party channel said)
+
+-- what a timer finds with one saying more, by what was held before it
+abbrev pub WaitsGrow : Type 0
+WaitsGrow = (party : Party) (said : List Saying) (more : Saying)
+    → waits party (said ++ more ∷ [])
+    ≡ waits_by (read_on (reading said) more) (noticed_after (fold noticed_after None said) more) (λ channel. counts_after party channel (reading said) more (counts_of party channel said))

@@ -3,23 +3,33 @@
 #![tactic(auto)]
 
 ghost use Rattle.talk_laws.specs.Accounts.{AccountsGrow, AccountsLookBack};
+ghost use Rattle.talk_laws.specs.Captures.{OnlyMovesTell};
+ghost use Rattle.talk_laws.specs.CheckWords.{CheckWordsLookBack};
 ghost use Rattle.talk_laws.specs.Exchanges.{ExchangesGrow, ExchangesLookBack};
 ghost use Rattle.talk_laws.specs.Objects.{ObjectsGrow};
 ghost use Rattle.talk_laws.specs.Sdus.{SdusGrow, SdusLookBack};
 ghost use Rattle.talk_laws.specs.ServiceAnswers.{ServiceAnswersLookBack};
+ghost use Rattle.talk_laws.specs.Silences.{SilencesGrow, SilencesLookBack};
 ghost use Rattle.talk_laws.specs.Setups.{SetupsLookBack};
-ghost use Rattle.talk_laws.specs.Waits.{CountsGrow, WaitsLookBack};
+ghost use Rattle.talk_laws.specs.Waits.{CountsGrow, WaitsGrow, WaitsLookBack};
 
 /// What both sides agree on of a channel is what they asked for and accepted last before it opened.
 pub fn setups_look_back()
     ensures { SetupsLookBack }
 {}
 
-/// A response answers the first request that waits behind the packets before it; and without an
-/// ABORT no packet of a request is lost.
+/// A response answers the first request that waits behind the packets before it; and each packet of a
+/// request stands in one request, which was answered, waits, or gave its place to an ABORT.
 pub fn exchanges_look_back()
     ensures back { ExchangesLookBack }
     ensures grow { ExchangesGrow }
+{}
+
+/// The requests that a server passes over stand behind a PUT that it refused in single response mode;
+/// the others are answered.
+pub fn silences_look_back()
+    ensures back { SilencesLookBack }
+    ensures grow { SilencesGrow }
 {}
 
 /// The answers of service discovery are those of the first replies to the requests before them.
@@ -39,10 +49,22 @@ pub fn accounts_look_back()
     ensures grow { AccountsGrow }
 {}
 
-/// So is what a timer finds.
+/// So is what a timer finds; and what it finds with one saying more is told by what was held before.
 pub fn waits_look_back()
     ensures back { WaitsLookBack }
-    ensures grow { CountsGrow }
+    ensures counts { CountsGrow }
+    ensures grow { WaitsGrow }
+{}
+
+/// A frame has a check word where its channel is not gone and is agreed on so, looking back; and what is
+/// so with one saying more is told by what was held before.
+pub fn check_words_look_back()
+    ensures { CheckWordsLookBack }
+{}
+
+/// What a capture says of timers and check words is changed by what moves alone.
+pub fn only_moves_tell()
+    ensures { OnlyMovesTell }
 {}
 
 /// The packets and objects on a channel only gain, over RFCOMM too.

@@ -1,12 +1,17 @@
 //! The answers of service discovery on a channel.
 
-ghost use Rattle.std.specs.Prelude.{◌≡◌, ◌++◌, ◌∷◌, [], List, OnOk, IfOk, Option, map, option_map, option_to_list};
+ghost use Rattle.std.specs.List.{flat_map};
+ghost use Rattle.std.specs.Prelude.{◌≡◌, ◌++◌, ◌∷◌, [], List, OnOk, IfOk, Option, None, fold, map, option_map, option_to_list};
 ghost use Rattle.obex_headers.specs.Reader.{octets_of_all};
 ghost use Rattle.sdp_elements.specs.Pdus.{pdu_in};
 ghost use Rattle.sdp_client.specs.Replies.{PlainPart, plain_part};
-ghost use Rattle.link_talk.specs.ServiceAnswers.{transaction_of, asked_by, answered_by, waiting_after, part_of, part_with, is_last, joined_from, answers_in, channel_answers};
-ghost use Rattle.link_talk.specs.Lent.{plain_sayings, plain_spoken};
+ghost use Rattle.link_talk.specs.ServiceAnswers.{transaction_of, asked_by, answered_by, waiting_after, part_of, part_with, is_last, joined_from, answers_in, channel_answers, service_answers};
+ghost use Rattle.link_talk.specs.Waits.{query_waits};
+ghost use Rattle.link_talk.specs.Channels.{Entry as PlainEntry, reading};
+ghost use Rattle.link_talk.specs.Lent.{plain_sayings, plain_spoken, plain_entries};
 
+use crate::readers::entries::Entry;
+use crate::readers::reading::reading_of;
 use crate::readers::sdus::sdus_spoken;
 use crate::readers::{Saying, Spoken};
 use crate::{Channel, Party};
@@ -88,6 +93,30 @@ fn part_with(waiting: Option<u16>, sdu: &Spoken) -> Option<Part<'_>>
     }
 }
 
+/// The transaction that waits behind all SDUs.
+fn waiting_in(sdus: &[Spoken]) -> Option<u16>
+    ensures { result ≡ fold waiting_after None (map plain_spoken sdus.now) }
+{
+    let mut waiting = None;
+    for sdu in sdus {
+        waiting = waiting_after(waiting, sdu);
+    }
+    waiting
+}
+
+/// Whether a request on a channel of service discovery has no reply.
+pub(crate) fn query_waits(
+    alloc: Global,
+    party: &Party,
+    said: &[Saying<'_>],
+    channel: &Channel,
+) -> Result<bool, NoMemory>
+    ensures { IfOk result (λ found. found ≡ query_waits party.now (plain_sayings said.now) channel.now) }
+{
+    let sdus = sdus_spoken(alloc, party, channel, said)?;
+    Ok(channel.psm == SERVICE_DISCOVERY && waiting_in(&sdus).is_some())
+}
+
 /// Joins a part to those before it. An answer that is whole is found, and nothing is left of it.
 fn join(
     alloc: Global,
@@ -151,5 +180,44 @@ pub fn channel_answers(
     }
     let sdus = sdus_spoken(alloc, party, channel, said)?;
     let found = answers_in(alloc, &sdus)?;
+    Ok(found)
+}
+
+/// Adds answers behind others.
+fn append(found: &mut Vec<Vec<u8>>, mut more: Vec<Vec<u8>>) -> Result<(), NoMemory>
+    ensures { OnOk result (octets_of_all found.new.items ≡ octets_of_all found.old.items ++ octets_of_all more.items) }
+{
+    found.append(&mut more)?;
+    Ok(())
+}
+
+/// The answers on these channels, one channel after the other.
+fn answers_on(
+    alloc: Global,
+    party: &Party,
+    said: &[Saying<'_>],
+    entries: &[Entry],
+) -> Result<Vec<Vec<u8>>, NoMemory>
+    ensures { IfOk result (λ found. octets_of_all found.items ≡ flat_map (λ (entry : PlainEntry). channel_answers party.now (plain_sayings said.now) entry.channel) (plain_entries entries.now)) }
+{
+    let mut found = Vec::new(alloc);
+    for entry in entries {
+        let more = channel_answers(alloc, party, said, &entry.channel)?;
+        append(&mut found, more)?;
+    }
+    Ok(found)
+}
+
+/// The answers of service discovery that a host heard on a link. `NoMemory` is answered for want of
+/// memory alone.
+pub fn service_answers(
+    alloc: Global,
+    party: &Party,
+    said: &[Saying<'_>],
+) -> Result<Vec<Vec<u8>>, NoMemory>
+    ensures { IfOk result (λ found. octets_of_all found.items ≡ service_answers party.now (plain_sayings said.now)) }
+{
+    let held = reading_of(alloc, said)?;
+    let found = answers_on(alloc, party, said, &held.entries)?;
     Ok(found)
 }

@@ -1,6 +1,6 @@
 //! Requests and responses of OBEX on a channel.
 
-ghost use Rattle.std.specs.Prelude.{◌≡◌, ◌++◌, ◌∷◌, [], ◌==◌, List, OnOk, IfOk, Option, None, map, option_map, option_to_list, slice_index};
+ghost use Rattle.std.specs.Prelude.{◌≡◌, ◌++◌, ◌∷◌, [], ◌==◌, ◌||◌, List, OnOk, IfOk, Option, None, map, option_map, option_to_list, slice_index};
 ghost use Rattle.capture.specs.Pdus.{same_flow};
 ghost use Rattle.link_talk.specs.Exchanges.{code_of, is_put, is_abort, last_packet, joins, fresh, with_last, with_request, without_first, answered_first, pending_after, exchanges, ends_object_with};
 ghost use Rattle.link_talk.specs.Exchanging.{plain_pending, plain_waiting, plain_exchange, plain_exchanges, exchanged};
@@ -32,17 +32,23 @@ pub struct Exchange {
     pub response: Vec<u8>,
 }
 
-fn code_of(packet: &[u8]) -> u8
+pub(crate) fn code_of(packet: &[u8]) -> u8
     ensures { result ≡ code_of packet.now }
 {
     packet.first().copied().unwrap_or(0)
 }
 
+/// Whether the code is that of a PUT.
+pub(crate) fn is_put_code(code: u8) -> bool
+    ensures { result ≡ ((code == 0x02) || (code == 0x82)) }
+{
+    code == PUT || code == FINAL_PUT
+}
+
 fn is_put(packet: &[u8]) -> bool
     ensures { result ≡ is_put packet.now }
 {
-    let code = code_of(packet);
-    code == PUT || code == FINAL_PUT
+    is_put_code(code_of(packet))
 }
 
 impl Pending {
@@ -162,7 +168,7 @@ fn hear(
     Ok(())
 }
 
-fn is_same(one: Flow, other: Flow) -> bool
+pub(crate) fn is_same(one: Flow, other: Flow) -> bool
     ensures { result ≡ same_flow one other }
 {
     matches!(

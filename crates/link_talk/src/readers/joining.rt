@@ -41,7 +41,7 @@ pub(crate) enum Joint {
 }
 
 /// The frame that a PDU is, for a receiver that takes so many octets.
-fn frame_in(pdu: &[u8], most: u16) -> Option<Frame<'_>>
+pub(crate) fn frame_in(pdu: &[u8], most: u16) -> Option<Frame<'_>>
     ensures { option_map plain result ≡ frame_in most pdu.now }
 {
     match frame_of(pdu, most) {

@@ -298,7 +298,7 @@ impl<'a> Requests<'a> {
     }
 
     #[tactic(auto, using(crate::proofs::Runs::any_reverse))]
-    fn has_failed(&self, identifier: u8, own: u16) -> bool
+    pub(crate) fn has_failed(&self, identifier: u8, own: u16) -> bool
         ensures { result ≡ has_failed (plain_requests self.now) identifier own }
     {
         is_among(&self.failures, identifier, own)
@@ -371,6 +371,13 @@ impl<'a> Requests<'a> {
             },
             Sense::Quiet => Meaning::Nothing,
         }
+    }
+
+    /// The requests for channels, the latest last.
+    pub(crate) fn calls(&self) -> &[Call]
+        ensures { result.now ≡ self.now.calls.items }
+    {
+        &self.calls
     }
 
     /// Whether the request stands here that a refusal is for.

@@ -3,8 +3,8 @@
 ghost use Rattle.std.specs.Prelude.{◌≡◌, ◌==◌, ◌&&◌, ◌||◌, ◌++◌, ◌≤◌, Some, OnOk, IfOk, MatchOption, length, map, option_map, take, drop};
 ghost use Rattle.rfcomm_frames.specs.Frames.{plain};
 ghost use Rattle.rfcomm_frames.specs.Connections.{dlc_after, is_left};
-ghost use Rattle.rfcomm_frames.specs.Multiplexing.{passing, carries_on, connections_after, is_role, is_data};
-ghost use Rattle.rfcomm_frames.specs.Ending.{course_after, is_closed_by, is_last};
+ghost use Rattle.rfcomm_frames.specs.Multiplexing.{passing, carries_on, is_over, connections_after, is_role, is_data};
+ghost use Rattle.rfcomm_frames.specs.Ending.{no_course, course_after, is_closed_by, is_last};
 ghost use Rattle.rfcomm_frames.specs.UserChannel.{user_octets};
 ghost use Rattle.rfcomm_frames.specs.ObexPackets.{IsPacket, HasNoPacket, obex_packets};
 ghost use Rattle.obex_headers.specs.Reader.{octets_of_all};
@@ -29,18 +29,18 @@ pub(crate) struct Connections {
 /// The connections, and how far a side is in closing its multiplexer.
 #[derive(Clone, Copy, Debug)]
 pub(crate) struct Course {
-    connections: Connections,
+    pub(crate) connections: Connections,
     closing: Closing,
 }
 
 /// A frame, and the side that it came from.
 #[derive(Clone, Copy, Debug)]
 pub(crate) struct Framed<'a> {
-    from: Role,
-    frame: MuxFrame<'a>,
+    pub(crate) from: Role,
+    pub(crate) frame: MuxFrame<'a>,
 }
 
-fn role_of(party: &Party, flow: Flow) -> Role
+pub(crate) fn role_of(party: &Party, flow: Flow) -> Role
     ensures { result ≡ role_of party.now flow }
 {
     match flow {
@@ -50,7 +50,7 @@ fn role_of(party: &Party, flow: Flow) -> Role
 }
 
 /// The frame that an SDU is, if it is not refused.
-fn frame_in(from: Role, sdu: &[u8]) -> Option<Framed<'_>>
+pub(crate) fn frame_in(from: Role, sdu: &[u8]) -> Option<Framed<'_>>
     ensures { option_map plain_framed result ≡ frame_in from sdu.now }
 {
     match frame_of(sdu) {
@@ -79,14 +79,21 @@ fn is_from(side: Role, framed: &Framed<'_>) -> bool
 }
 
 /// Whether a side sends information on a channel with a frame.
-fn is_data(dlci: u8, way: Role, framed: &Framed<'_>) -> bool
+pub(crate) fn is_data(dlci: u8, way: Role, framed: &Framed<'_>) -> bool
     ensures { result ≡ is_data dlci way (plain_framed framed.now) }
 {
     is_from(way, framed) && framed.frame.dlci == dlci && matches!(framed.frame.kind, MuxKind::Uih)
 }
 
 impl Connections {
-    fn carries_on(&self) -> bool
+    /// Whether one of the two was closed.
+    pub(crate) fn are_over(&self) -> bool
+        ensures { result ≡ is_over (plain_connections self.now) }
+    {
+        matches!(self.user, Dlc::Ended) || matches!(self.control, Dlc::Ended)
+    }
+
+    pub(crate) fn carries_on(&self) -> bool
         ensures { result ≡ carries_on (plain_connections self.now) }
     {
         matches!(self.user, Dlc::Open) && !matches!(self.control, Dlc::Ended)
@@ -108,7 +115,19 @@ impl Connections {
 }
 
 impl Course {
-    fn hear(&mut self, dlci: u8, side: Role, framed: &Framed<'_>)
+    pub(crate) fn new() -> Course
+        ensures { plain_course result ≡ no_course }
+    {
+        Course {
+            connections: Connections {
+                control: Dlc::Idle,
+                user: Dlc::Idle,
+            },
+            closing: Closing::NotBegun,
+        }
+    }
+
+    pub(crate) fn hear(&mut self, dlci: u8, side: Role, framed: &Framed<'_>)
         ensures { plain_course self.new ≡ course_after dlci side (plain_course self.old) (plain_framed framed.now) }
     {
         self.connections.hear(dlci, framed);
@@ -120,7 +139,7 @@ impl Course {
     }
 
     /// Whether a frame closes the multiplexer of a side in order.
-    fn is_last(&self, dlci: u8, side: Role, framed: &Framed<'_>) -> bool
+    pub(crate) fn is_last(&self, dlci: u8, side: Role, framed: &Framed<'_>) -> bool
         ensures { result ≡ is_last dlci side (plain_course self.now) (plain_framed framed.now) }
     {
         !is_from(side, framed) && self.is_closed_by(dlci, framed.from, &framed.frame)
@@ -165,13 +184,7 @@ fn user_octets(
     ensures { IfOk result (λ found. found.items ≡ user_octets party.now.dlci party.now.role way (map (passed party.now) (map plain_spoken sdus.now))) }
 {
     let mut found = Vec::new(alloc);
-    let mut course = Course {
-        connections: Connections {
-            control: Dlc::Idle,
-            user: Dlc::Idle,
-        },
-        closing: Closing::NotBegun,
-    };
+    let mut course = Course::new();
     for sdu in sdus {
         if let Some(framed) = frame_in(role_of(party, sdu.flow), &sdu.octets) {
             push_octets(&mut found, &course.connections, party.dlci, way, &framed)?;

@@ -19,7 +19,7 @@ use l2cap_config::Mode;
 use std::alloc::Global;
 
 /// The most octets of an I-frame that count.
-fn longest(party: &Party, flow: Flow) -> u16
+pub(crate) fn longest(party: &Party, flow: Flow) -> u16
     ensures { result ≡ longest party.now flow }
 {
     match flow {

@@ -15,7 +15,7 @@ use rfcomm_frames::Role;
 use std::alloc::Global;
 use std::test::*;
 
-const SERVER: Party = Party {
+pub(crate) const SERVER: Party = Party {
     frame: 1010,
     packet: 1024,
     role: Role::Responder,
@@ -38,7 +38,7 @@ fn push_entry(octets: &mut Vec<u8>, tag: u8, parts: &[&[u8]]) -> Result<(), Fail
 }
 
 /// The octets of a capture: a link of host b comes up, these PDUs move, and it ends.
-fn octets_of(alloc: Global, said: Said) -> Result<Vec<u8>, Fail> {
+pub(crate) fn octets_of(alloc: Global, said: Said) -> Result<Vec<u8>, Fail> {
     let mut octets = Vec::new(alloc);
     push_entry(
         &mut octets,
@@ -211,7 +211,7 @@ fn what_is_given_up_counts_no_more(rt: HostRuntime) -> Result<(), Fail> {
 }
 
 /// Packets both ways as a client has them.
-fn spoken(alloc: Global, said: Said) -> Result<Vec<Spoken>, Fail> {
+pub(crate) fn spoken(alloc: Global, said: Said) -> Result<Vec<Spoken>, Fail> {
     let mut packets = Vec::new(alloc);
     for (flow, octets) in said {
         packets.push(Spoken {
