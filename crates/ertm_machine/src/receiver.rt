@@ -167,12 +167,7 @@ impl Receiver {
     }
 
     /// Why an I-frame with this number and segment would close the machine, where it would.
-    pub(crate) fn fault(
-        &self,
-        agreed: &Agreed,
-        tx: u8,
-        segment: &Segment<'_>,
-    ) -> Option<ErtmReason>
+    pub(crate) fn fault(&self, agreed: &Agreed, tx: u8, segment: &Segment<'_>) -> Option<ErtmReason>
         requires { segment.now.sar ≢ 1 → segment.now.total ≡ 0 }
         ensures { result ≡ hearing.place_fault (hearing.place_of agreed.now.receive_window (hearing.past self.now.receiver.expected tx)) agreed.now.receive_mtu (plain_segment segment.now) self.now.receiver }
     {
