@@ -1,6 +1,8 @@
 //! Joining segments that come in.
 
 ghost use Rattle.std.specs.Prelude.{◌≡◌, ◌≢◌, ◌≤◌, ◌+◌, ◌++◌, length, vec_capacity, ℕ, None, IfOk, IfSome, IsSome};
+ghost use Rattle.ertm_frames.specs.Joining.{joint};
+ghost use Rattle.ertm_model.specs.Hearing.{joint_fault};
 ghost use Rattle.ertm_machine.specs.Joiners.{plain_segment, Takes};
 
 use crate::piece::{END, START, WHOLE};
@@ -58,6 +60,21 @@ fn append(octets: &mut Vec<u8>, more: &[u8])
     let _room_was_reserved = octets.extend_from_slice(more);
 }
 
+/// Why a segment is refused where no SDU has begun: `BadSegment` where it begins none, `TooLongSdu`
+/// where it is an SDU of more than `mtu` octets, or states one.
+fn first_fault(mtu: u16, segment: &Segment<'_>) -> Option<ErtmReason>
+    ensures { result ≡ joint_fault (joint None (plain_segment segment.now)) mtu (plain_segment segment.now) }
+{
+    match segment.sar {
+        WHOLE if usize::from(mtu) < segment.octets.len() => Some(ErtmReason::TooLongSdu),
+        WHOLE => None,
+        START if usize::from(segment.total) < segment.octets.len() => Some(ErtmReason::BadSegment),
+        START if mtu < segment.total => Some(ErtmReason::TooLongSdu),
+        START => None,
+        _ => Some(ErtmReason::BadSegment),
+    }
+}
+
 impl Joiner {
     ghost use Rattle.ertm_machine.specs.Values.{new_joiner};
 
@@ -99,6 +116,33 @@ impl Joiner {
         match self.begun {
             None => self.begin(mtu, segment),
             Some(total) => self.go_on(total, segment),
+        }
+    }
+
+    /// Why `take` would refuse the next segment, where it would.
+    pub(crate) fn fault(&self, mtu: u16, segment: &Segment<'_>) -> Option<ErtmReason>
+        requires { segment.now.sar ≢ 1 → segment.now.total ≡ 0 }
+        ensures { result ≡ joint_fault (joint self.now.begun (plain_segment segment.now)) mtu (plain_segment segment.now) }
+    {
+        match self.begun {
+            None => first_fault(mtu, segment),
+            Some(total) => self.next_fault(total, segment),
+        }
+    }
+
+    /// Why a segment has no place behind those of an SDU of so many octets, where it has none.
+    fn next_fault(&self, total: u16, segment: &Segment<'_>) -> Option<ErtmReason>
+        requires some { IfSome self.now.begun (λ begun. begun.total ≡ total) × IsSome self.now.begun }
+        requires stated { segment.now.sar ≢ 1 → segment.now.total ≡ 0 }
+        ensures { (mtu : ℕ) → result ≡ joint_fault (joint self.now.begun (plain_segment segment.now)) mtu (plain_segment segment.now) }
+    {
+        let count = self.octets.len() + segment.octets.len();
+        match segment.sar {
+            WHOLE | START => Some(ErtmReason::BadSegment),
+            END if count != usize::from(total) => Some(ErtmReason::BadSegment),
+            END => None,
+            _ if usize::from(total) < count => Some(ErtmReason::BadSegment),
+            _ => None,
         }
     }
 

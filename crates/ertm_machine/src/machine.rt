@@ -4,6 +4,7 @@ ghost use Rattle.std.specs.Prelude.{◌≡◌, ◌≤◌, length, None, IfOk, If
 ghost use Rattle.ertm_frames.specs.Frames.{plain, IsFrame};
 ghost use Rattle.ertm_model.specs.Value as value;
 ghost use Rattle.ertm_model.specs.Giving.{timed};
+ghost use Rattle.ertm_model.specs.Hearing as hearing;
 ghost use Rattle.ertm_model.specs.Hearing.{refused};
 ghost use Rattle.ertm_model.specs.Submitting.{is_busy};
 ghost use Rattle.l2cap_config.specs.declared.wish.Mode.TheVariants.{Enhanced};
@@ -106,6 +107,29 @@ impl Ertm {
         }
         self.sender.take(sdu);
         Submit::Taken
+    }
+
+    /// Why a frame would close the machine, where it is open and the frame would.
+    pub fn fault(&self, frame: &Frame<'_>) -> Option<ErtmReason>
+        requires { IsFrame (plain frame.now) }
+        ensures { result ≡ hearing.fault (plain frame.now) self.now.ertm }
+    {
+        if let Some(reason) = self.sender.fault(frame) {
+            return Some(reason);
+        }
+        match *frame {
+            Frame::I {
+                tx,
+                sar,
+                total,
+                octets,
+                ..
+            } => {
+                let segment = Segment { sar, total, octets };
+                self.receiver.fault(&self.sender.agreed(), tx, &segment)
+            }
+            Frame::S { .. } => None,
+        }
     }
 
     /// Hears a frame. An SDU that came in one segment is lent from the frame, and one that was cut

@@ -166,6 +166,17 @@ impl Receiver {
         }
     }
 
+    /// Why an I-frame with this number and segment would close the machine, where it would.
+    pub(crate) fn fault(&self, agreed: &Agreed, tx: u8, segment: &Segment<'_>) -> Option<ErtmReason>
+        requires { segment.now.sar ≢ 1 → segment.now.total ≡ 0 }
+        ensures { result ≡ hearing.place_fault (hearing.place_of agreed.now.receive_window (hearing.past self.now.receiver.expected tx)) agreed.now.receive_mtu (plain_segment segment.now) self.now.receiver }
+    {
+        match place_of(agreed.receive_window, past(self.expected, tx)) {
+            Place::Expected => self.joiner.fault(agreed.receive_mtu, segment),
+            Place::Ahead | Place::Other => None,
+        }
+    }
+
     /// The S-frame that is to be given: the answer to a poll, or else RR or REJ.
     pub(crate) fn give(&mut self) -> Option<Frame<'static>>
         ensures { Replies self.old result self.new }

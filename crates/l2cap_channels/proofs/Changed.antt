@@ -1,6 +1,6 @@
 -- A channel that is changed at its place.
-use Rattle.std.proofs.Common.{◌≡◌, ◌∙◌, ℕ, ◌+◌, ◌<◌, List, map, length, refl, sym, ap, subst, length-set}
-use Rattle.std.specs.Prelude.{filter, not, ◌==◌, slice_get, slice_set, slice_index_or, Option, Some}
+use Rattle.std.proofs.Common.{◌≡◌, ◌∙◌, ℕ, zero, suc, ◌+◌, ◌<◌, List, [], ◌∷◌, map, length, refl, sym, ap, subst, length-set}
+use Rattle.std.specs.Prelude.{filter, not, ◌==◌, slice_get, slice_set, slice_index_or, Option, Some, option_map}
 use Rattle.std.specs.List.{remove}
 use Rattle.std.specs.Vec.{with_item}
 use Rattle.std.proofs.lemmas.Option.{slice_get_read}
@@ -60,3 +60,34 @@ pub gone_owns : (c : Inside) (at : ℕ) (h : Held) (items : List Held) → IsSou
 gone_owns c at h items s within is removed =
     let read : slice_get c.places.items at ≡ Some h = slice_get_read c.places.items (length c.places.items) at h refl within is in
     ap owns (removed ∙ removed_is c.places.items at 0x003F h s.given.rising read) ∙ map-filter (λ (k : Held). k.own) (λ (o : ℕ). not (o == h.own)) c.places.items
+
+-- ---- the channel at the place
+
+set_there : (items : List Held) (at : ℕ) (h after : Held) → slice_get items at ≡ Some h → slice_get (slice_set items at after) at ≡ Some after
+set_there [] at h after is = cc
+set_there (x ∷ items) zero h after is = refl
+set_there (x ∷ items) (suc at) h after is = set_there items at h after is
+
+set_same : (items : List Held) (at : ℕ) (h : Held) → slice_get items at ≡ Some h → slice_set items at h ≡ items
+set_same [] at h is = refl
+set_same (x ∷ items) zero h is = let e : x ≡ h = cc in ap (λ (k : Held). k ∷ items) (sym e)
+set_same (x ∷ items) (suc at) h is = ap (λ (xs : List Held). x ∷ xs) (set_same items at h is)
+
+-- it is what it was changed to
+pub changed_there : (c : Inside) (m : Machine) (at : ℕ) (h after : Held) (f : Held → Held) → machine_of c ≡ m → at < length m.channels.held → h ≡ slice_index_or c.places.items at h → after ≡ f h
+    → slice_get (with_item c.places at after).items at ≡ option_map f (slice_get m.channels.held at)
+changed_there c m at h after f view within is change =
+    let within' : at < length c.places.items = subst (λ (x : Machine). at < length x.channels.held) (sym view) within in
+    let read : slice_get c.places.items at ≡ Some h = slice_get_read c.places.items (length c.places.items) at h refl within' is in
+    set_there c.places.items at h after read ∙ ap (λ (k : Held). Some k) change ∙ ap (option_map f) (sym read) ∙ ap (λ (x : Machine). option_map f (slice_get x.channels.held at)) view
+
+-- to go on to the stage at which it is changes nothing
+pub same_at : (c : Inside) (m : Machine) (at : ℕ) (h : Held) → machine_of c ≡ m → IsSound c → at < length m.channels.held → h ≡ slice_index_or c.places.items at h
+    → on_place (λ held. to_stage held held.stage) (slice_get m.channels.held at) m.channels ≡ m.channels
+same_at c m at h view s within is =
+    let within' : at < length c.places.items = subst (λ (x : Machine). at < length x.channels.held) (sym view) within in
+    let read : slice_get c.places.items at ≡ Some h = slice_get_read c.places.items (length c.places.items) at h refl within' is in
+    let set : slice_set c.places.items at h ≡ map (in_place_of h) c.places.items = set_is c.places.items at 0x003F h h s.given.rising read refl in
+    subst (λ (x : Machine). on_place (λ held. to_stage held held.stage) (slice_get x.channels.held at) x.channels ≡ x.channels) view
+    (ap (λ (o : Option Held). on_place (λ held. to_stage held held.stage) o (channels_of c)) read
+    ∙ ap (λ (items : List Held). record (channels_of c) { held = items }) (sym set ∙ set_same c.places.items at h read))

@@ -15,3 +15,6 @@ pub mod Following
 pub mod Responding
 pub mod Granting
 mod Questions
+pub mod Usable
+pub mod Taking
+pub mod Arriving

@@ -14,3 +14,6 @@ pub mod Given
 pub mod Timers
 pub mod Repeating
 pub mod Steps
+pub mod Usable
+pub mod Readings
+pub mod Arriving

@@ -10,7 +10,7 @@ use Rattle.l2cap_config.specs.Agreement.{answered}
 use Rattle.channel_model.specs.Value.{Request, Own, Unasked, Asking, Granted, Setup, no_setup, Stage, Requested, Connected, Leaving, Closing, Crossed, Held, Channels}
 use Rattle.channel_model.specs.Policies.{Policy}
 use Rattle.channel_model.specs.Changing.{setup_of}
-use Rattle.channel_model.specs.Configuring.{Verdict, NoChannel, TooLate, Unreadable, Incomplete, Judged, new_carrier}
+use Rattle.channel_model.specs.Configuring.{Verdict, NoChannel, TooLate, Unreadable, Incomplete, Judged, new_carrier, granted_setup}
 use Rattle.channel_model.specs.Responses.{is_fresh_endpoint, connects, renewed_setup}
 use Rattle.l2cap_channels.specs.declared.progress.Acceptance.{Acceptance}
 use Rattle.l2cap_channels.specs.declared.progress.Acceptance.TheVariants.{Asks, Waits, Opens}
@@ -54,6 +54,10 @@ accepted agreed request options setup = record setup {
 
 abbrev pub asked_anew : Request → Options → Setup → Setup
 asked_anew request options setup = record (renewed_setup setup) { own = Asking request options }
+
+-- the own request for the options of a channel is accepted
+abbrev pub granted : Held → Held
+granted held = record held { stage = with_change granted_setup held.stage }
 
 -- ---- what is wished
 

@@ -12,7 +12,7 @@ ghost use Rattle.l2cap_channels.specs.Finding.{on_place, place_setup};
 ghost use Rattle.l2cap_channels.specs.Lines.{IsFor};
 ghost use Rattle.l2cap_channels.specs.Machine.{policy_of, with_channels};
 ghost use Rattle.l2cap_channels.specs.Sound.{owns};
-ghost use Rattle.l2cap_channels.specs.Steps.{with_change, noted, accepted, asked_anew, refused_on, renewed_on, carries_on, acceptance_on, verdict_value, IsJudgedBy, IsWish, IsAccept, with_setup_at};
+ghost use Rattle.l2cap_channels.specs.Steps.{with_change, noted, accepted, asked_anew, refused_on, renewed_on, carries_on, acceptance_on, verdict_value, IsJudgedBy, IsWish, IsAccept, with_setup_at, granted};
 
 use crate::channels::Channels;
 use crate::hearing::no_such_channel;
@@ -106,6 +106,7 @@ impl Channels {
         requires { at < length self.old.channels.held }
         ensures opens { result ≡ carries_on (place_setup (slice_get self.old.channels.held at)) }
         ensures after { self.new ≡ with_channels self.old (on_place (λ held. to_stage held (with_change configuring.granted_setup held.stage)) (slice_get self.old.channels.held at) self.old.channels) }
+        ensures there { slice_get self.new.channels.held at ≡ option_map granted (slice_get self.old.channels.held at) }
     {
         let place = &mut self.places[at];
         place.grant()
@@ -241,6 +242,7 @@ impl Channels {
         requires there { is_some (place_setup (slice_get self.old.channels.held at)) ≡ true }
         ensures after { self.new ≡ with_channels self.old (on_place (with_setup_at configuring.grants) (slice_get self.old.channels.held at) self.old.channels) }
         ensures few { length self.new.channels.events ≤ length self.old.channels.events + 1 }
+        ensures there { slice_get self.new.channels.held at ≡ option_map granted (slice_get self.old.channels.held at) }
     {
         let own = self.endpoint(at);
         let names = self.names(at);

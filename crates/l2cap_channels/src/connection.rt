@@ -100,7 +100,8 @@ impl Channels {
     /// A channel is asked for.
     #[tactic(auto, using(crate::proofs::Granting::granted_next))]
     pub(crate) fn hear_connection(&mut self, identifier: Identifier, psm: u16, source: u16)
-        ensures { self.new ≡ with_channels self.old (following.hears_question (policy_of self.old) kinds.Connection identifier (connection_request psm source) self.old.channels) }
+        ensures after { self.new ≡ with_channels self.old (following.hears_question (policy_of self.old) kinds.Connection identifier (connection_request psm source) self.old.channels) }
+        ensures few { length self.new.channels.events ≤ length self.old.channels.events + 1 }
     {
         if self.repeats(RequestKind::Connection, identifier) {
             return;

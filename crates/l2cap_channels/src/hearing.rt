@@ -113,7 +113,8 @@ impl Channels {
     /// An echo is asked for, with at most 668 octets.
     pub(crate) fn hear_echo(&mut self, identifier: Identifier, octets: &[u8])
         requires { length octets.now ≤ 668 }
-        ensures { self.new ≡ with_channels self.old (following.hears_question (policy_of self.old) kinds.Echo identifier (echo_request octets.now) self.old.channels) }
+        ensures after { self.new ≡ with_channels self.old (following.hears_question (policy_of self.old) kinds.Echo identifier (echo_request octets.now) self.old.channels) }
+        ensures few { length self.new.channels.events ≤ length self.old.channels.events + 1 }
     {
         if self.repeats(RequestKind::Echo, identifier) {
             return;
@@ -124,7 +125,8 @@ impl Channels {
 
     /// Information is asked for.
     pub(crate) fn hear_question(&mut self, identifier: Identifier, kind: u16)
-        ensures { self.new ≡ with_channels self.old (following.hears_question (policy_of self.old) kinds.Information identifier (information_request kind) self.old.channels) }
+        ensures after { self.new ≡ with_channels self.old (following.hears_question (policy_of self.old) kinds.Information identifier (information_request kind) self.old.channels) }
+        ensures few { length self.new.channels.events ≤ length self.old.channels.events + 1 }
     {
         if self.repeats(RequestKind::Information, identifier) {
             return;
@@ -280,7 +282,8 @@ impl Channels {
 
     /// A malformed request of a kind is answered, since it was not understood.
     pub(crate) fn hear_malformed(&mut self, kind: RequestKind, identifier: Identifier)
-        ensures { self.new ≡ with_channels self.old (hearing.hears_malformed (Some kind) identifier self.old.channels) }
+        ensures after { self.new ≡ with_channels self.old (hearing.hears_malformed (Some kind) identifier self.old.channels) }
+        ensures few { length self.new.channels.events ≤ length self.old.channels.events + 1 }
     {
         if self.repeats(kind, identifier) {
             return;
@@ -291,7 +294,8 @@ impl Channels {
 
     /// A command with an unknown code is answered, since it was not understood.
     pub(crate) fn hear_unknown(&mut self, identifier: Identifier)
-        ensures { self.new ≡ with_channels self.old (following.hears_again identifier (Some table.not_understood) self.old.channels) }
+        ensures after { self.new ≡ with_channels self.old (following.hears_again identifier (Some table.not_understood) self.old.channels) }
+        ensures few { length self.new.channels.events ≤ length self.old.channels.events + 1 }
     {
         if self.queue.has_room() {
             self.say(
@@ -303,7 +307,8 @@ impl Channels {
 
     /// A payload that is too long is answered with the longest that is read.
     pub(crate) fn hear_too_long(&mut self, identifier: Identifier)
-        ensures { self.new ≡ with_channels self.old (following.hears_again identifier (Some table.too_long) self.old.channels) }
+        ensures after { self.new ≡ with_channels self.old (following.hears_again identifier (Some table.too_long) self.old.channels) }
+        ensures few { length self.new.channels.events ≤ length self.old.channels.events + 1 }
     {
         if self.queue.has_room() {
             let [low, high] = 672u16.to_le_bytes();

@@ -4,7 +4,9 @@
 #![tactic(auto)]
 
 mod answers;
+mod arrival;
 mod channels;
+mod commands;
 mod configuration;
 mod connection;
 mod hearing;
@@ -12,20 +14,24 @@ mod identifier;
 mod line;
 mod lines;
 mod memory;
+mod payload;
 mod place;
 mod progress;
 mod queue;
+mod reading;
 mod request;
 mod response;
 mod setup;
 mod stage;
 mod timing;
+mod up;
 mod verdict;
 mod wish;
 mod writing;
 
 pub use answers::SendAnswer;
 pub use channels::Channels;
+pub use up::Up;
 
 #[cfg(test)]
 mod tests;

@@ -5,11 +5,16 @@ ghost use Rattle.std.specs.Option.{option_map};
 ghost use Rattle.channel_model.specs.Calls as calls;
 ghost use Rattle.channel_model.specs.Configuring.{new_carrier};
 ghost use Rattle.channel_model.specs.Giving.{some_carrier_gives, carrier_given};
+ghost use Rattle.ertm_frames.specs.Frames.{plain, IsFrame};
+ghost use Rattle.l2cap_channels.specs.Arriving.{carrier_fault};
 ghost use Rattle.l2cap_channels.specs.Given.{WritesNext};
+ghost use Rattle.l2cap_channels.specs.Readings.{plain_reading, reading_by, IsRead, IsOpenCarrier};
 
+use crate::reading::{Reading, payload_of};
 use crate::writing::put_sdu;
 use bt_base::{Cid, NoMemory};
-use ertm_machine::Ertm;
+use ertm_frames::{Frame, frame_of};
+use ertm_machine::{Ertm, Heard};
 use ertm_model::ErtmReason;
 use l2cap_config::{Agreed, Mode};
 use std::alloc::Global;
@@ -64,6 +69,12 @@ impl Model for Line {
 }
 
 impl Line {
+    ghost use Rattle.std.specs.Prelude.{⊤};
+    ghost use Rattle.std.specs.Borrow.{sem};
+    ghost use mathlib.Core.Option.{none};
+    ghost use denote.Follow.{follows_so};
+    ghost use Rattle.l2cap_channels.specs.contracts.line.Line.{the_row};
+    ghost use Rattle.l2cap_channels.specs.Arriving.{HearsLine};
     ghost use Rattle.l2cap_channels.specs.Lines.{IsFor, FiresLine};
 
     /// A line that carries nothing. It reserves all memory that it ever needs; `NoMemory` where it
@@ -236,6 +247,45 @@ impl Line {
                 Some(put_sdu(peer.get(), &self.sdu, into))
             }
             Carrying::Enhanced => self.machine.next_frame(peer, into),
+        }
+    }
+
+    /// What a PDU is for the carrier.
+    pub(crate) fn read<'a>(&self, pdu: &'a [u8]) -> Reading<'a>
+        ensures reads { plain_reading result ≡ reading_by self.now pdu.now }
+        ensures frame { IsRead (plain_reading result) }
+        ensures open { IsOpenCarrier self.now }
+    {
+        match self.carrying {
+            Carrying::Nothing => Reading::Nothing,
+            Carrying::Basic { .. } => Reading::Basic(payload_of(pdu)),
+            Carrying::Enhanced => Reading::Framed(frame_of(pdu, self.machine.agreed().receive_mps)),
+        }
+    }
+
+    /// Why a frame closes the machine, where it does.
+    pub(crate) fn fault(&self, frame: &Frame<'_>) -> Option<ErtmReason>
+        requires { IsFrame (plain frame.now) }
+        ensures { result ≡ carrier_fault self.now (plain frame.now) }
+    {
+        match self.carrying {
+            Carrying::Nothing => None,
+            Carrying::Basic { .. } => None,
+            Carrying::Enhanced => self.machine.fault(frame),
+        }
+    }
+
+    /// The machine hears a frame that does not close it. An SDU that comes to its end is lent from the
+    /// frame or from the machine.
+    pub(crate) fn hear<'a>(&'a mut self, frame: Frame<'a>) -> Heard<'a>
+        requires frame { IsFrame (plain frame) }
+        requires stays { carrier_fault self.old (plain frame) ≡ None }
+        ensures* { sem 𝓛 (follows_so the_row the_row self.entry.ghost_name none (λ _ _. ⊤) (λ new. HearsLine self.old (plain frame.entry) result new)) }
+    {
+        match self.carrying {
+            Carrying::Nothing => Heard::Nothing,
+            Carrying::Basic { .. } => Heard::Nothing,
+            Carrying::Enhanced => self.machine.on_frame(frame),
         }
     }
 }

@@ -1,19 +1,29 @@
 use super::*;
-use bt_base::{Psm, Settings};
+use bt_base::{Cid, Psm, Settings};
 use channel_model::{ChannelEvent, CloseReason};
 use std::alloc::Global;
 use std::test::Fail;
 
-/// The channels of a client, with a channel for service discovery asked for.
-fn asking(alloc: Global) -> Result<Channels, &'static str> {
-    let mut channels = Channels::new(alloc, &Settings::plain(), false)
-        .ok()
-        .ok_or("memory")?;
-    let psm = Psm::of(0x0001).ok_or("a multiplexer")?;
-    match channels.connect(psm) {
-        Some(own) if own.get() == 0x0040 => Ok(channels),
-        _ => Err("the first endpoint"),
+/// Service discovery (Core 5.1, Volume 3 Part A, 4.2), for which basic mode is wished.
+const DISCOVERY: u16 = 0x0001;
+
+/// Object push, for which retransmission is wished.
+const PUSH: u16 = 0x1001;
+
+/// The channels of a host that sends a thing so often at most.
+fn channels(alloc: Global, tries: u8, server: bool) -> Result<Channels, &'static str> {
+    if !(2..=20).contains(&tries) {
+        return Err("tries");
     }
+    let mut settings = Settings::plain();
+    settings.tries = tries;
+    Channels::new(alloc, &settings, server).ok().ok_or("memory")
+}
+
+/// Asks for a channel.
+fn asks(channels: &mut Channels, psm: u16) -> Result<Cid, &'static str> {
+    let psm = Psm::of(psm).ok_or("a multiplexer")?;
+    channels.connect(psm).ok_or("an endpoint")
 }
 
 /// Whether the PDU that is given next has these octets.
@@ -21,6 +31,42 @@ fn gives(channels: &mut Channels, pdu: &[u8]) -> bool {
     let mut into = [0u8; 32775];
     match channels.next_pdu(&mut into) {
         Some(size) => into.get(..size) == Some(pdu),
+        None => false,
+    }
+}
+
+/// Whether nothing is given.
+fn is_silent(channels: &mut Channels) -> bool {
+    let mut into = [0u8; 32775];
+    channels.next_pdu(&mut into).is_none()
+}
+
+/// Hears a PDU where no event waits; whether it did, and this was handed up.
+#[tactic(auto, using(crate::proofs::Giving::no_events))]
+fn hears(channels: &mut Channels, cid: u16, pdu: &[u8], sdu: Option<&[u8]>) -> bool {
+    if channels.next_event().is_some() {
+        return false;
+    }
+    match channels.on_pdu(cid, pdu) {
+        Up::Nothing => sdu.is_none(),
+        Up::Received { sdu: octets, .. } => sdu == Some(octets),
+    }
+}
+
+/// Whether a PDU on the signalling channel gets this answer.
+fn answers(channels: &mut Channels, pdu: &[u8], answer: &[u8]) -> bool {
+    hears(channels, 0x0001, pdu, None) && gives(channels, answer)
+}
+
+/// Whether what one host gives next is heard by the other, which hands this up.
+fn passes(from: &mut Channels, to: &mut Channels, sdu: Option<&[u8]>) -> bool {
+    let mut into = [0u8; 32775];
+    let Some(size) = from.next_pdu(&mut into) else {
+        return false;
+    };
+    let cid = u16::from_le_bytes([into[2], into[3]]);
+    match into.get(..size) {
+        Some(pdu) => hears(to, cid, pdu, sdu),
         None => false,
     }
 }
@@ -35,22 +81,134 @@ fn fire(channels: &mut Channels) -> Option<ChannelEvent> {
     event
 }
 
+/// Whether the next event is that a channel is open.
+fn opens(channels: &mut Channels) -> bool {
+    matches!(channels.next_event(), Some(ChannelEvent::Opened(_, _)))
+}
+
+/// Whether an SDU is taken for a channel.
+fn sends(channels: &mut Channels, cid: Cid, sdu: &[u8]) -> bool {
+    match channels.peer_mtu(cid) {
+        Some(mtu) if sdu.len() <= usize::from(mtu) => {
+            channels.send(cid, sdu) == SendAnswer::Taken
+        }
+        _ => false,
+    }
+}
+
 #[test]
 fn a_channel_is_asked_for_as_often_as_may_be(rt: HostRuntime) -> Result<(), Fail> {
-    let mut channels = asking(rt.alloc())?;
+    let mut client = channels(rt.alloc(), 4, false)?;
+    let _own = asks(&mut client, DISCOVERY)?;
     let request = [8, 0, 1, 0, 2, 1, 4, 0, 1, 0, 0x40, 0];
     for _ in 0..4 {
-        assert!(rt; gives(&mut channels, &request));
-        assert!(rt; !gives(&mut channels, &request));
-        assert!(rt; channels.armed());
-        assert!(rt; fire(&mut channels).is_none());
+        assert!(rt; gives(&mut client, &request));
+        assert!(rt; is_silent(&mut client));
+        assert!(rt; client.armed());
+        assert!(rt; fire(&mut client).is_none());
     }
     assert!(rt;
         matches!(
-            fire(&mut channels),
+            fire(&mut client),
             Some(ChannelEvent::Closed(_, _, CloseReason::RetryLimit))
         )
     );
-    assert!(rt; !channels.armed());
+    assert!(rt; !client.armed());
+    Ok(())
+}
+
+/// Commands at a link on which no channel is.
+fn questions_are_answered(server: &mut Channels) -> bool {
+    answers(
+        server,
+        &[4, 0, 1, 0, 0x20, 5, 0, 0],
+        &[6, 0, 1, 0, 1, 5, 2, 0, 0, 0],
+    ) && answers(
+        server,
+        &[6, 0, 1, 0, 0x0A, 3, 2, 0, 2, 0],
+        &[12, 0, 1, 0, 0x0B, 3, 8, 0, 2, 0, 0, 0, 0xA8, 0, 0, 0],
+    ) && answers(
+        server,
+        &[6, 0, 1, 0, 8, 4, 2, 0, 0xAA, 0xBB],
+        &[6, 0, 1, 0, 9, 4, 2, 0, 0xAA, 0xBB],
+    ) && hears(server, 0x0001, &[4, 0, 1, 0, 8, 0, 0, 0], None)
+        && is_silent(server)
+}
+
+/// A channel for service discovery is asked for, and options with an MTU of 47, which is too short.
+fn options_are_answered(server: &mut Channels) -> bool {
+    let options = [12, 0, 1, 0, 4, 7, 8, 0, 0x40, 0, 0, 0, 1, 2, 0x2F, 0];
+    let refusal = [14, 0, 1, 0, 5, 7, 10, 0, 0x41, 0, 0, 0, 1, 0, 1, 2, 0x30, 0];
+    answers(
+        server,
+        &[8, 0, 1, 0, 2, 6, 4, 0, 1, 0, 0x41, 0],
+        &[12, 0, 1, 0, 3, 6, 8, 0, 0x40, 0, 0x41, 0, 0, 0, 0, 0],
+    ) && answers(server, &options, &refusal)
+        && answers(server, &options, &refusal)
+}
+
+#[test]
+fn signalling_at_an_open_link(rt: HostRuntime) -> Result<(), Fail> {
+    let mut server = channels(rt.alloc(), 4, true)?;
+    assert!(rt; questions_are_answered(&mut server));
+    assert!(rt; options_are_answered(&mut server));
+    Ok(())
+}
+
+/// A channel is set up: each side asks for its options and accepts those of the other.
+fn are_agreed(client: &mut Channels, server: &mut Channels) -> bool {
+    passes(client, server, None)
+        && passes(server, client, None)
+        && passes(client, server, None)
+        && passes(server, client, None)
+        && passes(server, client, None)
+        && opens(client)
+        && passes(client, server, None)
+        && opens(server)
+}
+
+#[test]
+fn two_ends_pass_sdus(rt: HostRuntime) -> Result<(), Fail> {
+    for psm in [DISCOVERY, PUSH] {
+        let mut client = channels(rt.alloc(), 4, false)?;
+        let mut server = channels(rt.alloc(), 4, true)?;
+        let own = asks(&mut client, psm)?;
+        assert!(rt; are_agreed(&mut client, &mut server));
+        assert!(rt; sends(&mut client, own, &[1, 2, 3]));
+        assert!(rt; client.waits(own));
+        assert!(rt; passes(&mut client, &mut server, Some(&[1, 2, 3])));
+        assert!(rt; !client.waits(own));
+    }
+    Ok(())
+}
+
+/// What was given so often as may be is lost: the other end hears it late, and answers the repeat alike.
+fn late_requests_are_answered(late: &[u8], client: &mut Channels, server: &mut Channels) -> bool {
+    let response = [12, 0, 1, 0, 3, 1, 8, 0, 0x40, 0, 0x40, 0, 0, 0, 0, 0];
+    answers(server, late, &response)
+        && answers(server, late, &response)
+        && hears(client, 0x0001, &response, None)
+        && is_silent(client)
+}
+
+#[test]
+fn two_ends_with_a_timer(rt: HostRuntime) -> Result<(), Fail> {
+    let mut client = channels(rt.alloc(), 2, false)?;
+    let mut server = channels(rt.alloc(), 2, true)?;
+    let own = asks(&mut client, PUSH)?;
+    let request = [8, 0, 1, 0, 2, 1, 4, 0, 0x01, 0x10, 0x40, 0];
+    assert!(rt; gives(&mut client, &request));
+    assert!(rt; fire(&mut client).is_none());
+    assert!(rt; gives(&mut client, &request));
+    assert!(rt; fire(&mut client).is_none());
+    assert!(rt;
+        matches!(
+            client.next_event(),
+            Some(ChannelEvent::Closed(cid, _, CloseReason::RetryLimit)) if cid == own
+        )
+    );
+    assert!(rt; is_silent(&mut client));
+    assert!(rt; late_requests_are_answered(&request, &mut client, &mut server));
+    assert!(rt; !client.armed());
     Ok(())
 }

@@ -34,7 +34,7 @@ pub(crate) enum Fired {
 }
 
 /// Why a channel closes whose machine closed.
-fn reason_of(reason: ErtmReason) -> CloseReason
+pub(crate) fn reason_of(reason: ErtmReason) -> CloseReason
     ensures { result ≡ reason_of reason }
 {
     match reason {

@@ -10,8 +10,8 @@ use Rattle.l2cap_channels.specs.Responses.{response_value}
 use Rattle.l2cap_channels.proofs.Questions.{question_heard, stays}
 use Rattle.l2cap_channels.proofs.channels.Channels.hear_connection.Goals as goal
 
-pub returns-then-admits : goal.returns-then-admits
-returns-then-admits c =
+pub returns-then-admits-clause-after : goal.returns-then-admits-clause-after
+returns-then-admits-clause-after c =
     let fresh = sym c.repeats.ensures.repeated ∙ c.if-repeats.false in
     let same : c.repeats.new.self ≡ c.args.self.now = stays c.args.self.now c.repeats.new.self kinds.Connection c.args.identifier fresh c.repeats.ensures.after in
     let answers : c.connection_result-answer.result ≡ table.connection_result (policy_of c.admits.new.self) c.args.psm c.args.source c.admits.new.self.channels = search rules in
