@@ -1,5 +1,6 @@
 //! Laws of the channels of one host.
 
+ghost use Rattle.channel_laws.specs.CheckWords.{CheckWordsAreRead};
 ghost use Rattle.channel_laws.specs.Laws.{ChannelsAreRead, EndpointsAreNew};
 
 /// What a host holds of each of its endpoints is what its own talk says, whatever it asks for, whatever
@@ -12,4 +13,10 @@ pub fn channels_are_read()
 /// The endpoint that a host gives next has never been that of a channel.
 pub fn endpoints_are_new()
     ensures { EndpointsAreNew }
+{}
+
+/// A host looks for a check word in what comes in for an endpoint exactly where its own talk says that there is
+/// one, as long as nothing arose that tells it that the channel is closed.
+pub fn check_words_are_read()
+    ensures { CheckWordsAreRead }
 {}
