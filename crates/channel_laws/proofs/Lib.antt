@@ -27,3 +27,9 @@ pub mod Told
 pub mod Running
 pub mod Telling
 pub mod CheckWords
+pub mod Stretching
+pub mod Attending
+pub mod HandedUp
+pub mod Taking
+pub mod Receiving
+pub mod Incoming

@@ -3,3 +3,4 @@ pub mod OwnTalk
 pub mod Runs
 pub mod Laws
 pub mod CheckWords
+pub mod Sdus

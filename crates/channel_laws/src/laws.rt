@@ -2,6 +2,7 @@
 
 ghost use Rattle.channel_laws.specs.CheckWords.{CheckWordsAreRead};
 ghost use Rattle.channel_laws.specs.Laws.{ChannelsAreRead, EndpointsAreNew};
+ghost use Rattle.channel_laws.specs.Sdus.{SdusAreRead};
 
 /// What a host holds of each of its endpoints is what its own talk says, whatever it asks for, whatever
 /// PDUs come in on whatever channels, and whenever its timer fires: which channels there are, how far each
@@ -19,4 +20,10 @@ pub fn endpoints_are_new()
 /// one, as long as nothing arose that tells it that the channel is closed.
 pub fn check_words_are_read()
     ensures { CheckWordsAreRead }
+{}
+
+/// The SDUs that are handed up of a channel, in basic and in enhanced retransmission mode, are those that the
+/// host's own talk brings. Where the channel was closed by its machine, the PDU for which it was may bring one more.
+pub fn sdus_are_read()
+    ensures { SdusAreRead }
 {}
