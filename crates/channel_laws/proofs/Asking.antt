@@ -17,7 +17,7 @@ use Rattle.channel_model.specs.Closing.{closes_at}
 use Rattle.channel_model.specs.Giving.{command_of, on_held, disconnection_at}
 use Rattle.channel_laws.specs.OwnTalk.{spoken, command_with, asked_between, said_of, newest}
 use Rattle.channel_laws.specs.Views.{peer_of, life_of}
-use Rattle.channel_laws.proofs.Lookups.{own_of, Distinct, placed-distinct, found-placed, find-placed}
+use Rattle.channel_model.proofs.Lookups.{own_of, Distinct, placed-distinct, found-placed, find-placed}
 use Rattle.channel_laws.proofs.Sound.{Sound}
 use Rattle.channel_laws.proofs.Moves.{PartsTo}
 use Rattle.channel_laws.proofs.Ending.{Leads, leads-said}

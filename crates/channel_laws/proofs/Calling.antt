@@ -24,7 +24,7 @@ use Rattle.channel_model.specs.Giving.{on_held, connection_at}
 use Rattle.channel_laws.specs.OwnTalk.{spoken, command_with, asked_between}
 use Rattle.channel_laws.specs.Runs.{forgone_at, forgone_between}
 use Rattle.channel_laws.specs.Views.{read_at}
-use Rattle.channel_laws.proofs.Lookups.{own_of, Distinct, distinct-append, distinct-filter, find-gone, find-others, found-has, eqb-same, and_off}
+use Rattle.channel_model.proofs.Lookups.{own_of, Distinct, distinct-append, distinct-filter, find-gone, find-others, found-has, eqb-same, and_off}
 use Rattle.channel_laws.proofs.Entries.{nothing-same, or_left, or_right}
 use Rattle.channel_laws.proofs.Sound.{Reads, Core, QueriesKept, Repeats, has_called, wanted_by, Awaits, WantsAt, Wants, IsPlaced, Uncalled, placed-held, requested-unread, Kept, Sound, at_each}
 use Rattle.channel_laws.proofs.Steps.{less-apart, queries-on}

@@ -14,7 +14,7 @@ use Rattle.channel_model.specs.Carrying.{reason_of, settles_machine, with_machin
 use Rattle.channel_laws.specs.OwnTalk.{asked_between, said_of, newest}
 use Rattle.channel_model.specs.Giving.{configuration_at}
 use Rattle.channel_laws.specs.Views.{peer_of, life_of, asked_mode, carrier_mode}
-use Rattle.channel_laws.proofs.Lookups.{own_of, found-has}
+use Rattle.channel_model.proofs.Lookups.{own_of, found-has}
 use Rattle.channel_laws.proofs.Sound.{Agrees, CarrierIs, Sound}
 use Rattle.channel_laws.proofs.Silent.{Turns, turns-sound}
 use Rattle.channel_laws.proofs.Asking.{closes-sound}

@@ -15,7 +15,7 @@ use Rattle.channel_model.specs.Value.{Setup, Stage, Requested, Connected, Leavin
 use Rattle.channel_model.specs.Policies.{Policy}
 use Rattle.channel_model.specs.Changing.{has_own, setup_of}
 use Rattle.channel_laws.specs.Views.{peer_of, read_at}
-use Rattle.channel_laws.proofs.Lookups.{eqb-same}
+use Rattle.channel_model.proofs.Lookups.{eqb-same}
 use Rattle.channel_laws.proofs.Entries.{nothing-same}
 use Rattle.channel_laws.proofs.Sound.{Agrees, AgreesIf, ReadsBy, Reads, Core, BeginsWith, IsAgain, RepeatsIn, Repeats, part_of, RepeatsOf, QueriesKept, CallsKept, EndsKept, HarmlessKept, identifier_asked, WantsAt, Wants, Kept, Sound, IsPlaced, placed-read}
 use Rattle.channel_laws.proofs.Steps.{core-one, kept-one}

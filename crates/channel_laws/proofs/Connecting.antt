@@ -24,7 +24,7 @@ use Rattle.channel_model.specs.Closing.{closes_at, closes}
 use Rattle.channel_model.specs.Responses.{connects, hears_connected, hears_grant, hears_grant_at}
 use Rattle.channel_laws.specs.OwnTalk.{asked_between}
 use Rattle.channel_laws.specs.Views.{peer_of, life_of, channel_by, read_at}
-use Rattle.channel_laws.proofs.Lookups.{own_of, any-finds, found-distinct, placed-distinct, found-placed, find-placed, found-has, eqb-away, eqb-same, or_on}
+use Rattle.channel_model.proofs.Lookups.{own_of, any-finds, found-distinct, placed-distinct, found-placed, find-placed, found-has, eqb-away, eqb-same, or_on}
 use Rattle.channel_laws.proofs.Entries.{nothing-same, makes-fresh, found-passes}
 use Rattle.channel_laws.proofs.Sound.{ReadsBy, Reads, has_called, wanted_by, Awaits, WantsAt, Wants, IsPlaced, requested-unread, Sound, IsSome}
 use Rattle.channel_laws.proofs.Steps.{less-apart}

@@ -20,7 +20,7 @@ use Rattle.channel_model.specs.Following.{remembers, says}
 use Rattle.channel_model.specs.Giving.{command_of, configuration_at, configuration_by}
 use Rattle.channel_laws.specs.OwnTalk.{spoken, command_with, command_if, asked_between, said_of, newest}
 use Rattle.channel_laws.specs.Views.{peer_of, life_of, read_at}
-use Rattle.channel_laws.proofs.Lookups.{found-placed, find-placed, own_of, Distinct, placed-distinct}
+use Rattle.channel_model.proofs.Lookups.{found-placed, find-placed, own_of, Distinct, placed-distinct}
 use Rattle.channel_laws.proofs.Sound.{Agrees, AgreesIf, Core, RepeatsIn, Repeats, part_of, RepeatsOf, IsRepeated, QueriesKept, Kept, Sound, Uncalled}
 use Rattle.channel_laws.proofs.Moves.{quiet, Found, found-there}
 use Rattle.channel_laws.proofs.Answering.{Alters, answers-others, answers-name, core-alters, kept-alters}

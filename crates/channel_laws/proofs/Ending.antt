@@ -24,7 +24,7 @@ use Rattle.channel_model.specs.Answers.{disconnection_by, disconnection_answer, 
 use Rattle.channel_model.specs.Following.{remembers, says, hears_kind, follows_disconnection}
 use Rattle.channel_laws.specs.OwnTalk.{spoken, command_with, response_by, command_if, exchanged, asked_between}
 use Rattle.channel_laws.specs.Views.{peer_of, life_of, read_at}
-use Rattle.channel_laws.proofs.Lookups.{own_of, Distinct, distinct-filter, placed-distinct, find-gone, find-others, found-placed, find-placed, found-has, eqb-same}
+use Rattle.channel_model.proofs.Lookups.{own_of, Distinct, distinct-filter, placed-distinct, find-gone, find-others, found-placed, find-placed, found-has, eqb-same}
 use Rattle.channel_laws.proofs.Entries.{entry-is, either_same, read-after, distinct-after}
 use Rattle.channel_laws.proofs.Sound.{Reads, Core, IsAway, IsEnded, EndsKept, CallsKept, QueriesKept, IsHarmless, HarmlessKept, Repeats, Kept, Sound, moved, at_each, apart-after, IsPlaced, Uncalled}
 use Rattle.channel_laws.proofs.Steps.{calls-on, ends-on, queries-on, lasts-after, away-stays}

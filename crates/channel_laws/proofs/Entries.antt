@@ -12,7 +12,7 @@ use Rattle.link_talk.specs.Meanings.{Meaning, Makes, Settles, Nothing}
 use Rattle.link_talk.specs.Setups.{Setup, setup_after, term}
 use Rattle.link_talk.specs.Channels.{word, life_after, is_there, Entry, fresh, entry_after, is_owner, with_fresh, made_by, entries_after}
 use Rattle.channel_laws.specs.Views.{is_own, read_at}
-use Rattle.channel_laws.proofs.Lookups.{Distinct, distinct-map, found-distinct, find-map, find-append, found-has, any-finds, or_on}
+use Rattle.channel_model.proofs.Lookups.{Distinct, distinct-map, found-distinct, find-map, find-append, found-has, any-finds, or_on}
 
 abbrev pub own_read : Entry → ℕ
 own_read entry = entry.channel.own

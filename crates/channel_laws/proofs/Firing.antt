@@ -29,7 +29,7 @@ use Rattle.channel_model.specs.Giving.{on_held, features_command, command_of, co
 use Rattle.channel_laws.specs.OwnTalk.{spoken, command_with, said_of, asked_between}
 use Rattle.channel_laws.specs.Runs.{forgone_at, forgone_between, given_up, features_given_up, said_again, said_on_firing, said_by_channel, fired_channel, said_by_channels}
 use Rattle.channel_laws.specs.Views.{peer_of, life_of, read_at}
-use Rattle.channel_laws.proofs.Lookups.{own_of, find-gone, found-placed, found-has, eqb-same, or_on, and_off}
+use Rattle.channel_model.proofs.Lookups.{own_of, find-gone, found-placed, found-has, eqb-same, or_on, and_off}
 use Rattle.channel_laws.proofs.Sound.{states_mode, OwnStates, Sound}
 use Rattle.channel_laws.proofs.Moves.{quiet, SetupsTo, PartsTo, Found, found-there}
 use Rattle.channel_laws.proofs.Ending.{Leads, leads-said, ends-leads}

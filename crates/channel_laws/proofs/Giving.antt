@@ -18,7 +18,7 @@ use Rattle.channel_model.specs.Calls.{disconnected_at, disconnected_held, carrie
 use Rattle.channel_laws.specs.OwnTalk.{spoken, command_with, asked_between}
 use Rattle.channel_laws.specs.Runs.{forgone_between}
 use Rattle.channel_laws.specs.Views.{peer_of, life_of, asked_mode, carrier_mode}
-use Rattle.channel_laws.proofs.Lookups.{own_of, placed-distinct, found-distinct, found-has, found-placed, find-placed}
+use Rattle.channel_model.proofs.Lookups.{own_of, placed-distinct, found-distinct, found-has, found-placed, find-placed}
 use Rattle.channel_laws.proofs.Sound.{Agrees, AgreesIf, OwnStates, CarrierIs, RepeatsIn, WantsAt, Sound, ReadsBy, Repeats}
 use Rattle.channel_laws.proofs.Moves.{PartsTo, SetupsTo}
 use Rattle.channel_laws.proofs.Ending.{Leads, leads-said}

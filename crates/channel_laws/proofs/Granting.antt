@@ -17,7 +17,7 @@ use Rattle.channel_model.specs.Value.{no_setup, Connected, Held, Memory}
 use Rattle.channel_model.specs.Policies.{Policy}
 use Rattle.channel_model.specs.Changing.{has_own}
 use Rattle.channel_laws.specs.Views.{channel_by, read_at}
-use Rattle.channel_laws.proofs.Lookups.{eqb-same, own_of, Distinct, distinct-append}
+use Rattle.channel_model.proofs.Lookups.{eqb-same, own_of, Distinct, distinct-append}
 use Rattle.channel_laws.proofs.Entries.{read-append, found-fails, own_read}
 use Rattle.channel_laws.proofs.Sound.{Agrees, PartsAre, Reads, Apart, Core, IsSome, IsAway, Repeats, Wants, Kept, at_each, IsPlaced, placed-held}
 use Rattle.channel_laws.proofs.Steps.{calls-on, ends-on, queries-on, less-apart}

@@ -15,7 +15,7 @@ use Rattle.channel_model.specs.Following.{hears_kind, follows_setup, follows_con
 use Rattle.channel_model.specs.Giving.{configuration_at}
 use Rattle.channel_laws.specs.OwnTalk.{response_by, command_if, exchanged, asked_between}
 use Rattle.channel_laws.specs.Views.{peer_of, life_of, read_at}
-use Rattle.channel_laws.proofs.Lookups.{own_of, found-has}
+use Rattle.channel_model.proofs.Lookups.{own_of, found-has}
 use Rattle.channel_laws.proofs.Sound.{RepeatsIn, Repeats, part_of, Sound}
 use Rattle.channel_laws.proofs.Moves.{Found, found-there}
 use Rattle.channel_laws.proofs.Questions.{exchange, question-by, IsNew}

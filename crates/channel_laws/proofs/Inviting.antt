@@ -23,7 +23,7 @@ use Rattle.channel_model.specs.Answers.{connection_result, connection_answer}
 use Rattle.channel_model.specs.Following.{remembers, says, hears_kind, follows_connection, with_channel}
 use Rattle.channel_laws.specs.OwnTalk.{spoken, command_with, response_by, command_if, exchanged, asked_between}
 use Rattle.channel_laws.specs.Views.{peer_of, channel_by, read_at}
-use Rattle.channel_laws.proofs.Lookups.{own_of, find-append, eqb-same, distinct-append, or_on}
+use Rattle.channel_model.proofs.Lookups.{own_of, find-append, eqb-same, distinct-append, or_on}
 use Rattle.channel_laws.proofs.Entries.{nothing-same, makes-fresh, found-passes, any-found, read-own}
 use Rattle.channel_laws.proofs.Sound.{ReadsBy, Reads, Core, BeginsWith, IsSome, IsKnown, CallsKept, QueriesKept, EndsKept, HarmlessKept, WantsAt, Wants, identifier_of, Kept, Sound}
 use Rattle.channel_laws.proofs.Granting.{Comes, core-fresh, kept-fresh, fresh-here}

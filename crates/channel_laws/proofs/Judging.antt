@@ -27,7 +27,7 @@ use Rattle.channel_model.specs.Answers.{configuration_answer}
 use Rattle.channel_model.specs.Giving.{on_held, configuration_at}
 use Rattle.channel_laws.specs.OwnTalk.{spoken, command_with, asked_between}
 use Rattle.channel_laws.specs.Views.{peer_of, life_of, read_at, asked_mode}
-use Rattle.channel_laws.proofs.Lookups.{found-placed, find-placed, placed-again}
+use Rattle.channel_model.proofs.Lookups.{found-placed, find-placed, placed-again}
 use Rattle.channel_laws.proofs.Sound.{AgreesIf, RepeatsIn, Repeats, part_of, Sound}
 use Rattle.channel_laws.proofs.Moves.{Found, found-there}
 use Rattle.channel_laws.proofs.Agreeing.{requested-states}

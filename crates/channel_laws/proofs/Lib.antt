@@ -1,4 +1,3 @@
-pub mod Lookups
 pub mod Entries
 pub mod Sound
 pub mod Steps
@@ -26,3 +25,11 @@ pub mod Giving
 pub mod Firing
 pub mod Told
 pub mod Running
+pub mod Telling
+pub mod CheckWords
+pub mod Stretching
+pub mod Attending
+pub mod HandedUp
+pub mod Taking
+pub mod Receiving
+pub mod Incoming

@@ -16,7 +16,7 @@ use Rattle.channel_model.specs.Value.{Setup, Stage, Requested, Connected, Leavin
 use Rattle.channel_model.specs.Policies.{Policy}
 use Rattle.channel_model.specs.Changing.{has_own, setup_of}
 use Rattle.channel_laws.specs.Views.{peer_of, life_of, channel_by, IsThere, read_at}
-use Rattle.channel_laws.proofs.Lookups.{own_of, Distinct, eqb-same, off_and}
+use Rattle.channel_model.proofs.Lookups.{own_of, Distinct, eqb-same, off_and}
 use Rattle.channel_laws.proofs.Entries.{entry-same, either_same, nothing-same, read-own}
 use Rattle.channel_laws.proofs.Sound.{AgreesIf, ReadsBy, Reads, Core, Repeats, RepeatsIn, WantsAt, Wants, Kept, Sound, moved, IsPlaced, placed-read}
 use Rattle.channel_laws.proofs.Steps.{core-one, kept-one}

@@ -15,7 +15,7 @@ use Rattle.channel_model.specs.Policies.{Policy}
 use Rattle.channel_model.specs.Changing.{has_room, answers}
 use Rattle.channel_model.specs.Following.{remembers, says, hears_new, hears_again, hears_kind}
 use Rattle.channel_laws.specs.OwnTalk.{spoken, command_with, response_by, command_if, exchanged, asked_between, said_of, newest}
-use Rattle.channel_laws.proofs.Lookups.{eqb-same}
+use Rattle.channel_model.proofs.Lookups.{eqb-same}
 use Rattle.channel_laws.proofs.Sound.{IsHarmless, HarmlessKept, Sound}
 use Rattle.channel_laws.proofs.Moves.{quiet, Passes, passed}
 

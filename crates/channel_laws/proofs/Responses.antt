@@ -16,7 +16,7 @@ use Rattle.channel_model.specs.Changing.{has_own, to_setup, with_setup}
 use Rattle.channel_model.specs.Configuring.{grants, granted_setup, opens_if}
 use Rattle.channel_model.specs.Responses.{is_asked}
 use Rattle.channel_laws.specs.Views.{asked_mode}
-use Rattle.channel_laws.proofs.Lookups.{own_of, found-placed, find-placed, Distinct, placed-distinct}
+use Rattle.channel_model.proofs.Lookups.{own_of, found-placed, find-placed, Distinct, placed-distinct}
 use Rattle.channel_laws.proofs.Entries.{nothing-same, settles-same}
 use Rattle.channel_laws.proofs.Sound.{Agrees, AgreesIf, Core, IsAgain, RepeatsIn, Kept, Sound}
 use Rattle.channel_laws.proofs.Silent.{Turns}

@@ -96,14 +96,12 @@ one-more policy run r (Gives pdu) sound = given-quiet policy r (after_given run.
 one-more policy run r Fires sound = fires-sound policy r run.value policy.tries (map (λ held. held.own) run.value.held) sound
 one-more policy run r Tells sound = record { core = sound.core; kept = sound.kept; uncalled = sound.uncalled }
 
-abbrev IsSound : Policy → Run → Type 0
+abbrev pub IsSound : Policy → Run → Type 0
 IsSound policy run = Sound policy (reading run.said) run.value
 
-all-of : (policy : Policy) (run : Run) (list : List Occurrence) → IsSound policy run → IsSound policy (fold (run_on policy) run list)
-all-of policy run [] sound = sound
-all-of policy run (more ∷ list) sound =
-    all-of policy (run_on policy run more) list
-    (subst (λ x. Sound policy x (value_after policy more run.value)) (sym (fold-append read_on nothing_read run.said (said_in policy more run.value))) (one-more policy run (reading run.said) more sound))
+run-more : (policy : Policy) (run : Run) (more : Occurrence) → IsSound policy run → IsSound policy (run_on policy run more)
+run-more policy run more sound =
+    subst (λ x. Sound policy x (value_after policy more run.value)) (sym (fold-append read_on nothing_read run.said (said_in policy more run.value))) (one-more policy run (reading run.said) more sound)
 
 pub at_first : (policy : Policy) → IsSound policy new_link
 at_first policy = record {
@@ -120,13 +118,25 @@ at_first policy = record {
   uncalled = λ own above identifier. (refl, refl);
 }
 
+-- what holds at first, and on with each thing that happens, holds of every run
+goes_on : (policy : Policy) (P : Run → Type 0) → ((run : Run) (more : Occurrence) → IsSound policy run → P run → P (run_on policy run more)) → (list : List Occurrence) (run : Run) → IsSound policy run → P run
+    → IsSound policy (fold (run_on policy) run list) × P (fold (run_on policy) run list)
+goes_on policy P step [] run sound holds = (sound, holds)
+goes_on policy P step (more ∷ list) run sound holds = goes_on policy P step list (run_on policy run more) (run-more policy run more sound) (step run more sound holds)
+
+pub along : (policy : Policy) (P : Run → Type 0) → P new_link → ((run : Run) (more : Occurrence) → IsSound policy run → P run → P (run_on policy run more)) → (list : List Occurrence) → IsSound policy (run_of policy list) × P (run_of policy list)
+along policy P first step list = goes_on policy P step list new_link (at_first policy) first
+
+pub all-sound : (policy : Policy) (list : List Occurrence) → IsSound policy (run_of policy list)
+all-sound policy list = (along policy (λ run. Unit {0}) tt (λ run more sound any. tt) list).0
+
 pub channels-are_read : ChannelsAreRead
 channels-are_read policy list own =
-    let sound : IsSound policy (run_of policy list) = all-of policy new_link list (at_first policy) in
+    let sound : IsSound policy (run_of policy list) = all-sound policy list in
     is_read policy (held_at own (run_of policy list).value) (read_at own (reading (run_of policy list).said).entries) (sound.core.reads own)
 
 pub endpoints-are_new : EndpointsAreNew
 endpoints-are_new policy list =
     let run : Run = run_of policy list in
-    let sound : IsSound policy run = all-of policy new_link list (at_first policy) in
+    let sound : IsSound policy run = all-sound policy list in
     record { high = sound.core.start; unheld = sound.core.held_below run.value.next (omega arith); unread = sound.core.read_below run.value.next (omega arith) }

@@ -34,7 +34,7 @@ use Rattle.channel_model.specs.Responses.{hears_response, hears_response_on, hea
 use Rattle.channel_model.specs.Giving.{on_held, configuration_at}
 use Rattle.channel_laws.specs.OwnTalk.{spoken, command_with, asked_between}
 use Rattle.channel_laws.specs.Views.{peer_of, read_at, asked_mode}
-use Rattle.channel_laws.proofs.Lookups.{own_of, found-has, found-placed, find-placed, placed-again, and_off}
+use Rattle.channel_model.proofs.Lookups.{own_of, found-has, found-placed, find-placed, placed-again, and_off}
 use Rattle.channel_laws.proofs.Entries.{entry-is, entry-same, either_same}
 use Rattle.channel_laws.proofs.Sound.{Agrees, states_mode, Reads, Sound, moved, at_each, requested-unread}
 use Rattle.channel_laws.proofs.Moves.{Found, found-there, parts-others}

@@ -9,7 +9,7 @@ use Rattle.channel_model.specs.Value.{Held, Channels}
 use Rattle.channel_model.specs.Policies.{Policy}
 use Rattle.channel_model.specs.Changing.{has_own, setup_of}
 use Rattle.channel_laws.specs.Views.{peer_of, life_of, channel_by, IsThere, read_at}
-use Rattle.channel_laws.proofs.Lookups.{own_of, Distinct}
+use Rattle.channel_model.proofs.Lookups.{own_of, Distinct}
 use Rattle.channel_laws.proofs.Steps.{less-apart, queries-on}
 use Rattle.channel_laws.proofs.Sound.{AgreesIf, ReadsBy, Reads, Core, Repeats, RepeatsIn, Wants, Kept, Sound, at_each, IsPlaced, Uncalled, placed-held}
 use Rattle.channel_laws.proofs.Moves.{wants-there, is-below}

@@ -25,7 +25,7 @@ use Rattle.channel_model.specs.Value.{Own, Unasked, Asking, Granted, Carrier, Se
 use Rattle.channel_model.specs.Policies.{Policy}
 use Rattle.channel_model.specs.Changing.{has_own, setup_of}
 use Rattle.channel_laws.specs.Views.{peer_of, carrier_mode, IsSetUp, IsSetUpIf, IsThere, IsRead, IsReadBy, read_at}
-use Rattle.channel_laws.proofs.Lookups.{own_of, Distinct}
+use Rattle.channel_model.proofs.Lookups.{own_of, Distinct}
 use Rattle.channel_laws.proofs.Entries.{own_read, read-after, there-before}
 
 -- ---- one channel

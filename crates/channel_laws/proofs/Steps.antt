@@ -12,7 +12,7 @@ use Rattle.channel_model.specs.Value.{Held, Remembered, Memory}
 use Rattle.channel_model.specs.Policies.{Policy}
 use Rattle.channel_model.specs.Changing.{has_own}
 use Rattle.channel_laws.specs.Views.{read_at}
-use Rattle.channel_laws.proofs.Lookups.{own_of, Distinct}
+use Rattle.channel_model.proofs.Lookups.{own_of, Distinct}
 use Rattle.channel_laws.proofs.Entries.{read-after, gone-stays, distinct-after}
 use Rattle.channel_laws.proofs.Sound.{Reads, Core, IsSome, IsKnown, CallsKept, IsAway, IsEnded, EndsKept, Repeats, part_of, RepeatsOf, IsRepeated, QueriesKept, Wants, Kept, at_each, moved, apart-after, IsPlaced, Outgoing, placed-read}
 

@@ -24,7 +24,7 @@ use Rattle.channel_model.specs.Configuring.{accepted_setup, refuses}
 use Rattle.channel_model.specs.Following.{remembers, says}
 use Rattle.channel_laws.specs.OwnTalk.{command_with, asked_between}
 use Rattle.channel_laws.specs.Views.{asked_mode, carrier_mode}
-use Rattle.channel_laws.proofs.Lookups.{found-placed}
+use Rattle.channel_model.proofs.Lookups.{found-placed}
 use Rattle.channel_laws.proofs.Sound.{Agrees, AgreesIf, CarrierIs, IsAgain, RepeatsIn, part_of, Sound}
 use Rattle.channel_laws.proofs.Agreeing.{answer-agrees, refused-answers, part-answers, whole-answers, carrier-is}
 use Rattle.channel_laws.proofs.Questions.{heard, exchange, asked-none, IsNew}

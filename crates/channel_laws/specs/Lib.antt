@@ -2,3 +2,5 @@ pub mod Views
 pub mod OwnTalk
 pub mod Runs
 pub mod Laws
+pub mod CheckWords
+pub mod Sdus

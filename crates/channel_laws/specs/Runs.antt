@@ -1,5 +1,6 @@
 -- What may happen to the channels of a link while it is up, what of it is own talk, and runs of it.
-use Rattle.std.specs.Prelude.{ℕ, ◌==◌, ◌&&◌, not, is_some, List, [], ◌∷◌, ◌++◌, map, drop, fold, Option, Some, None, unwrap_or, if◌then◌else◌}
+use Rattle.std.specs.Prelude.{ℕ, ◌==◌, ◌&&◌, not, is_some, List, [], ◌∷◌, ◌++◌, map, drop, fold, Option, Some, None, unwrap_or, option_to_list, if◌then◌else◌}
+use Rattle.std.specs.List.{filter_map}
 use Rattle.acl_fragments.specs.Pieces.{channel_of}
 use Rattle.l2cap_signal.specs.Reading.{answers}
 use Rattle.capture.specs.declared.flow.Flow.TheVariants.{Out, Into}
@@ -7,14 +8,15 @@ use Rattle.link_talk.specs.Sayings.{Saying, Forgone, Carried, GaveUp}
 use Rattle.link_talk.specs.Sayings as sayings
 use Rattle.channel_model.specs.declared.errand.Errand.{Errand}
 use Rattle.channel_model.specs.declared.errand.Errand.TheVariants as errands
+use Rattle.channel_model.specs.declared.event.ChannelEvent.{ChannelEvent}
 use Rattle.channel_model.specs.Value.{Request, Carrier, Plain, Retransmitting, Stage, Requested, Connected, Leaving, Closing, Crossed, Held, Channels, no_channels}
 use Rattle.channel_model.specs.Policies.{Policy}
 use Rattle.channel_model.specs.Changing.{held_at, is_due}
 use Rattle.channel_model.specs.Timing.{times_held, times_end, times_features, timed_out}
-use Rattle.channel_model.specs.Hearing.{hears}
-use Rattle.channel_model.specs.Carrying.{takes}
+use Rattle.channel_model.specs.Hearing.{hears, up}
+use Rattle.channel_model.specs.Carrying.{takes, Up, Nothing, Received}
 use Rattle.channel_model.specs.Giving.{Given, Signal, Whole, Framed, next_given, after_given, headed}
-use Rattle.channel_model.specs.Calls.{connected, asks_features, disconnected, carrier_at, sends, after_event}
+use Rattle.channel_model.specs.Calls.{connected, asks_features, disconnected, carrier_at, sends, next_event, after_event}
 use Rattle.channel_laws.specs.Views.{peer_of}
 use Rattle.channel_laws.specs.OwnTalk.{said_of, asked_between, said_with_all}
 
@@ -137,17 +139,60 @@ value_after policy (Gives pdu) v = after_given v
 value_after policy Fires v = timed_out policy v
 value_after policy Tells v = after_event v
 
+-- ---- what the host is told
+
+abbrev pub told_in : Occurrence → Channels → List ChannelEvent
+told_in (Comes pdu) v = []
+told_in (Connects psm) v = []
+told_in AsksFeatures v = []
+told_in (Disconnects own) v = []
+told_in (Sends own sdu) v = []
+told_in (Gives pdu) v = []
+told_in Fires v = []
+told_in Tells v = option_to_list (next_event v)
+
+-- and what is handed up to it
+abbrev pub up_with : Occurrence → Channels → Up
+up_with (Comes pdu) v = up (channel_of pdu) pdu v
+up_with (Connects psm) v = Nothing
+up_with AsksFeatures v = Nothing
+up_with (Disconnects own) v = Nothing
+up_with (Sends own sdu) v = Nothing
+up_with (Gives pdu) v = Nothing
+up_with Fires v = Nothing
+up_with Tells v = Nothing
+
 -- ---- a run
 
 pub record Run : Type 0 where
   pub said : List Saying
+  pub told : List ChannelEvent
+  pub up : List Up
   pub value : Channels
 
 abbrev pub new_link : Run
-new_link = record { said = []; value = no_channels }
+new_link = record { said = []; told = []; up = []; value = no_channels }
 
 abbrev pub run_on : Policy → Run → Occurrence → Run
-run_on policy run more = record { said = run.said ++ said_in policy more run.value; value = value_after policy more run.value }
+run_on policy run more =
+    record {
+      said = run.said ++ said_in policy more run.value;
+      told = run.told ++ told_in more run.value;
+      up = run.up ++ up_with more run.value ∷ [];
+      value = value_after policy more run.value;
+    }
 
 abbrev pub run_of : Policy → List Occurrence → Run
 run_of policy list = fold (run_on policy) new_link list
+
+-- all that arose for the host to be told, also what it was not told yet
+abbrev pub arisen : Run → List ChannelEvent
+arisen run = run.told ++ run.value.events
+
+-- the SDUs that were handed up of an own endpoint
+abbrev pub sdu_up : (own : ℕ) → Up → Option (List ℕ)
+sdu_up own Nothing = None
+sdu_up own (Received other psm sdu) = if other == own then Some sdu else None
+
+abbrev pub sdus_up : (own : ℕ) → List Up → List (List ℕ)
+sdus_up own ups = filter_map (sdu_up own) ups

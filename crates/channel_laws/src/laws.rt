@@ -1,6 +1,8 @@
 //! Laws of the channels of one host.
 
+ghost use Rattle.channel_laws.specs.CheckWords.{CheckWordsAreRead};
 ghost use Rattle.channel_laws.specs.Laws.{ChannelsAreRead, EndpointsAreNew};
+ghost use Rattle.channel_laws.specs.Sdus.{SdusAreRead};
 
 /// What a host holds of each of its endpoints is what its own talk says, whatever it asks for, whatever
 /// PDUs come in on whatever channels, and whenever its timer fires: which channels there are, how far each
@@ -12,4 +14,16 @@ pub fn channels_are_read()
 /// The endpoint that a host gives next has never been that of a channel.
 pub fn endpoints_are_new()
     ensures { EndpointsAreNew }
+{}
+
+/// A host looks for a check word in what comes in for an endpoint exactly where its own talk says that there is
+/// one, as long as nothing arose that tells it that the channel is closed.
+pub fn check_words_are_read()
+    ensures { CheckWordsAreRead }
+{}
+
+/// The SDUs that are handed up of a channel, in basic and in enhanced retransmission mode, are those that the
+/// host's own talk brings. Where the channel was closed by its machine, the PDU for which it was may bring one more.
+pub fn sdus_are_read()
+    ensures { SdusAreRead }
 {}

@@ -1,6 +1,7 @@
 pub mod Value
 pub mod Policies
 pub mod Changing
+pub mod Telling
 pub mod Asking
 pub mod Closing
 pub mod Answers

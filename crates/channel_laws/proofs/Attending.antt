@@ -1,0 +1,383 @@
+-- A retransmission machine has heard the frames that came in on its channel.
+use Rattle.std.proofs.Common.{◌≡◌, ℕ, ◌+◌, ◌<◌, ◌≤◌, List, [], ◌∷◌, ◌++◌, length, Bool, true, false, cond, ◌||◌, ◌&&◌, not, eqb, ltb, Option, Some, None, refl, sym, ap, subst, ◌∙◌, ◌⊎◌, inl, inr, arith}
+use Rattle.std.specs.Prelude.{find, option_map, is_some, min, nat_lt, nat_le}
+use Rattle.std.specs.List.{list_any}
+use Rattle.std.proofs.lemmas.Bool.{ltb-false, ltb-true}
+use Rattle.ertm_frames.specs.Reading.{frames_in}
+use Rattle.ertm_model.specs.declared.reason.ErtmReason.TheVariants.{RetryLimit}
+use Rattle.ertm_model.specs.Value.{Ertm, Kept, Poll, NoPoll, Due, Waits, new_ertm}
+use Rattle.ertm_model.specs.Submitting.{is_busy, taking, submitted}
+use Rattle.ertm_model.specs.Giving.{Giving, PollAnswer, Acknowledgement, Rejection, Polling, Again, New, giving, after_giving, after_by, after_frame, closing, polling, first_poll, poll_timed, open_timed, timed}
+use Rattle.ertm_model.specs.Runs.{Event, Submits, Comes, Gives, Fires, Course, new_course, given, happens, all_happen}
+use Rattle.l2cap_config.specs.declared.agreement.ConfigAnswer.{ConfigAnswer}
+use Rattle.l2cap_config.specs.declared.agreement.ConfigAnswer.TheVariants.{Accept, Unacceptable, Unknown}
+use Rattle.l2cap_config.specs.declared.options.ConfigRefusal.{ConfigRefusal}
+use Rattle.l2cap_config.specs.declared.options.Options.{Options}
+use Rattle.l2cap_config.specs.declared.options.ModeOption.{ModeOption}
+use Rattle.l2cap_config.specs.declared.wish.Agreed.{Agreed}
+use Rattle.l2cap_config.specs.declared.wish.Mode.{Mode}
+use Rattle.l2cap_config.specs.declared.wish.Mode.TheVariants.{Basic, Enhanced}
+use Rattle.l2cap_config.specs.declared.wish.Wish.{Wish}
+use Rattle.l2cap_config.specs.Agreement.{asked_mode, asked_mtu, mode_number, answered, answered_values, agreed_on, sent_window}
+use Rattle.link_talk.specs.declared.party.Party.{Party}
+use Rattle.channel_model.specs.declared.event.ChannelEvent.{ChannelEvent}
+use Rattle.channel_model.specs.Value.{Own, Unasked, Asking, Granted, Carrier, Plain, Retransmitting, Setup, no_setup, Stage, Requested, Connected, Leaving, Closing, Crossed, Held, Channels}
+use Rattle.channel_model.specs.Policies.{Policy}
+use Rattle.channel_model.specs.Changing.{has_own, is_granted, is_open}
+use Rattle.channel_model.specs.Configuring.{bounded_agreement, carrier_by, new_carrier}
+use Rattle.channel_model.proofs.Lookups.{own_of, Distinct, and_off}
+use Rattle.channel_model.proofs.Going.{OwnGoes, IsAccepted, CarrierGoes, SetupGoes, StageGoes, staged, Moves, IsFirst, new_held, IsOther, Walks}
+use Rattle.channel_laws.proofs.Sound.{at_each}
+use Rattle.channel_laws.proofs.Steps.{less-apart}
+use Rattle.channel_laws.proofs.Inviting.{held_others, held_here}
+
+-- ---- a machine
+
+-- what it came to, from all that happened to it
+pub record Attends (frame : ℕ) (pdus : List (List ℕ)) (opened : Bool) (m : Ertm) : Type 0 where
+  pub agreed : Agreed
+  pub events : List Event
+  pub machine_is : (all_happen events (new_course agreed)).machine ≡ m
+  pub agreed_is : m.agreed ≡ agreed
+  pub came_is : frames_in frame (all_happen events (new_course agreed)).came ≡ frames_in frame pdus
+  pub small : agreed.send_window ≤ 63
+  pub frame_is : agreed.receive_mps ≡ frame
+  pub open_is : m.closed ≡ None
+  pub quiet : opened ≡ false → frames_in frame pdus ≡ []
+
+pub happens-last : (events : List Event) (event : Event) (c : Course) → all_happen (events ++ event ∷ []) c ≡ happens event (all_happen events c)
+happens-last [] event c = refl
+happens-last (first ∷ events) event c = happens-last events event (happens first c)
+
+-- ---- what happens beside what comes in
+
+given_machine : (found : Option Giving) (c : Course) → (given found c).machine ≡ after_by found c.machine
+given_machine None c = refl
+given_machine (Some giving) c = refl
+
+given_came : (found : Option Giving) (c : Course) → (given found c).came ≡ c.came
+given_came None c = refl
+given_came (Some giving) c = refl
+
+giving_keeps : (found : Giving) (m : Ertm) → ((after_giving found m).closed ≡ m.closed) × ((after_giving found m).agreed ≡ m.agreed)
+giving_keeps PollAnswer m = (refl, refl)
+giving_keeps Acknowledgement m = (refl, refl)
+giving_keeps Rejection m = (refl, refl)
+giving_keeps Polling m = (refl, refl)
+giving_keeps (Again kept) m = (refl, refl)
+giving_keeps (New segment behind) m = (refl, refl)
+
+by_keeps : (found : Option Giving) (m : Ertm) → ((after_by found m).closed ≡ m.closed) × ((after_by found m).agreed ≡ m.agreed)
+by_keeps None m = (refl, refl)
+by_keeps (Some giving) m = giving_keeps giving m
+
+-- an event that brings no PDU, and what the machine is behind it
+pub record Aside (m after : Ertm) : Type 0 where
+  pub event : Event
+  pub after_is : (c : Course) → c.machine ≡ m → (happens event c).machine ≡ after
+  pub came_same : (c : Course) → (happens event c).came ≡ c.came
+  pub agreed_same : after.agreed ≡ m.agreed
+  pub open_still : m.closed ≡ None → after.closed ≡ None
+
+-- a carrier goes on beside what comes in
+abbrev pub BesideCarrier : Carrier → Carrier → Type 0
+BesideCarrier (Plain agreed waiting) (Plain agreed' waiting') = Unit {0}
+BesideCarrier (Plain agreed waiting) (Retransmitting machine) = ⊥
+BesideCarrier (Retransmitting machine) (Plain agreed waiting) = ⊥
+BesideCarrier (Retransmitting machine) (Retransmitting after) = (after ≡ machine) ⊎ Aside machine after
+
+pub submits-aside : (sdu : List ℕ) (m : Ertm) → Aside m (submitted sdu m)
+submits-aside sdu m = record {
+  event = Submits sdu;
+  after_is = λ c is. ap (submitted sdu) is;
+  came_same = λ c. refl;
+  agreed_same = by (is_busy m);
+  open_still = λ is. still (is_busy m) ∙ is;
+}
+  where
+    by : (busy : Bool) → (cond busy m (taking sdu m)).agreed ≡ m.agreed
+    by true = refl
+    by false = refl
+
+    still : (busy : Bool) → (cond busy m (taking sdu m)).closed ≡ m.closed
+    still true = refl
+    still false = refl
+
+pub gives-aside : (m : Ertm) → Aside m (after_frame m)
+gives-aside m = record {
+  event = Gives;
+  after_is = λ c is. given_machine (giving c.machine) c ∙ ap after_frame is;
+  came_same = λ c. given_came (giving c.machine) c;
+  agreed_same = (by_keeps (giving m) m).1;
+  open_still = λ is. (by_keeps (giving m) m).0 ∙ is;
+}
+
+timed_agreed : (m : Ertm) → (timed m).agreed ≡ m.agreed
+timed_agreed m = by m.closed
+  where
+    waits : (spent : Bool) → (cond spent (closing RetryLimit m) (polling m)).agreed ≡ m.agreed
+    waits true = refl
+    waits false = refl
+
+    first : (kept : List Kept) → (first_poll kept m).agreed ≡ m.agreed
+    first [] = refl
+    first (k ∷ kept) = refl
+
+    polls : (poll : Poll) → (poll_timed poll m).agreed ≡ m.agreed
+    polls NoPoll = first m.sender.unacked
+    polls Due = refl
+    polls Waits = waits (nat_le m.agreed.tries m.sender.polls)
+
+    by : (closed : _) → (open_timed closed m).agreed ≡ m.agreed
+    by None = polls m.sender.poll
+    by (Some reason) = refl
+
+pub fires-aside : (m : Ertm) → (timed m).closed ≡ None → Aside m (timed m)
+fires-aside m open' = record { event = Fires; after_is = λ c is. ap timed is; came_same = λ c. refl; agreed_same = timed_agreed m; open_still = λ was. open' }
+
+attends-aside : (frame : ℕ) (pdus : List (List ℕ)) (opened after_opened : Bool) (m after : Ertm) → Aside m after → (after_opened ≡ false → opened ≡ false) → Attends frame pdus opened m → Attends frame pdus after_opened after
+attends-aside frame pdus opened after_opened m after aside shut attends =
+    let c : Course = all_happen attends.events (new_course attends.agreed) in
+    let last = happens-last attends.events aside.event (new_course attends.agreed) in
+    record {
+      agreed = attends.agreed;
+      events = attends.events ++ aside.event ∷ [];
+      machine_is = ap (λ (x : Course). x.machine) last ∙ aside.after_is c attends.machine_is;
+      agreed_is = aside.agreed_same ∙ attends.agreed_is;
+      came_is = ap (λ (x : Course). frames_in frame x.came) last ∙ (ap (frames_in frame) (aside.came_same c) ∙ attends.came_is);
+      small = attends.small;
+      frame_is = attends.frame_is;
+      open_is = aside.open_still attends.open_is;
+      quiet = λ is. attends.quiet (shut is);
+    }
+
+attends-same : (frame : ℕ) (pdus : List (List ℕ)) (opened after_opened : Bool) (m after : Ertm) → after ≡ m → (after_opened ≡ false → opened ≡ false) → Attends frame pdus opened m → Attends frame pdus after_opened after
+attends-same frame pdus opened after_opened m after same shut attends = subst (Attends frame pdus after_opened) (sym same) (record {
+  agreed = attends.agreed;
+  events = attends.events;
+  machine_is = attends.machine_is;
+  agreed_is = attends.agreed_is;
+  came_is = attends.came_is;
+  small = attends.small;
+  frame_is = attends.frame_is;
+  open_is = attends.open_is;
+  quiet = λ is. attends.quiet (shut is);
+})
+
+-- ---- a new one
+
+min_below : (a b : ℕ) → a ≤ 63 → min a b ≤ 63
+min_below a b small = omega (arith, small)
+
+values_row : (none above low : Bool) (r s : ConfigRefusal) (x y : Options) (rest : ConfigAnswer) (accepted : Options) → cond (none || above) (Unacceptable r x) (cond low (Unacceptable s y) rest) ≡ Accept accepted → above ≡ false
+values_row true above low r s x y rest accepted is = cc
+values_row false true low r s x y rest accepted is = cc
+values_row false false low r s x y rest accepted is = refl
+
+values_small : (asked : ModeOption) (accepted : Options) → answered_values Enhanced asked ≡ Accept accepted → asked.window ≤ 63
+values_small asked accepted is = ltb-false 63 asked.window (values_row (eqb asked.window 0) (nat_lt 63 asked.window) (nat_lt asked.mps 8) _ _ _ _ _ accepted is)
+
+answered_row : (a b c : Bool) (r s : ConfigRefusal) (x y : Options) (rest : ConfigAnswer) (accepted : Options) → cond a Unknown (cond b (Unacceptable r x) (cond c (Unacceptable s y) rest)) ≡ Accept accepted → rest ≡ Accept accepted
+answered_row true b c r s x y rest accepted is = cc
+answered_row false true c r s x y rest accepted is = cc
+answered_row false false true r s x y rest accepted is = cc
+answered_row false false false r s x y rest accepted is = is
+
+accepted_values : (wish : Wish) (options accepted : Options) → answered wish options ≡ Accept accepted → answered_values wish.mode (asked_mode options) ≡ Accept accepted
+accepted_values wish options accepted is =
+    answered_row (not (eqb (length options.unknown) 0)) (not (eqb (asked_mode options).mode (mode_number wish.mode))) (nat_lt (asked_mtu options) 48) _ _ _ _ (answered_values wish.mode (asked_mode options)) accepted is
+
+window_small : (mode : Mode) (asked : ModeOption) (own : ℕ) (given : Options) → answered_values mode asked ≡ Accept given → sent_window mode asked own ≤ 63
+window_small Basic asked own given is = omega arith
+window_small Enhanced asked own given is = min_below asked.window own (values_small asked given is)
+
+attends-new : (frame : ℕ) (pdus : List (List ℕ)) (opened : Bool) (agreed : Agreed) → agreed.send_window ≤ 63 → agreed.receive_mps ≡ frame → frames_in frame pdus ≡ [] → Attends frame pdus opened (new_ertm agreed)
+attends-new frame pdus opened agreed small mps none = record {
+  agreed = agreed;
+  events = [];
+  machine_is = refl;
+  agreed_is = refl;
+  came_is = sym none;
+  small = small;
+  frame_is = mps;
+  open_is = refl;
+  quiet = λ shut. none;
+}
+
+-- ---- a channel
+
+abbrev pub CarrierAttends : Wish → (frame : ℕ) (pdus : List (List ℕ)) (opened : Bool) → Option Carrier → Type 0
+CarrierAttends wish frame pdus opened None = frames_in frame pdus ≡ []
+CarrierAttends wish frame pdus opened (Some (Plain agreed waiting)) = wish.mode ≡ Basic
+CarrierAttends wish frame pdus opened (Some (Retransmitting machine)) = Attends frame pdus opened machine
+
+abbrev pub StageAttends : Wish → (frame : ℕ) (pdus : List (List ℕ)) → Stage → Type 0
+StageAttends wish frame pdus (Requested request) = frames_in frame pdus ≡ []
+StageAttends wish frame pdus (Connected peer setup) = CarrierAttends wish frame pdus (is_open setup) setup.carrier
+StageAttends wish frame pdus (Leaving peer setup request) = Unit {0}
+StageAttends wish frame pdus (Closing peer request) = Unit {0}
+StageAttends wish frame pdus (Crossed peer request) = Unit {0}
+
+abbrev pub HeldAttends : Policy → (frame : ℕ) (pdus : List (List ℕ)) → Option Held → Type 0
+HeldAttends policy frame pdus None = Unit {0}
+HeldAttends policy frame pdus (Some held) = StageAttends (policy.wish held.psm) frame pdus held.stage
+
+-- a new carrier is one of the mode that is wished
+new_attends : (wish : Wish) (frame : ℕ) (pdus : List (List ℕ)) (opened : Bool) (carrier : Carrier) → wish.mps ≡ frame → frames_in frame pdus ≡ [] → IsAccepted wish carrier → CarrierAttends wish frame pdus opened (Some carrier)
+new_attends wish frame pdus opened carrier mps none accepted =
+    subst (λ c. CarrierAttends wish frame pdus opened (Some c)) (sym accepted.is) (by wish.mode refl)
+  where
+    by : (mode : Mode) → wish.mode ≡ mode → CarrierAttends wish frame pdus opened (Some (carrier_by mode (bounded_agreement (agreed_on wish accepted.options))))
+    by Basic is = is
+    by Enhanced is =
+        attends-new frame pdus opened (bounded_agreement (agreed_on wish accepted.options))
+        (window_small wish.mode (asked_mode accepted.options) wish.window accepted.given (accepted_values wish accepted.options accepted.given accepted.accepts)) mps none
+
+-- in basic mode a new carrier has no machine
+plain_again : (wish : Wish) (frame : ℕ) (pdus : List (List ℕ)) (opened : Bool) (carrier : Carrier) → wish.mode ≡ Basic → IsAccepted wish carrier → CarrierAttends wish frame pdus opened (Some carrier)
+plain_again wish frame pdus opened carrier basic accepted =
+    subst (λ c. CarrierAttends wish frame pdus opened (Some c)) (sym (accepted.is ∙ ap (λ m. carrier_by m (bounded_agreement (agreed_on wish accepted.options))) basic)) basic
+
+beside : (wish : Wish) (frame : ℕ) (pdus : List (List ℕ)) (opened after_opened : Bool) (carrier after : Carrier) → BesideCarrier carrier after → (after_opened ≡ false → opened ≡ false) → CarrierAttends wish frame pdus opened (Some carrier)
+    → CarrierAttends wish frame pdus after_opened (Some after)
+beside wish frame pdus opened after_opened (Plain agreed waiting) (Plain agreed' waiting') goes shut attends = attends
+beside wish frame pdus opened after_opened (Plain agreed waiting) (Retransmitting machine) goes shut attends = elim goes [ ]
+beside wish frame pdus opened after_opened (Retransmitting machine) (Plain agreed waiting) goes shut attends = elim goes [ ]
+beside wish frame pdus opened after_opened (Retransmitting machine) (Retransmitting after) (inl same) shut attends = attends-same frame pdus opened after_opened machine after same shut attends
+beside wish frame pdus opened after_opened (Retransmitting machine) (Retransmitting after) (inr aside) shut attends = attends-aside frame pdus opened after_opened machine after aside shut attends
+
+accepted_attends : (wish : Wish) (frame : ℕ) (pdus : List (List ℕ)) (opened after_opened : Bool) (carrier after : Carrier) → wish.mps ≡ frame → opened ≡ false → IsAccepted wish after → CarrierAttends wish frame pdus opened (Some carrier)
+    → CarrierAttends wish frame pdus after_opened (Some after)
+accepted_attends wish frame pdus opened after_opened (Plain agreed waiting) after mps shut accepted attends = plain_again wish frame pdus after_opened after attends accepted
+accepted_attends wish frame pdus opened after_opened (Retransmitting machine) after mps shut accepted attends = new_attends wish frame pdus after_opened after mps (attends.quiet shut) accepted
+
+carrier_attends : (wish : Wish) (frame : ℕ) (pdus : List (List ℕ)) (opened after_opened : Bool) (before after : Option Carrier) → wish.mps ≡ frame → CarrierGoes wish BesideCarrier opened before after → (after_opened ≡ false → opened ≡ false)
+    → CarrierAttends wish frame pdus opened before → CarrierAttends wish frame pdus after_opened after
+carrier_attends wish frame pdus opened after_opened None None mps goes shut attends = attends
+carrier_attends wish frame pdus opened after_opened None (Some after) mps goes shut attends = new_attends wish frame pdus after_opened after mps attends goes
+carrier_attends wish frame pdus opened after_opened (Some before) None mps goes shut attends = elim goes [ ]
+carrier_attends wish frame pdus opened after_opened (Some before) (Some after) mps (inl goes) shut attends = beside wish frame pdus opened after_opened before after goes shut attends
+carrier_attends wish frame pdus opened after_opened (Some before) (Some after) mps (inr (closed, accepted)) shut attends = accepted_attends wish frame pdus opened after_opened before after mps closed accepted attends
+
+-- a channel that is not open was not open before
+shut_before : (wish : Wish) (C : Carrier → Carrier → Type 0) (before after : Setup) → SetupGoes wish C before after → is_open after ≡ false → is_open before ≡ false
+shut_before wish C before after goes shut = by before.carrier after.carrier before.own after.own refl refl refl refl goes.carrier_goes goes.own_goes
+  where
+    by : (c d : Option Carrier) (o p : Own) → before.carrier ≡ c → after.carrier ≡ d → before.own ≡ o → after.own ≡ p → CarrierGoes wish C (is_open before) c d → OwnGoes o p → is_open before ≡ false
+    by None d o p is_c is_d is_o is_p cs os = ap (λ x. is_some x && is_granted before.own) is_c
+    by (Some c) None o p is_c is_d is_o is_p cs os = elim cs [ ]
+    by (Some c) (Some d) Unasked p is_c is_d is_o is_p cs os = ap (λ x. is_some before.carrier && is_granted x) is_o ∙ and_off (is_some before.carrier)
+    by (Some c) (Some d) (Asking r o) p is_c is_d is_o is_p cs os = ap (λ x. is_some before.carrier && is_granted x) is_o ∙ and_off (is_some before.carrier)
+    by (Some c) (Some d) Granted Unasked is_c is_d is_o is_p cs os = elim os [ ]
+    by (Some c) (Some d) Granted (Asking r o) is_c is_d is_o is_p cs os = elim os [ ]
+    by (Some c) (Some d) Granted Granted is_c is_d is_o is_p cs os =
+        let opened : is_open after ≡ true = ap (λ x. is_some x && is_granted after.own) is_d ∙ ap is_granted is_p in
+        let never : true ≡ false = sym opened ∙ shut in absurd cc
+
+-- ---- one step
+
+goes_attends : (wish : Wish) (frame : ℕ) (pdus : List (List ℕ)) (held : Held) (before : Stage) (after : Option Stage) (closed : Bool) (policy : Policy) → policy.wish held.psm ≡ wish → wish.mps ≡ frame → StageAttends wish frame pdus before
+    → StageGoes wish BesideCarrier before after closed → HeldAttends policy frame pdus (option_map (staged held) after)
+goes_attends wish frame pdus held before None closed policy is mps attends goes = tt
+goes_attends wish frame pdus held (Requested request) (Some (Requested again)) closed policy is mps attends goes = attends
+goes_attends wish frame pdus held (Requested request) (Some (Connected peer setup)) closed policy is mps attends (none, silent) =
+    subst (CarrierAttends (policy.wish held.psm) frame pdus (is_open setup)) (sym none) attends
+goes_attends wish frame pdus held (Requested request) (Some (Leaving peer setup other)) closed policy is mps attends goes = tt
+goes_attends wish frame pdus held (Requested request) (Some (Closing peer other)) closed policy is mps attends goes = tt
+goes_attends wish frame pdus held (Requested request) (Some (Crossed peer other)) closed policy is mps attends goes = tt
+goes_attends wish frame pdus held (Connected peer setup) (Some (Requested request)) closed policy is mps attends goes = elim goes [ ]
+goes_attends wish frame pdus held (Connected peer setup) (Some (Connected at after)) closed policy is mps attends (same, goes, silent) =
+    subst (λ w. CarrierAttends w frame pdus (is_open after) after.carrier) (sym is)
+    (carrier_attends wish frame pdus (is_open setup) (is_open after) setup.carrier after.carrier mps goes.carrier_goes (shut_before wish BesideCarrier setup after goes) attends)
+goes_attends wish frame pdus held (Connected peer setup) (Some (Leaving at after request)) closed policy is mps attends goes = tt
+goes_attends wish frame pdus held (Connected peer setup) (Some (Closing at request)) closed policy is mps attends goes = tt
+goes_attends wish frame pdus held (Connected peer setup) (Some (Crossed at request)) closed policy is mps attends goes = tt
+goes_attends wish frame pdus held (Leaving peer setup request) (Some (Requested other)) closed policy is mps attends goes = elim goes [ ]
+goes_attends wish frame pdus held (Leaving peer setup request) (Some (Connected at after)) closed policy is mps attends goes = elim goes [ ]
+goes_attends wish frame pdus held (Leaving peer setup request) (Some (Leaving at after other)) closed policy is mps attends goes = tt
+goes_attends wish frame pdus held (Leaving peer setup request) (Some (Closing at other)) closed policy is mps attends goes = tt
+goes_attends wish frame pdus held (Leaving peer setup request) (Some (Crossed at other)) closed policy is mps attends goes = tt
+goes_attends wish frame pdus held (Closing peer request) (Some (Requested other)) closed policy is mps attends goes = elim goes [ ]
+goes_attends wish frame pdus held (Closing peer request) (Some (Connected at after)) closed policy is mps attends goes = elim goes [ ]
+goes_attends wish frame pdus held (Closing peer request) (Some (Leaving at after other)) closed policy is mps attends goes = tt
+goes_attends wish frame pdus held (Closing peer request) (Some (Closing at other)) closed policy is mps attends goes = tt
+goes_attends wish frame pdus held (Closing peer request) (Some (Crossed at other)) closed policy is mps attends goes = tt
+goes_attends wish frame pdus held (Crossed peer request) (Some (Requested other)) closed policy is mps attends goes = elim goes [ ]
+goes_attends wish frame pdus held (Crossed peer request) (Some (Connected at after)) closed policy is mps attends goes = elim goes [ ]
+goes_attends wish frame pdus held (Crossed peer request) (Some (Leaving at after other)) closed policy is mps attends goes = tt
+goes_attends wish frame pdus held (Crossed peer request) (Some (Closing at other)) closed policy is mps attends goes = tt
+goes_attends wish frame pdus held (Crossed peer request) (Some (Crossed at other)) closed policy is mps attends goes = tt
+
+-- ---- all channels
+
+-- of each endpoint, with the PDUs that came in for it
+pub record AllAttend (policy : Policy) (frame : ℕ) (came : ℕ → List (List ℕ)) (v : Channels) : Type 0 where
+  pub at : (own : ℕ) → HeldAttends policy frame (came own) (find (has_own own) v.held)
+  pub fresh : (own : ℕ) → v.next ≤ own → frames_in frame (came own) ≡ []
+  pub below : (own : ℕ) → v.next ≤ own → find (has_own own) v.held ≡ None
+
+abbrev pub AttendsOn : Policy → (frame : ℕ) (came : ℕ → List (List ℕ)) → Channels → Channels → Type 0
+AttendsOn policy frame came v w = AllAttend policy frame came v → AllAttend policy frame came w
+
+under : (v : Channels) (held : Held) (next own : ℕ) → next ≡ v.next → ((n : ℕ) → v.next ≤ n → find (has_own n) v.held ≡ None) → find (has_own held.own) v.held ≡ Some held → next ≤ own → held.own < own
+under v held next own is below found above = by (nat_lt held.own own) refl
+  where
+    by : (b : Bool) → nat_lt held.own own ≡ b → held.own < own
+    by true less = ltb-true held.own own less
+    by false less =
+        let high : own ≤ held.own = ltb-false held.own own less in
+        let none : find (has_own held.own) v.held ≡ None = below held.own (omega (arith, is, above, high)) in
+        let never : None ≡ Some held = sym none ∙ found in absurd cc
+
+moves_attend : (policy : Policy) (frame : ℕ) (came : ℕ → List (List ℕ)) → ((psm : ℕ) → (policy.wish psm).mps ≡ frame) → (v w : Channels) (held : Held) (after : Option Stage) (more : List ChannelEvent) → Moves policy BesideCarrier v w held after more
+    → AttendsOn policy frame came v w
+moves_attend policy frame came states v w held after more moves all = record {
+  at = at_each (λ n. HeldAttends policy frame (came n) (find (has_own n) v.held)) (λ n. HeldAttends policy frame (came n) (find (has_own n) w.held)) held.own
+      (λ n apart was. subst (HeldAttends policy frame (came n)) (sym (moves.others n apart)) was)
+      (subst (HeldAttends policy frame (came held.own)) (sym moves.becomes)
+      (goes_attends (policy.wish held.psm) frame (came held.own) held held.stage after _ policy refl (states held.psm) (subst (HeldAttends policy frame (came held.own)) moves.found (all.at held.own)) moves.goes))
+      all.at;
+  fresh = λ own above. all.fresh own (omega (arith, moves.next_is, above));
+  below = λ own above. moves.others own (less-apart held.own own (under v held w.next own moves.next_is all.below moves.found above)) ∙ all.below own (omega (arith, moves.next_is, above));
+}
+
+first_attends : (wish : Wish) (frame : ℕ) (pdus : List (List ℕ)) (stage : Stage) → IsFirst stage → frames_in frame pdus ≡ [] → StageAttends wish frame pdus stage
+first_attends wish frame pdus (Requested request) is none = none
+first_attends wish frame pdus (Connected peer setup) is none = subst (λ s. CarrierAttends wish frame pdus (is_open s) s.carrier) (sym is) none
+first_attends wish frame pdus (Leaving peer setup request) is none = tt
+first_attends wish frame pdus (Closing peer request) is none = tt
+first_attends wish frame pdus (Crossed peer request) is none = tt
+
+made_attends : (policy : Policy) (frame : ℕ) (came : ℕ → List (List ℕ)) (v w : Channels) (psm : ℕ) (stage : Stage) → IsFirst stage → w.held ≡ v.held ++ new_held psm v.next stage ∷ [] → w.next ≡ v.next + 1 → AttendsOn policy frame came v w
+made_attends policy frame came v w psm stage is held_is next_is all =
+    let new : Held = new_held psm v.next stage in
+    record {
+      at = at_each (λ n. HeldAttends policy frame (came n) (find (has_own n) v.held)) (λ n. HeldAttends policy frame (came n) (find (has_own n) w.held)) v.next
+          (λ n apart was. subst (HeldAttends policy frame (came n)) (sym (ap (find (has_own n)) held_is ∙ held_others v.held new n apart)) was)
+          (subst (HeldAttends policy frame (came v.next)) (sym (ap (find (has_own v.next)) held_is ∙ held_here v.held new (all.below v.next (omega arith))))
+          (first_attends (policy.wish psm) frame (came v.next) stage is (all.fresh v.next (omega arith))))
+          all.at;
+      fresh = λ own above. all.fresh own (omega (arith, next_is, above));
+      below = λ own above. ap (find (has_own own)) held_is ∙ (held_others v.held new own (less-apart v.next own (omega (arith, next_is, above))) ∙ all.below own (omega (arith, next_is, above)));
+    }
+
+still_attend : (policy : Policy) (frame : ℕ) (came : ℕ → List (List ℕ)) (v w : Channels) → w.held ≡ v.held → w.next ≡ v.next → AttendsOn policy frame came v w
+still_attend policy frame came v w held_is next_is all = record {
+  at = λ own. subst (HeldAttends policy frame (came own)) (sym (ap (find (has_own own)) held_is)) (all.at own);
+  fresh = λ own above. all.fresh own (omega (arith, next_is, above));
+  below = λ own above. ap (find (has_own own)) held_is ∙ all.below own (omega (arith, next_is, above));
+}
+
+beside_same : (carrier : Carrier) → BesideCarrier carrier carrier
+beside_same (Plain agreed waiting) = tt
+beside_same (Retransmitting machine) = inl refl
+
+pub walks-attend : (policy : Policy) (frame : ℕ) (came : ℕ → List (List ℕ)) → ((psm : ℕ) → (policy.wish psm).mps ≡ frame) → Walks policy BesideCarrier (AttendsOn policy frame came)
+walks-attend policy frame came states = record {
+  same = beside_same;
+  still = λ v w held_is next_is events_are. still_attend policy frame came v w held_is next_is;
+  tells = λ v w event held_is next_is events_are other. still_attend policy frame came v w held_is next_is;
+  both = λ v u w first second all. second (first all);
+  made = λ v w psm stage is held_is next_is events_are. made_attends policy frame came v w psm stage is held_is next_is;
+  moves = λ v w held after more moves. moves_attend policy frame came states v w held after more moves;
+}
