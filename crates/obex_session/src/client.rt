@@ -1,12 +1,12 @@
 //! The session of a client.
 
-ghost use Rattle.std.specs.Prelude.{◌≡◌, ◌≤◌, ◌++◌, [], length, drop, IsSome, IfSome};
+ghost use Rattle.std.specs.Prelude.{◌≡◌, ◌≤◌, ◌<◌, ◌++◌, [], length, drop, min, IsSome, IfSome, OnErr};
 ghost use Rattle.obex_headers.specs.Packets.{HasFields, bare, packet_octets};
 ghost use Rattle.obex_session.specs.Responses.{connect_fields};
 ghost use Rattle.obex_session.specs.Asking.{fresh, asks_for, phase_of, answer_by, answer_to, after_by, after_answer};
 ghost use Rattle.bt_base.specs.Counts.{HasCause};
 ghost use Rattle.obex_session.specs.PutPackets.{Reaches, units_in};
-ghost use Rattle.obex_session.specs.NextPut.{PutsNext, outcome_of};
+ghost use Rattle.obex_session.specs.NextPut.{PutsNext, outcome_of, left_of, room_for};
 ghost use Rattle.obex_session.specs.declared.asking.Request.TheVariants.{Connect, Abort, Disconnect};
 
 mod looking;
@@ -178,6 +178,7 @@ impl ClientSession {
         ensures content { F.content shelf.new ≡ F.content shelf.old }
         ensures cause { HasCause (F.faults shelf.old) (F.faults shelf.new) (F.shortages shelf.old) (F.shortages shelf.new) (outcome_of result) }
         ensures absence { Reaches size name.now (F.content shelf.old) → F.absences shelf.new ≡ F.absences shelf.old }
+        ensures asked { OnErr (outcome_of result) (0 < min (left_of self.old size) (room_for self.old name.now size limit)) }
     {
         if is_waiting(self.awaited) {
             return PutNext::Wait;

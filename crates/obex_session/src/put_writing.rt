@@ -1,6 +1,6 @@
 //! PUT packets, as a client writes them (IrOBEX 1.5, 3.4.3).
 
-ghost use Rattle.std.specs.Prelude.{◌≡◌, ◌+◌, ◌<◌, ◌≤◌, ◌++◌, ◌∷◌, [], List, IfOk, OnOk, IfSome, ℕ, ◌^◌, ◌-◌, min, nat_le, None, Some, length, take, drop, if◌then◌else◌};
+ghost use Rattle.std.specs.Prelude.{◌≡◌, ◌+◌, ◌<◌, ◌≤◌, ◌++◌, ◌∷◌, [], List, IfOk, OnOk, OnErr, IfSome, ℕ, ◌^◌, ◌-◌, min, nat_le, None, Some, length, take, drop, if◌then◌else◌};
 ghost use Rattle.bt_base.specs.Counts.{HasCause};
 ghost use Rattle.bt_base.specs.Objects.{HasAt, octets_of};
 ghost use Rattle.obex_headers.specs.Packets.{Text, Four, IsText, PlainHeader, packet_octets, header_octets, headers_octets, grown};
@@ -100,6 +100,7 @@ pub(crate) fn read_part<F: Shelf>(
     ensures content { F.content shelf.new ≡ F.content shelf.old }
     ensures cause { HasCause (F.faults shelf.old) (F.faults shelf.new) (F.shortages shelf.old) (F.shortages shelf.new) result }
     ensures absence { (0 < n → Reaches (place + n) name.now (F.content shelf.old)) → F.absences shelf.new ≡ F.absences shelf.old }
+    ensures asked { OnErr result (0 < n) }
 {
     if n == 0 {
         return Ok(());
@@ -132,6 +133,7 @@ pub(crate) fn write_body<F: Shelf>(
     ensures content { F.content shelf.new ≡ F.content shelf.old }
     ensures cause { HasCause (F.faults shelf.old) (F.faults shelf.new) (F.shortages shelf.old) (F.shortages shelf.new) result }
     ensures absence { (0 < n → Reaches (place + n) name.now (F.content shelf.old)) → F.absences shelf.new ≡ F.absences shelf.old }
+    ensures asked { OnErr result (0 < n) }
 {
     read_part(name, place, n, at + 3, shelf, into)?;
     Ok(add_placed(body_id(is_final), n, at, into))
@@ -228,6 +230,7 @@ pub(crate) fn write_put<F: Shelf>(
     ensures content { F.content shelf.new ≡ F.content shelf.old }
     ensures cause { HasCause (F.faults shelf.old) (F.faults shelf.new) (F.shortages shelf.old) (F.shortages shelf.new) result }
     ensures absence { Reaches size name.now (F.content shelf.old) → F.absences shelf.new ≡ F.absences shelf.old }
+    ensures asked { OnErr result (0 < min (size - place_of put) (room_in limit (ahead_of wanted put name.now size))) }
 {
     let text = name_text(name);
     let front = front_len(wanted, put, &text, size);

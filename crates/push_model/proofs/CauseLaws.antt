@@ -1,5 +1,5 @@
 -- The first cause of a push stays.
-use Rattle.std.proofs.Common.{◌≡◌, ℕ, zero, suc, ◌+◌, ◌++◌, ◌==◌, length, drop, Bool, true, false, not, ◌&&◌, ◌||◌, nat_lt, nat_le, min, List, [], ◌∷◌, Option, Some, None, is_some, Result, Ok, Err, refl, ◌∙◌, if◌then◌else◌}
+use Rattle.std.proofs.Common.{◌≡◌, ℕ, zero, suc, ◌+◌, ◌-◌, ◌++◌, ◌==◌, length, drop, Bool, true, false, not, ◌&&◌, ◌||◌, nat_lt, nat_le, min, List, [], ◌∷◌, Option, Some, None, is_some, Result, Ok, Err, refl, ◌∙◌, if◌then◌else◌}
 use Rattle.bt_base.specs.declared.ports.PortFault.{PortFault}
 use Rattle.bt_base.specs.declared.ports.PortFault.TheVariants as fault
 use Rattle.bt_base.specs.declared.settings.Transport.{Transport}
@@ -30,7 +30,8 @@ use Rattle.push_model.specs.Client.{Client, ends, ends_by, ends_if, cancelled, m
 use Rattle.push_model.specs.Streams.{Front, Whole, Partial, Broken, front_of}
 use Rattle.push_model.specs.Responding.{takes, hears_answer, hears_response, is_object, hears_front, hears_stream, hears_end, hears_up, hears_frame, is_left, is_success, is_early}
 use Rattle.push_model.specs.Events as events
-use Rattle.push_model.specs.Steps.{Part, NoMemory, Octets, Stepped, Made, Ask, Connect, Put, Abort, Disconnect, Close, Nothing, put_count, puts_part, puts_from, puts, leaves_by, failing, puts_or_leaves, requests, sends_direct, asks_direct, filled, said_by, says, sends_muxed, takes_some, asks_through, asks_muxed, goes_muxed, steps_object, steps_search, tells_end, steps_at, steps, sends_sdu, rests, may_ask, next_ask}
+use Rattle.push_model.specs.Payloads.{Octets}
+use Rattle.push_model.specs.Steps.{Part, NoMemory, Stepped, Made, Ask, Connect, Put, Abort, Disconnect, Close, Nothing, put_count, puts_part, puts_from, puts, leaves_by, failing, puts_or_leaves, requests, sends_direct, asks_direct, filled, said_by, says, sends_muxed, takes_some, asks_through, asks_muxed, goes_muxed, steps_object, steps_search, tells_end, steps_at, steps, sends_sdu, rests, may_ask, next_ask}
 use Rattle.push_model.specs.Laws as laws
 use Rattle.push_model.specs.Laws.{Deed, done, all_done, FirstCausesStay}
 
@@ -212,8 +213,8 @@ sdu_keeps Over psm sdu client = λ first e. e
 fires_keeps : (client : Client) → Keeps client (events.fires client)
 fires_keeps client =
     let fired = record client { query = after_resend client.query } in
-    either (events.armed client && not (client.given || is_due client.query)) client (if nat_le client.tries client.sent then ends outcomes.RetryLimit client else fired) client
-    (either (nat_le client.tries client.sent) client (ends outcomes.RetryLimit client) fired (ends_keeps outcomes.RetryLimit client) (λ first e. e)) (λ first e. e)
+    either (events.armed client && not (client.given || is_due client.query)) client (if client.left == 0 then ends outcomes.RetryLimit client else fired) client
+    (either (client.left == 0) client (ends outcomes.RetryLimit client) fired (ends_keeps outcomes.RetryLimit client) (λ first e. e)) (λ first e. e)
 
 pub news_keeps : (news : events.News) (client : Client) → Keeps client (events.hears_news news client)
 news_keeps events.LinkUp client = linked_keeps client.stage client
@@ -265,30 +266,30 @@ leaves_keeps Nothing client parts = λ first e. e
 failing_keeps : (client : Client) (parts : List Part) → MadeKeeps client (failing client parts)
 failing_keeps client parts = let ended = ends outcomes.ShelfFault client in follows client ended (leaves_by (next_ask ended) ended parts).client (ends_keeps outcomes.ShelfFault client) (leaves_keeps (next_ask ended) ended parts)
 
-or_leaves_keeps : (octets : Result (List ℕ) PortFault) (client : Client) (put : Made) → MadeKeeps client put → MadeKeeps client (puts_or_leaves octets put)
-or_leaves_keeps (Ok octets) client put keeps = keeps
+or_leaves_keeps : (outcome : Result (Unit {0}) PortFault) (client : Client) (put : Made) → MadeKeeps client put → MadeKeeps client (puts_or_leaves outcome put)
+or_leaves_keeps (Ok done) client put keeps = keeps
 or_leaves_keeps (Err fault.Failed) client put keeps = follows client put.client (failing put.client put.left).client keeps (failing_keeps put.client put.left)
 or_leaves_keeps (Err fault.NoMemory) client put keeps = keeps
 
 requests_keep : (ask : Ask) (client : Client) (parts : List Part) → MadeKeeps client (requests ask client parts)
 requests_keep Connect client parts = λ first e. e
-requests_keep Put client parts = or_leaves_keeps (puts client parts).octets client (puts client parts) (puts_keeps client parts)
+requests_keep Put client parts = or_leaves_keeps (puts client parts).outcome client (puts client parts) (puts_keeps client parts)
 requests_keep Abort client parts = λ first e. e
 requests_keep Disconnect client parts = λ first e. e
 requests_keep Close client parts = λ first e. e
 requests_keep Nothing client parts = λ first e. e
 
-sends_keep : (octets : Result (List ℕ) PortFault) (client : Client) (request : Made) → MadeKeeps client request → StepKeeps client (sends_direct octets request)
-sends_keep (Ok octets) client request keeps = keeps
+sends_keep : (outcome : Result (Unit {0}) PortFault) (client : Client) (request : Made) → MadeKeeps client request → StepKeeps client (sends_direct outcome request)
+sends_keep (Ok done) client request keeps = keeps
 sends_keep (Err fault) client request keeps = keeps
 
 direct_keeps : (ask : Ask) (client : Client) (parts : List Part) → StepKeeps client (asks_direct ask client parts)
 direct_keeps Close client parts = λ first e. e
 direct_keeps Nothing client parts = λ first e. e
-direct_keeps Connect client parts = sends_keep (requests Connect client parts).octets client (requests Connect client parts) (requests_keep Connect client parts)
-direct_keeps Put client parts = sends_keep (requests Put client parts).octets client (requests Put client parts) (requests_keep Put client parts)
-direct_keeps Abort client parts = sends_keep (requests Abort client parts).octets client (requests Abort client parts) (requests_keep Abort client parts)
-direct_keeps Disconnect client parts = sends_keep (requests Disconnect client parts).octets client (requests Disconnect client parts) (requests_keep Disconnect client parts)
+direct_keeps Connect client parts = sends_keep (requests Connect client parts).outcome client (requests Connect client parts) (requests_keep Connect client parts)
+direct_keeps Put client parts = sends_keep (requests Put client parts).outcome client (requests Put client parts) (requests_keep Put client parts)
+direct_keeps Abort client parts = sends_keep (requests Abort client parts).outcome client (requests Abort client parts) (requests_keep Abort client parts)
+direct_keeps Disconnect client parts = sends_keep (requests Disconnect client parts).outcome client (requests Disconnect client parts) (requests_keep Disconnect client parts)
 
 filled_keeps : (client : Client) → Keeps client (filled client)
 filled_keeps client = either (is_ready client.mux && not (is_empty client.rest)) client (record client { mux = sends client.rest client.mux; rest = drop (taken_count (length client.rest) client.mux) client.rest }) client (λ first e. e) (λ first e. e)
@@ -300,14 +301,14 @@ said_keeps (Some said) client parts = λ first e. e
 says_keep : (client : Client) (parts : List Part) → StepKeeps client (says client parts)
 says_keep client parts = let full = filled client in follows client full (said_by (next full.mux) full parts).client (filled_keeps client) (said_keeps (next full.mux) full parts)
 
-muxed_keep : (octets : Result (List ℕ) PortFault) (client : Client) (request : Made) → MadeKeeps client request → StepKeeps client (sends_muxed octets request)
-muxed_keep (Ok octets) client request keeps = let made = record (request.client) { rest = octets } in follows client made (says made request.left).client keeps (says_keep made request.left)
+muxed_keep : (outcome : Result (Unit {0}) PortFault) (client : Client) (request : Made) → MadeKeeps client request → StepKeeps client (sends_muxed outcome request)
+muxed_keep (Ok done) client request keeps = follows client request.client (says request.client request.left).client keeps (says_keep request.client request.left)
 muxed_keep (Err fault) client request keeps = keeps
 
 through_keeps : (ask : Ask) (client : Client) (parts : List Part) → StepKeeps client (asks_through ask client parts)
 through_keeps ask client parts =
-    let request = requests ask client parts in
-    step_either (takes_some client.mux) client (sends_muxed request.octets request) (rests client parts) (muxed_keep request.octets client request (requests_keep ask client parts)) (λ first e. e)
+    let request = requests ask (record client { rest = [] }) parts in
+    step_either (takes_some client.mux) client (sends_muxed request.outcome request) (rests client parts) (muxed_keep request.outcome client request (requests_keep ask (record client { rest = [] }) parts)) (λ first e. e)
 
 asks_muxed_keeps : (ask : Ask) (client : Client) (parts : List Part) → StepKeeps client (asks_muxed ask client parts)
 asks_muxed_keeps Close client parts = says_keep (record client { mux = leaves client.mux; contact = Closing }) parts
@@ -318,16 +319,16 @@ asks_muxed_keeps Abort client parts = through_keeps Abort client parts
 asks_muxed_keeps Disconnect client parts = through_keeps Disconnect client parts
 
 goes_keeps : (said : Option Said) (client : Client) (parts : List Part) → StepKeeps client (goes_muxed said client parts)
-goes_keeps None client parts = step_either (may_ask client) client (asks_muxed (next_ask client) client parts) (rests client parts) (asks_muxed_keeps (next_ask client) client parts) (λ first e. e)
+goes_keeps None client parts = let quiet = record client { frame = None } in step_either (may_ask quiet) client (asks_muxed (next_ask quiet) quiet parts) (rests quiet parts) (asks_muxed_keeps (next_ask quiet) quiet parts) (λ first e. e)
 goes_keeps (Some said) client parts = said_keeps (Some said) client parts
 
 object_step_keeps : (transport : Transport) (client : Client) (parts : List Part) → StepKeeps client (steps_object transport client parts)
-object_step_keeps L2cap client parts = step_either (may_ask client) client (asks_direct (next_ask client) client parts) (rests client parts) (direct_keeps (next_ask client) client parts) (λ first e. e)
+object_step_keeps L2cap client parts = step_either (may_ask client) client (asks_direct (next_ask client) (record client { rest = [] }) parts) (rests client parts) (direct_keeps (next_ask client) (record client { rest = [] }) parts) (λ first e. e)
 object_step_keeps Rfcomm client parts = let full = filled client in follows client full (goes_muxed (next full.mux) full parts).client (filled_keeps client) (goes_keeps (next full.mux) full parts)
 
 search_step_keeps : (client : Client) (parts : List Part) → StepKeeps client (steps_search client parts)
 search_step_keeps client parts =
-    step_either (is_due client.query) client (sends_sdu events.search_psm (Octets (request_octets client.query)) (record client { query = after_request client.query; sent = client.sent + 1 }) parts) (rests client parts) (λ first e. e) (λ first e. e)
+    step_either (is_due client.query) client (sends_sdu events.search_psm (Octets (request_octets client.query)) (record client { query = after_request client.query; left = client.left - 1; rest = request_octets client.query }) parts) (rests client parts) (λ first e. e) (λ first e. e)
 
 tells_keeps : (cause : Option Outcome) (client : Client) (parts : List Part) → StepKeeps client (tells_end cause client parts)
 tells_keeps None client parts = λ first e. e

@@ -1,11 +1,15 @@
 -- A client of Object Push: where its push is, and what it holds for the steps of it (Object Push Profile 1.2, 4.3).
-use Rattle.std.specs.Prelude.{ℕ, ◌&&◌, not, Bool, true, false, List, [], Option, Some, None, is_none, Result, Ok, Err, if◌then◌else◌}
+use Rattle.std.specs.Prelude.{ℕ, ◌-◌, ◌&&◌, not, min, Bool, true, false, List, [], Option, Some, None, is_none, Result, Ok, Err, if◌then◌else◌}
 use Rattle.bt_base.specs.declared.ports.PortFault.{PortFault}
 use Rattle.bt_base.specs.declared.ports.PortFault.TheVariants as fault
+use Rattle.bt_base.specs.declared.settings.Settings.{Settings}
 use Rattle.bt_base.specs.declared.settings.Transport.{Transport}
+use Rattle.bt_base.specs.declared.settings.Transport.TheVariants.{L2cap, Rfcomm}
 use Rattle.push_terms.specs.declared.outcome.Outcome.{Outcome}
 use Rattle.push_terms.specs.declared.outcome.Outcome.TheVariants.{ShelfFault, Cancelled}
-use Rattle.rfcomm_model.specs.Machine.{Mux}
+use Rattle.rfcomm_frames.specs.Frames.{PlainFrame}
+use Rattle.rfcomm_frames.specs.declared.connection.Role.TheVariants.{Initiator}
+use Rattle.rfcomm_model.specs.Machine.{Mux, new_mux}
 use Rattle.obex_session.specs.Asking as obex
 use Rattle.obex_session.specs.Views.{is_final_put}
 use Rattle.sdp_client.specs.Asking as search
@@ -26,9 +30,9 @@ pub record Client : Type 0 where
   -- the object
   pub name : List ℕ
   pub size : ℕ
-  -- the question for the service, and how often its request was sent
+  -- the question for the service, and how often its request may be sent still
   pub query : search.Asking
-  pub sent : ℕ
+  pub left : ℕ
   -- the PSM of the channel that carries the object, and the server channel that the multiplexer opens
   pub psm : ℕ
   pub channel : ℕ
@@ -38,9 +42,11 @@ pub record Client : Type 0 where
   pub session : obex.Asking
   -- the last request is not wholly sent
   pub going : Bool
-  -- the multiplexer, what it has not taken of the last request, and the octets of a response that is not whole
-  pub mux : Mux
+  -- what is left to send of the last request: all of it until it was sent, and over RFCOMM what the multiplexer has not taken
   pub rest : List ℕ
+  -- the multiplexer, its frame that waits, and the octets of a response that is not whole
+  pub mux : Mux
+  pub frame : Option PlainFrame
   pub held : List ℕ
   -- a step was given that is not done
   pub given : Bool
@@ -133,11 +139,12 @@ with_object name size client = record client {
   name = name;
   size = size;
   query = search.begun;
-  sent = 0;
+  left = client.tries;
   contact = Unmet;
   session = obex.fresh client.session.maximum client.session.wanted;
   going = false;
   rest = [];
+  frame = None;
   held = [];
   given = false;
 }
@@ -154,3 +161,40 @@ begun_by (Err fault) name client = without_object fault name client
 
 abbrev pub begins : Result ℕ PortFault → List ℕ → Client → Client
 begins size name client = if client.failed then client else begun_by size name client
+
+-- ---- a client is made
+
+-- the greatest length of an OBEX packet that it takes and states: over L2CAP one packet is one SDU
+abbrev pub own_maximum : Transport → Settings → ℕ
+own_maximum L2cap settings = min settings.obex settings.mtu
+own_maximum Rfcomm settings = settings.obex
+
+-- single response mode is for L2CAP alone
+abbrev pub is_direct : Transport → Bool
+is_direct L2cap = true
+is_direct Rfcomm = false
+
+-- no push was begun; the numbers of channels count from the first search on
+abbrev pub new_client : Settings → Client
+new_client settings = record {
+  transport = settings.transport;
+  tries = settings.tries;
+  stage = Rest;
+  cause = None;
+  name = [];
+  size = 0;
+  query = search.begun;
+  left = settings.tries;
+  psm = 0x0001;
+  channel = 1;
+  limit = 32767;
+  contact = Unmet;
+  session = obex.fresh (own_maximum settings.transport settings) (is_direct settings.transport && settings.srm);
+  going = false;
+  rest = [];
+  mux = new_mux Initiator 2 (settings.mtu - 6) (settings.mtu - 6) settings.credits;
+  frame = None;
+  held = [];
+  given = false;
+  failed = false;
+}

@@ -169,7 +169,7 @@ found_way L2cap target client = found_psm (kept_of is_service_psm target.l2cap) 
 found_way Rfcomm target client = found_channel (kept_of is_server_channel target.rfcomm) client
 
 abbrev pub finds : Found → Client → Client
-finds More client = record client { sent = 0 }
+finds More client = record client { left = client.tries }
 finds (Service target) client = found_way client.transport target client
 finds NoService client = ends outcome.NoService client
 finds (Refused reason) client = ends_if (cause_of_query reason) client
@@ -239,7 +239,7 @@ armed client = is_search client.stage && is_awaiting client.query
 abbrev pub fires : Client → Client
 fires client =
     if armed client && not (client.given || is_due client.query) then
-    (if nat_le client.tries client.sent then ends outcome.RetryLimit client else record client { query = after_resend client.query })
+    (if client.left == 0 then ends outcome.RetryLimit client else record client { query = after_resend client.query })
     else client
 
 -- ---- any of these

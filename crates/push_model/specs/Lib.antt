@@ -3,6 +3,7 @@ pub mod Streams
 pub mod Sessions
 pub mod Service
 pub mod Listening
+pub mod Payloads
 pub mod Server
 pub mod Client
 pub mod Responding

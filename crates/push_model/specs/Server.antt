@@ -14,15 +14,12 @@ use Rattle.rfcomm_model.specs.Machine as machine
 use Rattle.rfcomm_model.specs.Hearing.{Up, nothing, opened, bytes, closed, up}
 use Rattle.rfcomm_model.specs.Hearing as hearing
 use Rattle.rfcomm_model.specs.Saying.{Said, next}
+use Rattle.push_model.specs.declared.outlet.Outlet.{Outlet}
+use Rattle.push_model.specs.declared.outlet.Outlet.TheVariants.{Records, Direct, Muxed}
+use Rattle.push_model.specs.Payloads.{Payload, Octets, Framed}
 use Rattle.push_model.specs.Sessions.{Gift}
 use Rattle.push_model.specs.Service.{Service, answer_cut, without_response, without_answer, new_service}
 use Rattle.push_model.specs.Listening.{Listener, Heeded, Received, heeds, lets_go_by, hears_stream}
-
--- where its SDUs go: to the service records, to the session over L2CAP, to the multiplexer
-pub data Outlet : Type 0 where
-  Records : Outlet
-  Direct : Outlet
-  Muxed : Outlet
 
 pub record Server : Type 0 where
   pub serves : Serves
@@ -121,7 +118,7 @@ filled server =
     else server
 
 abbrev pub said_on : Option Said → Server → Server
-said_on None server = server
+said_on None server = record server { frame = None }
 said_on (Some said) server = record server { mux = said.after; frame = Some said.frame }
 
 -- once the response is out, the multiplexer is closed where it is to be
@@ -132,7 +129,7 @@ abbrev pub left_by : Server → Server
 left_by server = said_on (next (leaves server.mux)) (record server { mux = leaves server.mux })
 
 abbrev pub leaves_with : Option Said → Server → Server
-leaves_with None server = if breaks_now server then left_by server else server
+leaves_with None server = let quiet = said_on None server in if breaks_now quiet then left_by quiet else quiet
 leaves_with (Some said) server = said_on (Some said) server
 
 abbrev pub framed_by : Option PlainFrame → Server → Server
@@ -163,6 +160,25 @@ lends_by (Some outlet) server = server
 -- what was lent last is lent until it is taken
 abbrev pub lends : Server → Server
 lends server = lends_by server.lent server
+
+-- an SDU, and the PSM of the channel that it is to be sent on
+pub record Lent : Type 0 where
+  pub psm : ℕ
+  pub payload : Payload
+
+abbrev pub frame_lent : Option PlainFrame → Option Lent
+frame_lent None = None
+frame_lent (Some frame) = Some (record { psm = rfcomm_psm; payload = Framed frame })
+
+abbrev pub lent_by : Option Outlet → Server → Option Lent
+lent_by None server = None
+lent_by (Some Records) server = Some (record { psm = search_psm; payload = Octets server.reply })
+lent_by (Some Direct) server = Some (record { psm = object_psm; payload = Octets server.listener.service.response })
+lent_by (Some Muxed) server = frame_lent server.frame
+
+-- the SDU that is lent; there is none where nothing waits
+abbrev pub lent_sdu : Server → Option Lent
+lent_sdu server = lent_by server.lent server
 
 abbrev pub taken_by : Option Outlet → Server → Server
 taken_by None server = server

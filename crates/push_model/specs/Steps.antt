@@ -1,13 +1,12 @@
 -- The steps of a push: what a client asks of its host next (Object Push Profile 1.2, 4.3; IrOBEX 1.5, 3.4). The answers of
 -- the shelf come as a list, and those that are left are given back.
-use Rattle.std.specs.Prelude.{ℕ, ◌==◌, ◌&&◌, ◌||◌, not, min, nat_le, nat_lt, ◌+◌, Bool, true, false, List, [], ◌∷◌, length, drop, Option, Some, None, Result, Ok, Err, if◌then◌else◌}
+use Rattle.std.specs.Prelude.{ℕ, ◌==◌, ◌&&◌, ◌||◌, not, min, nat_le, nat_lt, ◌-◌, Bool, true, false, List, [], ◌∷◌, length, drop, Option, Some, None, Result, Ok, Err, if◌then◌else◌}
 use Rattle.bt_base.specs.declared.ports.PortFault.{PortFault}
 use Rattle.bt_base.specs.declared.ports.PortFault.TheVariants as fault
 use Rattle.bt_base.specs.declared.settings.Transport.{Transport}
 use Rattle.bt_base.specs.declared.settings.Transport.TheVariants.{L2cap, Rfcomm}
 use Rattle.push_terms.specs.declared.outcome.Outcome.{Outcome}
 use Rattle.push_terms.specs.declared.outcome.Outcome.TheVariants as outcomes
-use Rattle.rfcomm_frames.specs.Frames.{PlainFrame}
 use Rattle.rfcomm_frames.specs.FrameReading.{is_empty}
 use Rattle.rfcomm_model.specs.Machine.{Mux, is_ready, sends, leaves, taken_count}
 use Rattle.rfcomm_model.specs.Saying.{Said, next}
@@ -23,13 +22,10 @@ use Rattle.push_model.specs.declared.course.Contact.TheVariants.{Unmet, Met, Lef
 use Rattle.push_model.specs.declared.course.Point.TheVariants.{Due, Asked}
 use Rattle.push_model.specs.declared.course.Stage.{Stage}
 use Rattle.push_model.specs.declared.course.Stage.TheVariants.{Rest, Link, SearchChannel, Search, SearchEnd, Features, ObjectChannel, Object, ObjectEnd, LinkEnd, Over}
-use Rattle.push_model.specs.Client.{Client, ends}
+use Rattle.push_model.specs.Client.{Client, ends, is_direct}
+use Rattle.push_model.specs.Responding.{is_object}
+use Rattle.push_model.specs.Payloads.{Payload, Octets, Framed}
 use Rattle.push_model.specs.Events.{search_psm, rfcomm_psm}
-
--- an SDU: octets, or a frame of the multiplexer, which is written in the shortest form
-pub data Payload : Type 0 where
-  Octets : (octets : List ℕ) → Payload
-  Framed : (frame : PlainFrame) → Payload
 
 pub data Step : Type 0 where
   Wait : Step
@@ -103,14 +99,14 @@ may_ask client = not client.going && not (is_waiting client.session.awaited)
 
 -- ---- requests
 
--- the octets of a request, or the fault of the shelf; the client then, and the answers that are left
+-- a request is to be sent, or the shelf failed; the client then, and the answers that are left
 pub record Made : Type 0 where
   pub client : Client
-  pub octets : Result (List ℕ) PortFault
+  pub outcome : Result (Unit {0}) PortFault
   pub left : List Part
 
 abbrev pub made : obex.Asking → Contact → List ℕ → Client → List Part → Made
-made session contact octets client parts = record { client = record client { session = session; contact = contact; going = true }; octets = Ok octets; left = parts }
+made session contact octets client parts = record { client = record client { session = session; contact = contact; going = true; rest = octets }; outcome = Ok tt; left = parts }
 
 abbrev pub connect_octets : obex.Asking → List ℕ
 connect_octets session = packet_octets (bare 0x80 (connect_fields session.maximum))
@@ -133,10 +129,10 @@ put_octets client part = packet_octets (put_packet (is_last_put client) (ahead_o
 
 abbrev pub puts_part : Part → Client → List Part → Made
 puts_part (Ok part) client parts = made (after_put client.session (is_last_put client) (put_count client)) client.contact (put_octets client part) client parts
-puts_part (Err fault) client parts = record { client = client; octets = Err fault; left = parts }
+puts_part (Err fault) client parts = record { client = client; outcome = Err fault; left = parts }
 
 abbrev pub puts_from : List Part → Client → Made
-puts_from [] client = record { client = client; octets = Err fault.Failed; left = [] }
+puts_from [] client = record { client = client; outcome = Err fault.Failed; left = [] }
 puts_from (part ∷ parts) client = puts_part part client parts
 
 -- the shelf is asked once, and not for no octets
@@ -161,15 +157,15 @@ leaves_by Nothing client parts = disconnects client parts
 abbrev pub failing : Client → List Part → Made
 failing client parts = let ended = ends outcomes.ShelfFault client in leaves_by (next_ask ended) ended parts
 
-abbrev pub puts_or_leaves : Result (List ℕ) PortFault → Made → Made
-puts_or_leaves (Ok octets) put = put
+abbrev pub puts_or_leaves : Result (Unit {0}) PortFault → Made → Made
+puts_or_leaves (Ok done) put = put
 puts_or_leaves (Err fault.Failed) put = failing put.client put.left
 puts_or_leaves (Err fault.NoMemory) put = put
 
 -- what a client asks; there is nothing where it closes
 abbrev pub requests : Ask → Client → List Part → Made
 requests Connect client parts = made (asks_connect client.session) Unmet (connect_octets client.session) client parts
-requests Put client parts = let put = puts client parts in puts_or_leaves put.octets put
+requests Put client parts = let put = puts client parts in puts_or_leaves put.outcome put
 requests Abort client parts = aborts client parts
 requests Disconnect client parts = disconnects client parts
 requests Close client parts = disconnects client parts
@@ -177,20 +173,20 @@ requests Nothing client parts = disconnects client parts
 
 -- ---- the channel of the object: L2CAP
 
-abbrev pub sends_direct : Result (List ℕ) PortFault → Made → Stepped
-sends_direct (Ok octets) request = sends_sdu request.client.psm (Octets octets) request.client request.left
+abbrev pub sends_direct : Result (Unit {0}) PortFault → Made → Stepped
+sends_direct (Ok done) request = sends_sdu request.client.psm (Octets request.client.rest) request.client request.left
 sends_direct (Err fault) request = lacks request.client request.left
 
 abbrev pub asks_direct : Ask → Client → List Part → Stepped
 asks_direct Close client parts = gives (CloseChannel client.psm) (ObjectEnd Asked) client parts
 asks_direct Nothing client parts = rests client parts
-asks_direct Connect client parts = let request = requests Connect client parts in sends_direct request.octets request
-asks_direct Put client parts = let request = requests Put client parts in sends_direct request.octets request
-asks_direct Abort client parts = let request = requests Abort client parts in sends_direct request.octets request
-asks_direct Disconnect client parts = let request = requests Disconnect client parts in sends_direct request.octets request
+asks_direct Connect client parts = let request = requests Connect client parts in sends_direct request.outcome request
+asks_direct Put client parts = let request = requests Put client parts in sends_direct request.outcome request
+asks_direct Abort client parts = let request = requests Abort client parts in sends_direct request.outcome request
+asks_direct Disconnect client parts = let request = requests Disconnect client parts in sends_direct request.outcome request
 
 abbrev pub steps_direct : Client → List Part → Stepped
-steps_direct client parts = if may_ask client then asks_direct (next_ask client) client parts else rests client parts
+steps_direct client parts = if may_ask client then asks_direct (next_ask client) (record client { rest = [] }) parts else rests client parts
 
 -- ---- the channel of the object: RFCOMM
 
@@ -202,15 +198,15 @@ filled client =
     else client
 
 abbrev pub said_by : Option Said → Client → List Part → Stepped
-said_by None client parts = rests client parts
-said_by (Some said) client parts = sends_sdu rfcomm_psm (Framed said.frame) (record client { mux = said.after }) parts
+said_by None client parts = rests (record client { frame = None }) parts
+said_by (Some said) client parts = sends_sdu rfcomm_psm (Framed said.frame) (record client { mux = said.after; frame = Some said.frame }) parts
 
 -- the next frame, if there is one
 abbrev pub says : Client → List Part → Stepped
 says client parts = let full = filled client in said_by (next full.mux) full parts
 
-abbrev pub sends_muxed : Result (List ℕ) PortFault → Made → Stepped
-sends_muxed (Ok octets) request = says (record (request.client) { rest = octets }) request.left
+abbrev pub sends_muxed : Result (Unit {0}) PortFault → Made → Stepped
+sends_muxed (Ok done) request = says request.client request.left
 sends_muxed (Err fault) request = lacks request.client request.left
 
 -- a request is made where the multiplexer takes at least its first octet
@@ -219,7 +215,7 @@ takes_some mux = is_ready mux && (is_empty mux.waiting && nat_lt 0 mux.account.h
 
 abbrev pub asks_through : Ask → Client → List Part → Stepped
 asks_through ask client parts =
-    if takes_some client.mux then (let request = requests ask client parts in sends_muxed request.octets request) else rests client parts
+    if takes_some client.mux then (let request = requests ask (record client { rest = [] }) parts in sends_muxed request.outcome request) else rests client parts
 
 abbrev pub asks_muxed : Ask → Client → List Part → Stepped
 asks_muxed Close client parts = says (record client { mux = leaves client.mux; contact = Closing }) parts
@@ -230,7 +226,7 @@ asks_muxed Abort client parts = asks_through Abort client parts
 asks_muxed Disconnect client parts = asks_through Disconnect client parts
 
 abbrev pub goes_muxed : Option Said → Client → List Part → Stepped
-goes_muxed None client parts = if may_ask client then asks_muxed (next_ask client) client parts else rests client parts
+goes_muxed None client parts = let quiet = record client { frame = None } in if may_ask quiet then asks_muxed (next_ask quiet) quiet parts else rests quiet parts
 goes_muxed (Some said) client parts = said_by (Some said) client parts
 
 abbrev pub steps_muxed : Client → List Part → Stepped
@@ -245,7 +241,7 @@ steps_object Rfcomm client parts = steps_muxed client parts
 abbrev pub steps_search : Client → List Part → Stepped
 steps_search client parts =
     if is_due client.query
-    then sends_sdu search_psm (Octets (request_octets client.query)) (record client { query = after_request client.query; sent = client.sent + 1 }) parts
+    then sends_sdu search_psm (Octets (request_octets client.query)) (record client { query = after_request client.query; left = client.left - 1; rest = request_octets client.query }) parts
     else rests client parts
 
 -- a push that is over has a cause
@@ -281,6 +277,14 @@ steps client parts =
 
 -- ---- the last step was done
 
--- an SDU stands in `out` to its last octet: the request is sent where nothing of it is left
+-- requests pass through the multiplexer
+abbrev pub is_muxed : Client → Bool
+is_muxed client = is_object client.stage && not (is_direct client.transport)
+
+-- An SDU stands in `out` to its last octet: the request is sent where nothing of it is left.
 abbrev pub stepped : Client → Client
-stepped client = record client { given = false; going = client.going && (not (is_empty client.rest) || not (is_empty client.mux.waiting)) }
+stepped client = record client {
+  given = false;
+  going = is_muxed client && (client.going && (not (is_empty client.rest) || not (is_empty client.mux.waiting)));
+  rest = if is_muxed client then client.rest else [];
+}

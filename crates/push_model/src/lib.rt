@@ -6,6 +6,8 @@
 mod closing;
 mod course;
 pub mod laws;
+mod outlet;
 
 pub use closing::CloseCause;
 pub use course::{Contact, Point, Stage};
+pub use outlet::Outlet;

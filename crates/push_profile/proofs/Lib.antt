@@ -4,3 +4,5 @@ pub mod ServiceLaws
 pub mod ListeningLaws
 pub mod StreamSteps
 pub mod StreamEnds
+pub mod FrameLaws
+pub mod ServerLaws

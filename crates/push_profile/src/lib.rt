@@ -6,8 +6,12 @@ mod causes;
 mod course;
 mod listener;
 mod octets;
+mod reception;
+mod server;
 mod service;
 mod sessions;
 mod stream;
+mod waiting_frame;
 
 pub use push_model::CloseCause;
+pub use server::PushServer;

@@ -6,6 +6,7 @@ ghost use Rattle.push_model.specs.Sessions.{is_pending};
 ghost use Rattle.obex_headers.specs.Reading.{packet_in};
 ghost use Rattle.obex_headers.specs.declared.packet.Phase.TheVariants.{Request};
 ghost use Rattle.push_model.specs.Listening.{stops, is_length, has_bad_length, heeds, heeds_carried, heeds_broken, lets_go_by};
+ghost use Rattle.push_model.specs.Server.{unanswering};
 ghost use Rattle.push_profile.specs.Reactions.{Comes};
 ghost use Rattle.push_profile.specs.Hearing.{heeded, longest};
 
@@ -70,6 +71,14 @@ impl Listener {
         ensures { result ≡ stops self.now }
     {
         self.breaks || self.service.failed
+    }
+
+    /// No response over RFCOMM waits any more, and the multiplexer is not to be closed.
+    pub(crate) fn clear_answer(&mut self)
+        ensures { self.new ≡ unanswering self.old }
+    {
+        self.service.clear_answer();
+        self.breaks = false;
     }
 
     /// Hears a packet over a transport.

@@ -1,6 +1,6 @@
 //! Octets that wait, in room of a fixed size.
 
-ghost use Rattle.std.specs.Prelude.{◌≡◌, ◌+◌, ◌≤◌, ◌<◌, ◌++◌, length, take, slice_index};
+ghost use Rattle.std.specs.Prelude.{◌≡◌, ◌+◌, ◌≤◌, ◌<◌, ◌++◌, length, take, drop, slice_index};
 
 use arrayvec::ArrayVec;
 
@@ -11,6 +11,14 @@ pub(crate) fn put<const N: usize>(waiting: &mut ArrayVec<u8, N>, octets: &[u8])
 {
     waiting.clear();
     let _there_is_room = waiting.try_extend_from_slice(octets);
+}
+
+/// Takes so many octets away from the front of those that wait.
+pub(crate) fn cut<const N: usize>(waiting: &mut ArrayVec<u8, N>, count: usize)
+    requires { count ≤ length waiting.old.items }
+    ensures { waiting.new.items ≡ drop count waiting.old.items }
+{
+    let _those_taken = waiting.drain(..count);
 }
 
 /// The octet at a place in what is held and the piece.

@@ -2,10 +2,10 @@
 
 ghost use Rattle.std.specs.Prelude.{◌≡◌, ◌≤◌, true, false, length};
 ghost use Rattle.push_model.specs.Sessions.{is_pending};
-ghost use Rattle.push_model.specs.Service.{has_response, is_ignored, response_over, without_response, without_answer, new_service};
+ghost use Rattle.push_model.specs.Service.{has_response, is_ignored, response_over, without_response, without_answer, answer_cut, new_service};
 ghost use Rattle.push_profile.specs.Reactions.{ServiceParts, ServiceHears};
 
-use crate::octets::put;
+use crate::octets::{cut, put};
 use crate::sessions::Sessions;
 use arrayvec::ArrayVec;
 use bt_base::{Inbox, NoMemory, Transport};
@@ -69,6 +69,14 @@ impl Service {
         ensures { self.new ≡ without_answer self.old }
     {
         self.answer.clear();
+    }
+
+    /// So many octets of the response over RFCOMM were taken.
+    pub(crate) fn cut_answer(&mut self, count: usize)
+        requires { count ≤ length self.old.answer }
+        ensures { self.new ≡ answer_cut count self.old }
+    {
+        cut(&mut self.answer, count);
     }
 
     /// Whether a packet is ignored, since its response would be one too many.

@@ -1,0 +1,16 @@
+use Rattle.std.proofs.Common.{ℕ, ◌≤◌, sym, ap, ◌∙◌, subst}
+use Rattle.rfcomm_model.specs.Machine.{Mux}
+use Rattle.rfcomm_model.proofs.Keeping.{hears_keeps}
+use Rattle.push_profile.proofs.server.PushServer.hear_frame.Goals as goal
+
+pub invariant_of-self : goal.invariant_of-self
+invariant_of-self g c = record {
+  suits = c.self.invariant.suits;
+  largest = subst (λ (n : ℕ). 23 ≤ n) (sym (ap (λ (m : Mux). m.largest) c.on_sdu.ensures.machine ∙ (hears_keeps c.args.sdu.now c.self.inside.mux).2)) c.self.invariant.largest;
+}
+
+pub invariant_of-self-in-Nothing : goal.invariant_of-self-in-Nothing
+invariant_of-self-in-Nothing g c = record {
+  suits = c.self.invariant.suits;
+  largest = subst (λ (n : ℕ). 23 ≤ n) (sym (ap (λ (m : Mux). m.largest) c.on_sdu.ensures.machine ∙ (hears_keeps c.args.sdu.now c.self.inside.mux).2)) c.self.invariant.largest;
+}
