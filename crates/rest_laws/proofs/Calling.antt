@@ -1,5 +1,5 @@
 -- The page of host b: a request of the other device stands in one place, and a page waits only for host b to be reached.
-use Rattle.std.proofs.Common.{◌≡◌, ℕ, ◌+◌, ◌≤◌, nat_lt, nat_le, Bool, true, false, List, [], ◌∷◌, ◌++◌, if◌then◌else◌, refl, sym, ap, subst, arith}
+use Rattle.std.proofs.Common.{◌≡◌, ℕ, ◌+◌, ◌≤◌, nat_lt, nat_le, Bool, true, false, List, [], ◌∷◌, ◌++◌, if◌then◌else◌, refl, ap, arith}
 use Rattle.push_terms.specs.declared.word.Side.TheVariants.{B}
 use Rattle.radio_air.specs.Controllers.{Answer, Returned, Stated, Called, LinkMade, LinkGone, GivenBack, gives_back}
 use Rattle.radio_air.specs.Radio.{Phase, Apart, Paging, Requested, Together, is_paging}

@@ -1,24 +1,22 @@
 -- An order that moves from a host to its controller leaves it so.
-use Rattle.std.proofs.Common.{◌≡◌, ◌⊎◌, ℕ, ◌+◌, ◌≤◌, ◌==◌, ◌&&◌, not, nat_lt, nat_le, Bool, true, false, List, [], ◌∷◌, ◌++◌, length, Option, Some, None, if◌then◌else◌, inl, inr, refl, sym, ap, ◌∙◌, subst, arith}
+use Rattle.std.proofs.Common.{◌≡◌, ◌⊎◌, ℕ, ◌+◌, ◌≤◌, ◌==◌, ◌&&◌, not, nat_lt, nat_le, Bool, true, false, List, [], ◌∷◌, ◌++◌, Option, Some, None, if◌then◌else◌, inl, inr, refl, sym, ap, ◌∙◌, subst, arith}
 use Rattle.std.proofs.lemmas.Bool.{cases_Bool, eq-eqb, eqb-true, lt-ltb}
 use Rattle.bt_base.specs.Octets.{le16}
 use Rattle.acl_fragments.specs.Pieces.{Piece}
-use Rattle.push_terms.specs.declared.word.Side.{Side}
 use Rattle.push_terms.specs.declared.word.Side.TheVariants.{A, B}
-use Rattle.radio_air.specs.Controllers.{Answer, Returned, Stated, Called, address, Controller, owing, gives_back, after_giving_back, is_empty}
-use Rattle.radio_air.specs.Radio.{Radio, Phase, Apart, Paging, Requested, Together, is_apart, is_paging, is_requested, is_together, owes, may_page, after_reaching, scanning, joined, parted, parted_by, knows_link, with_piece, after_taking}
+use Rattle.radio_air.specs.Controllers.{Answer, Returned, Stated, Called, address, Controller, owing, after_giving_back, is_empty}
+use Rattle.radio_air.specs.Radio.{Radio, Phase, Apart, Paging, Requested, Together, is_apart, is_paging, is_requested, is_together, owes, may_page, after_reaching, joined, parted, knows_link, with_piece, after_taking}
 use Rattle.world_model.specs.Machines.{Upper}
 use Rattle.world_model.specs.Pushes.{Pushes}
 use Rattle.world_model.specs.Stations.{Order, Reset, ReadBuffers, ReadAddress, Scan, Page, Accept, End, Data, Station}
 use Rattle.world_model.specs.Worlds.{piece_on, after_order}
 use Rattle.turn_laws.specs.Premises.{Idles}
-use Rattle.turn_laws.proofs.Leading.{Tiding, tiding_in, tidings, plain_tidings, made, Led, knows}
+use Rattle.turn_laws.proofs.Leading.{Tiding, tiding_in, tidings, plain_tidings, Led, knows}
 use Rattle.turn_laws.proofs.Wiring.{end_at, asking, count}
-use Rattle.turn_laws.proofs.Stationing.{Steady}
 use Rattle.turn_laws.proofs.Departing.{gives_back_tidings}
-use Rattle.turn_laws.proofs.Keeping.{calling, Wants, Parts, Rests, Kept}
+use Rattle.turn_laws.proofs.Keeping.{calling, Rests, Kept}
 use Rattle.rest_laws.proofs.Living.{lives_as, lives_pops, own_first}
-use Rattle.rest_laws.proofs.Calling.{scanning_by, scans, called_by, called, called-append, called_same, called_back, requesting, requested_is, Calls}
+use Rattle.rest_laws.proofs.Calling.{scanning_by, called_by, called-append, called_same, called_back, requesting, requested_is}
 use Rattle.rest_laws.proofs.Lively.{IsFresh, Lively, Alike, alike_refl, lively_alike, lively_pops_a, lively_pops_b, lively_parted, lively_joined, some_gone, fresh_of}
 
 -- ---- one that is answered alone

@@ -1,37 +1,34 @@
 -- Whatever happens in a world leaves it so.
-use Rattle.std.proofs.Common.{◌≡◌, ◌⊎◌, ℕ, ◌+◌, ◌≤◌, ◌<◌, ◌||◌, Bool, true, false, List, [], ◌∷◌, ◌++◌, length, Option, Some, None, if◌then◌else◌, inl, inr, refl, sym, ap, ◌∙◌, subst, arith}
+use Rattle.std.proofs.Common.{◌≡◌, ℕ, ◌+◌, ◌≤◌, Bool, true, false, List, [], ◌∷◌, ◌++◌, Option, Some, None, if◌then◌else◌, inl, inr, refl, sym, ap, ◌∙◌, subst, arith}
 use Rattle.std.specs.Prelude.{slice_get}
 use Rattle.std.proofs.lemmas.Bool.{eq-eqb}
 use Rattle.std.proofs.lemmas.Option.{slice_get_within}
-use Rattle.acl_fragments.specs.Pieces.{Piece}
 use Rattle.push_terms.specs.declared.word.Side.TheVariants.{A, B}
 use Rattle.push_terms.specs.declared.word.Way.TheVariants.{Ab, Ba}
 use Rattle.radio_air.specs.declared.fate.Fate.{Fate}
 use Rattle.radio_air.specs.declared.deed.Deed.{Deed}
 use Rattle.radio_air.specs.declared.deed.Deed.TheVariants.{Nothing, Meets, Fires, FiresBoth, Breaks, Cancels}
 use Rattle.radio_air.specs.Controllers.{Answer, Returned, Stated, Called, LinkMade, LinkGone, GivenBack, Controller, after_telling}
-use Rattle.radio_air.specs.Radio.{Radio, Phase, Requested, is_together, with_controller, after_meeting, found}
-use Rattle.world_model.specs.Machines.{News, Linked, Up, Down, TimerFired, Cancelled, Opening, Upper}
+use Rattle.radio_air.specs.Radio.{Radio, Phase, is_together, with_controller, after_meeting, found}
+use Rattle.world_model.specs.Machines.{Linked, Down, TimerFired, Cancelled, Opening, Upper}
 use Rattle.world_model.specs.Pushes.{Pushes, one_begun, next_name}
-use Rattle.world_model.specs.Stations.{Order, Accept, Station, Effort, Taking, Putting, Asking, Leaving, Commanding, MakesEffort, is_handle, may_accept, hears_piece, hears_answer, told}
+use Rattle.world_model.specs.Stations.{Order, Accept, Station, Effort, Taking, Putting, Asking, Leaving, Commanding, MakesEffort, is_handle, hears_piece, hears_answer, told}
 use Rattle.world_model.specs.Worlds.{World, Happening, Tries, Departure, GivingBack, Piecemeal, Answering, Turns, Misses, Opens, Closes, checks, fired, Acts, Does}
 use Rattle.turn_laws.specs.Premises.{Idles}
 use Rattle.turn_laws.proofs.Advancing.{breaks_linked}
 use Rattle.turn_laws.proofs.Leading.{Tiding, Came, Went, tidings, made, Led}
-use Rattle.turn_laws.proofs.Wiring.{asking, count, count-append}
+use Rattle.turn_laws.proofs.Wiring.{count, count-append}
 use Rattle.turn_laws.proofs.Stationing.{linked_handle, Steady}
-use Rattle.turn_laws.proofs.Hearing.{with_coming, with_owed, rest_tidings}
-use Rattle.turn_laws.proofs.Answering.{came_up, went_down, made_by, gone_by}
+use Rattle.turn_laws.proofs.Hearing.{with_owed, rest_tidings}
+use Rattle.turn_laws.proofs.Answering.{made_by, gone_by}
 use Rattle.turn_laws.proofs.Coming.{handed_piece, handed_answer}
 use Rattle.turn_laws.proofs.Keeping.{calling, Kept}
 use Rattle.air_laws.proofs.Resting.{next_going}
-use Rattle.station_laws.proofs.Owing.{IsRightOne}
-use Rattle.station_laws.proofs.Pending.{Pending}
 use Rattle.station_laws.proofs.Running.{Kept as Answered}
 use Rattle.rest_laws.specs.Premises.{AsksOnce}
-use Rattle.rest_laws.proofs.Living.{LivesAt, LivesOf, lives_if, lives_effort}
-use Rattle.rest_laws.proofs.Calling.{scans, called_by, called, requesting, requested_is, Calls, calls_move, calls_effort, scans-append}
-use Rattle.rest_laws.proofs.Lively.{IsFresh, HasLink, Lively, lively_a, lively_b, Alike, alike_refl, lively_alike, lively_parted, parts_none}
+use Rattle.rest_laws.proofs.Living.{lives_if, lives_effort}
+use Rattle.rest_laws.proofs.Calling.{called_by, called, requesting, requested_is, Calls, calls_move, calls_effort, scans-append}
+use Rattle.rest_laws.proofs.Lively.{IsFresh, HasLink, Lively, lively_a, lively_b, alike_refl, lively_alike, lively_parted, parts_none}
 use Rattle.rest_laws.proofs.Departing.{alike_back, departs_a, departs_b}
 use Rattle.rest_laws.proofs.Answering.{lives_answer, lives_piece, orders_of, if_orders, orders_stay, piece_orders, if_upper, piece_wants, accepts}
 

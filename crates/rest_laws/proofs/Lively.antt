@@ -1,9 +1,9 @@
 -- What is true of both hosts at each moment, so that the world comes to rest: each push has one link, and nothing of an earlier one is
 -- left where it is asked for.
-use Rattle.std.proofs.Common.{◌≡◌, ◌⊎◌, ℕ, ◌+◌, ◌≤◌, ◌<◌, not, Bool, true, false, List, [], ◌∷◌, ◌++◌, length, if◌then◌else◌, inl, inr, refl, sym, ap, ◌∙◌, subst, arith}
+use Rattle.std.proofs.Common.{◌≡◌, ◌⊎◌, ℕ, ◌+◌, ◌≤◌, not, Bool, true, false, List, [], ◌∷◌, ◌++◌, length, inl, inr, refl, sym, ap, ◌∙◌, subst, arith}
 use Rattle.push_terms.specs.declared.word.Side.TheVariants.{A, B}
 use Rattle.radio_air.specs.Controllers.{Answer, LinkMade, LinkGone, Controller, is_empty}
-use Rattle.radio_air.specs.Radio.{Radio, Phase, Apart, Paging, Requested, Together, is_paging, is_together, joined, parted}
+use Rattle.radio_air.specs.Radio.{Radio, Phase, Apart, Paging, Requested, Together, is_together, joined, parted}
 use Rattle.world_model.specs.Machines.{Upper}
 use Rattle.world_model.specs.Pushes.{Pushes}
 use Rattle.world_model.specs.Stations.{Order, Accept, Station}

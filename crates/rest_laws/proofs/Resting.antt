@@ -1,5 +1,5 @@
 -- A world that is settled is at rest.
-use Rattle.std.proofs.Common.{◌≡◌, ◌⊎◌, ℕ, ◌+◌, ◌<◌, ◌≤◌, ◌==◌, ◌||◌, not, nat_le, Bool, true, false, List, [], ◌∷◌, ◌++◌, length, map, Option, Some, None, if◌then◌else◌, inl, inr, refl, sym, ap, ◌∙◌, subst, arith}
+use Rattle.std.proofs.Common.{◌≡◌, ℕ, ◌+◌, ◌<◌, ◌≤◌, ◌==◌, ◌||◌, not, Bool, true, false, List, [], ◌∷◌, ◌++◌, length, map, Option, Some, None, if◌then◌else◌, inl, inr, refl, sym, ap, ◌∙◌, arith}
 use Rattle.std.specs.List.{list_any}
 use Rattle.acl_fragments.specs.Pieces.{Piece}
 use Rattle.push_terms.specs.declared.word.Side.{Side}
@@ -7,16 +7,15 @@ use Rattle.push_terms.specs.declared.word.Side.TheVariants.{A, B}
 use Rattle.capture.specs.Entries.{Entry}
 use Rattle.radio_air.specs.Controllers.{Answer, Controller, is_empty}
 use Rattle.radio_air.specs.Owed.{back}
-use Rattle.radio_air.specs.Radio.{Radio, Phase, Apart, Paging, Requested, Together, is_apart, is_paging, is_requested, is_together}
+use Rattle.radio_air.specs.Radio.{Phase, Apart, Paging, Requested, Together, is_apart, is_paging, is_requested, is_together}
 use Rattle.world_model.specs.Machines.{Upper}
-use Rattle.world_model.specs.Stations.{Order, Station, opcode, asks, is_end, IsStopped, Effort, Taking, Putting, Asking, Leaving, Commanding}
-use Rattle.world_model.specs.Worlds.{World, Happening, Runs, IsSettled, IsStill, IsAtRest, first_world, all_entries, all_words}
+use Rattle.world_model.specs.Stations.{Order, Station, opcode, asks, is_end, IsStopped, Taking, Putting, Asking, Leaving, Commanding}
+use Rattle.world_model.specs.Worlds.{World, Happening, IsSettled, IsStill, IsAtRest, first_world, all_entries}
 use Rattle.turn_laws.specs.WorldLaws.{Fits}
-use Rattle.turn_laws.proofs.Leading.{Tiding, tidings, made, Led}
+use Rattle.turn_laws.proofs.Leading.{Tiding, tidings, made}
 use Rattle.turn_laws.proofs.Wiring.{sent, has_end, count}
 use Rattle.turn_laws.proofs.Stationing.{linked_handle, Steady}
 use Rattle.turn_laws.proofs.Keeping.{calling, Kept}
-use Rattle.air_laws.proofs.Accounting.{Account}
 use Rattle.air_laws.proofs.Owing.{zero_held}
 use Rattle.air_laws.proofs.Booking.{AccountOf}
 use Rattle.air_laws.proofs.Balancing.{booked_all}
@@ -25,12 +24,11 @@ use Rattle.air_laws.proofs.Resting.{rest_led}
 use Rattle.station_laws.specs.WorldLaws.{AreSizes}
 use Rattle.station_laws.proofs.Owing.{numbers_in, numbers_of}
 use Rattle.station_laws.proofs.Pending.{Pending, number_awaited}
-use Rattle.station_laws.proofs.Running.{Kept as Answered, runs_keep, first_keeps}
+use Rattle.station_laws.proofs.Running.{runs_keep, first_keeps}
 use Rattle.rest_laws.specs.Premises.{AreOrderly}
 use Rattle.rest_laws.specs.Laws.{SettledRests}
 use Rattle.rest_laws.proofs.Living.{due, HasLearnt, LivesOf}
 use Rattle.rest_laws.proofs.Calling.{scans, called, requesting, Calls}
-use Rattle.rest_laws.proofs.Lively.{Lively}
 use Rattle.rest_laws.proofs.Happening.{LivelyIn, does_lively}
 
 -- ---- from the first moment on

@@ -1,5 +1,5 @@
 -- What a world asks of its two machines, so that it comes to rest (this project's own).
-use Rattle.std.specs.Prelude.{ℕ, ◌≡◌, true, false, List, Some}
+use Rattle.std.specs.Prelude.{ℕ, ◌≡◌, false, List, Some}
 use Rattle.world_model.specs.Machines.{News, Linked, Up, Upper}
 use Rattle.turn_laws.specs.Premises.{SaysFrames, IsAside, Idles}
 
