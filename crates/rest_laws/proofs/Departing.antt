@@ -42,7 +42,7 @@ plain_b U radio a b pushes order rest answer first unasked still stays plain non
 
 -- ---- a page
 
-apart_is : (phase : Phase) → calling phase ≡ 0 → is_together phase ≡ false → phase ≡ Apart
+pub apart_is : (phase : Phase) → calling phase ≡ 0 → is_together phase ≡ false → phase ≡ Apart
 apart_is Apart none separate = refl
 apart_is Paging none separate = absurd (omega arith)
 apart_is Requested none separate = absurd (omega arith)
@@ -52,7 +52,7 @@ both_true : (a b : Bool) → a ≡ true → b ≡ true → (a && b) ≡ true
 both_true true b one two = two
 both_true false b one two = absurd cc
 
-fresh_pages : (radio : Radio) (pushes : Pushes) → IsFresh radio pushes → radio.phase ≡ Apart → radio.number + 1 ≤ 0x0EFF → may_page radio ≡ true
+pub fresh_pages : (radio : Radio) (pushes : Pushes) → IsFresh radio pushes → radio.phase ≡ Apart → radio.number + 1 ≤ 0x0EFF → may_page radio ≡ true
 fresh_pages radio pushes fresh apart low =
     let parts = fresh.parts in
     both_true (is_apart radio.phase) _ (ap is_apart apart)
@@ -94,7 +94,7 @@ reach_by U radio a b pushes rest false scan fresh apart first is =
       names_few = is.names_few;
     }
 
-going_of : {S G : Type 0} (U : Upper S G) (upper : S) (radio : Radio) (going : Bool) → Idles U → U.wants_link upper ≡ true → (going ≡ false → Rests U upper radio) → going ≡ true
+pub going_of : {S G : Type 0} (U : Upper S G) (upper : S) (radio : Radio) (going : Bool) → Idles U → U.wants_link upper ≡ true → (going ≡ false → Rests U upper radio) → going ≡ true
 going_of U upper radio true idles wants rests = refl
 going_of U upper radio false idles wants rests = let none = idles.wants_none upper (rests refl).idle in absurd cc
 
@@ -123,11 +123,11 @@ page_departs U V radio a b pushes rest idles first kept is =
 
 -- ---- host b scans
 
-and_true : (b : Bool) → (b && true) ≡ b
+pub and_true : (b : Bool) → (b && true) ≡ b
 and_true true = refl
 and_true false = refl
 
-paging_is : (phase : Phase) → is_paging phase ≡ true → phase ≡ Paging
+pub paging_is : (phase : Phase) → is_paging phase ≡ true → phase ≡ Paging
 paging_is Apart is = absurd cc
 paging_is Paging is = refl
 paging_is Requested is = absurd cc

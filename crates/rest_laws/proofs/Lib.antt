@@ -5,3 +5,6 @@ pub mod Departing
 pub mod Answering
 pub mod Happening
 pub mod Resting
+pub mod Falling
+pub mod Heights
+pub mod Settling

@@ -154,7 +154,7 @@ made_tidings owed handle = flat_map-append tiding_in owed (LinkMade handle ∷ [
 pub some_gone : (owed : List Answer) (handle reason : ℕ) → not (is_empty (tidings (owed ++ LinkGone handle reason ∷ []))) ≡ true
 some_gone owed handle reason = ap (λ (l : List Tiding). not (is_empty l)) (gone_tidings owed handle reason) ∙ some_more (tidings owed) (Went handle reason)
 
-together_is : (phase : Phase) → is_together phase ≡ true → phase ≡ Together
+pub together_is : (phase : Phase) → is_together phase ≡ true → phase ≡ Together
 together_is Apart is = cc
 together_is Paging is = cc
 together_is Requested is = cc

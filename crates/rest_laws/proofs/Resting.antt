@@ -44,7 +44,7 @@ first_lively U V size count names few = record {
   names_few = few;
 }
 
-keeps_lively : {S T G H : Type 0} (U : Upper S G) (V : Upper T H) (size count : ℕ) (names : List (List ℕ)) (happenings : List Happening) → AreOrderly U V → AreSizes size count
+pub keeps_lively : {S T G H : Type 0} (U : Upper S G) (V : Upper T H) (size count : ℕ) (names : List (List ℕ)) (happenings : List Happening) → AreOrderly U V → AreSizes size count
     → Keeps U V happenings (first_world U V size count names) (λ past words w. LivelyIn U w)
 keeps_lively U V size count names happenings orderly sizes happening ahead past words old new reached does next lively =
     does_lively U V size count happening old new orderly.idles orderly.once does reached.kept

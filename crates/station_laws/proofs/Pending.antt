@@ -11,7 +11,7 @@ use Rattle.world_model.specs.Stations.{Order, ReadBuffers, ReadAddress, Scan, Pa
 use Rattle.world_model.specs.Stations as orders
 use Rattle.station_laws.specs.Coming.{MayCome}
 use Rattle.station_laws.specs.WorldLaws.{NextMayCome}
-use Rattle.station_laws.proofs.Owing.{number_of, numbers_of, number_in, numbers_in, numbers_of-append, IsRight, IsRightOne}
+use Rattle.station_laws.proofs.Owing.{number_of, numbers_of, numbers_in, numbers_of-append, IsRight, IsRightOne}
 
 abbrev pub number_awaited : Option ℕ → List ℕ
 number_awaited None = []

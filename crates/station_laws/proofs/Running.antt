@@ -1,18 +1,16 @@
 -- Whatever happens in a world, what comes into its hosts may come.
-use Rattle.std.proofs.Common.{◌≡◌, ℕ, ◌+◌, ◌≤◌, Bool, true, false, List, [], ◌∷◌, ◌++◌, Option, Some, None, if◌then◌else◌, refl, sym, ap, ◌∙◌, subst, arith}
-use Rattle.acl_fragments.specs.Pieces.{Piece}
-use Rattle.push_terms.specs.declared.word.Side.{Side}
+use Rattle.std.proofs.Common.{ℕ, Bool, true, false, List, [], ◌∷◌, if◌then◌else◌, refl, sym, subst, arith}
 use Rattle.push_terms.specs.declared.word.Side.TheVariants.{A, B}
 use Rattle.push_terms.specs.declared.word.Way.TheVariants.{Ab, Ba}
 use Rattle.radio_air.specs.declared.deed.Deed.{Deed}
 use Rattle.radio_air.specs.declared.deed.Deed.TheVariants.{Nothing, Meets, Fires, FiresBoth, Breaks, Cancels}
 use Rattle.radio_air.specs.Controllers.{Answer, Controller, after_handing}
-use Rattle.radio_air.specs.Radio.{Radio, controller, with_controller, found, after_offer}
-use Rattle.world_model.specs.Machines.{News, TimerFired, Cancelled, Opening, Upper}
-use Rattle.world_model.specs.Stations.{Order, Station, told, hears_answer}
-use Rattle.world_model.specs.Worlds.{World, Happening, Tries, Departure, GivingBack, Piecemeal, Answering, Turns, Misses, Opens, Closes, Does, Acts, Runs, checks, fired, first_world}
+use Rattle.radio_air.specs.Radio.{Radio, controller, with_controller, found}
+use Rattle.world_model.specs.Machines.{TimerFired, Cancelled, Opening, Upper}
+use Rattle.world_model.specs.Stations.{Station, told, hears_answer}
+use Rattle.world_model.specs.Worlds.{World, Happening, Tries, Departure, GivingBack, Piecemeal, Answering, Turns, Misses, Opens, Closes, Does, Acts, Runs, checks, first_world}
 use Rattle.station_laws.specs.WorldLaws.{AreSizes, WorldsAnswer}
-use Rattle.station_laws.proofs.Owing.{numbers_in, number_of, OneGoes, Goes, Owed, IsRightOne, IsRightRadio, one_goes, right_of, gives_back_right, parts, order_goes, meets_right, piece_handed, Handed, answer_handed}
+use Rattle.station_laws.proofs.Owing.{Goes, IsRightOne, IsRightRadio, one_goes, right_of, gives_back_right, parts, order_goes, meets_right, piece_handed, answer_handed}
 use Rattle.station_laws.proofs.Pending.{Pending, pending_as, efforts_keep, departs_keep, told_keeps, pieces_keep, answers_keep, next_may_come}
 
 pub record Kept {S T : Type 0} (size count : ℕ) (w : World S T) : Type 0 where
