@@ -119,11 +119,11 @@ answer_posted U side number together extra one old answers (LinkMade handle) res
     let few = steady.awaits.few in
     let now = posted_made one.told handle (extra + made (tidings one.owed)) (extra + made (tidings rest)) one.up old.waiting old.out (omega arith) few posted in
     let to : Controller = after_telling (LinkMade handle) (with_owed rest one) in
-    if_posted to (extra + made (tidings rest)) old.asked _ old (if_posted to (extra + made (tidings rest)) (is_none old.link) (record old { asked = false; link = Some handle; joining = [] }) (record old { asked = false }) now now) now
+    if_posted to (extra + made (tidings rest)) old.asked _ old (if_posted to (extra + made (tidings rest)) (is_none old.link) (record old { asked = false; link = Some handle; ending = false; joining = [] }) (record old { asked = false }) now now) now
 answer_posted U side number together extra one old answers (LinkGone handle reason) rest first steady posted =
     let same = made_first one.owed (LinkGone handle reason) rest first in
     let now = posted_gone one.told (extra + made (tidings one.owed)) (extra + made (tidings rest)) one.up old.waiting old.out (omega arith) posted in
-    if_posted (after_telling (LinkGone handle reason) (with_owed rest one)) (extra + made (tidings rest)) (is_handle handle old.link) (record old { outstanding = 0; link = None; joining = []; pieces = [] }) old now now
+    if_posted (after_telling (LinkGone handle reason) (with_owed rest one)) (extra + made (tidings rest)) (is_handle handle old.link) (record old { outstanding = 0; link = None; ending = false; joining = []; pieces = [] }) old now now
 
 piece_posted : {S G : Type 0} (U : Upper S G) (answers : List G) (handle : ℕ) (piece : Piece) (one : Controller) (rest : List Piece) (asked : ℕ) (old : Station S) → PostedOf one asked old → PostedOf (with_coming rest one) asked (hears_piece U answers handle piece old)
 piece_posted U answers handle piece one rest asked old posted =

@@ -163,10 +163,10 @@ met_count Ba fate checked (frame ∷ rest) radio = refl
 
 -- ---- both hosts
 
-record Books {S T : Type 0} (limit : ℕ) (past : List Entry) (w : World S T) : Type 0 where
-  count : w.radio.count ≡ limit
-  a : AccountOf limit A past w.radio.a w.a
-  b : AccountOf limit B past w.radio.b w.b
+pub record Books {S T : Type 0} (limit : ℕ) (past : List Entry) (w : World S T) : Type 0 where
+  pub count : w.radio.count ≡ limit
+  pub a : AccountOf limit A past w.radio.a w.a
+  pub b : AccountOf limit B past w.radio.b w.b
 
 acts_books : {S T G H : Type 0} (U : Upper S G) (V : Upper T H) (deed : Deed) (limit : ℕ) (past : List Entry) (entry : Entry) (old new : World S T) → move_of A entry ≡ None → move_of B entry ≡ None → Acts U V deed old new → Books limit past old → Books limit (past ++ entry ∷ []) new
 acts_books U V Nothing limit past entry old new none_a none_b acts books = absurd acts
@@ -211,12 +211,12 @@ acts_books U V Cancels limit past entry old new none_a none_b (may, g, same) boo
 
 -- ---- whatever happens
 
-record Booked {S T : Type 0} (limit : ℕ) (past : List Entry) (w : World S T) : Type 0 where
-  books : Books limit past w
-  honest_a : IsHonest A past
-  honest_b : IsHonest B past
-  kept_a : KeepsWithin A limit past
-  kept_b : KeepsWithin B limit past
+pub record Booked {S T : Type 0} (limit : ℕ) (past : List Entry) (w : World S T) : Type 0 where
+  pub books : Books limit past w
+  pub honest_a : IsHonest A past
+  pub honest_b : IsHonest B past
+  pub kept_a : KeepsWithin A limit past
+  pub kept_b : KeepsWithin B limit past
 
 booked_none : {S T : Type 0} (limit : ℕ) (past : List Entry) (old new : World S T) → Books limit past new → Booked limit past old → Booked limit (past ++ []) new
 booked_none limit past old new books booked =
@@ -371,7 +371,7 @@ first_booked U V size count names = record {
   kept_b = at_each-none (λ p. all_outstanding B p ≤ min count 64) (omega arith);
 }
 
-booked_all : {S T G H : Type 0} (U : Upper S G) (V : Upper T H) (size count : ℕ) (names : List (List ℕ)) (happenings : List Happening) (w : World S T) → Fits U V size → Runs U V happenings (first_world U V size count names) w → Booked count (all_entries happenings) w
+pub booked_all : {S T G H : Type 0} (U : Upper S G) (V : Upper T H) (size count : ℕ) (names : List (List ℕ)) (happenings : List Happening) (w : World S T) → Fits U V size → Runs U V happenings (first_world U V size count names) w → Booked count (all_entries happenings) w
 booked_all U V size count names happenings w fits runs =
     let first = first_world U V size count names in
     (along U V happenings first (λ past words w. Booked count past w) happenings [] [] first w fits.frames_a fits.frames_b fits.idles (balances U V count happenings first) runs (reached_first U V size count names happenings fits) (first_booked U V size count names)).now

@@ -206,7 +206,7 @@ gives_of handle n one old link = record {
 -- ---- a link comes or goes
 
 made_fields : {S : Type 0} (limit : ℕ) (side : Side) (past : List Entry) (one : Controller) (old : Station S) (handle : ℕ) (asked off : Bool) → AccountOf limit side past one old
-    → AccountOf limit side past one (if asked then (if off then record old { asked = false; link = Some handle; joining = [] } else record old { asked = false }) else old)
+    → AccountOf limit side past one (if asked then (if off then record old { asked = false; link = Some handle; ending = false; joining = [] } else record old { asked = false }) else old)
 made_fields limit side past one old handle true true account = account
 made_fields limit side past one old handle true false account = account
 made_fields limit side past one old handle false off account = account
@@ -240,7 +240,7 @@ made_account limit side past one old handle rest low off here first known within
 gone_account : {S : Type 0} (limit : ℕ) (side : Side) (past : List Entry) (one : Controller) (old : Station S) (handle reason : ℕ) (rest : List Answer) (here : Bool) → here ≡ true → one.owed ≡ LinkGone handle reason ∷ rest
     → Known side (past ++ own side Into (answer_packet side (LinkGone handle reason)) ∷ []) (after_telling (LinkGone handle reason) (with_owed rest one)) → AccountOf limit side past one old
     → AccountOf limit side (past ++ own side Into (answer_packet side (LinkGone handle reason)) ∷ []) (after_telling (LinkGone handle reason) (with_owed rest one))
-    (if here then record old { outstanding = 0; link = None; joining = []; pieces = [] } else old)
+    (if here then record old { outstanding = 0; link = None; ending = false; joining = []; pieces = [] } else old)
 gone_account limit side past one old handle reason rest false is first known account = absurd cc
 gone_account limit side past one old handle reason rest true is first known account =
     let packet : Packet = answer_packet side (LinkGone handle reason) in

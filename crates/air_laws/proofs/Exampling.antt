@@ -100,7 +100,7 @@ abbrev answerer_side : (told : ℕ) (up : Bool) (frames : List (List ℕ)) → C
 answerer_side told up frames = record { scan = 3; told = told; up = up; taken = 0; begun = []; waiting = frames; coming = []; owed = [] }
 
 abbrev station_of : {S : Type 0} → S → Option ℕ → Station S
-station_of upper link = record { upper = upper; waiting = []; awaited = None; size = 27; total = 2; outstanding = 0; asked = false; link = link; joining = []; pieces = []; out = [] }
+station_of upper link = record { upper = upper; waiting = []; awaited = None; size = 27; total = 2; outstanding = 0; asked = false; link = link; ending = false; joining = []; pieces = []; out = [] }
 
 abbrev names : List (List ℕ)
 names = (0x41 ∷ []) ∷ []
@@ -352,7 +352,7 @@ hears = (
 leaves : Runs caller answerer leaving heard left
 leaves = (
   _,
-  (_, record { handle = _; link = refl; none_waits = refl; none_next = refl; leaves = refl; none_ends = refl; new_is = refl }, refl),
+  (_, record { handle = _; link = refl; none_waits = refl; none_next = refl; leaves = refl; unended = refl; none_ends = refl; new_is = refl }, refl),
   (
     _,
     (_, record { order = _; rest = _; first = refl; none_awaited = refl; new_is = refl }, refl),

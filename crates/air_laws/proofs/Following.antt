@@ -105,7 +105,7 @@ acts_told U V Cancels side old new (may, g, same) = rw same refl
 
 -- ---- the next moment
 
-runs_then : {S T G H : Type 0} (U : Upper S G) (V : Upper T H) (done : List Happening) (happening : Happening) (first old new : World S T) → Runs U V done first old → Does U V happening old new → Runs U V (done ++ happening ∷ []) first new
+pub runs_then : {S T G H : Type 0} (U : Upper S G) (V : Upper T H) (done : List Happening) (happening : Happening) (first old new : World S T) → Runs U V done first old → Does U V happening old new → Runs U V (done ++ happening ∷ []) first new
 runs_then {S} {T} U V [] happening first old new same does = (new, subst (λ (w : World S T). Does U V happening w new) same does, refl)
 runs_then U V (one ∷ done) happening first old new (mid, now, runs) does = (mid, now, runs_then U V done happening mid old new runs does)
 

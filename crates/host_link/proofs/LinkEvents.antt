@@ -39,7 +39,7 @@ either true n is = is
 either false n is = is
 
 made : (past : List Link) (line : Line) (handle : ℕ) → At (links true past None) line
-    → At (links false past (Some (record { handle = handle; moves = [] }))) (record line { asked = false; link = Some handle; joining = [] })
+    → At (links false past (Some (record { handle = handle; moves = [] }))) (record line { asked = false; link = Some handle; ending = false; joining = [] })
 made past line handle at =
     record { asked = refl; link = refl; ledger = λ other. either (handle == other) (outstanding_on line.ledger other) (at.ledger other); joining = refl }
 

@@ -89,7 +89,7 @@ makes_link status line = (status == 0) && is_none line.link
 abbrev pub after_connection : ℕ → ℕ → Line → Line
 after_connection status handle line =
     if line.asked then
-    (if makes_link status line then record line { asked = false; link = Some handle; joining = [] } else record line { asked = false })
+    (if makes_link status line then record line { asked = false; link = Some handle; ending = false; joining = [] } else record line { asked = false })
     else line
 
 abbrev pub connection_news : ℕ → Line → PlainNews
@@ -116,7 +116,7 @@ ends_link status handle line = (status == 0) && is_number handle line.link
 abbrev pub after_disconnection : ℕ → ℕ → Line → Line
 after_disconnection status handle line =
     if ends_link status handle line then
-    record line { ledger = record line.ledger { held = without handle line.ledger.held }; link = None; joining = []; pieces = [] }
+    record line { ledger = record line.ledger { held = without handle line.ledger.held }; link = None; ending = false; joining = []; pieces = [] }
     else line
 
 abbrev pub disconnection_news : ℕ → ℕ → ℕ → Line → PlainNews

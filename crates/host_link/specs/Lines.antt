@@ -16,6 +16,8 @@ pub record Line : Type 0 where
   pub asked : Bool
   -- the handle of the link that is up
   pub link : Option ℕ
+  -- whether it has ended that link already: Disconnection Complete is awaited
+  pub ending : Bool
   -- the octets of the PDU whose pieces are coming in
   pub joining : List ℕ
   -- the pieces that wait to be put out on the link
@@ -37,6 +39,7 @@ fresh role = record {
   ledger = record { total = 0; held = None };
   asked = false;
   link = None;
+  ending = false;
   joining = [];
   pieces = [];
   out = [];

@@ -1,5 +1,5 @@
 -- What a host puts out (Core 5.1, Volume 2 Part E, 4.1.1 and 4.4).
-use Rattle.std.specs.Prelude.{ℕ, ◌+◌, Bool, ◌&&◌, ◌||◌, ◌==◌, not, nat_lt, List, [], ◌∷◌, ◌++◌, length, Option, Some, None, is_some, if◌then◌else◌}
+use Rattle.std.specs.Prelude.{ℕ, ◌+◌, Bool, true, ◌&&◌, ◌||◌, ◌==◌, not, nat_lt, List, [], ◌∷◌, ◌++◌, length, Option, Some, None, is_some, if◌then◌else◌}
 use Rattle.h4_framing.specs.Packets.{Packet, Acl, spelling}
 use Rattle.hci_packets.specs.AclWords.{acl_word_of}
 use Rattle.acl_fragments.specs.Pieces.{Piece}
@@ -81,10 +81,10 @@ started role = put_out (fresh role)
 abbrev pub connecting : List ℕ → Line → Line
 connecting address line = record line { commands = with_command (CreateConnection address) line.commands }
 
--- the link that is up is to end; without one there is nothing to end
-abbrev pub ending : Option ℕ → Line → Line
-ending None line = line
-ending (Some handle) line = record line { commands = with_command (Disconnect handle) line.commands }
+-- the link that is up is ended once; without one there is nothing to end
+abbrev pub leaving : Option ℕ → Line → Line
+leaving None line = line
+leaving (Some handle) line = if line.ending then line else record line { commands = with_command (Disconnect handle) line.commands; ending = true }
 
 -- a PDU is taken only where no piece of the PDU before waits, and its first piece may go out at once
 abbrev pub can_take_pdu : Line → Bool

@@ -255,6 +255,7 @@ impl HostLink {
             return News::Nothing;
         }
         self.link = Handle::of(handle);
+        self.ending = false;
         self.joiner.forget();
         News::LinkUp
     }
@@ -279,6 +280,7 @@ impl HostLink {
         self.outbox.clear();
         self.joiner.forget();
         self.link = None;
+        self.ending = false;
         News::LinkDown(reason)
     }
 }

@@ -34,6 +34,8 @@ pub struct HostLink {
     pub(crate) asked: bool,
     /// The handle of the link that is up.
     pub(crate) link: Option<Handle>,
+    /// Whether that link was ended already: its Disconnection Complete is awaited.
+    pub(crate) ending: bool,
     pub(crate) joiner: Joiner,
     /// What was put out and not taken yet.
     pub(crate) out: Vec<u8>,
@@ -45,15 +47,15 @@ impl Model for HostLink {
 
     ghost Value = { Line };
 
-    ghost view = { λ host. record { role = host.role; commands = host.commands; size = host.outbox.size; ledger = host.ledger; asked = host.asked; link = host.link; joining = host.joiner.octets; pieces = host.outbox.pieces; out = host.out.items } };
+    ghost view = { λ host. record { role = host.role; commands = host.commands; size = host.outbox.size; ledger = host.ledger; asked = host.asked; link = host.link; ending = host.ending; joining = host.joiner.octets; pieces = host.outbox.pieces; out = host.out.items } };
 
-    ghost invariant = { λ host. IsSound (record { role = host.role; commands = host.commands; size = host.outbox.size; ledger = host.ledger; asked = host.asked; link = host.link; joining = host.joiner.octets; pieces = host.outbox.pieces; out = host.out.items }) × (host.joiner.limit ≡ 32775) × (66562 ≤ vec_capacity host.out) };
+    ghost invariant = { λ host. IsSound (record { role = host.role; commands = host.commands; size = host.outbox.size; ledger = host.ledger; asked = host.asked; link = host.link; ending = host.ending; joining = host.joiner.octets; pieces = host.outbox.pieces; out = host.out.items }) × (host.joiner.limit ≡ 32775) × (66562 ≤ vec_capacity host.out) };
 }
 
 impl HostLink {
     ghost use Rattle.std.specs.Prelude.{◌≡◌, ◌≤◌, ◌<◌, true, [], length, drop, IfOk};
     ghost use Rattle.host_link.specs.Lines.{IsSound, fresh};
-    ghost use Rattle.host_link.specs.PuttingOut.{connecting, ending, can_take_pdu, take_pdu, is_waiting, started};
+    ghost use Rattle.host_link.specs.PuttingOut.{connecting, leaving, can_take_pdu, take_pdu, is_waiting, started};
     ghost use Rattle.host_link.specs.Waiting.{longest_put};
     ghost use Rattle.host_link.specs.Stands.{Stands, Says, StandsStill};
 
@@ -73,6 +75,7 @@ impl HostLink {
             ledger: Ledger::new(0),
             asked: false,
             link: None,
+            ending: false,
             joiner: Joiner::new(alloc, LONGEST_PDU)?,
             out: Vec::with_capacity(alloc, ROOM + LONGEST_PACKET)?,
         };
@@ -88,14 +91,20 @@ impl HostLink {
         self.commands.wait(HostCommand::CreateConnection(address));
     }
 
-    /// Lets Disconnect of the link that is up wait to be put out. Without a link it does nothing.
+    /// Lets Disconnect of the link that is up wait to be put out, once for a link. Without a link,
+    /// or where its end was asked for already, it does nothing.
     pub fn disconnect(&mut self)
-        ensures line { self.new ≡ ending self.old.link self.old }
+        ensures line { self.new ≡ leaving self.old.link self.old }
         ensures history { StandsStill self.old self.new }
     {
-        if let Some(handle) = self.link {
-            self.commands.wait(HostCommand::Disconnect(handle));
+        let Some(handle) = self.link else {
+            return;
+        };
+        if self.ending {
+            return;
         }
+        self.ending = true;
+        self.commands.wait(HostCommand::Disconnect(handle));
     }
 
     /// Whether a PDU may be taken now: a link is up, no piece of the PDU before waits, and there is a
@@ -153,6 +162,13 @@ impl HostLink {
         ensures sound { IsSound self.now }
     {
         &self.ledger
+    }
+
+    /// Whether the end of the link that is up was asked for, and Disconnection Complete is awaited.
+    pub fn is_ending(&self) -> bool
+        ensures { result ≡ self.now.ending }
+    {
+        self.ending
     }
 
     /// The handle of the link that is up.

@@ -201,6 +201,8 @@ fn pieces_are_joined_until_the_link_ends(rt: HostRuntime) -> Result<(), Fail> {
         _ => return Err(Fail::from("the PDU is whole")),
     }
     host.disconnect();
+    host.disconnect();
+    assert!(rt; host.is_ending());
     puts_out(&rt, &mut host, &[0x01, 0x06, 0x04, 0x03, 0x01, 0x00, 0x13]);
     match host.hear(packet(&[0x04, 0x05, 0x04, 0x00, 0x01, 0x00, 0x16])?) {
         Ok(News::LinkDown(reason)) => assert_eq!(rt; reason, 0x16),
@@ -208,6 +210,7 @@ fn pieces_are_joined_until_the_link_ends(rt: HostRuntime) -> Result<(), Fail> {
     }
     assert_eq!(rt; outstanding(&host)?, 0);
     assert!(rt; host.link().is_none());
+    assert!(rt; !host.is_ending());
     Ok(())
 }
 

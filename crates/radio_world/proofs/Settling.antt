@@ -5,9 +5,11 @@ use Rattle.radio_air.specs.Controllers.{Controller, is_empty}
 use Rattle.radio_air.specs.Radio.{is_apart, is_idle, is_quiet}
 use Rattle.world_model.specs.Machines.{Upper}
 use Rattle.world_model.specs.Pushes.{next_name}
-use Rattle.radio_world.specs.Hosts.{Asking, answering, IsStopped}
+use Rattle.world_model.specs.Stations.{IsStopped}
+use Rattle.world_model.specs.Worlds.{IsSettled}
+use Rattle.radio_world.specs.Hosts.{Asking, answering}
 use Rattle.radio_world.specs.Halves.{IsStillIn, StaysPut}
-use Rattle.radio_world.specs.Scenes.{Scene, moment, may_end, IsSettled}
+use Rattle.radio_world.specs.Scenes.{Scene, moment, world_at, may_end}
 
 pub and_both : (a b : Bool) → a ≡ true → b ≡ true → (a && b) ≡ true
 and_both true b one two = two
@@ -23,7 +25,7 @@ pub settles :
     → IsStillIn B last.medium → StaysPut B mid.medium last.medium b b' → last.pushes ≡ mid.pushes
     → (may_end last ≡ true → (rest : List G) → U.is_idle (a'.upper rest) ≡ true → U.outcome (a'.upper rest) ≡ None)
     → ((rest : List G) → IsStopped U A (answering rest a')) → ((rest : List H) → IsStopped V B (answering rest b'))
-    → (rest_a : List G) (rest_b : List H) → IsSettled U V (moment last (answering rest_a a') (answering rest_b b'))
+    → (rest_a : List G) (rest_b : List H) → IsSettled U V (world_at (moment last (answering rest_a a') (answering rest_b b')))
 settles {S} {T} {G} U V start mid last a a' b b' none_begins still_a put_a pushes_a still_b put_b pushes_b none_ends stopped_a stopped_b rest_a rest_b =
     let still : IsStillIn A last.medium = subst (λ (c : Controller). (c.coming ≡ []) × (c.owed ≡ [])) (sym put_b.other_is) still_a in
     let quiet : is_quiet last.medium.radio ≡ true = and_both (is_idle last.medium.radio.a) (is_idle last.medium.radio.b) (idle_of last.medium.radio.a still) (idle_of last.medium.radio.b still_b) in

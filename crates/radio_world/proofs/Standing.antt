@@ -10,10 +10,13 @@ use Rattle.radio_air.specs.Radio.{found, is_idle, is_quiet}
 use Rattle.world_model.specs.Machines.{Upper}
 use Rattle.world_model.specs.Stations.{Station, first_station}
 use Rattle.world_model.specs.Turns.{FindsNothing}
-use Rattle.world_model.specs.Worlds.{Misses, IsAtRest, all_entries, all_words}
+use Rattle.world_model.specs.Worlds.{Happening, Misses, Runs, IsSettled, IsAtRest, all_entries, all_words}
+use Rattle.station_laws.specs.WorldLaws.{AreSizes}
+use Rattle.rest_laws.specs.Premises.{AreOrderly}
+use Rattle.rest_laws.proofs.Resting.{settled_rests}
 use Rattle.radio_world.specs.Hosts.{Asking, answering, JoinAnswers}
-use Rattle.radio_world.specs.Scenes.{Scene, first_scene, Moment, moment, world_at, Plays, Stage, stage, moment_of, Advances, IsSettled}
-use Rattle.radio_world.specs.Standing.{IsCount, IsReached, SettledRests, Stands}
+use Rattle.radio_world.specs.Scenes.{Scene, first_scene, Moment, moment, world_at, Plays, Stage, stage, moment_of, Advances}
+use Rattle.radio_world.specs.Standing.{IsCount, IsReached, Stands}
 use Rattle.radio_world.specs.Turning.{can_be_done}
 use Rattle.radio_world.proofs.Advancing.{plays_then}
 use Rattle.radio_world.proofs.Settling.{and_both, idle_of}
@@ -58,16 +61,28 @@ pub stands_then :
     (old new : Scene) (a a' : Asking S G) (b b' : Asking T H) (shelf shelf' : P) (inbox inbox' : Q) (trace trace' : Option (List ℕ))
     → Advances U V RA RB words (stage old a b shelf inbox trace) (stage new a' b' shelf' inbox' trace')
     → ((rest_a : List G) (rest_b : List H) → IsReached U V (moment old (answering rest_a a) (answering rest_b b)))
-    → ((rest_a : List G) (rest_b : List H) → IsSettled U V (moment new (answering rest_a a') (answering rest_b b'))) → Stands U V new a' b'
+    → ((rest_a : List G) (rest_b : List H) → IsSettled U V (world_at (moment new (answering rest_a a') (answering rest_b b')))) → Stands U V new a' b'
 stands_then U V RA RB words old new a a' b b' shelf shelf' inbox inbox' trace trace' advances reached settled = record {
   reached = reached_then U V RA RB words (stage old a b shelf inbox trace) (stage new a' b' shelf' inbox' trace') advances reached;
   settled = settled;
 }
 
+-- what is noted aside, it is a run of the pure world
+runs_of : {S T G H : Type 0} (U : Upper S G) (V : Upper T H) (happenings : List Happening) (old new : Moment S T) → Plays U V happenings old new → Runs U V happenings (world_at old) (world_at new)
+runs_of U V [] old new same = ap world_at same
+runs_of U V (happening ∷ happenings) old new (mid, happens, plays) = (world_at mid, happens.does, runs_of U V happenings mid new plays)
+
+sizes_of : (size count : ℕ) → IsSize size → IsCount count → AreSizes size count
+sizes_of size count (long, short) (some, few) = record { long = long; some = some; size_fits = omega arith; count_fits = omega arith }
+
 pub at_rest :
-    {S T G H : Type 0} (U : Upper S G) (V : Upper T H) (scene : Scene) (a : Asking S G) (b : Asking T H) → SettledRests U V → Stands U V scene a b
+    {S T G H : Type 0} (U : Upper S G) (V : Upper T H) (scene : Scene) (a : Asking S G) (b : Asking T H) → AreOrderly U V → Stands U V scene a b
     → (rest_a : List G) (rest_b : List H) → IsAtRest U V (world_at (moment scene (answering rest_a a) (answering rest_b b)))
-at_rest U V scene a b rests stands rest_a rest_b = rests (moment scene (answering rest_a a) (answering rest_b b)) (stands.reached rest_a rest_b) (stands.settled rest_a rest_b)
+at_rest U V scene a b orderly stands rest_a rest_b =
+    let reached = stands.reached rest_a rest_b in
+    let few = reached.few in
+    settled_rests U V reached.size reached.count reached.names reached.happenings (world_at (moment scene (answering rest_a a) (answering rest_b b))) orderly (sizes_of reached.size reached.count reached.sized reached.counted) (omega arith)
+    (runs_of U V reached.happenings _ (moment scene (answering rest_a a) (answering rest_b b)) reached.plays) (stands.settled rest_a rest_b)
 
 -- nothing is on its way to a host
 pub stands_quiet : {S T G H : Type 0} (U : Upper S G) (V : Upper T H) (scene : Scene) (a : Asking S G) (b : Asking T H) → Stands U V scene a b → is_quiet scene.medium.radio ≡ true
@@ -85,7 +100,7 @@ still_at_rest :
     {S T G H : Type 0} (U : Upper S G) (V : Upper T H) (scene : Scene) (a : Station S) (b : Station T) (n : ℕ) → IsAtRest U V (world_at (moment scene a b)) → IsAtRest U V (world_at (moment (turned_to scene n) a b))
 still_at_rest U V scene a b n rest = record { still_a = rest.still_a; still_b = rest.still_b; paged = rest.paged; calm = rest.calm }
 
-still_settled : {S T G H : Type 0} (U : Upper S G) (V : Upper T H) (scene : Scene) (a : Station S) (b : Station T) (n : ℕ) → IsSettled U V (moment scene a b) → IsSettled U V (moment (turned_to scene n) a b)
+still_settled : {S T G H : Type 0} (U : Upper S G) (V : Upper T H) (scene : Scene) (a : Station S) (b : Station T) (n : ℕ) → IsSettled U V (world_at (moment scene a b)) → IsSettled U V (world_at (moment (turned_to scene n) a b))
 still_settled U V scene a b n settled = record {
   out_a = settled.out_a;
   out_b = settled.out_b;
@@ -150,6 +165,6 @@ pub misses_stand :
 misses_stand U V scene new a b n is reached stands = record {
   reached = reached;
   settled = λ rest_a rest_b.
-      subst (λ (s : Scene). IsSettled U V (moment s (answering rest_a a) (answering rest_b b))) (sym is)
+      subst (λ (s : Scene). IsSettled U V (world_at (moment s (answering rest_a a) (answering rest_b b)))) (sym is)
       (still_settled U V scene (answering rest_a a) (answering rest_b b) n (stands.settled rest_a rest_b));
 }

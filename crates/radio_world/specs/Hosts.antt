@@ -27,6 +27,7 @@ answering answers host = record {
   outstanding = host.outstanding;
   asked = host.asked;
   link = host.link;
+  ending = host.ending;
   joining = host.joining;
   pieces = host.pieces;
   out = host.out;
@@ -87,10 +88,6 @@ pub record Hears {S G P : Type 0} (U : Upper S G) (side : Side) (Answers : P →
       → (held' ≡ held ++ octets) × (new ≡ old) × Answers port [] port'
   pub whole : (coming : Coming) → IsPacket acl_limit (coming_packet side coming) → spelling (coming_packet side coming) ≡ held ++ octets
       → (held' ≡ []) × Reacts U side Answers (hears_coming U side coming) old new port port'
-
--- it can do nothing more by itself
-abbrev pub IsStopped : {S G : Type 0} → Upper S G → Side → Station S → Type 0
-IsStopped {S} U side station = (effort : Effort) (next : Station S) → MakesEffort U side effort station next → ⊥
 
 -- one list of answers behind another, from port to port
 pub record JoinAnswers {G P : Type 0} (Answers : P → List G → P → Type 0) : Type 0 where

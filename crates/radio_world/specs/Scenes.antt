@@ -11,9 +11,8 @@ use Rattle.world_model.specs.Machines.{Upper, Opening}
 use Rattle.world_model.specs.Pushes.{Pushes, no_pushes, next_name, one_begun, one_ended}
 use Rattle.world_model.specs.Stations.{Station, told}
 use Rattle.world_model.specs.Worlds.{World, Happening, Departure, Does, all_entries, all_words}
-use Rattle.radio_world.specs.Hosts.{Asking, answering, Reacts, IsStopped}
+use Rattle.radio_world.specs.Hosts.{Asking, answering, Reacts}
 use Rattle.radio_world.specs.Leaving.{Medium, first_medium, in_radio, noted}
-use Rattle.radio_world.specs.Halves.{IsStillIn}
 
 -- what lies between the hosts, the pushes, and how many words were turned
 pub record Scene : Type 0 where
@@ -84,19 +83,6 @@ pub record Advances {S T G H P Q : Type 0} (U : Upper S G) (V : Upper T H) (Answ
 -- a push goes on, there is no link, and nothing is on its way to a host
 abbrev pub may_end : Scene → Bool
 may_end scene = scene.pushes.going && (is_apart scene.medium.radio.phase && is_quiet scene.medium.radio)
-
--- In a round nothing moved: nothing is left to be taken or to come, no host can go on by itself, no push can begin, and none can end.
-pub record IsSettled {S T G H : Type 0} (U : Upper S G) (V : Upper T H) (at : Moment S T) : Type 0 where
-  pub out_a : at.a.out ≡ []
-  pub out_b : at.b.out ≡ []
-  pub stopped_a : IsStopped U A at.a
-  pub stopped_b : IsStopped V B at.b
-  pub still_a : IsStillIn A at.scene.medium
-  pub still_b : IsStillIn B at.scene.medium
-  pub returned_a : at.scene.medium.radio.a.taken ≡ 0
-  pub returned_b : at.scene.medium.radio.b.taken ≡ 0
-  pub no_begin : U.is_idle at.a.upper ≡ true → next_name at.scene.pushes ≡ None
-  pub no_end : is_apart at.scene.medium.radio.phase ≡ true → at.scene.pushes.going ≡ true → U.is_idle at.a.upper ≡ true → U.outcome at.a.upper ≡ None
 
 -- ---- one thing that happens
 

@@ -9,9 +9,9 @@ use Rattle.radio_air.specs.Queues.{IsSize}
 use Rattle.world_model.specs.Machines.{Upper}
 use Rattle.world_model.specs.Pushes.{Pushes, one_ended}
 use Rattle.world_model.specs.Stations.{first_station}
-use Rattle.world_model.specs.Worlds.{Happening, IsAtRest}
+use Rattle.world_model.specs.Worlds.{Happening, IsSettled}
 use Rattle.radio_world.specs.Hosts.{Asking, answering}
-use Rattle.radio_world.specs.Scenes.{Scene, first_scene, Moment, moment, world_at, Plays, IsSettled}
+use Rattle.radio_world.specs.Scenes.{Scene, first_scene, Moment, moment, world_at, Plays}
 
 -- before anything happened
 abbrev pub first_moment : {S T G H : Type 0} → Upper S G → Upper T H → (size count : ℕ) → (names : List (List ℕ)) → Moment S T
@@ -32,14 +32,10 @@ pub record IsReached {S T G H : Type 0} (U : Upper S G) (V : Upper T H) (at : Mo
   pub happenings : List Happening
   pub plays : Plays U V happenings (first_moment U V size count names) at
 
--- in a world of these two machines all is at rest where all is settled
-abbrev pub SettledRests : {S T G H : Type 0} → Upper S G → Upper T H → Type 0
-SettledRests {S} {T} U V = (at : Moment S T) → IsReached U V at → IsSettled U V at → IsAtRest U V (world_at at)
-
 -- it was reached and all is settled, whatever the ports answer from now on
 pub record Stands {S T G H : Type 0} (U : Upper S G) (V : Upper T H) (scene : Scene) (a : Asking S G) (b : Asking T H) : Type 0 where
   pub reached : (rest_a : List G) (rest_b : List H) → IsReached U V (moment scene (answering rest_a a) (answering rest_b b))
-  pub settled : (rest_a : List G) (rest_b : List H) → IsSettled U V (moment scene (answering rest_a a) (answering rest_b b))
+  pub settled : (rest_a : List G) (rest_b : List H) → IsSettled U V (world_at (moment scene (answering rest_a a) (answering rest_b b)))
 
 -- ---- the end
 

@@ -4,8 +4,8 @@ ghost use Rattle.std.specs.Prelude.{◌≡◌, ◌≤◌, [], ℕ, true, List, l
 ghost use Rattle.push_script.specs.Names.{utf16_length};
 ghost use Rattle.push_terms.specs.declared.word.Side.{Side};
 ghost use Rattle.world_model.specs.Machines.{Upper, TimerFired, Cancelled, Opening};
-ghost use Rattle.world_model.specs.Stations.{told};
-ghost use Rattle.radio_world.specs.Hosts.{Asking, answering, order_octets, AreSent, Reacts, Hears, IsStopped, JoinAnswers};
+ghost use Rattle.world_model.specs.Stations.{IsStopped, told};
+ghost use Rattle.radio_world.specs.Hosts.{Asking, answering, order_octets, AreSent, Reacts, Hears, JoinAnswers};
 
 use bt_base::NoMemory;
 use push_terms::Outcome;

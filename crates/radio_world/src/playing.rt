@@ -6,11 +6,12 @@ ghost use Rattle.push_script.specs.Runs.{IsWord};
 ghost use Rattle.push_terms.specs.declared.word.Side.TheVariants as sides;
 ghost use Rattle.capture.specs.Entries.{capture_octets};
 ghost use Rattle.capture.specs.Air.{words_of};
+ghost use Rattle.rest_laws.specs.Premises.{AreOrderly};
 ghost use Rattle.radio_world.specs.Hosts.{answering};
 ghost use Rattle.radio_world.specs.Scenes.{stage, moment, Advances};
 ghost use Rattle.radio_air.specs.Radio.{found};
 ghost use Rattle.radio_world.specs.Turning.{can_be_done};
-ghost use Rattle.radio_world.specs.Standing.{IsReached, SettledRests, Stands, last_ended, last_entries, all_outcomes};
+ghost use Rattle.radio_world.specs.Standing.{IsReached, Stands, last_ended, last_entries, all_outcomes};
 
 use crate::fault::WorldFault;
 use crate::host::{Client, Host};
@@ -79,7 +80,7 @@ impl Scene {
         inbox: &mut Q,
         trace: &mut T,
     ) -> Result<(), WorldFault>
-        requires rests { SettledRests A.Host.machine B.machine }
+        requires orderly { AreOrderly A.Host.machine B.machine }
         requires stands { Stands A.Host.machine B.machine self.old (A.Host.station a.old) (B.station b.old) }
         requires finds { (rest_a : List A.Host.Answer) (rest_b : List B.Answer) → can_be_done A.Host.machine B.machine (found word self.old.medium.radio) self.old.pushes ((A.Host.station a.old).upper rest_a) ((B.station b.old).upper rest_b) ≡ true }
         requires word { IsWord word }
@@ -115,7 +116,7 @@ impl Scene {
         inbox: &mut Q,
         trace: &mut T,
     ) -> Result<(), WorldFault>
-        requires rests { SettledRests A.Host.machine B.machine }
+        requires orderly { AreOrderly A.Host.machine B.machine }
         requires stands { Stands A.Host.machine B.machine self.old (A.Host.station a.old) (B.station b.old) }
         requires word { IsWord word }
         requires sides { (A.Host.side ≡ sides.A) × (B.side ≡ sides.B) }
@@ -146,7 +147,7 @@ impl Scene {
         inbox: &mut Q,
         trace: &mut T,
     ) -> Result<(), WorldFault>
-        requires rests { SettledRests A.Host.machine B.machine }
+        requires orderly { AreOrderly A.Host.machine B.machine }
         requires stands { Stands A.Host.machine B.machine self.old (A.Host.station a.old) (B.station b.old) }
         requires sides { (A.Host.side ≡ sides.A) × (B.side ≡ sides.B) }
         requires none_held { (A.Host.held a.old ≡ []) × (B.held b.old ≡ []) }

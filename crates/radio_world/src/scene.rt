@@ -8,7 +8,8 @@ ghost use Rattle.radio_air.specs.Radio.{is_apart, is_quiet};
 ghost use Rattle.world_model.specs.Pushes.{next_name, one_ended};
 ghost use Rattle.radio_world.specs.Hosts.{answering};
 ghost use Rattle.radio_world.specs.Halves.{Goes, IsStillIn, StaysPut};
-ghost use Rattle.radio_world.specs.Scenes.{stage, moment, may_end, Advances, IsSettled, Begins, Ends};
+ghost use Rattle.radio_world.specs.Scenes.{stage, moment, world_at, may_end, Advances, Begins, Ends};
+ghost use Rattle.world_model.specs.Worlds.{IsSettled};
 
 use crate::fault::WorldFault;
 use crate::host::{Client, Host};
@@ -140,7 +141,7 @@ impl Scene {
         requires none_held { (A.Host.held a.old ≡ []) × (B.held b.old ≡ []) }
         requires sound { A.Host.is_sound a.old shelf.old × B.is_sound b.old inbox.old }
         ensures advances { OnOk result (Advances A.Host.machine B.machine A.Host.answers B.answers [] (stage self.old (A.Host.station a.old) (B.station b.old) shelf.old inbox.old (T.content trace.old)) (stage self.new (A.Host.station a.new) (B.station b.new) shelf.new inbox.new (T.content trace.new))) }
-        ensures settled { result ≡ Ok false → (rest_a : List A.Host.Answer) (rest_b : List B.Answer) → IsSettled A.Host.machine B.machine (moment self.new (answering rest_a (A.Host.station a.new)) (answering rest_b (B.station b.new))) }
+        ensures settled { result ≡ Ok false → (rest_a : List A.Host.Answer) (rest_b : List B.Answer) → IsSettled A.Host.machine B.machine (world_at (moment self.new (answering rest_a (A.Host.station a.new)) (answering rest_b (B.station b.new)))) }
         ensures none_held { OnOk result ((A.Host.held a.new ≡ []) × (B.held b.new ≡ [])) }
         ensures sound { OnOk result (A.Host.is_sound a.new shelf.new × B.is_sound b.new inbox.new) }
     {
@@ -164,7 +165,7 @@ impl Scene {
         requires none_held { (A.Host.held a.old ≡ []) × (B.held b.old ≡ []) }
         requires sound { A.Host.is_sound a.old shelf.old × B.is_sound b.old inbox.old }
         ensures advances { OnOk result (Advances A.Host.machine B.machine A.Host.answers B.answers [] (stage self.old (A.Host.station a.old) (B.station b.old) shelf.old inbox.old (T.content trace.old)) (stage self.new (A.Host.station a.new) (B.station b.new) shelf.new inbox.new (T.content trace.new))) }
-        ensures settled { OnOk result ((rest_a : List A.Host.Answer) (rest_b : List B.Answer) → IsSettled A.Host.machine B.machine (moment self.new (answering rest_a (A.Host.station a.new)) (answering rest_b (B.station b.new)))) }
+        ensures settled { OnOk result ((rest_a : List A.Host.Answer) (rest_b : List B.Answer) → IsSettled A.Host.machine B.machine (world_at (moment self.new (answering rest_a (A.Host.station a.new)) (answering rest_b (B.station b.new))))) }
         ensures none_held { OnOk result ((A.Host.held a.new ≡ []) × (B.held b.new ≡ [])) }
         ensures sound { OnOk result (A.Host.is_sound a.new shelf.new × B.is_sound b.new inbox.new) }
     {

@@ -6,9 +6,10 @@ ghost use Rattle.push_script.specs.Runs.{IsWord};
 ghost use Rattle.capture.specs.Air.{words_of};
 ghost use Rattle.capture.specs.Entries.{capture_octets};
 ghost use Rattle.push_terms.specs.declared.word.Side.TheVariants as sides;
+ghost use Rattle.rest_laws.specs.Premises.{AreOrderly};
 ghost use Rattle.radio_world.specs.Hosts.{answering};
 ghost use Rattle.radio_world.specs.Scenes.{first_scene, stage, moment, Advances};
-ghost use Rattle.radio_world.specs.Standing.{IsReached, SettledRests, Stands, last_ended, last_entries, all_outcomes};
+ghost use Rattle.radio_world.specs.Standing.{IsReached, Stands, last_ended, last_entries, all_outcomes};
 
 use crate::fault::WorldFault;
 use crate::host::{Client, Host, Keeps, Measured};
@@ -134,8 +135,9 @@ impl<A: Drop, B: Drop> World<A, B> {
     /// that finds nothing is counted alone.
     ///
     /// It needs a word as a line of a scenario can say it, a world that stands, as `start` and `turn`
-    /// leave it, and machines with which all is at rest where all is settled. It refuses as `start`
-    /// does; `NoMemory` also where more than 2^64 - 1 words would have been turned.
+    /// leave it, and orderly machines: both say PDUs that hosts take, and host a asks for one link in
+    /// a push. It refuses as `start` does; `NoMemory` also where more than 2^64 - 1 words would have
+    /// been turned.
     pub fn turn<P, Q, T: Sink>(
         &mut self,
         word: Word,
@@ -146,7 +148,7 @@ impl<A: Drop, B: Drop> World<A, B> {
     where
         A: Client<P>,
         B: Host<Q>,
-        requires rests { SettledRests A.Host.machine B.machine }
+        requires orderly { AreOrderly A.Host.machine B.machine }
         requires stands { Stands A.Host.machine B.machine self.old.scene (A.Host.station self.old.a) (B.station self.old.b) }
         requires word { IsWord word }
         requires sides { (A.Host.side ≡ sides.A) × (B.side ≡ sides.B) }
@@ -174,7 +176,7 @@ impl<A: Drop, B: Drop> World<A, B> {
     where
         A: Client<P>,
         B: Host<Q>,
-        requires rests { SettledRests A.Host.machine B.machine }
+        requires orderly { AreOrderly A.Host.machine B.machine }
         requires stands { Stands A.Host.machine B.machine self.old.scene (A.Host.station self.old.a) (B.station self.old.b) }
         requires sides { (A.Host.side ≡ sides.A) × (B.side ≡ sides.B) }
         requires none_held { (A.Host.held self.old.a ≡ []) × (B.held self.old.b ≡ []) }

@@ -147,7 +147,7 @@ gone_at U answers side gone handle reason upper out line host offers =
               off = λ off. refl;
             };
             offers = offers;
-            seen = ap (λ (n : ℕ). record (station_of (U.hear answers (Linked (Down reason)) upper) out line) { outstanding = n; link = None; joining = []; pieces = [] }) (sym none);
+            seen = ap (λ (n : ℕ). record (station_of (U.hear answers (Linked (Down reason)) upper) out line) { outstanding = n; link = None; ending = false; joining = []; pieces = [] }) (sym none);
           })
       | inr off ↦ rw off (record { host = host; offers = offers; seen = refl })
     ]

@@ -10,8 +10,8 @@ use Rattle.push_terms.specs.declared.word.Side.TheVariants.{A, B}
 use Rattle.push_terms.specs.declared.word.Way.{Way}
 use Rattle.push_terms.specs.declared.word.Way.TheVariants.{Ab, Ba}
 use Rattle.radio_air.specs.declared.fate.Fate.{Fate}
-use Rattle.radio_air.specs.Controllers.{Answer, Returned, Stated, Called, LinkMade, LinkGone, GivenBack, address, other_side, Controller, owing, gives_back, after_giving_back, after_telling, after_first_of, after_handing}
-use Rattle.radio_air.specs.Radio.{Radio, Phase, Paging, is_apart, is_paging, is_requested, controller, with_controller, owes, may_page, is_reached, after_reaching, after_paging, joined, after_accepting, parting, parted, parted_by, knows_link, after_disconnecting, scanning, with_piece, after_taking, after_offer, after_meeting}
+use Rattle.radio_air.specs.Controllers.{Answer, Returned, Stated, Called, LinkMade, LinkGone, GivenBack, address, other_side, Controller, owing, after_giving_back, after_telling, after_first_of, after_handing}
+use Rattle.radio_air.specs.Radio.{Radio, Paging, is_apart, is_paging, is_requested, controller, with_controller, owes, may_page, is_reached, after_reaching, after_paging, after_accepting, parting, parted, parted_by, knows_link, after_disconnecting, scanning, with_piece, after_taking, after_meeting}
 use Rattle.world_model.specs.Stations.{Order, ReadBuffers, ReadAddress, Scan, Page, Accept, End, Data, opcode}
 use Rattle.world_model.specs.Stations as orders
 use Rattle.world_model.specs.Worlds.{piece_on, after_order}

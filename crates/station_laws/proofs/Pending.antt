@@ -11,7 +11,7 @@ use Rattle.world_model.specs.Stations.{Order, ReadBuffers, ReadAddress, Scan, Pa
 use Rattle.world_model.specs.Stations as orders
 use Rattle.station_laws.specs.Coming.{MayCome}
 use Rattle.station_laws.specs.WorldLaws.{NextMayCome}
-use Rattle.station_laws.proofs.Owing.{number_of, numbers_of, number_in, numbers_in, numbers_of-append, IsRight, IsRightOne}
+use Rattle.station_laws.proofs.Owing.{number_of, numbers_of, numbers_in, numbers_of-append, IsRight, IsRightOne}
 
 abbrev pub number_awaited : Option ℕ → List ℕ
 number_awaited None = []
@@ -174,14 +174,14 @@ answers_keep {S} U answers side Called rest station pending =
     (either_keeps (may_accept side station) rest more station (record { commands = one_more station.waiting Accept pending.commands refl; pends = pending.pends }) plain)
 answers_keep {S} U answers side (LinkMade handle) rest station pending =
     let plain : Pending rest station = record { commands = pending.commands; pends = pending.pends } in
-    let up : Station S = record station { asked = false; link = Some handle; joining = [] } in
+    let up : Station S = record station { asked = false; link = Some handle; ending = false; joining = [] } in
     let not_up : Station S = record station { asked = false } in
     upper_kept _ rest (if station.asked then (if is_none station.link then up else not_up) else station)
     (either_keeps station.asked rest (if is_none station.link then up else not_up) station
     (either_keeps (is_none station.link) rest up not_up (record { commands = pending.commands; pends = pending.pends }) (record { commands = pending.commands; pends = pending.pends })) plain)
 answers_keep {S} U answers side (LinkGone handle reason) rest station pending =
     let plain : Pending rest station = record { commands = pending.commands; pends = pending.pends } in
-    let down : Station S = record station { outstanding = 0; link = None; joining = []; pieces = [] } in
+    let down : Station S = record station { outstanding = 0; link = None; ending = false; joining = []; pieces = [] } in
     upper_kept _ rest (if is_handle handle station.link then down else station)
     (either_keeps (is_handle handle station.link) rest down station (record { commands = pending.commands; pends = pending.pends }) plain)
 answers_keep {S} U answers side (GivenBack handle count) rest station pending =

@@ -1,21 +1,19 @@
 -- Whatever happens in a world, what comes into its hosts may come.
-use Rattle.std.proofs.Common.{◌≡◌, ℕ, ◌+◌, ◌≤◌, Bool, true, false, List, [], ◌∷◌, ◌++◌, Option, Some, None, if◌then◌else◌, refl, sym, ap, ◌∙◌, subst, arith}
-use Rattle.acl_fragments.specs.Pieces.{Piece}
-use Rattle.push_terms.specs.declared.word.Side.{Side}
+use Rattle.std.proofs.Common.{ℕ, Bool, true, false, List, [], ◌∷◌, if◌then◌else◌, refl, sym, subst, arith}
 use Rattle.push_terms.specs.declared.word.Side.TheVariants.{A, B}
 use Rattle.push_terms.specs.declared.word.Way.TheVariants.{Ab, Ba}
 use Rattle.radio_air.specs.declared.deed.Deed.{Deed}
 use Rattle.radio_air.specs.declared.deed.Deed.TheVariants.{Nothing, Meets, Fires, FiresBoth, Breaks, Cancels}
 use Rattle.radio_air.specs.Controllers.{Answer, Controller, after_handing}
-use Rattle.radio_air.specs.Radio.{Radio, controller, with_controller, found, after_offer}
-use Rattle.world_model.specs.Machines.{News, TimerFired, Cancelled, Opening, Upper}
-use Rattle.world_model.specs.Stations.{Order, Station, told, hears_answer}
-use Rattle.world_model.specs.Worlds.{World, Happening, Tries, Departure, GivingBack, Piecemeal, Answering, Turns, Misses, Opens, Closes, Does, Acts, Runs, checks, fired, first_world}
+use Rattle.radio_air.specs.Radio.{Radio, controller, with_controller, found}
+use Rattle.world_model.specs.Machines.{TimerFired, Cancelled, Opening, Upper}
+use Rattle.world_model.specs.Stations.{Station, told, hears_answer}
+use Rattle.world_model.specs.Worlds.{World, Happening, Tries, Departure, GivingBack, Piecemeal, Answering, Turns, Misses, Opens, Closes, Does, Acts, Runs, checks, first_world}
 use Rattle.station_laws.specs.WorldLaws.{AreSizes, WorldsAnswer}
-use Rattle.station_laws.proofs.Owing.{numbers_in, number_of, OneGoes, Goes, Owed, IsRightOne, IsRightRadio, one_goes, right_of, gives_back_right, parts, order_goes, meets_right, piece_handed, Handed, answer_handed}
+use Rattle.station_laws.proofs.Owing.{Goes, IsRightOne, IsRightRadio, one_goes, right_of, gives_back_right, parts, order_goes, meets_right, piece_handed, answer_handed}
 use Rattle.station_laws.proofs.Pending.{Pending, pending_as, efforts_keep, departs_keep, told_keeps, pieces_keep, answers_keep, next_may_come}
 
-record Kept {S T : Type 0} (size count : ℕ) (w : World S T) : Type 0 where
+pub record Kept {S T : Type 0} (size count : ℕ) (w : World S T) : Type 0 where
   pub radio : IsRightRadio size count w.radio
   pub a : Pending w.radio.a.owed w.a
   pub b : Pending w.radio.b.owed w.b
@@ -145,7 +143,7 @@ does_keeps {S} {T} U V size count (Opens push name) old new sizes does kept =
 does_keeps {S} {T} U V size count (Closes push outcome) old new sizes does kept =
     subst (λ (w : World S T). Kept size count w) (sym does.9) (record { radio = kept.radio; a = kept.a; b = kept.b })
 
-runs_keep : {S T G H : Type 0} (U : Upper S G) (V : Upper T H) (size count : ℕ) (happenings : List Happening) (old new : World S T) → AreSizes size count → Runs U V happenings old new
+pub runs_keep : {S T G H : Type 0} (U : Upper S G) (V : Upper T H) (size count : ℕ) (happenings : List Happening) (old new : World S T) → AreSizes size count → Runs U V happenings old new
     → Kept size count old → Kept size count new
 runs_keep {S} {T} U V size count [] old new sizes runs kept = subst (λ (w : World S T). Kept size count w) (sym runs) kept
 runs_keep U V size count (happening ∷ happenings) old new sizes runs kept =
@@ -156,7 +154,7 @@ runs_keep U V size count (happening ∷ happenings) old new sizes runs kept =
 first_right : IsRightOne (record { scan = 0; told = 0; up = false; taken = 0; begun = []; waiting = []; coming = []; owed = [] })
 first_right = record { owed = tt; told = omega arith; taken = omega arith }
 
-first_keeps : {S T G H : Type 0} (U : Upper S G) (V : Upper T H) (size count : ℕ) (names : List (List ℕ)) → Kept size count (first_world U V size count names)
+pub first_keeps : {S T G H : Type 0} (U : Upper S G) (V : Upper T H) (size count : ℕ) (names : List (List ℕ)) → Kept size count (first_world U V size count names)
 first_keeps U V size count names =
     record {
       radio = record { a = first_right; b = first_right; number = omega arith; room = λ on. cc; size_is = refl; count_is = refl };

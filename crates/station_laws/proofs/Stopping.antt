@@ -2,12 +2,10 @@
 use Rattle.std.proofs.Common.{◌≡◌, ℕ, ◌&&◌, ◌==◌, not, nat_lt, Bool, true, false, List, [], ◌∷◌, length, Option, Some, None, is_none, is_some, if◌then◌else◌, inl, inr, refl, sym, ap, subst}
 use Rattle.std.proofs.lemmas.Bool.{cases_Bool}
 use Rattle.acl_fragments.specs.Pieces.{Piece}
-use Rattle.push_terms.specs.declared.word.Side.{Side}
 use Rattle.host_link.specs.declared.host_command.HostCommand.{HostCommand}
 use Rattle.host_link.specs.CommandFlows.{first_of, next_command}
 use Rattle.host_link.specs.Lines.{Line}
 use Rattle.host_link.specs.PuttingOut.{has_room, has_buffer, is_waiting, with_piece, with_pieces, put_pieces_on, with_next, put_command}
-use Rattle.station_laws.specs.Seen.{IsHostOf}
 use Rattle.station_laws.specs.Laws.{PiecesStop, CommandsStop}
 
 -- ---- pieces

@@ -12,9 +12,9 @@ use Rattle.host_link.specs.declared.host_command.HostCommand.{HostCommand}
 use Rattle.host_link.specs.declared.host_command.HostCommand.TheVariants.{Reset, ReadBufferSize, ReadBdAddr, WriteScanEnable, CreateConnection, Disconnect}
 use Rattle.host_link.specs.HostCommands.{command_packet}
 use Rattle.host_link.specs.HostCommands as code
-use Rattle.host_link.specs.CommandFlows.{Flow, first_of, next_command}
+use Rattle.host_link.specs.CommandFlows.{Flow, with_command, first_of, next_command}
 use Rattle.host_link.specs.Lines.{Line, fresh}
-use Rattle.host_link.specs.PuttingOut.{has_room, has_buffer, is_waiting, with_piece, with_pieces, put_pieces_on, put_pieces, with_next, put_command, connecting, ending, can_take_pdu, with_pdu, take_pdu}
+use Rattle.host_link.specs.PuttingOut.{has_room, has_buffer, is_waiting, with_piece, with_pieces, put_pieces_on, put_pieces, with_next, put_command, connecting, leaving, can_take_pdu, with_pdu, take_pdu}
 use Rattle.world_model.specs.Machines.{Upper}
 use Rattle.world_model.specs.Stations.{Order, Page, Data, asks, is_end, opcode, Station, Puts, Taking, Putting, Asking, Leaving, Commanding}
 use Rattle.station_laws.specs.Seen.{role_of, order_of, IsCommandOf, AreFew, IsHostOf, Offers, station_of, IsStation}
@@ -325,29 +325,42 @@ links_are_asked {S} {G} U gone line station stands wants off unasked none =
     (subst (λ (flow : Flow). Strives U A gone (Asking ∷ []) (station_of station.upper station.out line) station.upper (record line { commands = flow })) (sym (waits command line.commands stands.host.few))
     (asks_at U gone station.upper station.out line wants off unasked none_waits stands.host stands.offers))
 
+-- that it has ended its link leaves all else as it was
+ending_is : {S : Type 0} (side : Side) (gone : ℕ) (ending : Bool) (line : Line) (station : Station S) → IsStation side gone line station → IsStation side gone (record line { ending = ending }) (record station { ending = ending })
+ending_is {S} side gone ending line station stands =
+    let host = stands.host in
+    record {
+      host = record { role = host.role; commands = host.commands; few = host.few; number = host.number; alone = host.alone; off = host.off };
+      offers = stands.offers;
+      seen = ap (λ (s : Station S). record s { ending = ending }) stands.seen;
+    }
+
 ends_at : {S G : Type 0} (U : Upper S G) (side : Side) (gone handle : ℕ) (upper : S) (out : List Order) (line : Line) → line.link ≡ Some handle → line.pieces ≡ [] → U.next upper ≡ None
-    → U.leaves_link upper ≡ true → list_any is_end (map order_of line.commands.waiting) ≡ false → IsHostOf side line → Offers side gone out line.out
-    → Strives U side gone (Leaving ∷ []) (station_of upper out line) upper (bidden (Disconnect handle) line)
-ends_at {S} U side gone handle upper out line up over quiet leaves none host offers =
+    → U.leaves_link upper ≡ true → line.ending ≡ false → list_any is_end (map order_of line.commands.waiting) ≡ false → IsHostOf side line → Offers side gone out line.out
+    → Strives U side gone (Leaving ∷ []) (station_of upper out line) upper (record (bidden (Disconnect handle) line) { ending = true })
+ends_at {S} U side gone handle upper out line up over quiet leaves unended none host offers =
     let command : HostCommand = Disconnect handle in
     let old : Station S = station_of upper out line in
+    let ended : Line = record (bidden command line) { ending = true } in
     record {
-      after = station_of upper out (bidden command line);
+      after = station_of upper out ended;
       makes = (
-        station_of upper out (bidden command line),
+        station_of upper out ended,
         record {
           handle = handle;
           link = up;
           none_waits = over;
           none_next = quiet;
           leaves = leaves;
+          unended = unended;
           none_ends = none;
-          new_is = ap (λ (waiting : List Order). record old { waiting = waiting }) (map_one line.commands.waiting command);
+          new_is = ap (λ (waiting : List Order). record old { waiting = waiting; ending = true }) (map_one line.commands.waiting command);
         },
         refl,
       );
       upper_is = refl;
-      is_station = bidden_is side gone upper out command line (ends_anywhere side handle) (one_ends handle (map order_of line.commands.waiting) none host.few) host offers;
+      is_station = ending_is side gone true (bidden command line) (station_of upper out (bidden command line))
+          (bidden_is side gone upper out command line (ends_anywhere side handle) (one_ends handle (map order_of line.commands.waiting) none host.few) host offers);
     }
   where
     ends_anywhere : (side : Side) (handle : ℕ) → IsCommandOf side (Disconnect handle)
@@ -355,13 +368,16 @@ ends_at {S} U side gone handle upper out line up over quiet leaves none host off
     ends_anywhere B handle = tt
 
 pub links_are_ended : {S G : Type 0} (U : Upper S G) → LinksAreEnded U
-links_are_ended {S} {G} U side gone handle line station stands up over quiet leaves none =
+links_are_ended {S} {G} U side gone handle line station stands up over quiet leaves unended none =
     let command : HostCommand = Disconnect handle in
     let none_waits = ap (λ (s : Station S). list_any is_end s.waiting) (sym stands.seen) ∙ none in
-    subst (λ (link : Option ℕ). Strives U side gone (Leaving ∷ []) station station.upper (ending link line)) (sym up)
-    (subst (λ (s : Station S). Strives U side gone (Leaving ∷ []) s station.upper (ending (Some handle) line)) (sym stands.seen)
-    (subst (λ (flow : Flow). Strives U side gone (Leaving ∷ []) (station_of station.upper station.out line) station.upper (record line { commands = flow })) (sym (waits command line.commands stands.host.few))
-    (ends_at U side gone handle station.upper station.out line up over quiet leaves none_waits stands.host stands.offers)))
+    let once : leaving (Some handle) line ≡ record line { commands = with_command command line.commands; ending = true } =
+    ap (λ (b : Bool). if b then line else record line { commands = with_command command line.commands; ending = true }) unended in
+    subst (λ (link : Option ℕ). Strives U side gone (Leaving ∷ []) station station.upper (leaving link line)) (sym up)
+    (subst (λ (s : Station S). Strives U side gone (Leaving ∷ []) s station.upper (leaving (Some handle) line)) (sym stands.seen)
+    (subst (λ (new : Line). Strives U side gone (Leaving ∷ []) (station_of station.upper station.out line) station.upper new) (sym once)
+    (subst (λ (flow : Flow). Strives U side gone (Leaving ∷ []) (station_of station.upper station.out line) station.upper (record line { commands = flow; ending = true })) (sym (waits command line.commands stands.host.few))
+    (ends_at U side gone handle station.upper station.out line up over quiet leaves unended none_waits stands.host stands.offers))))
 
 -- ---- the beginning, and the machine
 

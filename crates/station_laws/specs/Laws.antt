@@ -10,7 +10,7 @@ use Rattle.radio_air.specs.Controllers.{Answer, answer_packet, piece_packet, add
 use Rattle.host_link.specs.declared.host_command.HostCommand.{HostCommand}
 use Rattle.host_link.specs.HostCommands.{command_packet}
 use Rattle.host_link.specs.Lines.{Line, fresh}
-use Rattle.host_link.specs.PuttingOut.{has_room, has_buffer, is_waiting, connecting, ending, can_take_pdu, take_pdu, put_pieces, put_command, started}
+use Rattle.host_link.specs.PuttingOut.{has_room, has_buffer, is_waiting, connecting, leaving, can_take_pdu, take_pdu, put_pieces, put_command, started}
 use Rattle.host_link.specs.PuttingOut as code
 use Rattle.host_link.specs.Hearing.{fault_of, news_of, heard}
 use Rattle.world_model.specs.Machines.{Upper}
@@ -106,8 +106,8 @@ LinksAreAsked {S} U =
 abbrev pub LinksAreEnded : {S G : Type 0} → Upper S G → Type 0
 LinksAreEnded {S} U =
     (side : Side) (gone handle : ℕ) (line : Line) (station : Station S) → IsStation side gone line station
-    → line.link ≡ Some handle → line.pieces ≡ [] → U.next station.upper ≡ None → U.leaves_link station.upper ≡ true → list_any is_end station.waiting ≡ false
-    → Strives U side gone (Leaving ∷ []) station station.upper (ending line.link line)
+    → line.link ≡ Some handle → line.pieces ≡ [] → U.next station.upper ≡ None → U.leaves_link station.upper ≡ true → line.ending ≡ false
+    → list_any is_end station.waiting ≡ false → Strives U side gone (Leaving ∷ []) station station.upper (leaving line.link line)
 
 -- ---- the octets
 

@@ -92,6 +92,7 @@ station_of upper out line = record {
   outstanding = packets_of line.ledger.held;
   asked = line.asked;
   link = line.link;
+  ending = line.ending;
   joining = line.joining;
   pieces = line.pieces;
   out = out;

@@ -97,7 +97,7 @@ neither false true P none also is = absurd cc
 neither false false P none also is = absurd cc
 
 abbrev pub came_up : {S G : Type 0} → Upper S G → List G → ℕ → Station S → Station S
-came_up U answers handle station = record station { asked = false; link = Some handle; joining = []; upper = U.hear answers (Linked Up) station.upper }
+came_up U answers handle station = record station { asked = false; link = Some handle; ending = false; joining = []; upper = U.hear answers (Linked Up) station.upper }
 
 made_steady :
     {S G : Type 0} (U : Upper S G) (number : ℕ) (together : Bool) (extra : ℕ) (one : Controller) (old : Station S) (talk : List Talk) (answers : List G) (handle : ℕ) (rest : List Answer)
@@ -150,7 +150,7 @@ made_steady {S} U number together extra one old talk answers handle rest none fi
     }
 
 abbrev pub went_down : {S G : Type 0} → Upper S G → List G → ℕ → Station S → Station S
-went_down U answers reason station = record station { outstanding = 0; link = None; joining = []; pieces = []; upper = U.hear answers (Linked (Down reason)) station.upper }
+went_down U answers reason station = record station { outstanding = 0; link = None; ending = false; joining = []; pieces = []; upper = U.hear answers (Linked (Down reason)) station.upper }
 
 gone_steady :
     {S G : Type 0} (U : Upper S G) (number : ℕ) (together : Bool) (extra : ℕ) (one : Controller) (old : Station S) (talk : List Talk) (answers : List G) (handle reason : ℕ) (rest : List Answer)

@@ -28,12 +28,12 @@ piece_out : {S : Type 0} (some : Bool) (one two : Station S) → two.out ≡ one
 piece_out true one two same = same
 piece_out false one two same = refl
 
-made_waiting : {S : Type 0} (asked off : Bool) (handle : ℕ) (station : Station S) → (if asked then (if off then record station { asked = false; link = Some handle; joining = [] } else record station { asked = false }) else station).waiting ≡ station.waiting
+made_waiting : {S : Type 0} (asked off : Bool) (handle : ℕ) (station : Station S) → (if asked then (if off then record station { asked = false; link = Some handle; ending = false; joining = [] } else record station { asked = false }) else station).waiting ≡ station.waiting
 made_waiting true true handle station = refl
 made_waiting true false handle station = refl
 made_waiting false off handle station = refl
 
-made_out : {S : Type 0} (asked off : Bool) (handle : ℕ) (station : Station S) → (if asked then (if off then record station { asked = false; link = Some handle; joining = [] } else record station { asked = false }) else station).out ≡ station.out
+made_out : {S : Type 0} (asked off : Bool) (handle : ℕ) (station : Station S) → (if asked then (if off then record station { asked = false; link = Some handle; ending = false; joining = [] } else record station { asked = false }) else station).out ≡ station.out
 made_out true true handle station = refl
 made_out true false handle station = refl
 made_out false off handle station = refl
@@ -171,7 +171,7 @@ comes_kept_a {S} U V w talk_a talk_b answers (LinkGone handle reason) rest none 
     let owed = owed_first w.radio.a.owed rest (LinkGone handle reason) (Went handle reason) first refl in
     let led : Led w.radio.a.told w.radio.a.up (Went handle reason ∷ tidings rest) w.radio.number (is_together w.radio.phase) = subst (λ (l : List Tiding). Led w.radio.a.told w.radio.a.up l w.radio.number (is_together w.radio.phase)) owed kept.one.led in
     let up = led.0 in
-    let gone : Station S = record w.a { outstanding = 0; link = None; joining = []; pieces = [] } in
+    let gone : Station S = record w.a { outstanding = 0; link = None; ending = false; joining = []; pieces = [] } in
     let waits : count (hears_answer U answers A (LinkGone handle reason) w.a).waiting ≡ count w.a.waiting = ap count (piece_waiting (is_handle handle w.a.link) w.a gone refl) in
     let goes : count (hears_answer U answers A (LinkGone handle reason) w.a).out ≡ count w.a.out = ap count (piece_out (is_handle handle w.a.link) w.a gone refl) in
     record {

@@ -225,6 +225,20 @@ waits_steady U number together extra one old order none low few leaving steady =
       };
     }
 
+-- that it has ended its link is told by its commands
+pub ending_steady : {S G : Type 0} (U : Upper S G) (number : ℕ) (together : Bool) (extra : ℕ) (one : Controller) (station : Station S) (ending : Bool) → Steady U number together extra one station
+    → Steady U number together extra one (record station { ending = ending })
+ending_steady U number together extra one station ending steady = record {
+  led = steady.led;
+  link = steady.link;
+  long = steady.long;
+  off = steady.off;
+  wired = steady.wired;
+  incoming = steady.incoming;
+  awaits = steady.awaits;
+  ends = steady.ends;
+}
+
 pub asks_link : {S G : Type 0} (U : Upper S G) (number : ℕ) (together : Bool) (extra : ℕ) (one : Controller) (old new : Station S) (talk : List Talk) → Asks U old new → Steady U number together extra one old
     → Proceeds U as_was number together extra one old talk one new
 asks_link U number together extra one old new talk does steady =
@@ -245,8 +259,9 @@ leaves_link U number together extra one old new talk does steady =
     let same = on.1 in
     let few = steady.awaits.few in
     rw does.new_is (record {
-      steady = waits_steady U number together extra one old (stations.End does.handle) (λ handle. refl) (omega arith) (omega arith)
-          (λ up ends. record { leaves = does.leaves; none_goes = does.none_waits; none_next = does.none_next }) steady;
+      steady = ending_steady U number together extra one (record old { waiting = old.waiting ++ stations.End does.handle ∷ [] }) true
+          (waits_steady U number together extra one old (stations.End does.handle) (λ handle. refl) (omega arith) (omega arith)
+          (λ up ends. record { leaves = does.leaves; none_goes = does.none_waits; none_next = does.none_next }) steady);
       motions = [];
       talk' = talk;
       links = refl;

@@ -78,6 +78,8 @@ pub record Station (S : Type 0) : Type 0 where
   -- whether a Connection Complete is awaited, and the handle of the link that is up
   pub asked : Bool
   pub link : Option ℕ
+  -- whether it has ended that link already: Disconnection Complete is awaited
+  pub ending : Bool
   -- the octets of the PDU that is coming in, and the pieces of the one that is going out
   pub joining : List ℕ
   pub pieces : List Piece
@@ -94,6 +96,7 @@ first_station U side = record {
   outstanding = 0;
   asked = false;
   link = None;
+  ending = false;
   joining = [];
   pieces = [];
   out = [];
@@ -141,8 +144,9 @@ pub record Leaves {S G : Type 0} (U : Upper S G) (old new : Station S) : Type 0 
   pub none_waits : old.pieces ≡ []
   pub none_next : U.next old.upper ≡ None
   pub leaves : U.leaves_link old.upper ≡ true
+  pub unended : old.ending ≡ false
   pub none_ends : list_any is_end old.waiting ≡ false
-  pub new_is : new ≡ record old { waiting = old.waiting ++ End handle ∷ [] }
+  pub new_is : new ≡ record old { waiting = old.waiting ++ End handle ∷ []; ending = true }
 
 -- a command is put out, where no answer is awaited
 pub record Commands {S : Type 0} (old new : Station S) : Type 0 where
@@ -166,6 +170,10 @@ MakesEffort U A Asking old new = Asks U old new
 MakesEffort U B Asking old new = ⊥
 MakesEffort U side Leaving old new = Leaves U old new
 MakesEffort U side Commanding old new = Commands old new
+
+-- it can do nothing more by itself
+abbrev pub IsStopped : {S G : Type 0} → Upper S G → Side → Station S → Type 0
+IsStopped {S} U side station = (effort : Effort) (next : Station S) → MakesEffort U side effort station next → ⊥
 
 -- ---- what comes into a host
 
@@ -221,9 +229,9 @@ after_answer side (Returned number params) station =
 after_answer side (Stated number) station = record station { awaited = answered number station.awaited }
 after_answer side Called station = if may_accept side station then record station { waiting = station.waiting ++ Accept ∷ [] } else station
 after_answer side (LinkMade handle) station =
-    if station.asked then (if is_none station.link then record station { asked = false; link = Some handle; joining = [] } else record station { asked = false }) else station
+    if station.asked then (if is_none station.link then record station { asked = false; link = Some handle; ending = false; joining = [] } else record station { asked = false }) else station
 after_answer side (LinkGone handle reason) station =
-    if is_handle handle station.link then record station { outstanding = 0; link = None; joining = []; pieces = [] } else station
+    if is_handle handle station.link then record station { outstanding = 0; link = None; ending = false; joining = []; pieces = [] } else station
 after_answer side (GivenBack handle count) station =
     if is_handle handle station.link && nat_le count station.outstanding then record station { outstanding = station.outstanding - count } else station
 

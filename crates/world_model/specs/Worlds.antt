@@ -19,7 +19,7 @@ use Rattle.radio_air.specs.Radio.{Radio, new_radio, controller, with_controller,
 use Rattle.world_model.specs.Machines.{TimerFired, Cancelled, Opening, Upper}
 use Rattle.world_model.specs.Pushes.{Pushes, no_pushes, next_name, one_begun, one_ended}
 use Rattle.world_model.specs.Turns.{IsCalm, FindsNothing, may_be_cancelled}
-use Rattle.world_model.specs.Stations.{Order, Reset, ReadBuffers, ReadAddress, Scan, Page, Accept, End, Data, order_packet, Station, first_station, Effort, MakesEffort, hears_piece, hears_answer, told}
+use Rattle.world_model.specs.Stations.{Order, Reset, ReadBuffers, ReadAddress, Scan, Page, Accept, End, Data, order_packet, Station, first_station, Effort, MakesEffort, IsStopped, hears_piece, hears_answer, told}
 
 pub record World (S T : Type 0) : Type 0 where
   pub radio : Radio
@@ -108,6 +108,20 @@ pub record IsAtRest {S T G H : Type 0} (U : Upper S G) (V : Upper T H) (w : Worl
   -- no page goes on
   pub paged : (is_paging w.radio.phase || is_requested w.radio.phase) ≡ false
   pub calm : IsCalm U V (is_together w.radio.phase) w.pushes w.a.upper w.b.upper
+
+-- Nothing moves without a word: nothing is left to be taken or to come, no host can go on by itself, no push can begin, and none can
+-- end. That such a world is at rest is a law.
+pub record IsSettled {S T G H : Type 0} (U : Upper S G) (V : Upper T H) (w : World S T) : Type 0 where
+  pub out_a : w.a.out ≡ []
+  pub out_b : w.b.out ≡ []
+  pub stopped_a : IsStopped U A w.a
+  pub stopped_b : IsStopped V B w.b
+  pub still_a : (w.radio.a.coming ≡ []) × (w.radio.a.owed ≡ [])
+  pub still_b : (w.radio.b.coming ≡ []) × (w.radio.b.owed ≡ [])
+  pub returned_a : w.radio.a.taken ≡ 0
+  pub returned_b : w.radio.b.taken ≡ 0
+  pub no_begin : U.is_idle w.a.upper ≡ true → next_name w.pushes ≡ None
+  pub no_end : is_apart w.radio.phase ≡ true → w.pushes.going ≡ true → U.is_idle w.a.upper ≡ true → U.outcome w.a.upper ≡ None
 
 -- ---- what each of them does
 

@@ -1,8 +1,10 @@
 use Rattle.std.proofs.Common.{◌≡◌, ◌||◌, [], Bool, true, false, Result, Ok, refl, sym, ap, subst, ◌∙◌}
 use Rattle.push_terms.specs.declared.word.Side.{Side}
-use Rattle.radio_world.specs.Hosts.{Asking, answering, IsStopped}
-use Rattle.radio_world.specs.Scenes.{Scene, moment, Begins, IsSettled}
+use Rattle.radio_world.specs.Hosts.{Asking, answering}
+use Rattle.radio_world.specs.Scenes.{Scene, moment, world_at, Begins}
 use Rattle.world_model.specs.Pushes.{next_name}
+use Rattle.world_model.specs.Stations.{IsStopped}
+use Rattle.world_model.specs.Worlds.{IsSettled}
 use Rattle.radio_world.proofs.Advancing.{advances_then, begun_or_not, exchanged_a, exchanged_b, ended_or_not}
 use Rattle.radio_world.proofs.Settling.{settles}
 use Rattle.radio_world.proofs.scene.Scene.round.Goals as goal
@@ -45,7 +47,7 @@ returns-clause-settled g c = λ is rest_a rest_b.
     let put_a = c.in_ok-moved_a.ensures.none (ap Ok none.1) in
     let put_b = c.in_ok-moved_b.ensures.none (ap Ok none.2) in
     let ended = c.in_ok-ended.ensures.none (ap Ok none.3) in
-    subst (λ (s : Scene). IsSettled one.machine two.machine (moment s (answering rest_a (one.station c.exchange.new.host)) (answering rest_b (two.station c.exchange-2.new.host)))) (sym ended.0)
+    subst (λ (s : Scene). IsSettled one.machine two.machine (world_at (moment s (answering rest_a (one.station c.exchange.new.host)) (answering rest_b (two.station c.exchange-2.new.host))))) (sym ended.0)
     (settles one.machine two.machine c.begin.new.self c.exchange.new.self c.exchange-2.new.self (one.station c.begin.new.a) (one.station c.exchange.new.host) (two.station c.args.b.now) (two.station c.exchange-2.new.host)
     (λ rest idle. ap (λ (s : Scene). next_name s.pushes) began.0 ∙ began.4 rest (ap (λ (h : Asking one.State one.Answer). one.machine.is_idle (h.upper rest)) (sym (ap one.station began.1)) ∙ idle))
     c.in_ok-moved_a.ensures.still put_a c.in_ok-moved_a.ensures.scene.0

@@ -7,7 +7,7 @@ pub do_word-requires-clause-rest : goal.do_word-requires-clause-rest
 do_word-requires-clause-rest g c =
     let one = g.A.Host in
     let two = g.B.Host in
-    at_rest one.machine two.machine c.args.self.now (one.station c.args.a.now) (two.station c.args.b.now) c.requires.rests c.requires.stands
+    at_rest one.machine two.machine c.args.self.now (one.station c.args.a.now) (two.station c.args.b.now) c.requires.orderly c.requires.stands
 
 pub do_word-requires-clause-quiet : goal.do_word-requires-clause-quiet
 do_word-requires-clause-quiet g c =

@@ -46,7 +46,7 @@ returns-then-not-finds-clause-turns g c =
     (advances_then one.machine two.machine one.answers two.answers (replicate c.loop-done.done c.args.word) (replicate rest c.args.word) _ _ _ g.met.A.Host.joins g.met.B.Host.joins c.loop-done.invariant.0
     (misses_advance one.machine two.machine one.answers two.answers c.args.word rest c.loop-done.self c.pass_over.new.self (one.station c.loop-done.a) (two.station c.loop-done.b) c.loop-done.shelf c.loop-done.inbox (content c.loop-done.trace)
     g.met.A.Host.joins g.met.B.Host.joins c.in_ok-pass_over.ensures.ok
-    (at_rest one.machine two.machine c.loop-done.self (one.station c.loop-done.a) (two.station c.loop-done.b) c.requires.rests c.loop-done.invariant.1)
+    (at_rest one.machine two.machine c.loop-done.self (one.station c.loop-done.a) (two.station c.loop-done.b) c.requires.orderly c.loop-done.invariant.1)
     (λ rest_a rest_b. sym (c.finds.ensures rest_a rest_b) ∙ c.if-not-finds.true)))
 
 pub returns-then-not-finds-clause-stands : goal.returns-then-not-finds-clause-stands
@@ -61,7 +61,7 @@ returns-then-not-finds-clause-stands g c =
     (stage c.pass_over.new.self (one.station c.loop-done.a) (two.station c.loop-done.b) c.loop-done.shelf c.loop-done.inbox (content c.loop-done.trace))
     (misses_advance one.machine two.machine one.answers two.answers c.args.word rest c.loop-done.self c.pass_over.new.self (one.station c.loop-done.a) (two.station c.loop-done.b) c.loop-done.shelf c.loop-done.inbox (content c.loop-done.trace)
     g.met.A.Host.joins g.met.B.Host.joins c.in_ok-pass_over.ensures.ok
-    (at_rest one.machine two.machine c.loop-done.self (one.station c.loop-done.a) (two.station c.loop-done.b) c.requires.rests c.loop-done.invariant.1)
+    (at_rest one.machine two.machine c.loop-done.self (one.station c.loop-done.a) (two.station c.loop-done.b) c.requires.orderly c.loop-done.invariant.1)
     (λ rest_a rest_b. sym (c.finds.ensures rest_a rest_b) ∙ c.if-not-finds.true))
     c.loop-done.invariant.1.reached)
     c.loop-done.invariant.1

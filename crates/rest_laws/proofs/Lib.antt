@@ -1,0 +1,10 @@
+pub mod Living
+pub mod Calling
+pub mod Lively
+pub mod Departing
+pub mod Answering
+pub mod Happening
+pub mod Resting
+pub mod Falling
+pub mod Heights
+pub mod Settling
