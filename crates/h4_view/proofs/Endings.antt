@@ -15,7 +15,7 @@ use Rattle.h4_view.specs.declared.refusal.ViewRefusal.{ViewRefusal}
 use Rattle.h4_view.specs.declared.refusal.ViewRefusal.TheVariants.{BadIndicator, Truncated, TooLong}
 use Rattle.h4_view.specs.declared.refusal.ViewFault.{ViewFault}
 use Rattle.h4_view.specs.declared.refusal.ViewFault.TheVariants.{Refused, ReadFault, WriteFault, NoMemory}
-use Rattle.acl_fragments.specs.Joiners.{Held}
+use Rattle.h4_view.specs.declared.links.Links.{Links}
 use Rattle.h4_view.specs.Lines.{lines, refusal_line}
 use Rattle.h4_view.specs.Shows.{Shows}
 use Rattle.h4_view.specs.Standing.{Standing}
@@ -48,9 +48,9 @@ ends_by (Some (TooLong, place)) octets packets framing accounts sound keeps belo
     let front : take (input_limit - from) framing.held ≡ framing.held = take_all (input_limit - from) framing.held (omega arith) in
     (at, some, subst (λ (t : List ℕ). GoesPast from t) (sym front) goes)
 
-pub ended : (verdict : Option (ViewRefusal × ℕ)) (input left old new : Option (List ℕ)) (framing : Framing) (joiners : List (Option Held)) (offset fed : ℕ) → Standing input left old new framing joiners offset fed → fed < input_limit
+pub ended : (verdict : Option (ViewRefusal × ℕ)) (input left old new : Option (List ℕ)) (framing : Framing) (links : Links) (offset fed : ℕ) → Standing input left old new framing links offset fed → fed < input_limit
     → IfSome left (λ octets. octets ≡ []) → EndsView framing verdict → IfSome input (λ all. ShowsAll all left old new (Ok verdict))
-ended verdict input left old new framing joiners offset fed s below empty ends = told input (λ all e.
+ended verdict input left old new framing links offset fed s below empty ends = told input (λ all e.
     let begin = taken_front input left s.octets all s.took e in
     let none : begin.0 ≡ [] = rw begin.2 at empty in
     let all-is : all ≡ s.octets = begin.1 ∙ ap (λ (t : List ℕ). s.octets ++ t) none ∙ append-nil s.octets in
@@ -77,10 +77,10 @@ bad_indicator h4.AclTooLong rest more n (word, size, others, is, fits, above, at
 bad_indicator h4.Truncated rest more n wrong = absurd wrong
 
 -- the piece was shown and written up to a refusal
-pub refused : (input left left' old new new' : Option (List ℕ)) (framing framing' : Framing) (joiners joiners' : List (Option Held)) (offset offset' fed n place : ℕ) (refusal : H4Refusal) (text xs : List ℕ)
-    → Standing input left old new framing joiners offset fed → Took left left' xs → Shows framing framing' joiners joiners' offset offset' [] text xs (Some (refusal, place)) → new' ≡ gained new text → length xs ≡ n → fed + n ≤ input_limit
+pub refused : (input left left' old new new' : Option (List ℕ)) (framing framing' : Framing) (links links' : Links) (offset offset' fed n place : ℕ) (refusal : H4Refusal) (text xs : List ℕ)
+    → Standing input left old new framing links offset fed → Took left left' xs → Shows framing framing' links links' offset offset' [] text xs (Some (refusal, place)) → new' ≡ gained new text → length xs ≡ n → fed + n ≤ input_limit
     → IfSome input (λ all. ShowsAll all left' old new' (Ok (Some (BadIndicator, place))))
-refused input left left' old new new' framing framing' joiners joiners' offset offset' fed n place refusal text xs s took shows wrote size within = told input (λ all e.
+refused input left left' old new new' framing framing' links links' offset offset' fed n place refusal text xs s took shows wrote size within = told input (λ all e.
     let packets : List Packet = s.packets ++ shows.added in
     let octets : List ℕ = s.octets ++ xs in
     let accounts = shows.accounts s.octets s.packets s.accounts in
@@ -138,9 +138,9 @@ limit_by (Some (TooLong, place)) octets rest left packets framing accounts sound
     let goes : GoesPast from framing.held = (unfinished, λ p f. omega (arith, front_short acl_limit framing.held p f)) in
     (ends.0, some, subst (λ (t : List ℕ). GoesPast from t) (sym front) goes)
 
-pub at_limit : (verdict : Option (ViewRefusal × ℕ)) (input left old new : Option (List ℕ)) (framing : Framing) (joiners : List (Option Held)) (offset fed : ℕ) → Standing input left old new framing joiners offset fed → input_limit ≤ fed
+pub at_limit : (verdict : Option (ViewRefusal × ℕ)) (input left old new : Option (List ℕ)) (framing : Framing) (links : Links) (offset fed : ℕ) → Standing input left old new framing links offset fed → input_limit ≤ fed
     → EndsAtLimit framing left verdict → IfSome input (λ all. ShowsAll all left old new (Ok verdict))
-at_limit verdict input left old new framing joiners offset fed s full ends = told input (λ all e.
+at_limit verdict input left old new framing links offset fed s full ends = told input (λ all e.
     let begin = taken_front input left s.octets all s.took e in
     let behind = held_behind s.octets s.packets framing s.accounts s.sound in
     let size : length s.octets ≡ length (spellings s.packets) + length framing.held = ap length behind.0 ∙ length-append (spellings s.packets) framing.held in (
@@ -158,10 +158,10 @@ at_limit verdict input left old new framing joiners offset fed s full ends = tol
     ))
 
 -- what the end of the loop shows
-pub limit_shows : (result : Result (Option (ViewRefusal × ℕ)) ViewFault) (input left left' old new : Option (List ℕ)) (framing : Framing) (joiners : List (Option Held)) (offset fed : ℕ) → Standing input left old new framing joiners offset fed → input_limit ≤ fed
+pub limit_shows : (result : Result (Option (ViewRefusal × ℕ)) ViewFault) (input left left' old new : Option (List ℕ)) (framing : Framing) (links : Links) (offset fed : ℕ) → Standing input left old new framing links offset fed → input_limit ≤ fed
     → IfOk result (λ verdict. EndsAtLimit framing left verdict) → IfErr result IsOfPorts → OnErr result (left' ≡ left) → IfSome input (λ all. ShowsAll all left' old new result)
-limit_shows (Ok verdict) input left left' old new framing joiners offset fed s full ends port kept = at_limit verdict input left old new framing joiners offset fed s full ends
-limit_shows (Err fault) input left left' old new framing joiners offset fed s full ends port kept = fault_shows fault input left left' old new framing joiners offset fed s port kept
+limit_shows (Ok verdict) input left left' old new framing links offset fed s full ends port kept = at_limit verdict input left old new framing links offset fed s full ends
+limit_shows (Err fault) input left left' old new framing links offset fed s full ends port kept = fault_shows fault input left left' old new framing links offset fed s port kept
 
 -- an input begins with no packets
 begins_none : (all : List ℕ) → BeginsWith all []

@@ -1,7 +1,8 @@
--- The joiners of a view after one packet more.
-use Rattle.std.proofs.Common.{◌≡◌, ◌≢◌, ℕ, ◌<◌, ◌≤◌, List, [], ◌∷◌, ◌++◌, length, get_or, set, set-set, Bool, true, false, cond, nat_lt, eqb, ◌&&◌, Option, Some, None, replicate, refl, sym, ap, subst, ◌∙◌, inl, inr, arith}
+-- What is kept of links after one packet more.
+use Rattle.std.proofs.Common.{◌≡◌, ◌≢◌, ℕ, ◌<◌, ◌≤◌, List, [], ◌∷◌, ◌++◌, length, get_or, set, Bool, true, false, cond, nat_lt, eqb, ◌&&◌, Option, Some, None, replicate, refl, sym, ap, subst, ◌∙◌, inl, inr, arith}
 use Rattle.std.specs.Prelude.{is_none, IfSome, MatchOption}
-use Rattle.std.proofs.lemmas.List.{get_or-set_same, get_or-set_other, length-set, length-replicate, get_or-replicate}
+use Rattle.std.specs.List.{AllByRecursion}
+use Rattle.std.proofs.lemmas.List.{get_or_default, get_or-set_same, get_or-set_other, length-set, length-replicate, get_or-replicate}
 use Rattle.std.proofs.lemmas.List.Sums.{fold-append}
 use Rattle.std.proofs.lemmas.Bool.Decides.{eqb_tells}
 use Rattle.std.proofs.lemmas.Bool.{ltb-false}
@@ -10,40 +11,50 @@ use Rattle.hci_packets.specs.declared.refusal.HciRefusal.TheVariants.{ShortParam
 use Rattle.hci_packets.specs.Refusals.{bad_handle}
 use Rattle.hci_packets.specs.Events.{event_refusal}
 use Rattle.hci_packets.specs.declared.acl.Boundary.{Boundary}
-use Rattle.acl_fragments.specs.Pieces.{Piece, starts}
-use Rattle.acl_fragments.specs.Answers.{open_after}
-use Rattle.acl_fragments.specs.Joiners.{Held, HoldsOpen}
+use Rattle.acl_fragments.specs.Pieces.{Piece}
+use Rattle.acl_fragments.specs.Joiners.{Held}
 use Rattle.h4_framing.specs.Packets.{Packet, Command, Acl, Sync, Event}
-use Rattle.h4_view.specs.Details.{link_of, closed_handle, with_piece, with_packet, pieces_on, IsJoinerOf, HasJoiner, ClosesBy, forgotten, pdu_limit, joined_text, piece_text, under, Knows}
+use Rattle.h4_view.specs.declared.links.Link.{Link}
+use Rattle.h4_view.specs.declared.links.Links.{Links}
+use Rattle.h4_view.specs.Details.{link_of, closed_handle, with_piece, with_packet, pieces_on, IsSpare, IsLinkOf, ClosesBy, forgotten, joined_text, piece_text, under, Knows}
 
 -- the pieces of a handle with one packet more
 pub pieces-last : (handle : ℕ) (past : List Packet) (p : Packet) → pieces_on handle (past ++ p ∷ []) ≡ with_packet handle (pieces_on handle past) p
 pieces-last handle past p = fold-append (with_packet handle) [] past (p ∷ [])
 
--- a packet that touches no joiner, and adds no piece
-pub knows_same : (past : List Packet) (joiners : List (Option Held)) (p : Packet) → ((handle : ℕ) → with_packet handle (pieces_on handle past) p ≡ pieces_on handle past)
-    → Knows past joiners → Knows (past ++ p ∷ []) joiners
-knows_same past joiners p same knows = record {
+-- a packet that touches no link, and adds no piece
+pub knows_same : (past : List Packet) (links : Links) (p : Packet) → ((handle : ℕ) → with_packet handle (pieces_on handle past) p ≡ pieces_on handle past)
+    → Knows past links → Knows (past ++ p ∷ []) links
+knows_same past links p same knows = record {
   size = knows.size;
-  each = λ handle lt. subst (λ (ps : List Piece). IsJoinerOf ps (get_or joiners handle None)) (sym (pieces-last handle past p ∙ same handle)) (knows.each handle lt);
+  each = λ handle lt. subst (λ (ps : List Piece). IsLinkOf ps (get_or links.places.items handle None)) (sym (pieces-last handle past p ∙ same handle)) (knows.each handle lt);
+  spare = knows.spare;
 }
 
--- a packet that changes one joiner
-pub knows_changed : (past : List Packet) (joiners : List (Option Held)) (p : Packet) (at : ℕ) (new : Option Held) (pieces : List Piece) → at < 0x0F00
-    → with_packet at (pieces_on at past) p ≡ pieces → IsJoinerOf pieces new → ((handle : ℕ) → handle ≢ at → with_packet handle (pieces_on handle past) p ≡ pieces_on handle past)
-    → Knows past joiners → Knows (past ++ p ∷ []) (set joiners at new)
-knows_changed past joiners p at new pieces below here is others knows = record {
-  size = length-set joiners at new ∙ knows.size;
+-- a packet that changes what is kept of one link
+pub knows_changed : (past : List Packet) (links links' : Links) (p : Packet) (at : ℕ) (new : Option Link) (pieces : List Piece) → at < 0x0F00
+    → with_packet at (pieces_on at past) p ≡ pieces → IsLinkOf pieces new → ((handle : ℕ) → handle ≢ at → with_packet handle (pieces_on handle past) p ≡ pieces_on handle past)
+    → links'.places.items ≡ set links.places.items at new → AllByRecursion IsSpare links'.spare.items → Knows past links → Knows (past ++ p ∷ []) links'
+knows_changed past links links' p at new pieces below here is others placed spare knows = record {
+  size = ap length placed ∙ length-set links.places.items at new ∙ knows.size;
   each = λ handle lt. elim (eqb_tells handle at) [
     | inl same ↦
-        let there : get_or (set joiners at new) handle None ≡ new = ap (λ (k : ℕ). get_or (set joiners at new) k None) same.1 ∙ get_or-set_same joiners at new None (omega (arith, knows.size)) in
+        let there : get_or links'.places.items handle None ≡ new =
+        ap (λ (ls : List (Option Link)). get_or ls handle None) placed
+        ∙ ap (λ (k : ℕ). get_or (set links.places.items at new) k None) same.1
+        ∙ get_or-set_same links.places.items at new None (omega (arith, knows.size))
+        in
         let ps : pieces_on handle (past ++ p ∷ []) ≡ pieces = pieces-last handle past p ∙ ap (λ (k : ℕ). with_packet k (pieces_on k past) p) same.1 ∙ here in
-        subst (λ (o : Option Held). IsJoinerOf (pieces_on handle (past ++ p ∷ [])) o) (sym there) (subst (λ (qs : List Piece). IsJoinerOf qs new) (sym ps) is)
+        subst (λ (o : Option Link). IsLinkOf (pieces_on handle (past ++ p ∷ [])) o) (sym there) (subst (λ (qs : List Piece). IsLinkOf qs new) (sym ps) is)
     | inr other ↦
-        let there : get_or (set joiners at new) handle None ≡ get_or joiners handle None = get_or-set_other joiners at handle new None other.1 in
+        let there : get_or links'.places.items handle None ≡ get_or links.places.items handle None =
+        ap (λ (ls : List (Option Link)). get_or ls handle None) placed
+        ∙ get_or-set_other links.places.items at handle new None other.1
+        in
         let ps : pieces_on handle (past ++ p ∷ []) ≡ pieces_on handle past = pieces-last handle past p ∙ others handle other.1 in
-        subst (λ (o : Option Held). IsJoinerOf (pieces_on handle (past ++ p ∷ [])) o) (sym there) (subst (λ (qs : List Piece). IsJoinerOf qs (get_or joiners handle None)) (sym ps) (knows.each handle lt))
+        subst (λ (o : Option Link). IsLinkOf (pieces_on handle (past ++ p ∷ [])) o) (sym there) (subst (λ (qs : List Piece). IsLinkOf qs (get_or links.places.items handle None)) (sym ps) (knows.each handle lt))
   ];
+  spare = spare;
 }
 
 eqb_other : (a b : ℕ) → a ≢ b → eqb a b ≡ false
@@ -52,71 +63,66 @@ eqb_other a b ne = elim (eqb_tells a b) [ inl same ↦ absurd (ne same.1) | inr 
 eqb_same : (a : ℕ) → eqb a a ≡ true
 eqb_same a = elim (eqb_tells a a) [ inl same ↦ same.0 | inr other ↦ absurd (other.1 refl) ]
 
--- a piece on a handle
-pub knows_piece : (past : List Packet) (joiners joiners' : List (Option Held)) (word : ℕ) (octets : List ℕ) (handle : ℕ) (boundary : Boundary) → handle < 0x0F00 → link_of word ≡ Some (handle, boundary)
-    → HasJoiner joiners joiners' handle (pieces_on handle past ++ record { boundary = boundary; octets = octets } ∷ []) → Knows past joiners → Knows (past ++ Acl word octets ∷ []) joiners'
-knows_piece past joiners joiners' word octets handle boundary below link has knows =
-    let here : with_packet handle (pieces_on handle past) (Acl word octets) ≡ pieces_on handle past ++ record { boundary = boundary; octets = octets } ∷ [] = ap (with_piece handle octets (pieces_on handle past)) link ∙ rw (eqb_same handle) refl in
-    let others : (other : ℕ) → other ≢ handle → with_packet other (pieces_on other past) (Acl word octets) ≡ pieces_on other past = λ other ne. ap (with_piece other octets (pieces_on other past)) link ∙ rw (eqb_other handle other (λ e. ne (sym e))) refl in
-    subst (λ (js : List (Option Held)). Knows (past ++ Acl word octets ∷ []) js) (sym has.placed) (knows_changed past joiners (Acl word octets) handle (Some has.held) _ below here has.holds others knows)
+-- a piece of a link
+pub knows_piece : (past : List Packet) (links links' : Links) (word : ℕ) (octets : List ℕ) (at : ℕ) (boundary : Boundary) (new : Option Link) → at < 0x0F00 → link_of word ≡ Some (at, boundary)
+    → IsLinkOf (pieces_on at past ++ record { boundary = boundary; octets = octets } ∷ []) new → links'.places.items ≡ set links.places.items at new → AllByRecursion IsSpare links'.spare.items
+    → Knows past links → Knows (past ++ Acl word octets ∷ []) links'
+knows_piece past links links' word octets at boundary new below link is placed spare knows =
+    let here : with_packet at (pieces_on at past) (Acl word octets) ≡ pieces_on at past ++ record { boundary = boundary; octets = octets } ∷ [] = ap (with_piece at octets (pieces_on at past)) link ∙ rw (eqb_same at) refl in
+    let others : (other : ℕ) → other ≢ at → with_packet other (pieces_on other past) (Acl word octets) ≡ pieces_on other past = λ other ne. ap (with_piece other octets (pieces_on other past)) link ∙ rw (eqb_other at other (λ e. ne (sym e))) refl in
+    knows_changed past links links' (Acl word octets) at new _ below here is others placed spare knows
 
 -- a piece on no handle
-pub knows_stray : (past : List Packet) (joiners : List (Option Held)) (word : ℕ) (octets : List ℕ) → link_of word ≡ None → Knows past joiners → Knows (past ++ Acl word octets ∷ []) joiners
-knows_stray past joiners word octets link knows = knows_same past joiners (Acl word octets) (λ handle. ap (with_piece handle octets (pieces_on handle past)) link) knows
+pub knows_stray : (past : List Packet) (links : Links) (word : ℕ) (octets : List ℕ) → link_of word ≡ None → Knows past links → Knows (past ++ Acl word octets ∷ []) links
+knows_stray past links word octets link knows = knows_same past links (Acl word octets) (λ handle. ap (with_piece handle octets (pieces_on handle past)) link) knows
 
--- an event that ends no link
-pub knows_event : (past : List Packet) (joiners : List (Option Held)) (code : ℕ) (params : List ℕ) → ClosesBy code params None → Knows past joiners → Knows (past ++ Event code params ∷ []) joiners
-knows_event past joiners code params none knows = knows_same past joiners (Event code params) (λ handle. rw (none handle) refl) knows
+-- a piece on no handle, and its text
+pub stray_shown : (past : List Packet) (links : Links) (word : ℕ) (octets text text' : List ℕ) → None ≡ link_of word → text' ≡ text ++ piece_text past octets None → Knows past links
+    → (text' ≡ text ++ under past (Acl word octets)) × Knows (past ++ Acl word octets ∷ []) links
+stray_shown past links word octets text text' link wrote knows = (wrote ∙ ap (λ (l : Option (ℕ × Boundary)). text ++ piece_text past octets l) link, knows_stray past links word octets (sym link) knows)
 
--- an event that ends a link
-pub knows_closed : (past : List Packet) (joiners : List (Option Held)) (code : ℕ) (params : List ℕ) (at : ℕ) → ClosesBy code params (Some at) → Knows past joiners → Knows (past ++ Event code params ∷ []) (set joiners at None)
-knows_closed past joiners code params at by knows =
-    knows_changed past joiners (Event code params) at None [] by.0 (rw (by.1 at ∙ eqb_same at) refl) refl (λ handle ne. rw (by.1 handle ∙ eqb_other at handle (λ e. ne (sym e))) refl) knows
-
--- no joiner before the first packet
-pub knows_none : (joiners : List (Option Held)) → joiners ≡ replicate 0x0F00 None → Knows [] joiners
-knows_none joiners is = record {
-  size = ap length is ∙ length-replicate {A = Option Held} 0x0F00 None;
-  each = λ handle lt.
-      let none : get_or joiners handle None ≡ None = ap (λ (js : List (Option Held)). get_or js handle None) is ∙ get_or-replicate {A = Option Held} 0x0F00 handle None None lt in
-      subst (λ (o : Option Held). IsJoinerOf [] o) (sym none) refl;
-}
-
--- an event, by what it tells the end of
-pub knows_by : (closed : Option ℕ) (past : List Packet) (joiners joiners' : List (Option Held)) (code : ℕ) (params : List ℕ) → ClosesBy code params closed → joiners' ≡ forgotten joiners closed → Knows past joiners → Knows (past ++ Event code params ∷ []) joiners'
-knows_by None past joiners joiners' code params by is knows = subst (λ (js : List (Option Held)). Knows (past ++ Event code params ∷ []) js) (sym is) (knows_event past joiners code params by knows)
-knows_by (Some at) past joiners joiners' code params by is knows = subst (λ (js : List (Option Held)). Knows (past ++ Event code params ∷ []) js) (sym is) (knows_closed past joiners code params at by knows)
-
--- a closed handle has a place
-pub closed_place : (closed : Option ℕ) (code : ℕ) (params : List ℕ) (n : ℕ) → n ≡ 0x0F00 → ClosesBy code params closed → IfSome closed (λ at. at < n)
-closed_place None code params n is by = tt
-closed_place (Some at) code params n is by = omega (arith, by.0)
+-- a piece of a link, and its text
+pub piece_shown : (past : List Packet) (links links' : Links) (word : ℕ) (octets : List ℕ) (at : ℕ) (boundary : Boundary) (old new : Option Link) (text text' : List ℕ) → at < 0x0F00 → Some (at, boundary) ≡ link_of word
+    → old ≡ get_or links.places.items at old
+    → ((pieces : List Piece) → IsLinkOf pieces old → AllByRecursion IsSpare links.spare.items
+    → (text' ≡ text ++ joined_text pieces (record { boundary = boundary; octets = octets })) × IsLinkOf (pieces ++ record { boundary = boundary; octets = octets } ∷ []) new × AllByRecursion IsSpare links'.spare.items)
+    → links'.places.items ≡ set links.places.items at new
+    → Knows past links → (text' ≡ text ++ under past (Acl word octets)) × Knows (past ++ Acl word octets ∷ []) links'
+piece_shown past links links' word octets at boundary old new text text' below link there pushed placed knows =
+    let is : old ≡ get_or links.places.items at None = there ∙ get_or_default links.places.items at old None (omega (arith, knows.size)) in
+    let here = pushed (pieces_on at past) (subst (λ (o : Option Link). IsLinkOf (pieces_on at past) o) (sym is) (knows.each at below)) knows.spare in
+    (here.0 ∙ ap (λ (l : Option (ℕ × Boundary)). text ++ piece_text past octets l) link, knows_piece past links links' word octets at boundary new below (sym link) here.1 placed here.2 knows)
 
 -- a command
-pub knows_command : (past : List Packet) (joiners : List (Option Held)) (opcode : ℕ) (params : List ℕ) → Knows past joiners → Knows (past ++ Command opcode params ∷ []) joiners
-knows_command past joiners opcode params knows = knows_same past joiners (Command opcode params) (λ handle. refl) knows
+pub knows_command : (past : List Packet) (links : Links) (opcode : ℕ) (params : List ℕ) → Knows past links → Knows (past ++ Command opcode params ∷ []) links
+knows_command past links opcode params knows = knows_same past links (Command opcode params) (λ handle. refl) knows
 
 -- synchronous data
-pub knows_sync : (past : List Packet) (joiners : List (Option Held)) (word : ℕ) (octets : List ℕ) → Knows past joiners → Knows (past ++ Sync word octets ∷ []) joiners
-knows_sync past joiners word octets knows = knows_same past joiners (Sync word octets) (λ handle. refl) knows
+pub knows_sync : (past : List Packet) (links : Links) (word : ℕ) (octets : List ℕ) → Knows past links → Knows (past ++ Sync word octets ∷ []) links
+knows_sync past links word octets knows = knows_same past links (Sync word octets) (λ handle. refl) knows
 
--- the joiner of a handle, or a new one, holds what is open
-pub joiner_holds : (there : Option Held) (joiner : Held) (pieces : List Piece) → MatchOption there (joiner ≡ record { limit = pdu_limit; octets = [] }) (λ held. joiner ≡ held) → IsJoinerOf pieces there
-    → (joiner.limit ≡ pdu_limit) × HoldsOpen pieces joiner
-joiner_holds None joiner pieces new is =
-    let limit : joiner.limit ≡ pdu_limit = ap (λ (h : Held). h.limit) new in
-    (limit, ap (λ (h : Held). h.octets) new ∙ sym is ∙ ap (λ (k : ℕ). open_after k pieces) (sym limit))
-joiner_holds (Some held) joiner pieces same is =
-    let limit : joiner.limit ≡ pdu_limit = ap (λ (h : Held). h.limit) same ∙ is.0 in
-    (limit, ap (λ (h : Held). h.octets) same ∙ is.1 ∙ ap (λ (k : ℕ). open_after k pieces) (sym limit))
+-- an event, by what it tells the end of
+pub knows_by : (closed : Option ℕ) (past : List Packet) (links links' : Links) (code : ℕ) (params : List ℕ) → ClosesBy code params closed → links'.places.items ≡ forgotten links.places.items closed → links'.spare ≡ links.spare
+    → Knows past links → Knows (past ++ Event code params ∷ []) links'
+knows_by None past links links' code params by placed spare knows =
+    let same = knows_same past links (Event code params) (λ handle. rw (by handle) refl) knows in
+    record {
+      size = ap length placed ∙ same.size;
+      each = λ handle lt. subst (λ (ls : List (Option Link)). IsLinkOf (pieces_on handle (past ++ Event code params ∷ [])) (get_or ls handle None)) (sym placed) (same.each handle lt);
+      spare = subst (λ s. AllByRecursion IsSpare s.items) (sym spare) same.spare;
+    }
+knows_by (Some at) past links links' code params by placed spare knows =
+    knows_changed past links links' (Event code params) at None [] by.0 (rw (by.1 at ∙ eqb_same at) refl) refl (λ handle ne. rw (by.1 handle ∙ eqb_other at handle (λ e. ne (sym e))) refl) placed
+    (subst (λ s. AllByRecursion IsSpare s.items) (sym spare) knows.spare) knows
 
--- a joiner that was put back
-pub put_back : (joiners mid joiners' : List (Option Held)) (at : ℕ) (joiner : Held) (pieces : List Piece) → mid ≡ set joiners at None → joiners' ≡ set mid at (Some joiner) → joiner.limit ≡ pdu_limit → HoldsOpen pieces joiner
-    → HasJoiner joiners joiners' at pieces
-put_back joiners mid joiners' at joiner pieces taken placed limit holds = record {
-  held = joiner;
-  placed = placed ∙ ap (λ (js : List (Option Held)). set js at (Some joiner)) taken ∙ set-set joiners at None (Some joiner);
-  holds = (limit, holds ∙ ap (λ (k : ℕ). open_after k pieces) limit);
+-- nothing is kept before the first packet
+pub knows_none : (links : Links) → links.places.items ≡ replicate 0x0F00 None → links.spare.items ≡ [] → Knows [] links
+knows_none links is spare = record {
+  size = ap length is ∙ length-replicate {A = Option Link} 0x0F00 None;
+  each = λ handle lt.
+      let none : get_or links.places.items handle None ≡ None = ap (λ (ls : List (Option Link)). get_or ls handle None) is ∙ get_or-replicate {A = Option Link} 0x0F00 handle None None lt in
+      subst (λ (o : Option Link). IsLinkOf [] o) (sym none) refl;
+  spare = subst (λ (js : List Held). AllByRecursion IsSpare js) (sym spare) tt;
 }
 
 passed : {X : Type 0} (b : Bool) (x : X) (o : Option X) → cond b (Some x) o ≡ None → (b ≡ false) × (o ≡ None)
@@ -147,11 +153,3 @@ refused_no (Some x) false c refusal e = refl
 
 pub closes_refused : (code : ℕ) (params : List ℕ) (refusal : HciRefusal) → event_refusal code params ≡ Some refusal → ClosesBy code params None
 closes_refused code params refusal refused handle = refused_no (event_refusal code params) (eqb code 0x05) (eqb (closed_handle params) handle) refusal refused
-
--- a piece on a handle, and its text
-pub piece_shown : (past : List Packet) (joiners joiners' : List (Option Held)) (word : ℕ) (octets : List ℕ) (at : ℕ) (boundary : Boundary) (text text' : List ℕ) → at < 0x0F00 → Some (at, boundary) ≡ link_of word
-    → ((pieces : List Piece) → IsJoinerOf pieces (get_or joiners at None) → (text' ≡ text ++ joined_text (open_after pdu_limit pieces) (starts boundary) octets) × HasJoiner joiners joiners' at (pieces ++ record { boundary = boundary; octets = octets } ∷ []))
-    → Knows past joiners → (text' ≡ text ++ under past (Acl word octets)) × Knows (past ++ Acl word octets ∷ []) joiners'
-piece_shown past joiners joiners' word octets at boundary text text' below link pushed knows =
-    let here = pushed (pieces_on at past) (knows.each at below) in
-    (here.0 ∙ ap (λ (l : Option (ℕ × Boundary)). text ++ piece_text past octets l) link, knows_piece past joiners joiners' word octets at boundary below (sym link) here.1 knows)

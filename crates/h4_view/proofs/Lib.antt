@@ -1,4 +1,5 @@
 pub mod Signalling
+pub mod Frames
 pub mod Knowing
 pub mod Joining
 pub mod Showing

@@ -11,16 +11,16 @@ use Rattle.h4_framing.specs.Framing.{Framing}
 use Rattle.h4_framing.specs.Taking.{Takes}
 use Rattle.h4_framing.specs.Accounts.{Accounts}
 use Rattle.h4_framing.proofs.AccountLemmas.{taking_accounts}
-use Rattle.acl_fragments.specs.Joiners.{Held}
+use Rattle.h4_view.specs.declared.links.Links.{Links}
 use Rattle.h4_view.specs.Details.{under, Knows}
 use Rattle.h4_view.specs.Lines.{line, lines, lines_of}
 use Rattle.h4_view.specs.Shows.{Shows}
 
 -- so far a front of the piece was shown
-pub record HasShown (old new : Framing) (joiners joiners' : List (Option Held)) (offset offset' : ℕ) (text text' piece rest : List ℕ) : Type 0 where
+pub record HasShown (old new : Framing) (links links' : Links) (offset offset' : ℕ) (text text' piece rest : List ℕ) : Type 0 where
   pub eaten : List ℕ
   pub whole : piece ≡ eaten ++ rest
-  pub shown : Shows old new joiners joiners' offset offset' text text' eaten None
+  pub shown : Shows old new links links' offset offset' text text' eaten None
 
 -- the lines of packets, and of those behind them
 pub lines-append : (past : List Packet) (offset : ℕ) (packets more : List Packet) → lines past offset (packets ++ more) ≡ lines past offset packets ++ lines (past ++ packets) (offset + length (spellings packets)) more
@@ -63,8 +63,8 @@ some_is_not_none : (f : H4Refusal × ℕ) → Some f ≡ None → ⊥
 some_is_not_none f h = cc
 
 -- nothing was shown yet
-pub shows_none : (framing : Framing) (joiners : List (Option Held)) (offset : ℕ) (text piece : List ℕ) → framing.fault ≡ None → HasShown framing framing joiners joiners offset offset text text piece piece
-shows_none framing joiners offset text piece sound = record {
+pub shows_none : (framing : Framing) (links : Links) (offset : ℕ) (text piece : List ℕ) → framing.fault ≡ None → HasShown framing framing links links offset offset text text piece piece
+shows_none framing links offset text piece sound = record {
   eaten = [];
   whole = refl;
   shown = record {
@@ -72,23 +72,23 @@ shows_none framing joiners offset text piece sound = record {
     accounts = λ fed packets h. accounts_same fed packets framing h;
     pending = λ _. append-nil framing.held;
     moves = omega arith;
-    adds = λ past knows. (sym (append-nil text), subst (λ (ps : List Packet). Knows ps joiners) (sym (append-nil past)) knows);
+    adds = λ past knows. (sym (append-nil text), subst (λ (ps : List Packet). Knows ps links) (sym (append-nil past)) knows);
     keeps = refl;
     answers = sound;
   };
 }
 
--- a packet's lines were added, and the joiners know it
-pub record Adds (joiners joiners' : List (Option Held)) (text text' : List ℕ) (offset : ℕ) (p : Packet) : Type 0 where
+-- a packet's lines were added, and the links know it
+pub record Adds (links links' : Links) (text text' : List ℕ) (offset : ℕ) (p : Packet) : Type 0 where
   pub mid : List ℕ
   pub line : mid ≡ text ++ line offset p
-  pub under : (past : List Packet) → Knows past joiners → (text' ≡ mid ++ under past p) × Knows (past ++ p ∷ []) joiners'
+  pub under : (past : List Packet) → Knows past links → (text' ≡ mid ++ under past p) × Knows (past ++ p ∷ []) links'
 
 -- one packet more was shown
-pub shows_packet : (old mid new : Framing) (joiners joiners' joiners'' : List (Option Held)) (offset offset' : ℕ) (text text' text'' eaten rest : List ℕ) (unit : Lent) (n : ℕ)
-    → Shows old mid joiners joiners' offset offset' text text' eaten None → Takes mid rest (taken.Whole unit n) new → Adds joiners' joiners'' text' text'' offset' (packet unit)
-    → Shows old new joiners joiners'' offset (offset' + length (spelling (packet unit))) text text'' (eaten ++ take n rest) None
-shows_packet old mid new joiners joiners' joiners'' offset offset' text text' text'' eaten rest unit n so_far takes adds =
+pub shows_packet : (old mid new : Framing) (links links' links'' : Links) (offset offset' : ℕ) (text text' text'' eaten rest : List ℕ) (unit : Lent) (n : ℕ)
+    → Shows old mid links links' offset offset' text text' eaten None → Takes mid rest (taken.Whole unit n) new → Adds links' links'' text' text'' offset' (packet unit)
+    → Shows old new links links'' offset (offset' + length (spelling (packet unit))) text text'' (eaten ++ take n rest) None
+shows_packet old mid new links links' links'' offset offset' text text' text'' eaten rest unit n so_far takes adds =
     let p : Packet = packet unit in
     let ps : List Packet = so_far.added in
     let new-is = takes.5 in
@@ -116,16 +116,16 @@ shows_packet old mid new joiners joiners' joiners'' offset offset' text text' te
                 ∙ append_assoc text (lines past offset ps) (lines_of (past ++ ps) offset' p)
                 ∙ ap (λ (o : ℕ). text ++ (lines past offset ps ++ lines_of (past ++ ps) o p)) so_far.moves
                 ∙ ap (λ (t : List ℕ). text ++ t) (sym (lines-last past offset ps p)),
-            subst (λ (qs : List Packet). Knows qs joiners'') (append_assoc past ps (p ∷ [])) more.1,
+            subst (λ (qs : List Packet). Knows qs links'') (append_assoc past ps (p ∷ [])) more.1,
           );
       keeps = ap (λ (f : Framing). f.limit) new-is ∙ so_far.keeps;
       answers = ap (λ (f : Framing). f.fault) new-is ∙ takes.0;
     }
 
 -- the rest of the piece holds no whole packet more
-pub shows_rest : (old mid new : Framing) (joiners joiners' : List (Option Held)) (offset offset' : ℕ) (text text' eaten rest : List ℕ) → Shows old mid joiners joiners' offset offset' text text' eaten None → Takes mid rest taken.More new
-    → Shows old new joiners joiners' offset offset' text text' (eaten ++ rest) None
-shows_rest old mid new joiners joiners' offset offset' text text' eaten rest so_far takes =
+pub shows_rest : (old mid new : Framing) (links links' : Links) (offset offset' : ℕ) (text text' eaten rest : List ℕ) → Shows old mid links links' offset offset' text text' eaten None → Takes mid rest taken.More new
+    → Shows old new links links' offset offset' text text' (eaten ++ rest) None
+shows_rest old mid new links links' offset offset' text text' eaten rest so_far takes =
     let ps : List Packet = so_far.added in
     let new-is = takes.2 in
     record {
@@ -143,9 +143,9 @@ shows_rest old mid new joiners joiners' offset offset' text text' eaten rest so_
     }
 
 -- the rest of the piece is refused
-pub shows_refused : (old mid new : Framing) (joiners joiners' : List (Option Held)) (offset offset' : ℕ) (text text' eaten rest : List ℕ) (refusal : H4Refusal) (place : ℕ) → Shows old mid joiners joiners' offset offset' text text' eaten None → Takes mid rest (taken.Refused refusal place) new
-    → Shows old new joiners joiners' offset offset' text text' (eaten ++ rest) (Some (refusal, place))
-shows_refused old mid new joiners joiners' offset offset' text text' eaten rest refusal place so_far takes =
+pub shows_refused : (old mid new : Framing) (links links' : Links) (offset offset' : ℕ) (text text' eaten rest : List ℕ) (refusal : H4Refusal) (place : ℕ) → Shows old mid links links' offset offset' text text' eaten None → Takes mid rest (taken.Refused refusal place) new
+    → Shows old new links links' offset offset' text text' (eaten ++ rest) (Some (refusal, place))
+shows_refused old mid new links links' offset offset' text text' eaten rest refusal place so_far takes =
     let ps : List Packet = so_far.added in
     let new-is = takes.1 in
     record {
@@ -159,13 +159,13 @@ shows_refused old mid new joiners joiners' offset offset' text text' eaten rest 
     }
 
 -- the step of the loop at a whole packet
-pub shown_packet : (old mid new : Framing) (joiners joiners' joiners'' : List (Option Held)) (offset offset' : ℕ) (text text' text'' piece rest : List ℕ) (unit : Lent) (n size : ℕ) (took : Taken) → took ≡ taken.Whole unit n
-    → HasShown old mid joiners joiners' offset offset' text text' piece rest → Takes mid rest took new → size ≡ length (spelling (packet unit)) → Adds joiners' joiners'' text' text'' offset' (packet unit)
-    → HasShown old new joiners joiners'' offset (offset' + size) text text'' piece (take (length rest - n) (drop n rest))
-shown_packet old mid new joiners joiners' joiners'' offset offset' text text' text'' piece rest unit n size took took-is so_far takes size-is adds =
+pub shown_packet : (old mid new : Framing) (links links' links'' : Links) (offset offset' : ℕ) (text text' text'' piece rest : List ℕ) (unit : Lent) (n size : ℕ) (took : Taken) → took ≡ taken.Whole unit n
+    → HasShown old mid links links' offset offset' text text' piece rest → Takes mid rest took new → size ≡ length (spelling (packet unit)) → Adds links' links'' text' text'' offset' (packet unit)
+    → HasShown old new links links'' offset (offset' + size) text text'' piece (take (length rest - n) (drop n rest))
+shown_packet old mid new links links' links'' offset offset' text text' text'' piece rest unit n size took took-is so_far takes size-is adds =
     let takes' : Takes mid rest (taken.Whole unit n) new = subst (λ (t : Taken). Takes mid rest t new) took-is takes in
     let behind : take (length rest - n) (drop n rest) ≡ drop n rest = take_all (length rest - n) (drop n rest) (omega (arith, length-drop n rest)) in
-    let more = shows_packet old mid new joiners joiners' joiners'' offset offset' text text' text'' so_far.eaten rest unit n so_far.shown takes' adds in
+    let more = shows_packet old mid new links links' links'' offset offset' text text' text'' so_far.eaten rest unit n so_far.shown takes' adds in
     record {
       eaten = so_far.eaten ++ take n rest;
       whole =
@@ -173,13 +173,13 @@ shown_packet old mid new joiners joiners' joiners'' offset offset' text text' te
           ∙ ap (λ (t : List ℕ). so_far.eaten ++ t) (sym (take-append-drop n rest))
           ∙ sym (append_assoc so_far.eaten (take n rest) (drop n rest))
           ∙ ap (λ (t : List ℕ). (so_far.eaten ++ take n rest) ++ t) (sym behind);
-      shown = subst (λ (k : ℕ). Shows old new joiners joiners'' offset (offset' + k) text text'' (so_far.eaten ++ take n rest) None) (sym size-is) more;
+      shown = subst (λ (k : ℕ). Shows old new links links'' offset (offset' + k) text text'' (so_far.eaten ++ take n rest) None) (sym size-is) more;
     }
 
 -- there is room for the next offset
-pub room_for_packet : (old mid new : Framing) (joiners joiners' : List (Option Held)) (offset offset' : ℕ) (text text' piece rest : List ℕ) (unit : Lent) (n : ℕ) (took : Taken) → took ≡ taken.Whole unit n
-    → HasShown old mid joiners joiners' offset offset' text text' piece rest → Takes mid rest took new → offset' + length (spelling (packet unit)) ≤ offset + length old.held + length piece
-room_for_packet old mid new joiners joiners' offset offset' text text' piece rest unit n took took-is so_far takes =
+pub room_for_packet : (old mid new : Framing) (links links' : Links) (offset offset' : ℕ) (text text' piece rest : List ℕ) (unit : Lent) (n : ℕ) (took : Taken) → took ≡ taken.Whole unit n
+    → HasShown old mid links links' offset offset' text text' piece rest → Takes mid rest took new → offset' + length (spelling (packet unit)) ≤ offset + length old.held + length piece
+room_for_packet old mid new links links' offset offset' text text' piece rest unit n took took-is so_far takes =
     let takes' : Takes mid rest (taken.Whole unit n) new = subst (λ (t : Taken). Takes mid rest t new) took-is takes in
     let so = so_far.shown in
     let fed : length old.held + length so_far.eaten ≡ length (spellings so.added) + length mid.held = omega (arith, ap length (so.pending refl), length-append old.held so_far.eaten, length-append (spellings so.added) mid.held) in
@@ -188,27 +188,27 @@ room_for_packet old mid new joiners joiners' offset offset' text text' piece res
     omega (arith, fed, whole, spelled, so.moves, length-take n rest)
 
 -- it is a packet, of any length that an ACL packet may have
-pub packet_whole : (old mid new : Framing) (joiners joiners' : List (Option Held)) (offset offset' limit : ℕ) (text text' piece rest : List ℕ) (unit : Lent) (n : ℕ) (took : Taken) → took ≡ taken.Whole unit n
-    → HasShown old mid joiners joiners' offset offset' text text' piece rest → Takes mid rest took new → old.limit ≡ limit → IsPacket limit (packet unit)
-packet_whole old mid new joiners joiners' offset offset' limit text text' piece rest unit n took took-is so_far takes limit-is =
+pub packet_whole : (old mid new : Framing) (links links' : Links) (offset offset' limit : ℕ) (text text' piece rest : List ℕ) (unit : Lent) (n : ℕ) (took : Taken) → took ≡ taken.Whole unit n
+    → HasShown old mid links links' offset offset' text text' piece rest → Takes mid rest took new → old.limit ≡ limit → IsPacket limit (packet unit)
+packet_whole old mid new links links' offset offset' limit text text' piece rest unit n took took-is so_far takes limit-is =
     let takes' : Takes mid rest (taken.Whole unit n) new = subst (λ (t : Taken). Takes mid rest t new) took-is takes in
     subst (λ (k : ℕ). IsPacket k (packet unit)) (so_far.shown.keeps ∙ limit-is) takes'.1
 
 -- the end of the loop at an unfinished packet
-pub shown_rest : (old mid new : Framing) (joiners joiners' : List (Option Held)) (offset offset' : ℕ) (text text' piece rest : List ℕ) (took : Taken) → took ≡ taken.More
-    → HasShown old mid joiners joiners' offset offset' text text' piece rest → Takes mid rest took new → Shows old new joiners joiners' offset offset' text text' piece None
-shown_rest old mid new joiners joiners' offset offset' text text' piece rest took took-is so_far takes =
+pub shown_rest : (old mid new : Framing) (links links' : Links) (offset offset' : ℕ) (text text' piece rest : List ℕ) (took : Taken) → took ≡ taken.More
+    → HasShown old mid links links' offset offset' text text' piece rest → Takes mid rest took new → Shows old new links links' offset offset' text text' piece None
+shown_rest old mid new links links' offset offset' text text' piece rest took took-is so_far takes =
     let takes' : Takes mid rest taken.More new = subst (λ (t : Taken). Takes mid rest t new) took-is takes in
-    subst (λ (p : List ℕ). Shows old new joiners joiners' offset offset' text text' p None) (sym so_far.whole) (shows_rest old mid new joiners joiners' offset offset' text text' so_far.eaten rest so_far.shown takes')
+    subst (λ (p : List ℕ). Shows old new links links' offset offset' text text' p None) (sym so_far.whole) (shows_rest old mid new links links' offset offset' text text' so_far.eaten rest so_far.shown takes')
 
 -- the end of the loop at a refusal
-pub shown_refused : (old mid new : Framing) (joiners joiners' : List (Option Held)) (offset offset' : ℕ) (text text' piece rest : List ℕ) (refusal : H4Refusal) (place : ℕ) (took : Taken) → took ≡ taken.Refused refusal place
-    → HasShown old mid joiners joiners' offset offset' text text' piece rest → Takes mid rest took new → Shows old new joiners joiners' offset offset' text text' piece (Some (refusal, place))
-shown_refused old mid new joiners joiners' offset offset' text text' piece rest refusal place took took-is so_far takes =
+pub shown_refused : (old mid new : Framing) (links links' : Links) (offset offset' : ℕ) (text text' piece rest : List ℕ) (refusal : H4Refusal) (place : ℕ) (took : Taken) → took ≡ taken.Refused refusal place
+    → HasShown old mid links links' offset offset' text text' piece rest → Takes mid rest took new → Shows old new links links' offset offset' text text' piece (Some (refusal, place))
+shown_refused old mid new links links' offset offset' text text' piece rest refusal place took took-is so_far takes =
     let takes' : Takes mid rest (taken.Refused refusal place) new = subst (λ (t : Taken). Takes mid rest t new) took-is takes in
-    subst (λ (p : List ℕ). Shows old new joiners joiners' offset offset' text text' p (Some (refusal, place))) (sym so_far.whole) (shows_refused old mid new joiners joiners' offset offset' text text' so_far.eaten rest refusal place so_far.shown takes')
+    subst (λ (p : List ℕ). Shows old new links links' offset offset' text text' p (Some (refusal, place))) (sym so_far.whole) (shows_refused old mid new links links' offset offset' text text' so_far.eaten rest refusal place so_far.shown takes')
 
 -- the end of the loop at the end of the piece
-pub shown_all : (old mid : Framing) (joiners joiners' : List (Option Held)) (offset offset' : ℕ) (text text' piece rest : List ℕ) → HasShown old mid joiners joiners' offset offset' text text' piece rest → length rest ≡ 0 → Shows old mid joiners joiners' offset offset' text text' piece None
-shown_all old mid joiners joiners' offset offset' text text' piece [] so_far none = subst (λ (p : List ℕ). Shows old mid joiners joiners' offset offset' text text' p None) (sym (so_far.whole ∙ append-nil so_far.eaten)) so_far.shown
-shown_all old mid joiners joiners' offset offset' text text' piece (x ∷ rest) so_far none = absurd (omega arith)
+pub shown_all : (old mid : Framing) (links links' : Links) (offset offset' : ℕ) (text text' piece rest : List ℕ) → HasShown old mid links links' offset offset' text text' piece rest → length rest ≡ 0 → Shows old mid links links' offset offset' text text' piece None
+shown_all old mid links links' offset offset' text text' piece [] so_far none = subst (λ (p : List ℕ). Shows old mid links links' offset offset' text text' p None) (sym (so_far.whole ∙ append-nil so_far.eaten)) so_far.shown
+shown_all old mid links links' offset offset' text text' piece (x ∷ rest) so_far none = absurd (omega arith)

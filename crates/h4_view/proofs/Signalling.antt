@@ -1,6 +1,8 @@
 -- Lines of signalling commands, one after the other.
-use Rattle.std.proofs.Common.{◌≡◌, ◌==◌, false, ℕ, ◌+◌, ◌<◌, List, [], ◌∷◌, ◌++◌, length, get_or, take, refl, ap, sym, ◌∙◌, append_assoc, arith}
+use Rattle.std.proofs.Common.{◌≡◌, ◌==◌, false, ℕ, ◌+◌, ◌/◌, ◌%◌, ◌<◌, List, [], ◌∷◌, ◌++◌, length, get_or, take, refl, ap, sym, ◌∙◌, append_assoc, add-one, arith}
+use Rattle.std.specs.Prelude.{slice_index}
 use Rattle.std.specs.List.{flat_map}
+use Rattle.std.proofs.Math.Seq.{take-suc}
 use Rattle.std.proofs.lemmas.List.{append-nil, take_all}
 use Rattle.hex.specs.Hex.{encode_with, encode_upper, upper_digits}
 use Rattle.bt_base.specs.Octets.{le16}
@@ -42,3 +44,19 @@ parts_end ws rest i old now new some at so_far wrote =
     ∙ ap (λ (t : List ℕ). (old ++ encode_upper (flat_map le16 t)) ++ encode_upper rest) (take_all i ws (omega (arith, at)))
     ∙ append_assoc old (encode_upper (flat_map le16 ws)) (encode_upper rest)
     ∙ ap (λ (t : List ℕ). old ++ t) (sym (encode-append upper_digits (flat_map le16 ws) rest) ∙ sym (some_parts ws rest some))
+
+-- the digits of one octet more
+pub digits_step : (octets : List ℕ) (i a b : ℕ) (old now mid new : List ℕ) → i < length octets → now ≡ old ++ encode_upper (take i octets) → mid ≡ now ++ a ∷ [] → new ≡ mid ++ b ∷ []
+    → a ≡ slice_index upper_digits (get_or octets i 0 / 16) → b ≡ slice_index upper_digits (get_or octets i 0 % 16) → new ≡ old ++ encode_upper (take (i + 1) octets)
+unfolding encode_with
+digits_step octets i a b old now mid new lt so_far first second high low =
+    let x : ℕ = get_or octets i 0 in
+    second
+    ∙ ap (λ (t : List ℕ). t ++ b ∷ []) first
+    ∙ append_assoc now (a ∷ []) (b ∷ [])
+    ∙ ap (λ (t : List ℕ). t ++ a ∷ b ∷ []) so_far
+    ∙ ap (λ (n : ℕ). (old ++ encode_upper (take i octets)) ++ n ∷ b ∷ []) high
+    ∙ ap (λ (n : ℕ). (old ++ encode_upper (take i octets)) ++ slice_index upper_digits (x / 16) ∷ n ∷ []) low
+    ∙ append_assoc old (encode_upper (take i octets)) (encode_upper (x ∷ []))
+    ∙ ap (λ (t : List ℕ). old ++ t) (sym (encode-append upper_digits (take i octets) (x ∷ [])))
+    ∙ ap (λ (t : List ℕ). old ++ encode_upper t) (sym (ap (λ (n : ℕ). take n octets) (add-one i) ∙ take-suc octets i 0 lt))

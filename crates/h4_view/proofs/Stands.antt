@@ -11,7 +11,7 @@ use Rattle.h4_framing.specs.Accounts.{Accounts}
 use Rattle.h4_framing.proofs.AccountLemmas.{new_accounts}
 use Rattle.h4_view.specs.declared.refusal.ViewFault.{ViewFault}
 use Rattle.h4_view.specs.declared.refusal.ViewFault.TheVariants.{Refused, ReadFault, WriteFault, NoMemory}
-use Rattle.acl_fragments.specs.Joiners.{Held}
+use Rattle.h4_view.specs.declared.links.Links.{Links}
 use Rattle.h4_view.specs.Details.{Knows}
 use Rattle.h4_view.specs.Lines.{lines}
 use Rattle.h4_view.specs.Shows.{Shows}
@@ -72,15 +72,15 @@ begins_with octets rest all packets framing accounts keeps within is =
     packets_begin octets rest all first.0 packets (subst (λ (k : ℕ). AllByRecursion (IsPacket k) packets) keeps accounts.each) first.1 within is
 
 -- nothing more happens to the sink
-pub front_stands : (input left old new : Option (List ℕ)) (framing : Framing) (joiners : List (Option Held)) (offset fed : ℕ) → Standing input left old new framing joiners offset fed → IfSome input (λ all. FrontWritten old new all)
-front_stands input left old new framing joiners offset fed s = told input (λ all e.
+pub front_stands : (input left old new : Option (List ℕ)) (framing : Framing) (links : Links) (offset fed : ℕ) → Standing input left old new framing links offset fed → IfSome input (λ all. FrontWritten old new all)
+front_stands input left old new framing links offset fed s = told input (λ all e.
     let front = taken_front input left s.octets all s.took e in
     OfLines s.packets (begins_with s.octets front.0 all s.packets framing s.accounts s.keeps (omega (arith, s.count, s.within)) front.1)
     (front_whole old new (lines [] 0 s.packets) s.written))
 
 -- all that was read is shown
-read_shown : (input left old new : Option (List ℕ)) (framing : Framing) (joiners : List (Option Held)) (offset fed : ℕ) → Standing input left old new framing joiners offset fed → IfSome input (λ all. ShowsRead all left old new)
-read_shown input left old new framing joiners offset fed s = told input (λ all e.
+read_shown : (input left old new : Option (List ℕ)) (framing : Framing) (links : Links) (offset fed : ℕ) → Standing input left old new framing links offset fed → IfSome input (λ all. ShowsRead all left old new)
+read_shown input left old new framing links offset fed s = told input (λ all e.
     let behind = held_behind s.octets s.packets framing s.accounts s.sound in
     record {
       octets = s.octets;
@@ -95,13 +95,13 @@ read_shown input left old new framing joiners offset fed s = told input (λ all 
     })
 
 -- a fault of a port between two pieces, of which nothing was taken
-pub fault_shows : (fault : ViewFault) (input left left' old new : Option (List ℕ)) (framing : Framing) (joiners : List (Option Held)) (offset fed : ℕ) → Standing input left old new framing joiners offset fed → IsOfPorts fault → left' ≡ left
+pub fault_shows : (fault : ViewFault) (input left left' old new : Option (List ℕ)) (framing : Framing) (links : Links) (offset fed : ℕ) → Standing input left old new framing links offset fed → IsOfPorts fault → left' ≡ left
     → IfSome input (λ all. ShowsAll all left' old new (Err fault))
-fault_shows (Refused refusal place) input left left' old new framing joiners offset fed s port kept = absurd port
-fault_shows ReadFault input left left' old new framing joiners offset fed s port kept =
-    subst (λ (l : Option (List ℕ)). IfSome input (λ all. ShowsRead all l old new)) (sym kept) (read_shown input left old new framing joiners offset fed s)
-fault_shows WriteFault input left left' old new framing joiners offset fed s port kept = front_stands input left old new framing joiners offset fed s
-fault_shows NoMemory input left left' old new framing joiners offset fed s port kept = front_stands input left old new framing joiners offset fed s
+fault_shows (Refused refusal place) input left left' old new framing links offset fed s port kept = absurd port
+fault_shows ReadFault input left left' old new framing links offset fed s port kept =
+    subst (λ (l : Option (List ℕ)). IfSome input (λ all. ShowsRead all l old new)) (sym kept) (read_shown input left old new framing links offset fed s)
+fault_shows WriteFault input left left' old new framing links offset fed s port kept = front_stands input left old new framing links offset fed s
+fault_shows NoMemory input left left' old new framing links offset fed s port kept = front_stands input left old new framing links offset fed s
 
 -- a fault of the sink leaves a front
 pub sink_fault_shows : (fault : ViewFault) (input left old new : Option (List ℕ)) → IsOfSink fault → IfSome input (λ all. FrontWritten old new all) → IfSome input (λ all. ShowsAll all left old new (Err fault))
@@ -115,9 +115,9 @@ pub lines_then : (offset : ℕ) (packets added : List Packet) → offset ≡ len
 lines_then offset packets added moves = lines-append [] 0 packets added ∙ ap (λ (o : ℕ). lines [] 0 packets ++ lines packets o added) (omega (arith, moves))
 
 -- the piece was shown, and a front of its text was written
-pub front_more : (input left left' old new new' : Option (List ℕ)) (framing framing' : Framing) (joiners joiners' : List (Option Held)) (offset offset' fed : ℕ) (text xs : List ℕ) (fault : Option (H4Refusal × ℕ))
-    → Standing input left old new framing joiners offset fed → Took left left' xs → Shows framing framing' joiners joiners' offset offset' [] text xs fault → GainedFront new new' text → fed + length xs ≤ input_limit → IfSome input (λ all. FrontWritten old new' all)
-front_more input left left' old new new' framing framing' joiners joiners' offset offset' fed text xs fault s took shows front within = told input (λ all e.
+pub front_more : (input left left' old new new' : Option (List ℕ)) (framing framing' : Framing) (links links' : Links) (offset offset' fed : ℕ) (text xs : List ℕ) (fault : Option (H4Refusal × ℕ))
+    → Standing input left old new framing links offset fed → Took left left' xs → Shows framing framing' links links' offset offset' [] text xs fault → GainedFront new new' text → fed + length xs ≤ input_limit → IfSome input (λ all. FrontWritten old new' all)
+front_more input left left' old new new' framing framing' links links' offset offset' fed text xs fault s took shows front within = told input (λ all e.
     let octets : List ℕ = s.octets ++ xs in
     let begin = taken_front input left' octets all (took_then input left left' s.octets xs s.took took) e in
     OfLines (s.packets ++ shows.added)
@@ -126,10 +126,10 @@ front_more input left left' old new new' framing framing' joiners joiners' offse
     (front_then old new new' (lines [] 0 s.packets) text s.written front)))
 
 -- the piece was shown and written, and the view goes on
-pub standing_more : (input left left' old new new' : Option (List ℕ)) (framing framing' : Framing) (joiners joiners' after : List (Option Held)) (offset offset' fed n : ℕ) (text xs : List ℕ)
-    → Standing input left old new framing joiners offset fed → Took left left' xs → Shows framing framing' joiners joiners' offset offset' [] text xs None → new' ≡ gained new text → length xs ≡ n → fed + n ≤ input_limit → after ≡ joiners'
-    → Standing input left' old new' framing' after offset' (fed + n)
-standing_more input left left' old new new' framing framing' joiners joiners' after offset offset' fed n text xs s took shows wrote size within back = record {
+pub standing_more : (input left left' old new new' : Option (List ℕ)) (framing framing' : Framing) (links links' : Links) (offset offset' fed n : ℕ) (text xs : List ℕ)
+    → Standing input left old new framing links offset fed → Took left left' xs → Shows framing framing' links links' offset offset' [] text xs None → new' ≡ gained new text → length xs ≡ n → fed + n ≤ input_limit
+    → Standing input left' old new' framing' links' offset' (fed + n)
+standing_more input left left' old new new' framing framing' links links' offset offset' fed n text xs s took shows wrote size within = record {
   octets = s.octets ++ xs;
   packets = s.packets ++ shows.added;
   took = took_then input left left' s.octets xs s.took took;
@@ -138,7 +138,7 @@ standing_more input left left' old new new' framing framing' joiners joiners' af
   accounts = shows.accounts s.octets s.packets s.accounts;
   keeps = shows.keeps ∙ s.keeps;
   sound = shows.answers;
-  knows = subst (λ (js : List (Option Held)). Knows (s.packets ++ shows.added) js) (sym back) (shows.adds s.packets s.knows).1;
+  knows = (shows.adds s.packets s.knows).1;
   moves = omega (arith, shows.moves, s.moves, ap length (spellings-append s.packets shows.added), length-append (spellings s.packets) (spellings shows.added));
   written =
       wrote
@@ -156,8 +156,8 @@ accounts_none : (framing : Framing) → framing ≡ record { limit = acl_limit; 
 accounts_none framing new = subst (λ (f : Framing). Accounts [] [] f) (sym new) (new_accounts acl_limit)
 
 -- nothing was read yet
-pub standing_none : (input old : Option (List ℕ)) (framing : Framing) (joiners : List (Option Held)) (offset fed : ℕ) (text : List ℕ) → IsNewView framing joiners offset fed text → Standing input input old old framing joiners offset fed
-standing_none input old framing joiners offset fed text new = record {
+pub standing_none : (input old : Option (List ℕ)) (framing : Framing) (links : Links) (offset fed : ℕ) (text : List ℕ) → IsNewView framing links offset fed text → Standing input input old old framing links offset fed
+standing_none input old framing links offset fed text new = record {
   octets = [];
   packets = [];
   took = took_none input;

@@ -1,6 +1,7 @@
 -- What stands under a packet's line (this project's own).
 use Rattle.std.proofs.Common.{set}
-use Rattle.std.specs.Prelude.{ℕ, ◌≡◌, ◌-◌, ◌/◌, ◌%◌, ◌<◌, zero, suc, List, [], ◌∷◌, ◌++◌, length, drop, get_or, fold, Bool, false, cond, not, is_none, ◌==◌, ◌&&◌, ◌||◌, Option, None, Some, codes, decimal}
+use Rattle.std.specs.List.{AllByRecursion}
+use Rattle.std.specs.Prelude.{ℕ, ◌≡◌, ◌-◌, ◌/◌, ◌%◌, ◌<◌, zero, suc, List, [], ◌∷◌, ◌++◌, length, drop, get_or, fold, Bool, true, false, cond, not, is_none, ◌==◌, ◌&&◌, ◌||◌, Option, None, Some, codes, decimal}
 use Rattle.byteorder.specs.Endian.{little_number}
 use Rattle.h4_framing.specs.Packets.{Packet, Command, Acl, Sync, Event}
 use Rattle.hci_packets.specs.declared.refusal.HciRefusal.{HciRefusal}
@@ -12,15 +13,20 @@ use Rattle.hci_packets.specs.Commands.{command_refusal}
 use Rattle.hci_packets.specs.Events.{event_refusal}
 use Rattle.acl_fragments.specs.declared.joined.DropReason.{DropReason}
 use Rattle.acl_fragments.specs.declared.joined.DropReason.TheVariants as drops
+use Rattle.acl_fragments.specs.declared.joined.Got.{Got}
+use Rattle.acl_fragments.specs.declared.joined.Got.TheVariants as lent
 use Rattle.acl_fragments.specs.Pieces.{Piece, starts}
-use Rattle.acl_fragments.specs.Answers.{Answer, Pdu, More, Dropped, answer, open_after, leaves_unfinished}
-use Rattle.acl_fragments.specs.Joiners.{Held}
+use Rattle.acl_fragments.specs.Answers.{Answer, Pdu, More, Dropped, open_after, leaves_unfinished}
+use Rattle.acl_fragments.specs.Joiners.{Held, HoldsOpen}
 use Rattle.h4_view.specs.Texts.{word_text}
-use Rattle.h4_view.specs.Signals.{channel_text}
-
--- the longest PDU that a length field of two octets can state, with its header
-abbrev pub pdu_limit : ℕ
-pdu_limit = 65539
+use Rattle.seen_channels.specs.declared.direction.Direction.{Direction}
+use Rattle.seen_channels.specs.declared.channels.Channels.{Channels}
+use Rattle.seen_channels.specs.Sayings.{Learnt}
+use Rattle.seen_channels.specs.Tables.{Keeps}
+use Rattle.h4_view.specs.declared.links.Link.{Link}
+use Rattle.h4_view.specs.declared.links.Links.{Links}
+use Rattle.h4_view.specs.Pdus.{pdu_limit, direction_after, goes, given, said_in, with_pdu, learnt}
+use Rattle.h4_view.specs.Nested.{nested_text}
 
 -- the boundary of a piece by its flag
 abbrev pub boundary_of : ℕ → Boundary
@@ -78,20 +84,20 @@ bad_text None = []
 bad_text (Some refusal) = codes "  bad " ++ refusal_name refusal ++ codes "\n"
 
 -- what a piece gives: a whole PDU with its channel, its length field and what it says, or why it was dropped
-abbrev pub answer_text : Answer → List ℕ
-answer_text (Pdu channel pdu) = codes "  pdu " ++ word_text channel ++ codes " " ++ decimal (length pdu - 4) ++ codes "\n" ++ channel_text channel (drop 4 pdu)
-answer_text More = []
-answer_text (Dropped reason) = codes "  drop " ++ drop_name reason ++ codes "\n"
+abbrev pub answer_text : Learnt → Direction → Answer → List ℕ
+answer_text learnt direction (Pdu channel pdu) = codes "  pdu " ++ word_text channel ++ codes " " ++ decimal (length pdu - 4) ++ codes "\n" ++ nested_text learnt direction channel pdu
+answer_text learnt direction More = []
+answer_text learnt direction (Dropped reason) = codes "  drop " ++ drop_name reason ++ codes "\n"
 
--- a piece while these octets of a group are held: first whether it leaves that group unfinished
-abbrev pub joined_text : List ℕ → Bool → List ℕ → List ℕ
-joined_text held start octets =
-    cond (leaves_unfinished held start) (codes "  unfinished\n") [] ++ answer_text (answer pdu_limit held start octets)
+-- a piece after these pieces of its link: first whether it leaves a group unfinished
+abbrev pub joined_text : List Piece → Piece → List ℕ
+joined_text past piece =
+    cond (leaves_unfinished (open_after pdu_limit past) (starts piece.boundary)) (codes "  unfinished\n") [] ++ answer_text (learnt past) (goes past piece) (given past piece)
 
 -- a piece after these packets
 abbrev pub piece_text : List Packet → List ℕ → Option (ℕ × Boundary) → List ℕ
 piece_text past octets None = codes "  drop BadWord\n"
-piece_text past octets (Some link) = joined_text (open_after pdu_limit (pieces_on link.0 past)) (starts link.1) octets
+piece_text past octets (Some link) = joined_text (pieces_on link.0 past) (record { boundary = link.1; octets = octets })
 
 -- what stands under the line of a packet that comes after these packets
 abbrev pub under : List Packet → Packet → List ℕ
@@ -105,23 +111,52 @@ abbrev pub IsJoinerOf : List Piece → Option Held → Type 0
 IsJoinerOf pieces None = open_after pdu_limit pieces ≡ []
 IsJoinerOf pieces (Some held) = (held.limit ≡ pdu_limit) × (held.octets ≡ open_after pdu_limit pieces)
 
--- there is a joiner at most for each handle, and each holds what is open on its handle after these packets
-pub record Knows (past : List Packet) (joiners : List (Option Held)) : Type 0 where
-  pub size : length joiners ≡ 0x0F00
-  pub each : (handle : ℕ) → handle < 0x0F00 → IsJoinerOf (pieces_on handle past) (get_or joiners handle None)
+-- a joiner that holds nothing
+abbrev pub IsSpare : Held → Type 0
+IsSpare held = (held.limit ≡ pdu_limit) × (held.octets ≡ [])
 
--- the joiner of that handle was put in its place, and holds what is open after these pieces
-pub record HasJoiner (joiners joiners' : List (Option Held)) (handle : ℕ) (pieces : List Piece) : Type 0 where
-  pub held : Held
-  pub placed : joiners' ≡ set joiners handle (Some held)
-  pub holds : IsJoinerOf pieces (Some held)
+-- what is kept of a link says what these pieces of it say
+pub record IsLink (pieces : List Piece) (link : Link) : Type 0 where
+  pub joiner : IsJoinerOf pieces link.joiner
+  pub direction : link.direction ≡ direction_after pieces
+  pub channels : Keeps (learnt pieces) link.channels
+
+-- nothing is kept of a link before its first piece
+abbrev pub IsLinkOf : List Piece → Option Link → Type 0
+IsLinkOf pieces None = pieces ≡ []
+IsLinkOf pieces (Some link) = IsLink pieces link
+
+-- there is a place for each handle, and each says what these packets say of its link
+pub record Knows (past : List Packet) (links : Links) : Type 0 where
+  pub size : length links.places.items ≡ 0x0F00
+  pub each : (handle : ℕ) → handle < 0x0F00 → IsLinkOf (pieces_on handle past) (get_or links.places.items handle None)
+  pub spare : AllByRecursion IsSpare links.spare.items
+
+-- what a piece gives was shown, and what it tells is known
+abbrev pub HeardPdus : Direction → Answer → List ℕ → List ℕ → Channels → Channels → Type 0
+HeardPdus direction answer text text' channels channels' =
+    (before : Learnt) → Keeps before channels → (text' ≡ text ++ answer_text before direction answer) × Keeps (fold with_pdu before (said_in direction answer)) channels'
+
+-- whether the group of a piece goes on
+abbrev pub goes_on : Got → Bool
+goes_on (lent.Pdu channel pdu) = false
+goes_on lent.More = true
+goes_on (lent.Dropped reason) = false
+
+-- a piece was shown and joined
+pub record Shown (past : List Piece) (piece : Piece) (text text' : List ℕ) (joiner' : Held) (channels' : Channels) (on : Bool) : Type 0 where
+  pub written : text' ≡ text ++ joined_text past piece
+  pub limit : joiner'.limit ≡ pdu_limit
+  pub holds : HoldsOpen (past ++ piece ∷ []) joiner'
+  pub ends : on ≡ false → joiner'.octets ≡ []
+  pub channels : Keeps (learnt (past ++ piece ∷ [])) channels'
 
 -- the handle, if there is one, is the one whose link the event tells the end of
 abbrev pub ClosesBy : ℕ → List ℕ → Option ℕ → Type 0
 ClosesBy code params None = (handle : ℕ) → closes handle code params ≡ false
 ClosesBy code params (Some closed) = (closed < 0x0F00) × ((handle : ℕ) → closes handle code params ≡ (closed == handle))
 
--- the joiners without that handle's
-abbrev pub forgotten : List (Option Held) → Option ℕ → List (Option Held)
-forgotten joiners None = joiners
-forgotten joiners (Some at) = set joiners at None
+-- the links without that handle's
+abbrev pub forgotten : List (Option Link) → Option ℕ → List (Option Link)
+forgotten links None = links
+forgotten links (Some at) = set links at None

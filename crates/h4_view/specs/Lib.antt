@@ -1,6 +1,8 @@
 pub mod Names
 pub mod Texts
 pub mod Signals
+pub mod Pdus
+pub mod Nested
 pub mod Details
 pub mod Lines
 pub mod Shows

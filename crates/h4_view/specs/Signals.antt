@@ -1,5 +1,5 @@
 -- What stands under a PDU of the signalling channel (this project's own).
-use Rattle.std.specs.Prelude.{ℕ, List, [], ◌∷◌, ◌++◌, cond, ◌==◌, Ok, Err, codes}
+use Rattle.std.specs.Prelude.{ℕ, List, [], ◌∷◌, ◌++◌, Ok, Err, codes}
 use Rattle.std.specs.List.{flat_map}
 use Rattle.hex.specs.Hex.{encode_upper}
 use Rattle.l2cap_signal.specs.declared.refusal.SignalRefusal.{SignalRefusal}
@@ -37,7 +37,3 @@ signal_text (Err refusal) = codes "  sig bad " ++ refused_name refusal ++ codes 
 -- the lines of all that a payload says
 abbrev pub signals_text : List ℕ → List ℕ
 signals_text payload = flat_map signal_text (answers payload)
-
--- what stands under the line of a PDU with that payload: channel 1 is the signalling channel
-abbrev pub channel_text : ℕ → List ℕ → List ℕ
-channel_text channel payload = cond (channel == 0x0001) (signals_text payload) []

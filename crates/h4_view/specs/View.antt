@@ -11,7 +11,7 @@ use Rattle.h4_view.specs.declared.refusal.ViewRefusal.{ViewRefusal}
 use Rattle.h4_view.specs.declared.refusal.ViewRefusal.TheVariants.{BadIndicator, Truncated, TooLong}
 use Rattle.h4_view.specs.declared.refusal.ViewFault.{ViewFault}
 use Rattle.h4_view.specs.declared.refusal.ViewFault.TheVariants.{Refused, ReadFault, WriteFault, NoMemory}
-use Rattle.acl_fragments.specs.Joiners.{Held}
+use Rattle.h4_view.specs.declared.links.Links.{Links}
 use Rattle.h4_view.specs.Details.{Knows}
 use Rattle.h4_view.specs.Lines.{lines, refusal_line}
 
@@ -149,9 +149,9 @@ IsOfSink WriteFault = Unit {0}
 IsOfSink NoMemory = Unit {0}
 
 -- nothing was read and nothing was shown yet
-pub record IsNewView (framing : Framing) (joiners : List (Option Held)) (offset fed : ℕ) (text : List ℕ) : Type 0 where
+pub record IsNewView (framing : Framing) (links : Links) (offset fed : ℕ) (text : List ℕ) : Type 0 where
   pub framer : framing ≡ record { limit = acl_limit; before = 0; held = []; fault = None }
-  pub knows : Knows [] joiners
+  pub knows : Knows [] links
   pub at : offset ≡ 0
   pub unread : fed ≡ 0
   pub untold : text ≡ []

@@ -2,9 +2,12 @@
 #![tactic(auto)]
 
 mod details;
+mod joined;
 pub mod laws;
 mod line;
+mod links;
 mod names;
+mod nested;
 mod piece;
 mod raw;
 mod refusal;
@@ -12,3 +15,6 @@ mod signals;
 
 pub use raw::view_raw;
 pub use refusal::{ViewFault, ViewRefusal};
+
+#[cfg(test)]
+mod tests;

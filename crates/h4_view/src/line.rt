@@ -23,22 +23,28 @@ pub(crate) fn push_decimal(text: &mut Text, number: u64) -> Result<(), NoMemory>
     Ok(())
 }
 
-pub(crate) fn push_hex(alloc: Global, text: &mut Text, octets: &[u8]) -> Result<(), NoMemory>
+/// The digits of a number below 16.
+const DIGITS: [u8; 16] = *b"0123456789ABCDEF";
+
+/// Adds two upper case hexadecimal digits for each octet.
+pub(crate) fn push_hex(text: &mut Text, octets: &[u8]) -> Result<(), NoMemory>
     ensures { OnOk result (text.new.items ≡ text.old.items ++ encode_upper octets.now) }
 {
-    let digits = hex::encode_upper(alloc, octets)?;
-    text.extend_from_slice(digits.as_bytes())?;
+    for octet in octets {
+        text.push(DIGITS[usize::from(octet / 16)])?;
+        text.push(DIGITS[usize::from(octet % 16)])?;
+    }
     Ok(())
 }
 
-pub(crate) fn push_octets(alloc: Global, text: &mut Text, octets: &[u8]) -> Result<(), NoMemory>
+pub(crate) fn push_octets(text: &mut Text, octets: &[u8]) -> Result<(), NoMemory>
     ensures { OnOk result (text.new.items ≡ text.old.items ++ octets_text octets.now) }
 {
     if octets.is_empty() {
         text.push(b'-')?;
         return Ok(());
     }
-    push_hex(alloc, text, octets)
+    push_hex(text, octets)
 }
 
 pub(crate) fn push_text(text: &mut Text, more: &str) -> Result<(), NoMemory>
@@ -48,63 +54,61 @@ pub(crate) fn push_text(text: &mut Text, more: &str) -> Result<(), NoMemory>
     Ok(())
 }
 
+/// Adds a line under a packet: `  KIND NAME`.
+pub(crate) fn push_reason(text: &mut Text, kind: &str, name: &str) -> Result<(), NoMemory>
+    ensures { OnOk result (text.new.items ≡ text.old.items ++ (kind.now ++ (name.now ++ codes "\n"))) }
+{
+    push_text(text, kind)?;
+    push_text(text, name)?;
+    push_text(text, "\n")
+}
+
 /// Adds ` NAME HEX` behind the number of a command or an event.
-fn push_named(alloc: Global, text: &mut Text, name: &str, params: &[u8]) -> Result<(), NoMemory>
+fn push_named(text: &mut Text, name: &str, params: &[u8]) -> Result<(), NoMemory>
     ensures { OnOk result (text.new.items ≡ text.old.items ++ (codes " " ++ name.now ++ codes " " ++ octets_text params.now)) }
 {
     push_text(text, " ")?;
     push_text(text, name)?;
     push_text(text, " ")?;
-    push_octets(alloc, text, params)
+    push_octets(text, params)
 }
 
 /// Adds `KIND WORD LENGTH` of a packet of data.
-fn push_counted(
-    alloc: Global,
-    text: &mut Text,
-    kind: &str,
-    word: u16,
-    length: usize,
-) -> Result<(), NoMemory>
+fn push_counted(text: &mut Text, kind: &str, word: u16, length: usize) -> Result<(), NoMemory>
     ensures { OnOk result (text.new.items ≡ text.old.items ++ (kind.now ++ word_text word ++ codes " " ++ decimal length)) }
 {
     push_text(text, kind)?;
-    push_hex(alloc, text, &word.to_be_bytes())?;
+    push_hex(text, &word.to_be_bytes())?;
     push_text(text, " ")?;
     push_decimal(text, length as u64)
 }
 
-fn push_packet(alloc: Global, text: &mut Text, unit: &Unit<'_>) -> Result<(), NoMemory>
+fn push_packet(text: &mut Text, unit: &Unit<'_>) -> Result<(), NoMemory>
     ensures { OnOk result (text.new.items ≡ text.old.items ++ packet_text (packet unit.now)) }
 {
     match *unit {
         Unit::Command { opcode, params } => {
             push_text(text, "cmd ")?;
-            push_hex(alloc, text, &opcode.to_be_bytes())?;
-            push_named(alloc, text, command_name(opcode), params)
+            push_hex(text, &opcode.to_be_bytes())?;
+            push_named(text, command_name(opcode), params)
         }
-        Unit::Acl { word, octets } => push_counted(alloc, text, "acl ", word, octets.len()),
-        Unit::Sync { word, octets } => push_counted(alloc, text, "sync ", word, octets.len()),
+        Unit::Acl { word, octets } => push_counted(text, "acl ", word, octets.len()),
+        Unit::Sync { word, octets } => push_counted(text, "sync ", word, octets.len()),
         Unit::Event { code, params } => {
             push_text(text, "evt ")?;
-            push_hex(alloc, text, &[code])?;
-            push_named(alloc, text, event_name(code), params)
+            push_hex(text, &[code])?;
+            push_named(text, event_name(code), params)
         }
     }
 }
 
 /// Adds the line of a packet at that offset.
-pub(crate) fn push_line(
-    alloc: Global,
-    text: &mut Text,
-    offset: u64,
-    unit: &Unit<'_>,
-) -> Result<(), NoMemory>
+pub(crate) fn push_line(text: &mut Text, offset: u64, unit: &Unit<'_>) -> Result<(), NoMemory>
     ensures { OnOk result (text.new.items ≡ text.old.items ++ line offset (packet unit.now)) }
 {
     push_decimal(text, offset)?;
     push_text(text, " ")?;
-    push_packet(alloc, text, unit)?;
+    push_packet(text, unit)?;
     push_text(text, "\n")
 }
 

@@ -6,7 +6,7 @@ ghost use Rattle.h4_view.specs.View.{acl_limit};
 
 use crate::details::push_details;
 use crate::line::{Text, push_line, spelled_length};
-use acl_fragments::Joiner;
+use crate::links::Links;
 use bt_base::NoMemory;
 use h4_framing::{Framer, H4Refusal, Taken};
 use std::alloc::Global;
@@ -16,23 +16,22 @@ use std::alloc::Global;
 pub(crate) fn show_piece(
     alloc: Global,
     framer: &mut Framer,
-    joiners: &mut [Option<Joiner>],
+    links: &mut Links,
     offset: &mut u64,
     text: &mut Text,
     piece: &[u8],
 ) -> Result<Option<(H4Refusal, u64)>, NoMemory>
     requires limit { framer.old.limit ≡ acl_limit }
     requires sound { framer.old.fault ≡ None }
-    requires joiners { length joiners.old ≡ 0x0F00 }
     requires room { offset.old + length framer.old.held + length piece.now < 2 ^ 64 }
-    ensures { IfOk result (λ fault. Shows framer.old framer.new joiners.old joiners.new offset.old offset.new text.old.items text.new.items piece.now fault) }
+    ensures { IfOk result (λ fault. Shows framer.old framer.new links.old links.new offset.old offset.new text.old.items text.new.items piece.now fault) }
 {
     let mut rest = piece;
     while !rest.is_empty() {
         match framer.take(rest) {
             Taken::Whole(unit, used) => {
-                push_line(alloc, text, *offset, &unit)?;
-                push_details(alloc, joiners, text, &unit)?;
+                push_line(text, *offset, &unit)?;
+                push_details(alloc, text, links, &unit)?;
                 *offset += spelled_length(&unit) as u64;
                 rest = &rest[used..];
             }

@@ -5,11 +5,10 @@ ghost use Rattle.bt_base.specs.Streams.{gained, GainedFront};
 ghost use Rattle.h4_view.specs.View.{input_limit, ShowsAll, Views, Blames, IsAnswered, Took, IsOfPorts, IsOfSink, IsNewView, IsRefusal, EndsView, EndsAtLimit};
 ghost use Rattle.h4_view.specs.Standing.{Standing, Steps};
 
-use crate::details::no_joiners;
 use crate::line::{Text, refusal_text};
+use crate::links::Links;
 use crate::piece::show_piece;
 use crate::refusal::{ViewFault, ViewRefusal};
-use acl_fragments::Joiner;
 use bt_base::{PortFault, Sink, Source};
 use h4_framing::Framer;
 use std::alloc::Global;
@@ -91,13 +90,13 @@ fn passes_limit<S: Source>(
     Ok(Some((ViewRefusal::TooLong, INPUT_LIMIT as u64)))
 }
 
-/// How far the view of a stream has come: what its framer and the joiners of its links hold, the
+/// How far the view of a stream has come: what its framer holds, what is kept of its links, the
 /// offset of the next packet, how many octets were read, and the text that is not written yet.
 #[derive(Drop)]
 struct RawView {
     alloc: Global,
     framer: Framer,
-    joiners: Vec<Option<Joiner>>,
+    links: Links,
     offset: u64,
     fed: usize,
     text: Text,
@@ -122,8 +121,8 @@ fn show_next<S: Source, K: Sink>(
     requires room { 0 < length piece.old }
     requires text { view.old.text.items ≡ [] }
     requires below { view.old.fed < input_limit }
-    requires standing { (input : Option (List ℕ)) × (old : Option (List ℕ)) × Standing input (S.content source.old) old (K.content sink.old) view.old.framer view.old.joiners.items view.old.offset view.old.fed }
-    ensures steps { Steps (S.content source.old) (S.content source.new) (K.content sink.old) (K.content sink.new) view.old.framer view.new.framer view.old.joiners.items view.new.joiners.items view.old.offset view.new.offset view.old.fed view.new.fed result }
+    requires standing { (input : Option (List ℕ)) × (old : Option (List ℕ)) × Standing input (S.content source.old) old (K.content sink.old) view.old.framer view.old.links view.old.offset view.old.fed }
+    ensures steps { Steps (S.content source.old) (S.content source.new) (K.content sink.old) (K.content sink.new) view.old.framer view.new.framer view.old.links view.new.links view.old.offset view.new.offset view.old.fed view.new.fed result }
     ensures text { IfOk result (λ progress. progress ≡ Progress.More → view.new.text.items ≡ []) }
     ensures finish { IfOk result (λ progress. progress ≡ Progress.Ended None → IfSome (S.content source.new) (λ left. left ≡ [])) }
     ensures blame { Blames (S.faults source.old) (S.faults source.new) (K.faults sink.old) (K.faults sink.new) result }
@@ -142,7 +141,7 @@ fn show_next<S: Source, K: Sink>(
     let shown = show_piece(
         view.alloc,
         &mut view.framer,
-        &mut view.joiners,
+        &mut view.links,
         &mut view.offset,
         &mut view.text,
         &piece[..n],
@@ -163,20 +162,20 @@ fn show_next<S: Source, K: Sink>(
 
 /// A view at the beginning of a stream.
 fn new_view(alloc: Global) -> Result<RawView, ViewFault>
-    ensures new { IfOk result (λ view. IsNewView view.framer view.joiners.items view.offset view.fed view.text.items) }
+    ensures new { IfOk result (λ view. IsNewView view.framer view.links view.offset view.fed view.text.items) }
     ensures short { IfErr result (λ fault. fault ≡ ViewFault.NoMemory) }
     ensures blame { Blames 0 0 0 0 result }
 {
     let Ok(framer) = Framer::new(alloc, u16::MAX) else {
         return Err(ViewFault::NoMemory);
     };
-    let Ok(joiners) = no_joiners(alloc) else {
+    let Ok(links) = Links::new(alloc) else {
         return Err(ViewFault::NoMemory);
     };
     Ok(RawView {
         alloc,
         framer,
-        joiners,
+        links,
         offset: 0,
         fed: 0,
         text: Vec::new(alloc),
@@ -202,7 +201,7 @@ fn show_all<S: Source, K: Sink>(
     sink: &mut K,
     piece: &mut [u8],
 ) -> Result<Option<(ViewRefusal, u64)>, ViewFault>
-    requires new { IsNewView view.old.framer view.old.joiners.items view.old.offset view.old.fed view.old.text.items }
+    requires new { IsNewView view.old.framer view.old.links view.old.offset view.old.fed view.old.text.items }
     requires room { 0 < length piece.old }
     ensures shows { IfSome (S.content source.old) (λ input. ShowsAll input (S.content source.new) (K.content sink.old) (K.content sink.new) result) }
     ensures finish { IfOk result (λ verdict. verdict ≡ None → IfSome (S.content source.new) (λ left. left ≡ [])) }

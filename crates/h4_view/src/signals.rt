@@ -6,15 +6,11 @@ ghost use Rattle.bt_base.specs.Octets.{le16};
 ghost use Rattle.l2cap_signal.specs.Commands.{code_of, command, content, payload_of};
 ghost use Rattle.l2cap_signal.specs.Reading.{answer};
 ghost use Rattle.h4_view.specs.Texts.{octets_text};
-ghost use Rattle.h4_view.specs.Signals.{channel_text, kind_name, refused_name, signal_text, signals_text};
+ghost use Rattle.h4_view.specs.Signals.{kind_name, refused_name, signal_text, signals_text};
 
 use crate::line::{Text, push_hex, push_octets, push_text};
 use bt_base::NoMemory;
 use l2cap_signal::{Signal, SignalKind, SignalRefusal, signals_of};
-use std::alloc::Global;
-
-/// The channel that signalling commands are sent on.
-const SIGNALLING: u16 = 0x0001;
 
 /// The code and the name of what a command says.
 fn kind_text(kind: &SignalKind<'_>) -> (u8, &'static str)
@@ -48,45 +44,43 @@ fn refused_name(refusal: SignalRefusal) -> &'static str
 }
 
 /// Adds numbers of two octets, the low octet first, and then octets, or a dash for neither.
-fn push_parts(alloc: Global, text: &mut Text, words: &[u16], rest: &[u8]) -> Result<(), NoMemory>
+fn push_parts(text: &mut Text, words: &[u16], rest: &[u8]) -> Result<(), NoMemory>
     ensures { OnOk result (text.new.items ≡ text.old.items ++ octets_text (flat_map le16 words.now ++ rest.now)) }
 {
     if words.is_empty() {
-        return push_octets(alloc, text, rest);
+        return push_octets(text, rest);
     }
     for word in words {
-        push_hex(alloc, text, &word.to_le_bytes())?;
+        push_hex(text, &word.to_le_bytes())?;
     }
-    push_hex(alloc, text, rest)?;
+    push_hex(text, rest)?;
     Ok(())
 }
 
 /// Adds the payload of a command.
-fn push_payload(alloc: Global, text: &mut Text, kind: &SignalKind<'_>) -> Result<(), NoMemory>
+fn push_payload(text: &mut Text, kind: &SignalKind<'_>) -> Result<(), NoMemory>
     ensures { OnOk result (text.new.items ≡ text.old.items ++ octets_text (payload_of (content kind.now))) }
 {
     match *kind {
-        SignalKind::Reject { reason, rest } => push_parts(alloc, text, &[reason], rest),
-        SignalKind::ConnectionRequest { psm, source } => {
-            push_parts(alloc, text, &[psm, source], &[])
-        }
+        SignalKind::Reject { reason, rest } => push_parts(text, &[reason], rest),
+        SignalKind::ConnectionRequest { psm, source } => { push_parts(text, &[psm, source], &[]) }
         SignalKind::ConnectionResponse {
             destination,
             source,
             result,
             status,
-        } => push_parts(alloc, text, &[destination, source, result, status], &[]),
+        } => push_parts(text, &[destination, source, result, status], &[]),
         SignalKind::ConfigurationRequest {
             destination,
             flags,
             options,
-        } => push_parts(alloc, text, &[destination, flags], options),
+        } => push_parts(text, &[destination, flags], options),
         SignalKind::ConfigurationResponse {
             source,
             flags,
             result,
             options,
-        } => push_parts(alloc, text, &[source, flags, result], options),
+        } => push_parts(text, &[source, flags, result], options),
         SignalKind::DisconnectionRequest {
             destination,
             source,
@@ -94,43 +88,39 @@ fn push_payload(alloc: Global, text: &mut Text, kind: &SignalKind<'_>) -> Result
         | SignalKind::DisconnectionResponse {
             destination,
             source,
-        } => push_parts(alloc, text, &[destination, source], &[]),
+        } => push_parts(text, &[destination, source], &[]),
         SignalKind::EchoRequest { octets } | SignalKind::EchoResponse { octets } => {
-            push_octets(alloc, text, octets)
+            push_octets(text, octets)
         }
-        SignalKind::InformationRequest { kind } => push_parts(alloc, text, &[kind], &[]),
+        SignalKind::InformationRequest { kind } => push_parts(text, &[kind], &[]),
         SignalKind::InformationResponse { kind, result, rest } => {
-            push_parts(alloc, text, &[kind, result], rest)
+            push_parts(text, &[kind, result], rest)
         }
     }
 }
 
 /// Adds the line of a command.
-fn push_signal(alloc: Global, text: &mut Text, signal: &Signal<'_>) -> Result<(), NoMemory>
+fn push_signal(text: &mut Text, signal: &Signal<'_>) -> Result<(), NoMemory>
     ensures { OnOk result (text.new.items ≡ text.old.items ++ signal_text (Ok (command signal.now))) }
 {
     let (code, name) = kind_text(&signal.kind);
     push_text(text, "  sig ")?;
-    push_hex(alloc, text, &[code])?;
+    push_hex(text, &[code])?;
     push_text(text, " ")?;
-    push_hex(alloc, text, &[signal.identifier])?;
+    push_hex(text, &[signal.identifier])?;
     push_text(text, " ")?;
     push_text(text, name)?;
     push_text(text, " ")?;
-    push_payload(alloc, text, &signal.kind)?;
+    push_payload(text, &signal.kind)?;
     push_text(text, "\n")
 }
 
 /// Adds the line of a command, or of its refusal.
-fn push_answer(
-    alloc: Global,
-    text: &mut Text,
-    given: Result<Signal<'_>, SignalRefusal>,
-) -> Result<(), NoMemory>
+fn push_answer(text: &mut Text, given: Result<Signal<'_>, SignalRefusal>) -> Result<(), NoMemory>
     ensures { OnOk result (text.new.items ≡ text.old.items ++ signal_text (answer given.entry)) }
 {
     match given {
-        Ok(signal) => push_signal(alloc, text, &signal),
+        Ok(signal) => push_signal(text, &signal),
         Err(refusal) => {
             push_text(text, "  sig bad ")?;
             push_text(text, refused_name(refusal))?;
@@ -140,27 +130,12 @@ fn push_answer(
 }
 
 /// Adds the lines of all that a payload says.
-fn push_signals(alloc: Global, text: &mut Text, payload: &[u8]) -> Result<(), NoMemory>
+pub(crate) fn push_signals(text: &mut Text, payload: &[u8]) -> Result<(), NoMemory>
     ensures { OnOk result (text.new.items ≡ text.old.items ++ signals_text payload.now) }
 {
     let mut signals = signals_of(payload);
     while let Some(given) = signals.next() {
-        push_answer(alloc, text, given)?;
-    }
-    Ok(())
-}
-
-/// Adds what stands under the line of a PDU with that payload.
-pub(crate) fn push_channel(
-    alloc: Global,
-    text: &mut Text,
-    channel: u16,
-    payload: &[u8],
-) -> Result<(), NoMemory>
-    ensures { OnOk result (text.new.items ≡ text.old.items ++ channel_text channel payload.now) }
-{
-    if channel == SIGNALLING {
-        push_signals(alloc, text, payload)?;
+        push_answer(text, given)?;
     }
     Ok(())
 }

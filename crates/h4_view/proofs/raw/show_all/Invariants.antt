@@ -4,7 +4,7 @@ use Rattle.h4_view.proofs.raw.show_all.Given as goal
 
 abbrev pub invariant-loop-view : goal.invariant-loop-view
 invariant-loop-view g l =
-    Standing (g.S.Source.content l.initial.source) (g.S.Source.content l.source) (g.K.Sink.content l.initial.sink) (g.K.Sink.content l.sink) l.view.framer l.view.joiners.items l.view.offset l.view.fed
+    Standing (g.S.Source.content l.initial.source) (g.S.Source.content l.source) (g.K.Sink.content l.initial.sink) (g.K.Sink.content l.sink) l.view.framer l.view.links l.view.offset l.view.fed
     × (l.view.text.items ≡ [])
     × (g.S.Source.faults l.source ≡ g.S.Source.faults l.initial.source)
     × (g.K.Sink.faults l.sink ≡ g.K.Sink.faults l.initial.sink)

@@ -16,7 +16,7 @@ returns-in_default-clause-steps g c input old s = sink_fault_shows NoMemory inpu
 
 pub returns-in-Err-write_text-clause-steps : goal.returns-in-Err-write_text-clause-steps
 returns-in-Err-write_text-clause-steps g c input old s =
-    let shows = rw (c.requires.text, c.deref_mut.ensures.value) at c.in-Ok-shown.ensures in
+    let shows = rw c.requires.text at c.in-Ok-shown.ensures in
     let front = rw c.deref.ensures.value at c.in-Err-write_text.ensures.front in
     sink_fault_shows c.in-Err-write_text.fault input _ old _ c.in-Err-write_text.ensures.of_sink (front_more _ _ _ _ _ _ _ _ _ _ _ _ _ _ _ _ s c.in-Ok.ensures.took.1 shows front (omega (arith, length-take c.in-Ok.n c.read_piece.new.piece, length-take c.min-room.result c.args.piece.now, c.in-Ok.ensures.took.0, c.min-room.ensures, c.requires.below)))
 
@@ -24,13 +24,13 @@ pub returns-in-None-clause-steps : goal.returns-in-None-clause-steps
 returns-in-None-clause-steps g c = (
   omega (arith, c.if-n-eq0.false),
   λ input old s.
-      let shows = rw (c.requires.text, c.deref_mut.ensures.value, c.in-None.is) at c.in-Ok-shown.ensures in
+      let shows = rw (c.requires.text, c.in-None.is) at c.in-Ok-shown.ensures in
       let wrote = rw c.deref.ensures.value at c.in_default-write_text.ensures.ok in
-      standing_more _ _ _ _ _ _ _ _ _ _ _ _ _ _ _ _ _ s c.in-Ok.ensures.took.1 shows wrote (omega (arith, length-take c.in-Ok.n c.read_piece.new.piece, c.in-Ok.ensures.took.0, c.read_piece.auto.piece)) (omega (arith, length-take c.min-room.result c.args.piece.now, c.in-Ok.ensures.took.0, c.min-room.ensures, c.requires.below)) (take_at c.show_piece-shown.new.joiners _ _ (omega (arith, c.deref_mut.ensures.len, (shows.adds s.packets s.knows).1.size, s.knows.size))),
+      standing_more _ _ _ _ _ _ _ _ _ _ _ _ _ _ _ _ s c.in-Ok.ensures.took.1 shows wrote (omega (arith, length-take c.in-Ok.n c.read_piece.new.piece, c.in-Ok.ensures.took.0, c.read_piece.auto.piece)) (omega (arith, length-take c.min-room.result c.args.piece.now, c.in-Ok.ensures.took.0, c.min-room.ensures, c.requires.below)),
 )
 
 pub returns-in-Some-clause-steps : goal.returns-in-Some-clause-steps
 returns-in-Some-clause-steps g c input old s =
-    let shows = rw (c.requires.text, c.deref_mut.ensures.value, c.in-Some.is) at c.in-Ok-shown.ensures in
+    let shows = rw (c.requires.text, c.in-Some.is) at c.in-Ok-shown.ensures in
     let wrote = rw c.deref.ensures.value at c.in_default-write_text.ensures.ok in
     refused _ _ _ _ _ _ _ _ _ _ _ _ _ c.in-Ok.n c.in-Some.place c.in-Some.field-0-0 _ _ s c.in-Ok.ensures.took.1 shows wrote (omega (arith, length-take c.in-Ok.n c.read_piece.new.piece, c.in-Ok.ensures.took.0, c.read_piece.auto.piece)) (omega (arith, length-take c.min-room.result c.args.piece.now, c.in-Ok.ensures.took.0, c.min-room.ensures, c.requires.below))
