@@ -5,7 +5,7 @@ use Rattle.clap.proofs.OnLiterals.{clap_on_literals}
 use Rattle.clap.specs.declared.parser.matches.ArgMatches.{ArgMatches}
 use Rattle.command_words.specs.Forms.{Given, given_by, spelled, IsAnswered, IsSpelled, is_set, the_command}
 use Rattle.command_words.specs.declared.form.Form.{Form}
-use Rattle.command_words.specs.declared.form.Form.TheVariants.{Decode, DecodeTagged, Push, Receive, Make}
+use Rattle.command_words.specs.declared.form.Form.TheVariants.{Decode, DecodeTagged, Push, Receive, Make, Wire}
 
 abbrev is_there : Option (List ℕ) → Type 0
 is_there (Some word) = Unit {0}
@@ -17,6 +17,7 @@ has_word DecodeTagged = tt
 has_word Push = tt
 has_word Receive = tt
 has_word (Make number) = tt
+has_word (Wire number) = tt
 
 pub no_word : (rows : List Row) → first_of (codes "form") rows ≡ None → IsSpelled (given_by rows) None
 no_word rows none form range is = subst is_there (sym (ap (λ (given : Given). given.form) is) ∙ none) (has_word form)

@@ -1,2 +1,3 @@
 mod Numbers
 mod Finding
+pub mod Asking

@@ -1,10 +1,11 @@
 -- The words of the command line: what each form is spelled by (this project's own).
-use Rattle.std.specs.Prelude.{ℕ, ◌≡◌, ◌<◌, ◌^◌, Bool, true, false, List, [], ◌∷◌, Option, Some, None, codes, decimal}
+use Rattle.std.specs.Prelude.{ℕ, ◌≡◌, ◌<◌, ◌^◌, Bool, true, false, List, [], Option, Some, None, IfSome, codes, decimal}
+use Rattle.std.specs.Option.{option_map}
 use Rattle.std.specs.Str.{bytes_eq}
 use Rattle.clap.specs.Words.{App, Row, Rule, Text, fault_of, first_of, matches_of, new_app, new_rule, with_rule}
 use Rattle.clap.specs.declared.builder.action.ArgAction.TheVariants.{SetTrue}
 use Rattle.command_words.specs.declared.form.Form.{Form}
-use Rattle.command_words.specs.declared.form.Form.TheVariants.{Decode, DecodeTagged, Push, Receive, Make}
+use Rattle.command_words.specs.declared.form.Form.TheVariants.{Decode, DecodeTagged, Push, Receive, Make, Wire}
 
 -- ---- the command: one required word, a flag and an option
 
@@ -49,10 +50,12 @@ spelled DecodeTagged = record { form = Some (codes "decode"); tagged = true; num
 spelled Push = record { form = Some (codes "push"); tagged = false; number = None }
 spelled Receive = record { form = Some (codes "receive"); tagged = false; number = None }
 spelled (Make number) = record { form = Some (codes "make"); tagged = false; number = Some (decimal number) }
+spelled (Wire number) = record { form = Some (codes "wire"); tagged = false; number = option_map decimal number }
 
 -- a number has 32 bits
 abbrev pub IsInRange : Form → Type 0
 IsInRange (Make number) = number < 2 ^ 32
+IsInRange (Wire number) = IfSome number (λ number. number < 2 ^ 32)
 IsInRange _ = Unit {0}
 
 -- The words ask for that form: `clap` takes them for the command, and what it finds is the form's word, its flag and its

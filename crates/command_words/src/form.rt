@@ -13,4 +13,7 @@ pub enum Form {
     Receive,
     /// `make --number N`: it runs the generated scenario of that number.
     Make(u32),
+    /// `wire`: it carries units over a three-wire line, which loses none. `wire --number N`: one which
+    /// loses packets by the draws of that number.
+    Wire(Option<u32>),
 }

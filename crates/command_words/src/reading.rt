@@ -40,6 +40,7 @@ fn plain_form(word: &str, tagged: bool) -> Option<Form>
         ("decode", true) => Some(Form::DecodeTagged),
         ("push", false) => Some(Form::Push),
         ("receive", false) => Some(Form::Receive),
+        ("wire", false) => Some(Form::Wire(None)),
         _ => None,
     }
 }
@@ -50,6 +51,7 @@ fn numbered_form(word: &str, tagged: bool, number: &str) -> Option<Form>
 {
     match (word, tagged) {
         ("make", false) => number_of(number).map(Form::Make),
+        ("wire", false) => number_of(number).map(|number| Form::Wire(Some(number))),
         _ => None,
     }
 }

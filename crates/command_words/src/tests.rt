@@ -3,7 +3,7 @@ use std::test::Fail;
 
 /// Command lines behind the program's name, their words apart by blanks, and the forms that they ask
 /// for.
-const LINES: [(&str, Option<Form>); 14] = [
+const LINES: [(&str, Option<Form>); 18] = [
     ("decode", Some(Form::Decode)),
     ("decode --tagged", Some(Form::DecodeTagged)),
     ("--tagged decode", Some(Form::DecodeTagged)),
@@ -11,11 +11,15 @@ const LINES: [(&str, Option<Form>); 14] = [
     ("receive", Some(Form::Receive)),
     ("make --number 0", Some(Form::Make(0))),
     ("--number=4294967295 make", Some(Form::Make(4_294_967_295))),
+    ("wire", Some(Form::Wire(None))),
+    ("--number 1 wire", Some(Form::Wire(Some(1)))),
     ("make", None),
     ("make --number 007", None),
     ("make --number 4294967296", None),
     ("push --tagged", None),
     ("decode --number 1", None),
+    ("wire --number 01", None),
+    ("wire --tagged", None),
     ("push push", None),
     ("--help", None),
 ];

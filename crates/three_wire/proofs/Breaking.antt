@@ -1,18 +1,18 @@
 -- Where a port fails, and how far the trace and the sink have come then.
-use Rattle.std.proofs.Common.{◌≡◌, ℕ, ◌+◌, ◌<◌, ◌≤◌, ◌⊎◌, Bool, true, false, List, [], ◌∷◌, ◌++◌, length, take, drop, Option, Some, None, inl, inr, refl, sym, ap, subst, ◌∙◌, arith}
+use Rattle.std.proofs.Common.{◌≡◌, ℕ, ◌⊎◌, Bool, true, false, List, ◌∷◌, ◌++◌, length, take, drop, Option, Some, inl, inr, refl, sym, ap, subst, ◌∙◌}
 use Rattle.std.proofs.lemmas.List.{take_at, take_all, append-nil}
 use Rattle.std.proofs.lemmas.Bool.{cases_lt}
 use Rattle.bt_base.specs.Octets.{be16}
 use Rattle.bt_base.specs.Streams.{gained, GainedFront}
 use Rattle.bt_base.proofs.PortLaws.{front_none}
-use Rattle.wire_packets.specs.Packets.{Packet, IsPacket}
+use Rattle.wire_packets.specs.Packets.{Packet}
 use Rattle.wire_packets.specs.Stepping.{Slipping}
 use Rattle.wire_model.specs.declared.link.Way.{Way}
-use Rattle.wire_model.specs.declared.link.Way.TheVariants.{Forth, Back}
+use Rattle.wire_model.specs.declared.link.Way.TheVariants.{Forth}
 use Rattle.wire_model.specs.Line.{line}
 use Rattle.wire_model.specs.Machine as machine
 use Rattle.wire_model.specs.Draws.{loses, drawn_on}
-use Rattle.wire_model.specs.Trace.{Crossing, entry, tag_of, unit_octets, IsCut}
+use Rattle.wire_model.specs.Trace.{Crossing, entry, tag_of, unit_octets}
 use Rattle.wire_model.specs.Pair.{Crosses, hears_over}
 use Rattle.three_wire.specs.Wire.{SaysThen, Puts}
 use Rattle.three_wire.specs.Crossing.{HearsWhole, HasUnit, CutsTrace, CutsSink, got_octets}

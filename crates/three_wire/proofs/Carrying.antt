@@ -1,6 +1,6 @@
 -- How a run over the line goes on, and what it did where it ends.
-use Rattle.std.proofs.Common.{◌≡◌, ◌≢◌, ℕ, zero, suc, slice_index_or, ◌+◌, ◌*◌, ◌-◌, ◌<◌, ◌≤◌, ◌⊎◌, Bool, true, false, ltb, ◌&&◌, not, List, [], ◌∷◌, ◌++◌, map, length, take, drop, get_or, Option, Some, None, IfSome, Result, Ok, Err, IsErrOf, inl, inr, refl, sym, ap, subst, ◌∙◌, append_assoc, arith, length-append}
-use Rattle.std.proofs.lemmas.List.{append-nil, length-take}
+use Rattle.std.proofs.Common.{◌≡◌, ◌≢◌, ℕ, zero, suc, slice_index_or, ◌+◌, ◌-◌, ◌<◌, ◌⊎◌, Bool, true, false, ltb, List, [], ◌∷◌, ◌++◌, length, take, drop, get_or, Option, Some, None, IfSome, Result, Ok, Err, IsErrOf, inl, inr, refl, sym, ap, subst, ◌∙◌, append_assoc, arith, length-append}
+use Rattle.std.proofs.lemmas.List.{append-nil}
 use Rattle.std.proofs.lemmas.Bool.{ltb-true, lt-ltb, and_parts, and_from, cases_Bool}
 use Rattle.bt_base.specs.Counts.{HasRisen}
 use Rattle.bt_base.specs.Streams.{gained, GainedFront}
@@ -8,15 +8,15 @@ use Rattle.bt_base.proofs.PortLaws.{gained-nil, front_whole, front_none}
 use Rattle.h4_framing.specs.Packets.{Packet, Command, Acl, Sync, Event as H4Event, spelling, spellings, IsPacket}
 use Rattle.wire_model.specs.declared.link.Way.TheVariants.{Forth}
 use Rattle.wire_model.specs.Machine as machine
-use Rattle.wire_model.specs.Trace.{Obeys, entries, carried, came, unit_octets, units_octets, IsCut}
-use Rattle.wire_model.specs.Pair.{Pair, new_pair, IsUnit, Event, Took, Crossed, Rang, Takes, Runs, Passes, crossings_of, taken, accepted}
-use Rattle.wire_model.specs.Rounds.{takings, IsRound, Rounds, joined, losses}
+use Rattle.wire_model.specs.Trace.{Obeys, entries, carried, came, unit_octets, units_octets}
+use Rattle.wire_model.specs.Pair.{Pair, new_pair, IsUnit, Event, Took, Crossed, Rang, Takes, Runs, crossings_of, taken, accepted}
+use Rattle.wire_model.specs.Rounds.{takings, IsRound, joined, losses}
 use Rattle.wire_model.proofs.Running.{runs_then, rounds_then, joined_then}
 use Rattle.wire_model.proofs.Obeying.{obeys}
 use Rattle.wire_model.proofs.Rounding.{losses_then, rounds_few}
 use Rattle.wire_model.specs.Draws.{draws_from}
 use Rattle.h4_framing.specs.declared.refusal.H4Refusal.TheVariants.{Truncated, BadIndicator, AclTooLong}
-use Rattle.h4_framing.specs.Stream.{Whole, Cut, Fault, Reads}
+use Rattle.h4_framing.specs.Stream.{Whole, Cut, Fault}
 use Rattle.h4_framing.proofs.ReadingLemmas.{one_reading}
 use Rattle.wire_model.proofs.Carrying.{stands_from, all_got}
 use Rattle.three_wire.specs.declared.carriage.Carriage.{Carriage}
@@ -30,9 +30,9 @@ use Rattle.three_wire.specs.declared.wire.WireSubmit.{WireSubmit}
 use Rattle.three_wire.specs.declared.wire.WireSubmit.TheVariants.{NotActive, Busy, Taken}
 use Rattle.three_wire.specs.Crossing.{Steady, BlamesBoth}
 use Rattle.three_wire.specs.Wire.{is_ready, Submits}
-use Rattle.three_wire.specs.Feeding.{IsRefusal, BlamesSource, input_limit, acl_limit, HasShape, IsFeeding, IsFront, IsAll, StopsAt}
+use Rattle.three_wire.specs.Feeding.{IsRefusal, BlamesSource, acl_limit, HasShape, IsFeeding, IsFront, IsAll, StopsAt}
 use Rattle.three_wire.specs.Going.{pair_of, IsSound, Went, Broke, WentRound}
-use Rattle.three_wire.specs.Carrying.{Given, given, as_unit, as_units, GoesRound, most_rounds, EndsBy, IsWritten, Carries, AnyRose, IsBounded, IsWholeInput, EndsWell, ReadsOn, IsCarrying, HasCause, EndsHere}
+use Rattle.three_wire.specs.Carrying.{Given, given, as_unit, as_units, GoesRound, most_rounds, EndsBy, Carries, AnyRose, IsBounded, IsWholeInput, EndsWell, ReadsOn, IsCarrying, HasCause, EndsHere}
 use Rattle.three_wire.proofs.Feeding.{some_octet, few_fed, front_fed}
 use Rattle.three_wire.proofs.Going.{went_none, went_then, broke_trace, broke_sink, taken_then, round_takes_none, no_cut}
 
@@ -122,7 +122,7 @@ carries_unit g left left' sink trace c c' p k ready feeding is shape sound pair 
     }
 
 -- the source is at its end
-pub carries_end : (g : Given) (left left' sink trace : Option (List ℕ)) (c c' : Carriage) → (k : IsCarrying g left sink trace c) → IfSome g.input (λ all. IsAll all k.packets)
+pub carries_end : (g : Given) (left left' sink trace : Option (List ℕ)) (c c' : Carriage) → (k : IsCarrying g left sink trace c) → IfSome g.input (λ all. IsAll all k.packets) × IfSome left' (λ rest. rest ≡ [])
     → HasShape c'.feed → c'.ends ≡ c.ends → c'.ended ≡ true → c'.units ≡ c.units → c'.rounds ≡ c.rounds → IsCarrying g left' sink trace c'
 carries_end g left left' sink trace c c' k all shape ends ended units rounds = record {
   sound = subst IsSound (sym ends) k.sound;
@@ -331,7 +331,7 @@ bound_of number events last packets g takes =
 pub ends_here : (g : Given) (left sink trace : Option (List ℕ)) (c : Carriage) (end : CarryEnd) → (k : IsCarrying g left sink trace c) → EndsHere c (Some end) → EndsBy g k.packets k.events (pair_of c.ends) (Ok end)
 ends_here g left sink trace c All k e =
     let s = stands_from g.number k.events (pair_of c.ends) k.went.runs in (
-      subst (λ (b : Bool). ReadsOn b g.input left c.feed k.packets) e.0 k.read,
+      (subst (λ (b : Bool). ReadsOn b g.input left c.feed k.packets) e.0 k.read).0,
       s.picks ∙ all_got c.ends.first c.ends.second (taken k.events) (accepted k.events) (came (crossings_of k.events)) s e.1 ∙ k.takes,
       e.1,
       (k.round, bound_of g.number k.events (pair_of c.ends) k.packets k.round k.takes),
@@ -340,6 +340,11 @@ ends_here g left sink trace c Spent k e =
     let all : length k.round.rounds ≡ most_rounds (length k.packets) = omega (arith, e, k.in_time, k.rounds_count, k.units_count) in
     let bound = bound_of g.number k.events (pair_of c.ends) k.packets k.round k.takes in
     (k.round, all, omega (arith, all, bound))
+
+-- where all is carried the source is at its end
+pub finishes : (g : Given) (left sink trace : Option (List ℕ)) (c : Carriage) (end : CarryEnd) → IsCarrying g left sink trace c → EndsHere c (Some end) → (let r : Result CarryEnd CarryFault = Ok end in r) ≡ Ok All → IfSome left (λ rest. rest ≡ [])
+finishes g left sink trace c All k e is = (subst (λ (b : Bool). ReadsOn b g.input left c.feed k.packets) e.0 k.read).1
+finishes g left sink trace c Spent k e is = absurd cc
 
 -- packets go where something is to be carried
 pub cause_of : (g : Given) (left sink trace : Option (List ℕ)) (c : Carriage) → IsCarrying g left sink trace c → (c.ended ≡ false → is_ready c.ends.first ≡ false) → EndsHere c None → HasCause c

@@ -1,13 +1,11 @@
 -- How the units of a source go on.
-use Rattle.std.proofs.Common.{◌≡◌, ◌≢◌, ◌⊎◌, ℕ, ◌+◌, ◌-◌, ◌<◌, ◌≤◌, ◌^◌, min, List, [], ◌∷◌, ◌++◌, length, take, drop, Option, None, Some, IfSome, MatchOption, Result, Ok, Err, Bool, ltb, zero, suc, is_err, true, false, vec_len, refl, sym, ap, subst, ◌∙◌, append_assoc, arith, length-append, inl, inr}
-use Rattle.std.specs.List.{AllByRecursion}
+use Rattle.std.proofs.Common.{◌≡◌, ◌≢◌, ◌⊎◌, ℕ, ◌+◌, ◌-◌, ◌<◌, ◌≤◌, List, [], ◌∷◌, ◌++◌, length, take, drop, Option, None, Some, IfSome, MatchOption, Result, Ok, Err, Bool, ltb, zero, suc, is_err, true, false, refl, sym, ap, subst, ◌∙◌, append_assoc, arith, length-append, inl, inr}
 use Rattle.std.specs.Option.{option_map}
 use Rattle.std.proofs.lemmas.Bool.{lt-ltb}
-use Rattle.std.proofs.lemmas.List.{take-append-drop, append-nil, drop-drop, length-take, length-drop, take_at, drop-take, nil_from_length}
+use Rattle.std.proofs.lemmas.List.{take-append-drop, append-nil, drop-drop, length-take, length-drop, drop-take, nil_from_length}
 use Rattle.h4_framing.specs.declared.refusal.H4Refusal.{H4Refusal}
 use Rattle.h4_framing.specs.declared.refusal.H4Refusal.TheVariants.{Truncated, BadIndicator, AclTooLong}
 use Rattle.h4_framing.specs.declared.unit.Unit.{Unit as Lent}
-use Rattle.h4_framing.specs.declared.framer.Taken.{Taken}
 use Rattle.h4_framing.specs.declared.framer.Taken.TheVariants as taken
 use Rattle.h4_framing.specs.Packets.{Packet, Command, Acl, Sync, Event, packet, spelling, spellings, IsPacket}
 use Rattle.h4_framing.specs.Stream.{Whole, Cut, Fault, Reads, IsUnfinished}

@@ -1,22 +1,18 @@
 -- What happened first and what happened then is what happened.
-use Rattle.std.proofs.Common.{◌≡◌, ℕ, ◌+◌, ◌-◌, ◌<◌, ◌≤◌, ◌⊎◌, max, Bool, true, false, ◌&&◌, ◌||◌, not, List, [], ◌∷◌, ◌++◌, length, take, drop, Option, Some, None, Result, Ok, Err, slice_get, inl, inr, refl, sym, ap, subst, ◌∙◌, arith}
+use Rattle.std.proofs.Common.{◌≡◌, ℕ, ◌⊎◌, Bool, true, false, ◌&&◌, ◌||◌, not, List, [], ◌∷◌, ◌++◌, Option, Some, None, Result, Ok, Err, inl, inr, refl, sym, ap, subst, ◌∙◌, arith}
 use Rattle.std.proofs.lemmas.List.{append-nil, append_assoc}
-use Rattle.std.proofs.lemmas.Option.{slice_get_within}
 use Rattle.std.proofs.lemmas.List.Elements.{filter_map-append}
 use Rattle.std.proofs.lemmas.Grind.{flat_map-append}
 use Rattle.std.specs.List.{list_any, cons_option}
 use Rattle.std.specs.Option.{option_to_list}
 use Rattle.bt_base.specs.Streams.{gained, GainedFront}
-use Rattle.bt_base.proofs.PortLaws.{gained-gained, gained-nil, front_then, front_none, front_whole}
+use Rattle.bt_base.proofs.PortLaws.{gained-gained, gained-nil, front_then, front_none}
 use Rattle.wire_packets.specs.Packets.{Packet}
-use Rattle.wire_model.specs.declared.link.LinkMessage.{LinkMessage}
-use Rattle.wire_model.specs.declared.link.Stage.{Stage}
-use Rattle.wire_model.specs.declared.link.Stage.TheVariants.{Uninitialized, Initialized, Active, Reset}
 use Rattle.wire_model.specs.declared.link.Way.{Way}
 use Rattle.wire_model.specs.declared.link.Way.TheVariants.{Forth, Back}
 use Rattle.wire_model.specs.Machine as machine
 use Rattle.wire_model.specs.Trace.{Crossing, entry, entries, unit_octets, units_octets, IsCut}
-use Rattle.wire_model.specs.Pair.{Pair, Event, Took, Crossed, Rang, Happens, Runs, Crosses, CrossesBy, crossing_of, crossings_of, taken_of, taken, got_of, got_by, accepted, speaker, GoesBy, AllGoBy, SaysAll, Passes, is_lost, is_some_event, is_calm, rings, ringing}
+use Rattle.wire_model.specs.Pair.{Pair, Event, Took, Crossed, Rang, Runs, CrossesBy, crossing_of, crossings_of, taken_of, taken, got_of, got_by, accepted, AllGoBy, Passes, is_lost, is_some_event, is_calm, rings, ringing}
 use Rattle.wire_model.proofs.Running.{runs_then}
 use Rattle.wire_model.proofs.Saying.{says_falls}
 use Rattle.three_wire.specs.declared.ends.Said.{Said}

@@ -1,5 +1,5 @@
 -- A packet on the line is the packet that is heard.
-use Rattle.std.proofs.Common.{◌≡◌, ◌≢◌, ℕ, ◌+◌, ◌<◌, ◌≤◌, Bool, true, false, cond, List, [], ◌∷◌, length, Some, None, Ok, Err, Result, refl, sym, ap, subst, ◌∙◌, arith}
+use Rattle.std.proofs.Common.{◌≡◌, ℕ, true, List, [], Ok, Err, refl, sym, ap, subst, arith}
 use Rattle.wire_packets.specs.declared.packet.WirePacket.{WirePacket}
 use Rattle.wire_packets.specs.declared.refusal.WireRefusal.{WireRefusal}
 use Rattle.wire_packets.specs.declared.stepping.Place.{Place}
@@ -9,8 +9,7 @@ use Rattle.wire_packets.specs.Packets as wire
 use Rattle.wire_packets.specs.Packets.{IsPacket, spelling, plain}
 use Rattle.wire_packets.specs.declared.slip.SlipTaken.TheVariants.{Packet, Bad, More}
 use denote.Bor.{Bor}
-use Rattle.wire_packets.specs.Answers.{Answer, answer, IsAnswer}
-use Rattle.wire_packets.specs.Slip.{slip}
+use Rattle.wire_packets.specs.Answers.{Answer, IsAnswer}
 use Rattle.wire_packets.specs.Stepping.{Slipping, standing, Takes}
 use Rattle.wire_packets.proofs.Taking.{Rests, outside, inside, TakesWhole, takes_whole}
 use Rattle.wire_packets.proofs.Spelled.{one_answer_lem}

@@ -1,11 +1,11 @@
 -- The rooms of an end, and the units that they keep.
-use Rattle.std.proofs.Common.{◌≡◌, eqb, ℕ, inl, inr, length-append, zero, suc, max, slice_get, subst, ◌+◌, ◌-◌, ◌%◌, ◌<◌, ◌≤◌, Bool, true, false, cond, List, [], ◌∷◌, ◌++◌, map, length, take, drop, get_or, All, Some, None, leb, refl, sym, ap, ◌∙◌, arith}
-use Rattle.std.proofs.lemmas.List.{take_at, take-append-le, drop-take, length-drop, drop-map, length-map, length-take, get_or_append_left, get_or-append_right, get_or-drop, get_or-take}
+use Rattle.std.proofs.Common.{◌≡◌, eqb, ℕ, inl, inr, length-append, zero, suc, max, slice_get, subst, ◌+◌, ◌-◌, ◌%◌, ◌<◌, ◌≤◌, true, false, List, [], ◌∷◌, ◌++◌, map, length, take, drop, get_or, All, Some, None, leb, refl, sym, ap, ◌∙◌, arith}
+use Rattle.std.proofs.lemmas.List.{take-append-le, drop-take, length-drop, drop-map, length-map, length-take, get_or_append_left, get_or-append_right, get_or-drop, get_or-take}
 use Rattle.std.proofs.lemmas.Bool.{le-leb, lt-leb, cases_lt}
 use Rattle.std.proofs.lemmas.Option.{slice_get_past, slice_get_within, get_or_from_slice_get}
 use Rattle.wire_model.specs.declared.link.LinkMessage.{LinkMessage}
 use Rattle.wire_model.specs.declared.link.Stage.TheVariants.{Active}
-use Rattle.wire_model.specs.Machine.{Wire, Unit, past, hears_ack, acknowledged, says, unit_packet, ack_packet, link_packet, is_reset}
+use Rattle.wire_model.specs.Machine.{Wire, Unit, past, hears_ack, says, unit_packet, ack_packet, link_packet, is_reset}
 use Rattle.three_wire.specs.declared.held.Held.{Held}
 use Rattle.three_wire.specs.Held.{unit_of, units_of, IsUnit}
 

@@ -118,7 +118,7 @@ IsUntouched source source' sink sink' trace trace' = (source' ≡ source) × (si
 -- the source goes on, or was found to be at its end
 abbrev pub ReadsOn : Bool → Option (List ℕ) → Option (List ℕ) → Feed → List Packet → Type 0
 ReadsOn false input left feed packets = IsFeeding input left feed packets
-ReadsOn true input left feed packets = IfSome input (λ all. IsAll all packets)
+ReadsOn true input left feed packets = IfSome input (λ all. IsAll all packets) × IfSome left (λ rest. rest ≡ [])
 
 -- How far a run is.
 pub record IsCarrying (given : Given) (left sink trace : Option (List ℕ)) (carriage : Carriage) : Type 0 where

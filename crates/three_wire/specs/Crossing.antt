@@ -1,14 +1,13 @@
 -- What becomes of a packet on the line, in the ends, the trace and the sink.
-use Rattle.std.specs.Prelude.{ℕ, ◌≤◌, vec_len, vec_capacity, ◌≡◌, ◌<◌, ◌⊎◌, Bool, true, false, List, [], ◌∷◌, ◌++◌, length, Option, Some, None, Result, Ok, Err, IsErrOf}
+use Rattle.std.specs.Prelude.{ℕ, ◌≤◌, vec_len, vec_capacity, ◌≡◌, ◌⊎◌, Bool, true, false, List, [], Option, Some, None, Result, Ok, Err, IsErrOf}
 use Rattle.std.specs.Option.{option_to_list}
 use Rattle.bt_base.specs.Counts.{HasRisen}
 use Rattle.bt_base.specs.Streams.{gained, GainedFront}
-use Rattle.wire_packets.specs.Packets.{Packet, IsPacket}
+use Rattle.wire_packets.specs.Packets.{Packet}
 use Rattle.wire_packets.specs.Stepping.{Slipping}
 use Rattle.wire_packets.specs.declared.stepping.Place.{Place}
 use Rattle.wire_packets.specs.declared.stepping.Place.TheVariants.{Outside, Inside, Escaping}
 use Rattle.wire_model.specs.declared.link.Way.{Way}
-use Rattle.wire_model.specs.declared.link.Way.TheVariants.{Forth, Back}
 use Rattle.wire_model.specs.Machine as machine
 use Rattle.wire_model.specs.Trace.{entry, unit_octets, units_octets, IsCut}
 use Rattle.wire_model.specs.Pair.{Crosses, got_by}

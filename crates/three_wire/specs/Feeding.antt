@@ -1,14 +1,12 @@
 -- The units of a source: how far it was read, and how it ends.
-use Rattle.std.specs.Prelude.{ℕ, Bool, true, false, ◌≡◌, ◌≢◌, ◌<◌, ◌≤◌, ◌+◌, ◌-◌, ◌⊎◌, List, [], ◌∷◌, ◌++◌, length, take, drop, vec_len, Option, None, Some, IfSome, Result, Ok, Err, IsErrOf}
-use Rattle.std.specs.List.{AllByRecursion}
+use Rattle.std.specs.Prelude.{ℕ, Bool, true, false, ◌≡◌, ◌<◌, ◌≤◌, ◌+◌, ◌-◌, ◌⊎◌, List, [], ◌∷◌, ◌++◌, length, take, drop, vec_len, Option, None, Some, IfSome, Result, Ok, Err}
 use Rattle.std.specs.Option.{option_map}
 use Rattle.bt_base.specs.Counts.{HasRisen}
 use Rattle.h4_framing.specs.declared.refusal.H4Refusal.{H4Refusal}
 use Rattle.h4_framing.specs.declared.refusal.H4Refusal.TheVariants.{Truncated, BadIndicator, AclTooLong}
-use Rattle.h4_framing.specs.Packets.{Packet, Command, Acl, Sync, Event, spelling, spellings, IsPacket}
-use Rattle.h4_framing.specs.Stream.{Whole, Cut, Fault, Reads, IsLeastLength}
+use Rattle.h4_framing.specs.Packets.{Packet, spelling, spellings, IsPacket}
+use Rattle.h4_framing.specs.Stream.{Whole, Cut, Fault, Reads}
 use Rattle.h4_framing.specs.Accounts.{Accounts}
-use Rattle.wire_model.specs.Machine as machine
 use Rattle.three_wire.specs.declared.feed.Feed.{Feed}
 use Rattle.three_wire.specs.declared.feed.Found.{Found}
 use Rattle.three_wire.specs.declared.feed.Found.TheVariants as found
@@ -111,5 +109,5 @@ EndsSo input packets (Err why) = IfSome input (λ all. StopsAt all packets why)
 
 abbrev pub Feeds : Option (List ℕ) → Option (List ℕ) → Feed → List Packet → Result (Option ℕ) CarryFault → Type 0
 Feeds input left feed packets (Ok (Some n)) = (packet : Packet) × IsFeeding input left feed (packets ++ packet ∷ []) × IsPacket acl_limit packet × (n ≡ length (spelling packet)) × (take n feed.unit.items ≡ spelling packet)
-Feeds input left feed packets (Ok None) = IfSome input (λ all. IsAll all packets)
+Feeds input left feed packets (Ok None) = IfSome input (λ all. IsAll all packets) × IfSome left (λ rest. rest ≡ [])
 Feeds input left feed packets (Err why) = IfSome input (λ all. StopsAt all packets why)

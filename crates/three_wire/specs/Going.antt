@@ -1,11 +1,11 @@
 -- How two ends, the trace and the sink go on together.
-use Rattle.std.specs.Prelude.{ℕ, ◌≡◌, ◌<◌, ◌+◌, ◌-◌, Bool, true, false, ◌&&◌, ◌||◌, not, List, [], ◌∷◌, ◌++◌, length, Option, Some, None, Result, Ok, Err}
+use Rattle.std.specs.Prelude.{ℕ, ◌≡◌, ◌<◌, Bool, ◌&&◌, ◌||◌, not, List, [], ◌∷◌, ◌++◌, Option, Some, None, Result, Ok, Err}
 use Rattle.std.specs.List.{list_any}
 use Rattle.bt_base.specs.Streams.{gained, GainedFront}
 use Rattle.wire_model.specs.declared.link.Way.{Way}
 use Rattle.wire_model.specs.Machine as machine
 use Rattle.wire_model.specs.Trace.{entries, units_octets, IsCut}
-use Rattle.wire_model.specs.Pair.{Pair, Event, Runs, crossings_of, taken, accepted, speaker, GoesBy, AllGoBy, SaysAll, Passes, is_lost, is_some_event}
+use Rattle.wire_model.specs.Pair.{Pair, Event, Runs, crossings_of, taken, accepted, speaker, GoesBy, AllGoBy, Passes, is_lost, is_some_event}
 use Rattle.three_wire.specs.declared.ends.Ends.{Ends}
 use Rattle.three_wire.specs.declared.ends.Said.{Said}
 use Rattle.three_wire.specs.declared.fault.CarryFault.{CarryFault}

@@ -1,6 +1,5 @@
 -- The units that an end keeps.
 use Rattle.std.specs.Prelude.{ℕ, ◌≤◌, List, map, take, length, vec_capacity}
-use Rattle.bt_base.specs.Octets.{IsOctets}
 use Rattle.wire_model.specs.Machine.{Unit}
 use Rattle.three_wire.specs.declared.held.Held.{Held}
 

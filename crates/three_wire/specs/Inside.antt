@@ -1,7 +1,7 @@
 -- What holds of the fields of an end.
-use Rattle.std.specs.Prelude.{ℕ, false, ◌≡◌, ◌<◌, ◌≤◌, All, take, vec_len, map}
+use Rattle.std.specs.Prelude.{false, ◌≡◌, ◌<◌, ◌≤◌, All, vec_len}
 use Rattle.wire_model.specs.Machine.{is_active, is_reset}
-use Rattle.three_wire.specs.Held.{unit_of, units_of, HasRoom, IsUnit}
+use Rattle.three_wire.specs.Held.{units_of, HasRoom, IsUnit}
 use Rattle.three_wire.specs.declared.wire.Wire.TheInside.{Inside}
 
 pub record IsWire (w : Inside) : Type 0 where

@@ -1,5 +1,5 @@
 -- What the calls of an end answer.
-use Rattle.std.specs.Prelude.{ℕ, ◌≡◌, ◌<◌, ◌++◌, Bool, true, false, ◌&&◌, nat_lt, List, length, drop, Option, Some, None, IsTrue}
+use Rattle.std.specs.Prelude.{ℕ, ◌≡◌, ◌<◌, ◌++◌, Bool, true, false, ◌&&◌, nat_lt, List, length, drop, Option, Some, None}
 use Rattle.wire_packets.specs.Packets.{Packet, IsPacket}
 use Rattle.wire_model.specs.Line.{line}
 use Rattle.wire_model.specs.Machine as machine

@@ -1,6 +1,7 @@
 //! A run over the line, round by round.
 
 ghost use Rattle.std.specs.Prelude.{◌≡◌, ◌<◌, ◌≤◌, ◌+◌, List, ℕ, Option, true, false, IfOk, OnOk};
+ghost use Rattle.three_wire.specs.Counts.{AnswersRises};
 ghost use Rattle.three_wire.specs.Crossing.{Steady, BlamesBoth};
 ghost use Rattle.three_wire.specs.Feeding.{input_limit, BlamesSource};
 ghost use Rattle.three_wire.specs.Wire.{is_ready};
@@ -47,6 +48,7 @@ impl Carriage {
         ensures rounds { OnOk result (self.new.rounds ≡ self.old.rounds) }
         ensures steady { IfOk result (λ _. (S.faults source.new ≡ S.faults source.old) × (S.shortages source.new ≡ S.shortages source.old)) }
         ensures blame { BlamesSource (S.faults source.old) (S.faults source.new) (S.shortages source.old) (S.shortages source.new) result }
+        ensures answers { AnswersRises (S.faults source.old) (S.faults source.new) (S.shortages source.old) (S.shortages source.new) CarryFault.ReadFault result }
     {
         match self.feed.next(source) {
             Ok(Some(n)) => {
@@ -74,6 +76,7 @@ impl Carriage {
         ensures rounds { OnOk result (self.new.rounds ≡ self.old.rounds) }
         ensures steady { IfOk result (λ _. (S.faults source.new ≡ S.faults source.old) × (S.shortages source.new ≡ S.shortages source.old)) }
         ensures blame { BlamesSource (S.faults source.old) (S.faults source.new) (S.shortages source.old) (S.shortages source.new) result }
+        ensures answers { AnswersRises (S.faults source.old) (S.faults source.new) (S.shortages source.old) (S.shortages source.new) CarryFault.ReadFault result }
     {
         'taking: while !self.ended && self.ends.first.ready() {
             match self.take_unit(source) {
@@ -111,6 +114,8 @@ impl Carriage {
         ensures rounds { OnOk result (self.new.rounds ≡ self.old.rounds + 1) }
         ensures steady { IfOk result (λ _. Steady (K.faults sink.old) (K.faults sink.new) (K.shortages sink.old) (K.shortages sink.new) (T.faults trace.old) (T.faults trace.new) (T.shortages trace.old) (T.shortages trace.new)) }
         ensures blame { BlamesBoth (K.faults sink.old) (K.faults sink.new) (K.shortages sink.old) (K.shortages sink.new) (T.faults trace.old) (T.faults trace.new) (T.shortages trace.old) (T.shortages trace.new) result }
+        ensures sink_answers { AnswersRises (K.faults sink.old) (K.faults sink.new) (K.shortages sink.old) (K.shortages sink.new) CarryFault.WriteFault result }
+        ensures trace_answers { AnswersRises (T.faults trace.old) (T.faults trace.new) (T.shortages trace.old) (T.shortages trace.new) CarryFault.WriteFault result }
     {
         match self.ends.pass(sink, trace) {
             Ok(()) => {

@@ -7,6 +7,7 @@ ghost use Rattle.wire_packets.specs.Packets.{Packet, IsPacket};
 ghost use Rattle.wire_model.specs.Draws.{draws_from};
 ghost use Rattle.wire_model.specs.Line.{line};
 ghost use Rattle.wire_model.specs.Trace.{tag_of};
+ghost use Rattle.three_wire.specs.Counts.{AnswersRises};
 ghost use Rattle.three_wire.specs.Crossing.{IsAtRest, HearsWhole, Blames, IsOfPorts, HasRoom, CrossesSo, Steady, BlamesBoth};
 
 use crate::fault::CarryFault;
@@ -86,6 +87,7 @@ fn put<K: Sink>(sink: &mut K, octets: &[u8]) -> Result<(), CarryFault>
     ensures front { GainedFront (K.content sink.old) (K.content sink.new) octets.now }
     ensures steady { OnOk result ((K.faults sink.new ≡ K.faults sink.old) × (K.shortages sink.new ≡ K.shortages sink.old)) }
     ensures blame { Blames (K.faults sink.old) (K.faults sink.new) (K.shortages sink.old) (K.shortages sink.new) result }
+    ensures answers { AnswersRises (K.faults sink.old) (K.faults sink.new) (K.shortages sink.old) (K.shortages sink.new) CarryFault.WriteFault result }
     ensures of_ports { IfErr result IsOfPorts }
 {
     match sink.put(octets) {
@@ -138,6 +140,8 @@ pub(crate) fn cross<K: Sink, T: Sink>(
     ensures room { HasRoom medium.new }
     ensures steady { IfOk result (λ _. Steady (K.faults sink.old) (K.faults sink.new) (K.shortages sink.old) (K.shortages sink.new) (T.faults trace.old) (T.faults trace.new) (T.shortages trace.old) (T.shortages trace.new)) }
     ensures blame { BlamesBoth (K.faults sink.old) (K.faults sink.new) (K.shortages sink.old) (K.shortages sink.new) (T.faults trace.old) (T.faults trace.new) (T.shortages trace.old) (T.shortages trace.new) result }
+    ensures sink_answers { AnswersRises (K.faults sink.old) (K.faults sink.new) (K.shortages sink.old) (K.shortages sink.new) CarryFault.WriteFault result }
+    ensures trace_answers { AnswersRises (T.faults trace.old) (T.faults trace.new) (T.shortages trace.old) (T.shortages trace.new) CarryFault.WriteFault result }
 {
     let Some(n) = from.next_packet(&mut medium.line) else {
         return Ok(None);

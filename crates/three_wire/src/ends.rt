@@ -1,6 +1,7 @@
 //! Two ends, and rounds of packets between them.
 
 ghost use Rattle.std.specs.Prelude.{◌≡◌, ◌||◌, true, IfOk};
+ghost use Rattle.three_wire.specs.Counts.{AnswersRises};
 ghost use Rattle.three_wire.specs.Crossing.{Steady, BlamesBoth};
 ghost use Rattle.three_wire.specs.Going.{pair_of, IsSound, Goes, SaidAll, Passed, both_calm};
 ghost use Rattle.wire_model.specs.Pair.{new_pair, rings};
@@ -74,6 +75,8 @@ impl Ends {
         ensures sound { IfOk result (λ _. IsSound self.new) }
         ensures steady { IfOk result (λ _. Steady (K.faults sink.old) (K.faults sink.new) (K.shortages sink.old) (K.shortages sink.new) (T.faults trace.old) (T.faults trace.new) (T.shortages trace.old) (T.shortages trace.new)) }
         ensures blame { BlamesBoth (K.faults sink.old) (K.faults sink.new) (K.shortages sink.old) (K.shortages sink.new) (T.faults trace.old) (T.faults trace.new) (T.shortages trace.old) (T.shortages trace.new) result }
+        ensures sink_answers { AnswersRises (K.faults sink.old) (K.faults sink.new) (K.shortages sink.old) (K.shortages sink.new) CarryFault.WriteFault result }
+        ensures trace_answers { AnswersRises (T.faults trace.old) (T.faults trace.new) (T.shortages trace.old) (T.shortages trace.new) CarryFault.WriteFault result }
     {
         let crossed = match way {
             Way::Forth => cross(
@@ -110,6 +113,8 @@ impl Ends {
         ensures sound { IfOk result (λ _. IsSound self.new) }
         ensures steady { IfOk result (λ _. Steady (K.faults sink.old) (K.faults sink.new) (K.shortages sink.old) (K.shortages sink.new) (T.faults trace.old) (T.faults trace.new) (T.shortages trace.old) (T.shortages trace.new)) }
         ensures blame { BlamesBoth (K.faults sink.old) (K.faults sink.new) (K.shortages sink.old) (K.shortages sink.new) (T.faults trace.old) (T.faults trace.new) (T.shortages trace.old) (T.shortages trace.new) result }
+        ensures sink_answers { AnswersRises (K.faults sink.old) (K.faults sink.new) (K.shortages sink.old) (K.shortages sink.new) CarryFault.WriteFault result }
+        ensures trace_answers { AnswersRises (T.faults trace.old) (T.faults trace.new) (T.shortages trace.old) (T.shortages trace.new) CarryFault.WriteFault result }
     {
         let mut said = Said {
             went: false,
@@ -136,6 +141,8 @@ impl Ends {
         ensures sound { IfOk result (λ _. IsSound self.new) }
         ensures steady { IfOk result (λ _. Steady (K.faults sink.old) (K.faults sink.new) (K.shortages sink.old) (K.shortages sink.new) (T.faults trace.old) (T.faults trace.new) (T.shortages trace.old) (T.shortages trace.new)) }
         ensures blame { BlamesBoth (K.faults sink.old) (K.faults sink.new) (K.shortages sink.old) (K.shortages sink.new) (T.faults trace.old) (T.faults trace.new) (T.shortages trace.old) (T.shortages trace.new) result }
+        ensures sink_answers { AnswersRises (K.faults sink.old) (K.faults sink.new) (K.shortages sink.old) (K.shortages sink.new) CarryFault.WriteFault result }
+        ensures trace_answers { AnswersRises (T.faults trace.old) (T.faults trace.new) (T.shortages trace.old) (T.shortages trace.new) CarryFault.WriteFault result }
     {
         let forth = match self.say_all(Way::Forth, sink, trace) {
             Ok(said) => said,

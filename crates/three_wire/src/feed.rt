@@ -3,6 +3,7 @@
 ghost use Rattle.std.specs.Prelude.{◌≡◌, ◌<◌, ◌≤◌, List, ℕ, Option, [], Ok, true, false, IfOk, IfErr, IfSome, length, take, drop};
 ghost use Rattle.std.specs.Option.{option_map};
 ghost use Rattle.h4_framing.specs.Packets.{Packet};
+ghost use Rattle.three_wire.specs.Counts.{AnswersRises};
 ghost use Rattle.three_wire.specs.Feeding.{input_limit, pending, HasShape, IsFeeding, TakesNext, ReadsMore, BlamesSource, EndsSo, IsRefusal, IsPortFault, Feeds};
 
 use crate::fault::CarryFault;
@@ -52,6 +53,7 @@ fn read_piece<S: Source>(source: &mut S, piece: &mut [u8], room: usize) -> Resul
     ensures finish { result ≡ Ok 0 → 0 < room → IfSome (S.content source.old) (λ left. left ≡ []) }
     ensures steady { IfOk result (λ _. (S.faults source.new ≡ S.faults source.old) × (S.shortages source.new ≡ S.shortages source.old)) }
     ensures blame { BlamesSource (S.faults source.old) (S.faults source.new) (S.shortages source.old) (S.shortages source.new) result }
+    ensures answers { AnswersRises (S.faults source.old) (S.faults source.new) (S.shortages source.old) (S.shortages source.new) CarryFault.ReadFault result }
 {
     match source.read(&mut piece[..room]) {
         Ok(n) => Ok(n),
@@ -109,6 +111,7 @@ impl Feed {
         ensures of_port { IfErr result IsPortFault }
         ensures steady { IfOk result (λ _. (S.faults source.new ≡ S.faults source.old) × (S.shortages source.new ≡ S.shortages source.old)) }
         ensures blame { BlamesSource (S.faults source.old) (S.faults source.new) (S.shortages source.old) (S.shortages source.new) result }
+        ensures answers { AnswersRises (S.faults source.old) (S.faults source.new) (S.shortages source.old) (S.shortages source.new) CarryFault.ReadFault result }
     {
         let room = PIECE_LENGTH.min(INPUT_LIMIT - self.fed);
         match read_piece(source, &mut self.piece, room) {
@@ -142,9 +145,11 @@ impl Feed {
         requires shape { HasShape self.old }
         requires full { input_limit ≤ self.old.fed }
         ensures ends { (input : Option (List ℕ)) → (packets : List Packet) → IsFeeding input (S.content source.old) self.old packets → pending self.old ≡ [] → EndsSo input packets result }
+        ensures finish { IfOk result (λ _. IfSome (S.content source.new) (λ rest. rest ≡ [])) }
         ensures shape { HasShape self.new }
         ensures steady { IfOk result (λ _. (S.faults source.new ≡ S.faults source.old) × (S.shortages source.new ≡ S.shortages source.old)) }
         ensures blame { BlamesSource (S.faults source.old) (S.faults source.new) (S.shortages source.old) (S.shortages source.new) result }
+        ensures answers { AnswersRises (S.faults source.old) (S.faults source.new) (S.shortages source.old) (S.shortages source.new) CarryFault.ReadFault result }
     {
         if self.framer.end().is_err() {
             return Err(CarryFault::TooLong(INPUT_LIMIT as u64));
@@ -165,6 +170,7 @@ impl Feed {
         ensures feeds { (input : Option (List ℕ)) → (packets : List Packet) → IsFeeding input (S.content source.old) self.old packets → Feeds input (S.content source.new) self.new packets result }
         ensures steady { IfOk result (λ _. (S.faults source.new ≡ S.faults source.old) × (S.shortages source.new ≡ S.shortages source.old)) }
         ensures blame { BlamesSource (S.faults source.old) (S.faults source.new) (S.shortages source.old) (S.shortages source.new) result }
+        ensures answers { AnswersRises (S.faults source.old) (S.faults source.new) (S.shortages source.old) (S.shortages source.new) CarryFault.ReadFault result }
     {
         'reading: loop {
             match self.take_next() {

@@ -1,7 +1,8 @@
 //! The units of a source, carried over a line to a sink.
 
-ghost use Rattle.std.specs.Prelude.{◌≡◌, ◌⊎◌, List, ℕ, Option, None, IsErrOf};
+ghost use Rattle.std.specs.Prelude.{◌≡◌, ◌⊎◌, List, ℕ, Option, [], Ok, None, IfSome, IsErrOf};
 ghost use Rattle.bt_base.specs.Counts.{HasRisen};
+ghost use Rattle.three_wire.specs.Counts.{AnswersRises};
 ghost use Rattle.three_wire.specs.Carrying.{Given, given, AnyRose, WriteRose, ShortageRose, IsUntouched, IsWholeInput, EndsWell, Carries, IsCarrying};
 
 use crate::carriage::Carriage;
@@ -20,6 +21,10 @@ fn run<S: Source, K: Sink, T: Sink>(
     ensures carries { (given : Given) → IsCarrying given (S.content source.old) (K.content sink.old) (T.content trace.old) carriage.old → Carries given (K.content sink.new) (T.content trace.new) (AnyRose (K.faults sink.old) (K.faults sink.new) (K.shortages sink.old) (K.shortages sink.new) (T.faults trace.old) (T.faults trace.new) (T.shortages trace.old) (T.shortages trace.new)) result }
     ensures read_fault { IsErrOf result CarryFault.ReadFault → HasRisen (S.faults source.old) (S.faults source.new) }
     ensures write_fault { IsErrOf result CarryFault.WriteFault → WriteRose (K.faults sink.old) (K.faults sink.new) (T.faults trace.old) (T.faults trace.new) }
+    ensures finish { result ≡ Ok CarryEnd.All → IfSome (S.content source.new) (λ left. left ≡ []) }
+    ensures source_answers { AnswersRises (S.faults source.old) (S.faults source.new) (S.shortages source.old) (S.shortages source.new) CarryFault.ReadFault result }
+    ensures sink_answers { AnswersRises (K.faults sink.old) (K.faults sink.new) (K.shortages sink.old) (K.shortages sink.new) CarryFault.WriteFault result }
+    ensures trace_answers { AnswersRises (T.faults trace.old) (T.faults trace.new) (T.shortages trace.old) (T.shortages trace.new) CarryFault.WriteFault result }
     ensures no_memory { IsErrOf result CarryFault.NoMemory → ShortageRose (S.shortages source.old) (S.shortages source.new) (K.shortages sink.old) (K.shortages sink.new) (T.shortages trace.old) (T.shortages trace.new) }
 {
     'rounds: loop {
@@ -51,6 +56,10 @@ pub fn carry<S: Source, K: Sink, T: Sink>(
     ensures carries { Carries (given number (S.content source.old) (K.content sink.old) (T.content trace.old)) (K.content sink.new) (T.content trace.new) (AnyRose (K.faults sink.old) (K.faults sink.new) (K.shortages sink.old) (K.shortages sink.new) (T.faults trace.old) (T.faults trace.new) (T.shortages trace.old) (T.shortages trace.new)) result }
     ensures read_fault { IsErrOf result CarryFault.ReadFault → HasRisen (S.faults source.old) (S.faults source.new) }
     ensures write_fault { IsErrOf result CarryFault.WriteFault → WriteRose (K.faults sink.old) (K.faults sink.new) (T.faults trace.old) (T.faults trace.new) }
+    ensures finish { result ≡ Ok CarryEnd.All → IfSome (S.content source.new) (λ left. left ≡ []) }
+    ensures source_answers { AnswersRises (S.faults source.old) (S.faults source.new) (S.shortages source.old) (S.shortages source.new) CarryFault.ReadFault result }
+    ensures sink_answers { AnswersRises (K.faults sink.old) (K.faults sink.new) (K.shortages sink.old) (K.shortages sink.new) CarryFault.WriteFault result }
+    ensures trace_answers { AnswersRises (T.faults trace.old) (T.faults trace.new) (T.shortages trace.old) (T.shortages trace.new) CarryFault.WriteFault result }
     ensures no_memory { IsErrOf result CarryFault.NoMemory → IsUntouched (S.content source.old) (S.content source.new) (K.content sink.old) (K.content sink.new) (T.content trace.old) (T.content trace.new) ⊎ ShortageRose (S.shortages source.old) (S.shortages source.new) (K.shortages sink.old) (K.shortages sink.new) (T.shortages trace.old) (T.shortages trace.new) }
     ensures clean { number ≡ None → IsWholeInput (S.content source.old) → (HasRisen (S.faults source.old) (S.faults source.new) → ⊥) → (WriteRose (K.faults sink.old) (K.faults sink.new) (T.faults trace.old) (T.faults trace.new) → ⊥) → EndsWell result }
 {

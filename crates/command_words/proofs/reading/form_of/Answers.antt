@@ -1,4 +1,3 @@
-use Rattle.std.proofs.Common.{rules, map, string_bytes}
 use Rattle.clap.specs.Words.{app_of}
 use Rattle.command_words.proofs.Finding.{answered}
 use Rattle.command_words.proofs.reading.form_of.Goals as goal

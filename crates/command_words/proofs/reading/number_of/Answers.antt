@@ -1,5 +1,4 @@
-use Rattle.std.proofs.Common.{rules, sym, ◌∙◌}
-use Rattle.std.proofs.lemmas.Slice.Eq.{bytes_eq-Decides}
+use Rattle.std.proofs.Common.{sym, ◌∙◌}
 use Rattle.command_words.proofs.Numbers.{unread, otherwise_written, differ}
 use Rattle.command_words.proofs.reading.number_of.Goals as goal
 

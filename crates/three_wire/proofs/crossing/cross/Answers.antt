@@ -1,8 +1,7 @@
-use Rattle.std.proofs.Common.{◌≡◌, ℕ, List, ◌∷◌, ◌++◌, length, take, ◌∙◌, refl, sym, ap, subst, arith}
+use Rattle.std.proofs.Common.{ℕ, List, ◌∷◌, ◌++◌, length, take, ◌∙◌, ap, subst, arith}
 use Rattle.std.proofs.lemmas.List.{with_items_is}
 use Rattle.bt_base.specs.Octets.{be16}
 use Rattle.bt_base.specs.Streams.{gained, GainedFront}
-use Rattle.wire_model.specs.declared.link.Way.TheVariants.{Forth}
 use Rattle.three_wire.proofs.Breaking.{line_of, broken_trace, broken_sink}
 use Rattle.three_wire.proofs.crossing.cross.Goals.{in-Forth, in_default-matches}
 use Rattle.three_wire.proofs.crossing.cross.Goals as goal

@@ -1,4 +1,4 @@
-use Rattle.std.proofs.Common.{◌≡◌, Some, sym, ap, ◌∙◌, refl}
+use Rattle.std.proofs.Common.{sym, ap, ◌∙◌}
 use Rattle.wire_packets.specs.Packets.{Packet}
 use Rattle.wire_model.specs.Machine.{hears}
 use Rattle.three_wire.proofs.Hearing.{no_other, read_line, is_read, not_refused}

@@ -1,4 +1,3 @@
-use Rattle.std.proofs.Common.{inl, inr, refl}
 use Rattle.three_wire.specs.Carrying.{given}
 use Rattle.three_wire.proofs.Carrying.{carries_nothing, ends_well}
 use Rattle.three_wire.proofs.rounds.carry.Goals as goal

@@ -1,8 +1,7 @@
-use Rattle.std.proofs.Common.{◌≡◌, ◌≤◌, ◌<◌, Err, Ok, Some, None, Option, inl, inr, refl, sym, ap, subst, arith}
+use Rattle.std.proofs.Common.{Err, Ok, None, Option, inl, inr, subst, arith}
 use Rattle.three_wire.specs.declared.fault.CarryEnd.{CarryEnd}
 use Rattle.three_wire.specs.Carrying.{EndsHere}
-use Rattle.three_wire.proofs.Carrying.{carries_since, carries_whole, ends_here, cause_of, rose_since, read_since, short_since, no_write, no_read, written_since, shorts_since, same_fault}
-use Rattle.three_wire.proofs.Going.{steady_then}
+use Rattle.three_wire.proofs.Carrying.{carries_since, carries_whole, ends_here, finishes, cause_of, rose_since, read_since, short_since, no_write, no_read, written_since, shorts_since, same_fault}
 use Rattle.three_wire.proofs.rounds.run.Goals as goal
 
 pub take_units-requires : goal.take_units-requires
@@ -29,6 +28,12 @@ returns-in-Some-clause-carries g c = λ given k.
     let k' = c.in-Ok.ensures.goes given _ _ (c.rounds.invariant.goes given k) in
     let e = subst (EndsHere c.take_units.new.self) c.in-Some.is c.ending.ensures in
     carries_whole given _ _ _ c.take_units.new.self _ (Ok c.in-Some.end) k' (ends_here given _ _ _ c.take_units.new.self c.in-Some.end k' e)
+
+pub returns-in-Some-clause-finish : goal.returns-in-Some-clause-finish
+returns-in-Some-clause-finish g c = λ is.
+    let r = c.requires.going in
+    let k = c.in-Ok.ensures.goes r.0 _ _ (c.rounds.invariant.goes r.0 r.1) in
+    finishes r.0 _ _ _ c.take_units.new.self c.in-Some.end k (subst (EndsHere c.take_units.new.self) c.in-Some.is c.ending.ensures) is
 
 pub pass-requires-clause-going : goal.pass-requires-clause-going
 pass-requires-clause-going g c = let r = c.requires.going in let k = c.in-Ok.ensures.goes r.0 _ _ (c.rounds.invariant.goes r.0 r.1) in (_, (r.0, _, _, k))

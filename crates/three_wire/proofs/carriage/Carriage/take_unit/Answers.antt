@@ -1,11 +1,9 @@
-use Rattle.std.proofs.Common.{◌≡◌, ◌++◌, ◌∙◌, ◌-◌, ◌∷◌, [], ℕ, List, Option, Some, None, Bool, Result, Ok, Err, IfSome, take, drop, length, refl, sym, ap, subst}
+use Rattle.std.proofs.Common.{◌≡◌, ◌++◌, ◌∙◌, ◌-◌, ◌∷◌, [], ℕ, List, Option, Bool, Result, Ok, Err, IfSome, take, drop, length, refl, ap, subst}
 use Rattle.h4_framing.specs.Packets.{Packet, IsPacket, spelling}
 use Rattle.wire_model.specs.Machine as machine
 use Rattle.three_wire.specs.declared.fault.CarryFault.{CarryFault}
-use Rattle.three_wire.specs.Wire.{Submits}
 use Rattle.three_wire.specs.Feeding.{acl_limit, IsFeeding, IsAll, Feeds}
-use Rattle.three_wire.specs.Going.{IsSound}
-use Rattle.three_wire.specs.Carrying.{Given, ReadsOn, IsCarrying, as_unit}
+use Rattle.three_wire.specs.Carrying.{ReadsOn}
 use Rattle.three_wire.proofs.Carrying.{carries_unit, carries_end, carries_whole, submitted_ready, unit_read}
 use Rattle.three_wire.proofs.carriage.Carriage.take_unit.Goals as goal
 
@@ -27,7 +25,7 @@ returns-in-Ok-None-clause-goes g c = λ given sink trace k.
     let left = g.S.Source.content c.args.source.now in
     let left' = g.S.Source.content c.next.new.source in
     let f : IsFeeding given.input left c.args.self.now.feed k.packets = subst (λ (b : Bool). ReadsOn b given.input left c.args.self.now.feed k.packets) c.requires.more k.read in
-    let all : IfSome given.input (λ all. IsAll all k.packets) =
+    let all : IfSome given.input (λ all. IsAll all k.packets) × IfSome left' (λ rest. rest ≡ []) =
     subst (λ (r : Result (Option ℕ) CarryFault). Feeds given.input left' c.next.new.self k.packets r) (c.in-Ok-None.is ∙ ap Ok c.in-Ok-None.field-0-is) (c.next.ensures.feeds given.input k.packets f) in
     carries_end given left left' sink trace c.args.self.now _ k all c.next.ensures.shape refl refl refl refl
 

@@ -1,5 +1,4 @@
-use Rattle.std.proofs.Common.{◌≡◌, ◌∙◌, Ok, ap, sym, subst}
-use Rattle.three_wire.specs.declared.ends.Said.{Said}
+use Rattle.std.proofs.Common.{◌∙◌, Ok, ap, sym, subst}
 use Rattle.three_wire.specs.Going.{pair_of, WentSo, Goes}
 use Rattle.three_wire.proofs.Going.{so_more, so_broke, steady_then}
 use Rattle.three_wire.proofs.ends.Ends.say_all.Goals as goal

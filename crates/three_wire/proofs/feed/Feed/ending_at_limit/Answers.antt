@@ -1,4 +1,4 @@
-use Rattle.std.proofs.Common.{◌≡◌, ◌<◌, Ok, length, take, sym, ap, ◌∙◌, arith}
+use Rattle.std.proofs.Common.{Ok, sym, ap, ◌∙◌, arith}
 use Rattle.std.proofs.lemmas.List.{length-take}
 use Rattle.three_wire.proofs.Feeding.{limit_cut, limit_whole}
 use Rattle.three_wire.proofs.feed.Feed.ending_at_limit.Goals as goal

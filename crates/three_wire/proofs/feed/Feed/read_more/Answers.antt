@@ -1,4 +1,4 @@
-use Rattle.std.proofs.Common.{◌≡◌, ◌<◌, ◌≤◌, ◌-◌, ℕ, List, Ok, IfSome, length, take, drop, sym, ap, refl, ◌∙◌, arith}
+use Rattle.std.proofs.Common.{◌≡◌, ◌≤◌, ℕ, List, Ok, length, take, ap, refl, arith}
 use Rattle.std.proofs.lemmas.List.{length-take, with_items_is}
 use Rattle.three_wire.proofs.Feeding.{fed_read, reads_more, read_pending, read_octets}
 use Rattle.three_wire.proofs.feed.Feed.read_more.Goals as goal

@@ -1,10 +1,9 @@
-use Rattle.std.proofs.Common.{◌≡◌, ◌-◌, ◌≤◌, ◌++◌, ℕ, List, length, take, drop, refl, sym, ap, subst, ◌∙◌, arith}
+use Rattle.std.proofs.Common.{◌-◌, ℕ, List, take, drop, refl, sym, ap, subst, ◌∙◌, arith}
 use Rattle.std.proofs.lemmas.List.{with_items_is, take_at}
 use Rattle.h4_framing.specs.declared.framer.Taken.{Taken}
 use Rattle.h4_framing.specs.declared.framer.Taken.TheVariants.{Whole, More, Refused}
 use Rattle.h4_framing.specs.Packets.{packet, spelling, IsPacket}
 use Rattle.h4_framing.specs.Taking.{Takes}
-use Rattle.three_wire.specs.Feeding.{pending}
 use Rattle.three_wire.proofs.Feeding.{unit_bound, fed_whole, fed_more, fed_refused}
 use Rattle.three_wire.proofs.feed.Feed.take_next.Goals as goal
 

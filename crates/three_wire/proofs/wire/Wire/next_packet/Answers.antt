@@ -1,4 +1,4 @@
-use Rattle.std.proofs.Common.{◌≡◌, length, Some, sym, ap, ◌∙◌}
+use Rattle.std.proofs.Common.{sym, ap, ◌∙◌}
 use Rattle.wire_model.specs.Machine.{Wire, says, is_reset, link_packet}
 use Rattle.three_wire.specs.contracts.wire.Wire.{the_view}
 use Rattle.three_wire.proofs.Rooms.{says_message, first_rest}

@@ -1,4 +1,4 @@
-use Rattle.std.proofs.Common.{◌≡◌, ◌+◌, ◌%◌, max, length, Some, false, refl, sym, ap, subst, ◌∙◌, arith}
+use Rattle.std.proofs.Common.{◌+◌, ◌%◌, Some, false, refl, sym, ap, subst, ◌∙◌, arith}
 use Rattle.wire_model.specs.Machine.{Wire, says, unit_packet, ack_packet}
 use Rattle.three_wire.specs.Held.{unit_of, units_of, IsUnit}
 use Rattle.three_wire.specs.Wire.{Puts}

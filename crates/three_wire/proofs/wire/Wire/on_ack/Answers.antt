@@ -1,4 +1,4 @@
-use Rattle.std.proofs.Common.{◌≡◌, ◌-◌, ◌≤◌, length, drop, sym, ap, subst, ◌∙◌, arith, All}
+use Rattle.std.proofs.Common.{◌-◌, ◌≤◌, length, sym, ap, subst, ◌∙◌, arith, All}
 use Rattle.wire_model.specs.Machine.{hears_ack}
 use Rattle.three_wire.specs.Held.{HasRoom, IsUnit, units_of}
 use Rattle.three_wire.specs.contracts.wire.Wire.{the_view}
