@@ -1,5 +1,5 @@
 -- Control messages, and whatever frame keeps the rules, do a side no harm.
-use Rattle.std.proofs.Common.{arith, ◌≡◌, inl, ◌<◌, ◌≤◌, ℕ, ◌==◌, ◌+◌, ◌/◌, ◌%◌, ◌^◌, Bool, true, false, ◌&&◌, cond, List, [], ◌∷◌, Option, Some, None, Ok, Err, refl, sym, ap, subst, ◌∙◌}
+use Rattle.std.proofs.Common.{arith, ◌≡◌, ◌<◌, ◌≤◌, ℕ, ◌==◌, ◌+◌, ◌/◌, ◌%◌, ◌^◌, Bool, true, false, ◌&&◌, cond, List, [], ◌∷◌, Option, Some, None, Ok, Err, refl, sym, ap, subst, ◌∙◌}
 use Rattle.std.specs.Prelude.{not, nat_lt, nat_le}
 use Rattle.std.proofs.lemmas.Bool.{le-ltb, ltb-false, leb-false}
 use Rattle.rfcomm_frames.specs.declared.frame.MuxKind.{MuxKind}
@@ -22,7 +22,7 @@ use Rattle.rfcomm_model.specs.Written.{control_frame}
 use Rattle.rfcomm_model.specs.Hearing.{has_room, answering, says_dm, hears_sabm, hears_ua, hears_disc, credited, if_stands, hears_data, counts, pn_credited, lesser, own_credits, hears_offer, terms_agreed, hears_acceptance, hears_other_offer, hears_pn, peer_answered, own_answered, signals_answered, hears_msc, hears_message, hears_messages, hears_kind, hears_settled, hears_frame, hears_answer}
 use Rattle.rfcomm_laws.proofs.Opening.{msc_read, pn_read}
 use Rattle.rfcomm_laws.specs.Totals.{stated_sum, bonus_in, bonus_of, cost_in, cost_of}
-use Rattle.rfcomm_laws.proofs.Harm.{rank, SoundMessage, SoundMessages, SoundAsks, all_later, Word, Step, step_sets, step_same, step_then, step_more, step_if, step_answers}
+use Rattle.rfcomm_laws.proofs.Harm.{SoundMessage, SoundMessages, SoundAsks, Word, Step, step_sets, step_same, step_then, step_more, step_if, step_answers}
 use Rattle.rfcomm_laws.proofs.Turning.{Fit, still_fit, disagrees, dm_step, sabm_step, ua_step, heard_dm_step, disc_step, credited_step, data_step, stands_step}
 
 -- ---- control messages
