@@ -13,7 +13,8 @@ use Rattle.rfcomm_model.specs.declared.state.MuxReason.{MuxReason}
 use Rattle.rfcomm_model.specs.declared.state.Command.TheVariants.{OpenControl, Agree, OpenUser, Signal, LeaveUser, LeaveControl}
 use Rattle.rfcomm_model.specs.declared.state.Asks.{Asks}
 use Rattle.rfcomm_model.specs.declared.state.Asks.TheVariants.{Nothing, Due, Awaited}
-use Rattle.rfcomm_model.specs.Machine.{Mux, closes}
+use Rattle.rfcomm_model.specs.declared.state.Readiness.{Readiness}
+use Rattle.rfcomm_model.specs.Machine.{Mux, first_credits, closes}
 use Rattle.rfcomm_model.specs.ClosedSides.{IsOrderly}
 use Rattle.rfcomm_model.specs.Hearing.{answering, own_credits}
 use Rattle.rfcomm_laws.specs.Totals.{bonus_of, cost_of}
@@ -156,26 +157,39 @@ pub record Step (w : Word) (b c : ℕ) (m m' : Mux) : Type 0 where
   pub asks : SoundAsks w.terms m.asks → SoundAsks w.terms m'.asks
   pub orderly : m.account.held + b ≤ 65535 → c ≤ m.account.peer → IsOrderly m.closed → IsOrderly m'.closed
 
-pub step_same : (w : Word) (b c : ℕ) (m : Mux) → Step w b c m m
-step_same w b c m = record {
+-- a wish, the terms and the credits change: the connections, the answers and what waits stay
+pub step_sets : (w : Word) (b c : ℕ) (m : Mux) (asks : Asks) (ready : Readiness) (held peer frame : ℕ) (agreed stated : Bool) → held ≤ m.account.held + b → m.account.peer ≤ peer + c → peer ≤ m.account.peer
+    → (SoundAsks w.terms m.asks → SoundAsks w.terms asks) → (m.agreed ≡ true → agreed ≡ true) → (m.stated ≡ true → stated ≡ true)
+    → Step w b c m (record m { asks = asks; ready = ready; account = record { cap = m.account.cap; held = held; peer = peer }; frame = frame; agreed = agreed; stated = stated })
+step_sets w b c m asks ready held peer frame agreed stated more most less sound agrees states = record {
   role = refl;
   dlci = refl;
   own = refl;
   cap = refl;
-  held = omega arith;
-  peer = omega arith;
-  less = omega arith;
-  owed = omega arith;
+  held = more;
+  peer = most;
+  less = less;
+  owed = let fewer = owes_less m.stated stated states in omega (arith, fewer);
   rises = omega arith;
   over = λ o. o;
   idle = λ e. inl e;
   far = λ o f. inl f;
   kept = λ e. (e, refl);
-  agrees = λ a. a;
-  waits = λ all. all;
-  asks = λ a. a;
+  agrees = agrees;
+  waits = λ all. all_later m.agreed agreed (rank m.user) (rank m.user) m.dlci m.answers agrees (omega arith) all;
+  asks = sound;
   orderly = λ fits paid o. o;
 }
+  where
+    owes_less : (was is : Bool) → (was ≡ true → is ≡ true) → cond is 0 (first_credits m.account.cap) ≤ cond was 0 (first_credits m.account.cap)
+    owes_less true true keep = omega arith
+    owes_less true false keep = let never : false ≡ true = keep refl in cc
+    owes_less false true keep = omega arith
+    owes_less false false keep = omega arith
+
+pub step_same : (w : Word) (b c : ℕ) (m : Mux) → Step w b c m m
+step_same w b c m =
+    step_sets w b c m m.asks m.ready m.account.held m.account.peer m.frame m.agreed m.stated (omega arith) (omega arith) (omega arith) (λ a. a) (λ a. a) (λ s. s)
 
 pub not_before : (a b : Bool) → (a ≡ true → b ≡ true) → b ≡ false → a ≡ false
 not_before true b more is = let never : true ≡ false = sym (more refl) ∙ is in cc

@@ -1,5 +1,5 @@
 -- Control messages, and whatever frame keeps the rules, do a side no harm.
-use Rattle.std.proofs.Common.{arith, ◌≡◌, inl, ◌<◌, ◌≤◌, ℕ, ◌==◌, ◌+◌, ◌/◌, ◌%◌, ◌^◌, Bool, true, false, ◌&&◌, cond, List, [], ◌∷◌, Option, Some, None, Ok, Err, refl, sym, ap, subst, ◌∙◌}
+use Rattle.std.proofs.Common.{arith, ◌≡◌, ◌<◌, ◌≤◌, ℕ, ◌==◌, ◌+◌, ◌/◌, ◌%◌, ◌^◌, Bool, true, false, ◌&&◌, cond, List, [], ◌∷◌, Option, Some, None, Ok, Err, refl, sym, ap, subst, ◌∙◌}
 use Rattle.std.specs.Prelude.{not, nat_lt, nat_le}
 use Rattle.std.proofs.lemmas.Bool.{le-ltb, ltb-false, leb-false}
 use Rattle.rfcomm_frames.specs.declared.frame.MuxKind.{MuxKind}
@@ -22,7 +22,7 @@ use Rattle.rfcomm_model.specs.Written.{control_frame}
 use Rattle.rfcomm_model.specs.Hearing.{has_room, answering, says_dm, hears_sabm, hears_ua, hears_disc, credited, if_stands, hears_data, counts, pn_credited, lesser, own_credits, hears_offer, terms_agreed, hears_acceptance, hears_other_offer, hears_pn, peer_answered, own_answered, signals_answered, hears_msc, hears_message, hears_messages, hears_kind, hears_settled, hears_frame, hears_answer}
 use Rattle.rfcomm_laws.proofs.Opening.{msc_read, pn_read}
 use Rattle.rfcomm_laws.specs.Totals.{stated_sum, bonus_in, bonus_of, cost_in, cost_of}
-use Rattle.rfcomm_laws.proofs.Harm.{rank, SoundMessage, SoundMessages, SoundAsks, all_later, Word, Step, step_same, step_then, step_more, step_if, step_answers}
+use Rattle.rfcomm_laws.proofs.Harm.{SoundMessage, SoundMessages, SoundAsks, Word, Step, step_sets, step_same, step_then, step_more, step_if, step_answers}
 use Rattle.rfcomm_laws.proofs.Turning.{Fit, still_fit, disagrees, dm_step, sabm_step, ua_step, heard_dm_step, disc_step, credited_step, data_step, stands_step}
 
 -- ---- control messages
@@ -46,25 +46,7 @@ offer_answers w d priority frame m fit long =
     let x : Mux = record m { frame = n; agreed = true; stated = true } in
     let control : PlainControl = pn false m.dlci 0xE0 priority 0 n 0 (own_credits m) in
     let read : messages (written control) ≡ Ok control ∷ [] = pn_read false m.dlci 0xE0 priority 0 n 0 (own_credits m) within.1 in
-    let s : Step w 0 0 m x = record {
-      role = refl;
-      dlci = refl;
-      own = refl;
-      cap = refl;
-      held = omega arith;
-      peer = omega arith;
-      less = omega arith;
-      owed = omega arith;
-      rises = omega arith;
-      over = λ o. o;
-      idle = λ e. inl e;
-      far = λ o f. inl f;
-      kept = λ e. (e, refl);
-      agrees = λ a. refl;
-      waits = λ all. all_later m.agreed true (rank m.user) (rank m.user) m.dlci m.answers (λ a. refl) (omega arith) all;
-      asks = λ a. a;
-      orderly = λ fits paid o. o;
-    } in
+    let s : Step w 0 0 m x = step_sets w 0 0 m m.asks m.ready m.account.held m.account.peer n true true (omega arith) (omega arith) (omega arith) (λ a. a) (λ a. refl) (λ s. refl) in
     let brings : stated_sum m.dlci (messages (written control)) ≡ stated_by m.dlci (Ok control) + 0 = ap (stated_sum m.dlci) read in
     let few = stated_few (m.dlci % 64 == m.dlci) in
     step_answers w 0 0 m x (control_frame m.role control) s (omega (arith, brings, few))
@@ -102,25 +84,7 @@ terms_sound w (Awaited LeaveControl) is sound = tt
 acceptance_step : (w : Word) (flow frame credits : ℕ) (m : Mux) → (flow / 16 == 0xE) ≡ true → nat_lt frame 23 ≡ false → w.terms ≡ true → Step w (credits % 8) 0 m (hears_acceptance flow frame credits m)
 acceptance_step w flow frame credits m grants long is =
     let x : Mux = record m { frame = lesser m.own frame; agreed = true; asks = terms_agreed m.asks } in
-    let s : Step w 0 0 m x = record {
-      role = refl;
-      dlci = refl;
-      own = refl;
-      cap = refl;
-      held = omega arith;
-      peer = omega arith;
-      less = omega arith;
-      owed = omega arith;
-      rises = omega arith;
-      over = λ o. o;
-      idle = λ e. inl e;
-      far = λ o f. inl f;
-      kept = λ e. (e, refl);
-      agrees = λ a. refl;
-      waits = λ all. all_later m.agreed true (rank m.user) (rank m.user) m.dlci m.answers (λ a. refl) (omega arith) all;
-      asks = terms_sound w m.asks is;
-      orderly = λ fits paid o. o;
-    } in
+    let s : Step w 0 0 m x = step_sets w 0 0 m (terms_agreed m.asks) m.ready m.account.held m.account.peer (lesser m.own frame) true m.stated (omega arith) (omega arith) (omega arith) (terms_sound w m.asks is) (λ a. refl) (λ s. s) in
     step_if w (credits % 8) 0 m (not (flow / 16 == 0xE)) (closes reasons.NoCreditFlow m) (cond (nat_lt frame 23) (closes reasons.BadFrame m) (pn_credited credits x)) (λ t. absurd (disagrees (flow / 16 == 0xE) grants t))
     (λ t. step_if w (credits % 8) 0 m (nat_lt frame 23) (closes reasons.BadFrame m) (pn_credited credits x) (λ u. absurd (short_excluded frame long u))
     (λ u. step_more w (0 + credits % 8) 0 (credits % 8) 0 m (pn_credited credits x) (omega arith) (omega arith)
@@ -144,25 +108,7 @@ heard_pn_step w d false dlci flow priority timer frame retransmissions credits m
 
 -- MSC
 step_ready : (w : Word) (m : Mux) (asks : Asks) (ready : Readiness) → (SoundAsks w.terms m.asks → SoundAsks w.terms asks) → Step w 0 0 m (record m { asks = asks; ready = ready })
-step_ready w m asks ready sound = record {
-  role = refl;
-  dlci = refl;
-  own = refl;
-  cap = refl;
-  held = omega arith;
-  peer = omega arith;
-  less = omega arith;
-  owed = omega arith;
-  rises = omega arith;
-  over = λ o. o;
-  idle = λ e. inl e;
-  far = λ o f. inl f;
-  kept = λ e. (e, refl);
-  agrees = λ a. a;
-  waits = λ all. all;
-  asks = sound;
-  orderly = λ fits paid o. o;
-}
+step_ready w m asks ready sound = step_sets w 0 0 m asks ready m.account.held m.account.peer m.frame m.agreed m.stated (omega arith) (omega arith) (omega arith) sound (λ a. a) (λ s. s)
 
 signals_step : (w : Word) (asks : Asks) (m : Mux) → Step w 0 0 m (signals_answered asks m)
 signals_step w Nothing m = step_same w 0 0 m

@@ -28,7 +28,7 @@ use Rattle.rfcomm_laws.proofs.Opening.{msc_read, pn_read}
 use Rattle.rfcomm_laws.proofs.Running.{grant_if, both_true}
 use Rattle.rfcomm_laws.specs.Totals.{stated_sum, bonus_of, cost_in, cost_of}
 use Rattle.rfcomm_laws.proofs.Harm.{bonuses_of, rank, is_over, SoundMessages, WaitsIn, AllWait, SoundAsks, all_later, is_far}
-use Rattle.rfcomm_laws.proofs.Turning.{Fit, over_more, none_of}
+use Rattle.rfcomm_laws.proofs.Turning.{Fit, over_more, none_of, asked_rank, agreed_rank}
 use Rattle.rfcomm_laws.proofs.Harmless.{SoundIn, is_responder, asks_in, opens_in}
 
 -- what a UIH frame costs, on the control channel or not, empty or not
@@ -91,18 +91,6 @@ passed_ended role kind true true dlc is = turned_ended role kind dlc is
 passed_ended role kind true false dlc is = is
 passed_ended role kind false pf dlc is = is
 
-asked_rises : (dlc : Dlc) → rank dlc ≤ rank (asked dlc)
-asked_rises Idle = omega arith
-asked_rises Asked = omega arith
-asked_rises Open = omega arith
-asked_rises Ended = omega arith
-
-agreed_rises : (dlc : Dlc) → rank dlc ≤ rank (agreed dlc)
-agreed_rises Idle = omega arith
-agreed_rises Asked = omega arith
-agreed_rises Open = omega arith
-agreed_rises Ended = omega arith
-
 left_rises : (from : Role) (dlc : Dlc) → rank dlc ≤ rank (left from dlc)
 left_rises from Idle = omega arith
 left_rises Initiator Asked = omega arith
@@ -111,10 +99,10 @@ left_rises from Open = omega arith
 left_rises from Ended = omega arith
 
 turned_rises : (role : Role) (kind : MuxKind) (dlc : Dlc) → rank dlc ≤ rank (turned role kind dlc)
-turned_rises Initiator Sabm dlc = asked_rises dlc
+turned_rises Initiator Sabm dlc = (asked_rank dlc).0
 turned_rises Responder Sabm dlc = omega arith
 turned_rises Initiator Ua dlc = omega arith
-turned_rises Responder Ua dlc = agreed_rises dlc
+turned_rises Responder Ua dlc = agreed_rank dlc
 turned_rises Initiator Dm dlc = omega arith
 turned_rises Responder Dm dlc = omega arith
 turned_rises Initiator Disc dlc = left_rises Initiator dlc

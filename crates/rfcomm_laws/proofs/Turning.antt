@@ -20,7 +20,7 @@ use Rattle.rfcomm_model.specs.declared.state.Asks.TheVariants.{Nothing, Due, Awa
 use Rattle.rfcomm_model.specs.Machine.{Mux, closes}
 use Rattle.rfcomm_model.specs.Written.{response_frame}
 use Rattle.rfcomm_model.specs.Hearing.{has_room, answering, says_dm, signals_next, opens_control, opens_user, hears_sabm, control_answered, user_answered, hears_ua, control_refused, user_refused, hears_dm, ends, hears_disc, credited, charged, if_stands, with_credits, hears_data, own_credits}
-use Rattle.rfcomm_laws.proofs.Harm.{bonuses_of, rank, SoundAsks, all_later, is_far, Word, Step, step_same, step_then, step_more, step_if, step_closes, step_answers}
+use Rattle.rfcomm_laws.proofs.Harm.{bonuses_of, rank, SoundAsks, all_later, is_far, Word, Step, step_sets, step_same, step_then, step_more, step_if, step_closes, step_answers}
 
 -- what never changes of a side
 pub record Fit (d : ℕ) (m : Mux) : Type 0 where
@@ -85,7 +85,7 @@ asked_ended Idle is = let never : false ≡ true = is in cc
 asked_ended Asked is = is
 asked_ended Open is = is
 
-asked_rank : (dlc : Dlc) → (rank dlc ≤ rank (asked dlc)) × (1 ≤ rank (asked dlc))
+pub asked_rank : (dlc : Dlc) → (rank dlc ≤ rank (asked dlc)) × (1 ≤ rank (asked dlc))
 asked_rank Idle = (omega arith, omega arith)
 asked_rank Asked = (omega arith, omega arith)
 asked_rank Open = (omega arith, omega arith)
@@ -143,7 +143,7 @@ agreed_ended Idle is = is
 agreed_ended Asked is = let never : false ≡ true = is in cc
 agreed_ended Open is = is
 
-agreed_rank : (dlc : Dlc) → rank dlc ≤ rank (agreed dlc)
+pub agreed_rank : (dlc : Dlc) → rank dlc ≤ rank (agreed dlc)
 agreed_rank Idle = omega arith
 agreed_rank Asked = omega arith
 agreed_rank Open = omega arith
@@ -293,50 +293,14 @@ pub credited_step : (w : Word) (n : ℕ) (m : Mux) → Step w n 0 m (credited n 
 credited_step w n m =
     step_if w n 0 m (nat_lt 65535 (m.account.held + n)) (closes reasons.CreditOverflow m) (record m { account = record { cap = m.account.cap; held = m.account.held + n; peer = m.account.peer } })
     (λ t. step_closes w n 0 reasons.CreditOverflow m (λ fits paid. let above = ltb-true 65535 (m.account.held + n) t in absurd (omega arith)))
-    (λ t. record {
-      role = refl;
-      dlci = refl;
-      own = refl;
-      cap = refl;
-      held = omega arith;
-      peer = omega arith;
-      less = omega arith;
-      owed = omega arith;
-      rises = omega arith;
-      over = λ o. o;
-      idle = λ e. inl e;
-      far = λ o f. inl f;
-      kept = λ e. (e, refl);
-      agrees = λ a. a;
-      waits = λ all. all;
-      asks = λ a. a;
-      orderly = λ fits paid o. o;
-    })
+    (λ t. step_sets w n 0 m m.asks m.ready (m.account.held + n) m.account.peer m.frame m.agreed m.stated (omega arith) (omega arith) (omega arith) (λ a. a) (λ a. a) (λ s. s))
 
 charged_step : (w : Word) (octets : List ℕ) (m : Mux) → Step w 0 (cond (is_empty octets) 0 1) m (charged octets m)
 charged_step w [] m = step_same w 0 0 m
 charged_step w (octet ∷ octets) m =
     step_if w 0 1 m (m.account.peer == 0) (closes reasons.Overdrawn m) (record m { account = record { cap = m.account.cap; held = m.account.held; peer = m.account.peer - 1 } })
     (λ t. step_closes w 0 1 reasons.Overdrawn m (λ fits paid. let none = eqb-true m.account.peer 0 t in absurd (omega arith)))
-    (λ t. record {
-      role = refl;
-      dlci = refl;
-      own = refl;
-      cap = refl;
-      held = omega arith;
-      peer = omega arith;
-      less = omega arith;
-      owed = omega arith;
-      rises = omega arith;
-      over = λ o. o;
-      idle = λ e. inl e;
-      far = λ o f. inl f;
-      kept = λ e. (e, refl);
-      agrees = λ a. a;
-      waits = λ all. all;
-      asks = λ a. a;
-      orderly = λ fits paid o. o;
-    })
+    (λ t. step_sets w 0 1 m m.asks m.ready m.account.held (m.account.peer - 1) m.frame m.agreed m.stated (omega arith) (omega arith) (omega arith) (λ a. a) (λ a. a) (λ s. s))
 
 pub stands_step : (w : Word) (b c : ℕ) (f : Mux → Mux) (closed : Option MuxReason) (m : Mux) → Step w b c m (f m) → Step w b c m (if_stands f closed m)
 stands_step w b c f None m s = s

@@ -14,7 +14,7 @@ use Rattle.rfcomm_frames.proofs.FrameReading.{spelled_answered}
 use Rattle.rfcomm_model.specs.Saying.{Said, next}
 use Rattle.rfcomm_model.specs.Sides.{Deed, Hears, Says, Sends, Leaves, Side, heard_frame, said_by, done, all_done, new_side, AlwaysRoom}
 use Rattle.rfcomm_model.specs.ClosedSides.{ReadsToClosing}
-use Rattle.rfcomm_model.specs.Captured.{sdu_from, Goes, Passes, AllPass, CaptureReads, CapturesRead, UnfloodedCapturesRead}
+use Rattle.rfcomm_model.specs.Captured.{Goes, Passes, AllPass, CaptureReads, CapturesRead, UnfloodedCapturesRead}
 use Rattle.rfcomm_model.specs.Taken.{all_taken, SendsTaken}
 use Rattle.rfcomm_model.proofs.Taking.{taken-is_sent}
 use Rattle.rfcomm_model.proofs.Flooding.{all_find}

@@ -1,11 +1,10 @@
 -- The information that a side sent is all read.
 use Rattle.std.proofs.Common.{arith, ◌≡◌, inl, inr, ◌<◌, ℕ, Bool, true, false, cond, List, [], ◌∷◌, ◌++◌, Option, Some, None, Ok, Err, refl, sym, ap, subst, ◌∙◌, append-nil}
-use Rattle.std.specs.Prelude.{is_some}
 use Rattle.rfcomm_frames.specs.declared.connection.Role.{Role}
 use Rattle.rfcomm_frames.specs.Answers.{Answer}
 use Rattle.rfcomm_frames.specs.FrameReading.{frame_answer}
 use Rattle.rfcomm_frames.specs.Connections.{other_role}
-use Rattle.rfcomm_frames.specs.Multiplexing.{Framed, Connections, no_connections, information, carries_on, carried}
+use Rattle.rfcomm_frames.specs.Multiplexing.{Framed, no_connections, information, carries_on, carried}
 use Rattle.rfcomm_frames.specs.Ending.{no_course, has_last, to_closing}
 use Rattle.rfcomm_model.specs.declared.state.MuxReason.{MuxReason}
 use Rattle.rfcomm_model.specs.Machine.{Mux}
@@ -14,7 +13,7 @@ use Rattle.rfcomm_model.specs.Sides.{Deed, Hears, Says, Sends, Leaves, Side, hea
 use Rattle.rfcomm_model.specs.Taken.{taken_of, all_sent}
 use Rattle.rfcomm_model.proofs.Stepping.{cond_same}
 use Rattle.rfcomm_model.proofs.Reading.{carried_more}
-use Rattle.rfcomm_model.proofs.Taking.{Passes, SaysPasses, says_passes, Goes, next_goes, sent_more, peer_sends}
+use Rattle.rfcomm_model.proofs.Taking.{SaysPasses, says_passes, Goes, next_goes, sent_more, peer_sends}
 use Rattle.rfcomm_model.proofs.Ended.{to_all, to_more, to_over, StateAs, next_as, new_follows, done_keeps}
 
 -- what is read of the own frames is what was sent
