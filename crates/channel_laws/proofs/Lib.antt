@@ -33,3 +33,4 @@ pub mod HandedUp
 pub mod Taking
 pub mod Receiving
 pub mod Incoming
+pub mod Pairing

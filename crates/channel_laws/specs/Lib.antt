@@ -4,3 +4,4 @@ pub mod Runs
 pub mod Laws
 pub mod CheckWords
 pub mod Sdus
+pub mod Pairs

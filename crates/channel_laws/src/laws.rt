@@ -2,6 +2,7 @@
 
 ghost use Rattle.channel_laws.specs.CheckWords.{CheckWordsAreRead};
 ghost use Rattle.channel_laws.specs.Laws.{ChannelsAreRead, EndpointsAreNew};
+ghost use Rattle.channel_laws.specs.Pairs.{EachEndRuns};
 ghost use Rattle.channel_laws.specs.Sdus.{SdusAreRead};
 
 /// What a host holds of each of its endpoints is what its own talk says, whatever it asks for, whatever
@@ -26,4 +27,10 @@ pub fn check_words_are_read()
 /// host's own talk brings. Where the channel was closed by its machine, the PDU for which it was may bring one more.
 pub fn sdus_are_read()
     ensures { SdusAreRead }
+{}
+
+/// On a link that loses, repeats and damages, each end is a host to which something occurred: all laws of
+/// one host hold at both.
+pub fn each_end_runs()
+    ensures { EachEndRuns }
 {}
