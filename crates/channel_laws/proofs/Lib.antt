@@ -34,3 +34,4 @@ pub mod Taking
 pub mod Receiving
 pub mod Incoming
 pub mod Pairing
+pub mod Naming

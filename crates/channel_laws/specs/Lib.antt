@@ -5,3 +5,4 @@ pub mod Laws
 pub mod CheckWords
 pub mod Sdus
 pub mod Pairs
+pub mod Endpoints

@@ -1,6 +1,7 @@
 //! Laws of the channels of one host.
 
 ghost use Rattle.channel_laws.specs.CheckWords.{CheckWordsAreRead};
+ghost use Rattle.channel_laws.specs.Endpoints.{EndpointsNameOneChannel};
 ghost use Rattle.channel_laws.specs.Laws.{ChannelsAreRead, EndpointsAreNew};
 ghost use Rattle.channel_laws.specs.Pairs.{EachEndRuns};
 ghost use Rattle.channel_laws.specs.Sdus.{SdusAreRead};
@@ -33,4 +34,10 @@ pub fn sdus_are_read()
 /// one host hold at both.
 pub fn each_end_runs()
     ensures { EachEndRuns }
+{}
+
+/// An endpoint of a host names one channel for as long as the link is up, so what is under way for it is for no
+/// earlier channel and for no later one.
+pub fn endpoints_name_one_channel()
+    ensures { EndpointsNameOneChannel }
 {}
