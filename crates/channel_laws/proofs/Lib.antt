@@ -35,3 +35,4 @@ pub mod Receiving
 pub mod Incoming
 pub mod Pairing
 pub mod Naming
+pub mod Repeating

@@ -6,3 +6,4 @@ pub mod CheckWords
 pub mod Sdus
 pub mod Pairs
 pub mod Endpoints
+pub mod Repeats

@@ -4,6 +4,7 @@ ghost use Rattle.channel_laws.specs.CheckWords.{CheckWordsAreRead};
 ghost use Rattle.channel_laws.specs.Endpoints.{EndpointsNameOneChannel};
 ghost use Rattle.channel_laws.specs.Laws.{ChannelsAreRead, EndpointsAreNew};
 ghost use Rattle.channel_laws.specs.Pairs.{EachEndRuns};
+ghost use Rattle.channel_laws.specs.Repeats.{RepeatsAreAnswered};
 ghost use Rattle.channel_laws.specs.Sdus.{SdusAreRead};
 
 /// What a host holds of each of its endpoints is what its own talk says, whatever it asks for, whatever
@@ -40,4 +41,9 @@ pub fn each_end_runs()
 /// earlier channel and for no later one.
 pub fn endpoints_name_one_channel()
     ensures { EndpointsNameOneChannel }
+{}
+
+/// A request that the peer sends again gets the same response again, or none again, whatever followed from it.
+pub fn repeats_are_answered()
+    ensures { RepeatsAreAnswered }
 {}
