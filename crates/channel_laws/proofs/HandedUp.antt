@@ -1,26 +1,19 @@
 -- The SDUs that are handed up of a channel are those that its talk brings.
-use Rattle.std.proofs.Common.{◌≡◌, ℕ, ◌+◌, ◌≤◌, List, [], ◌∷◌, ◌++◌, fold, map, Bool, true, false, cond, ◌||◌, ◌&&◌, eqb, Option, Some, None, Ok, Err, refl, sym, ap, subst, ◌∙◌, ◌⊎◌, inl, inr, arith}
-use Rattle.std.specs.Prelude.{find, drop, option_map, is_some, option_to_list}
-use Rattle.std.specs.List.{list_any, filter_map, cons_option}
-use Rattle.std.proofs.lemmas.Bool.{eqb-true}
+use Rattle.std.proofs.Common.{◌≡◌, ℕ, List, [], ◌∷◌, ◌++◌, Bool, true, Option, Some, None, Ok, Err, refl, sym, ap, subst, ◌∙◌, inl, inr}
+use Rattle.std.specs.Prelude.{option_to_list}
+use Rattle.std.specs.List.{cons_option}
 use Rattle.std.proofs.lemmas.List.Elements.{filter_map-append}
-use Rattle.acl_fragments.specs.Pieces.{channel_of}
-use Rattle.capture.specs.declared.flow.Flow.TheVariants.{Out, Into}
 use Rattle.ertm_frames.specs.Answers.{Answer}
 use Rattle.ertm_frames.specs.Reading.{answer_in, frame_in, frames_in}
 use Rattle.ertm_frames.specs.Picking.{picked, sdus_in}
 use Rattle.ertm_frames.specs.Joining.{sdus_of}
 use Rattle.ertm_model.specs.declared.reason.ErtmReason.{ErtmReason}
-use Rattle.ertm_model.specs.declared.reason.ErtmReason.TheVariants as machines
 use Rattle.ertm_model.specs.Value.{Ertm}
-use Rattle.ertm_model.specs.Hearing.{heard, heard_by, open_heard, fault, refusal_fault, closed_by, answer_to, answer_by, refused, PlainHeard, nothing, sdu, closed}
-use Rattle.ertm_model.specs.Runs.{Event, Comes, Course, new_course, brought, comes, with_pdu, happens, all_happen, IsSaid}
+use Rattle.ertm_model.specs.Hearing.{heard_by, open_heard, fault, refusal_fault, closed_by, answer_to, answer_by, PlainHeard, nothing, sdu, closed}
+use Rattle.ertm_model.specs.Runs.{Comes, Course, new_course, brought, comes, happens, all_happen, IsSaid}
 use Rattle.ertm_model.proofs.Coursing.{always-said}
 use Rattle.l2cap_config.specs.declared.wish.Mode.{Mode}
-use Rattle.l2cap_config.specs.declared.wish.Mode.TheVariants.{Basic, Enhanced}
-use Rattle.link_talk.specs.declared.party.Party.{Party}
 use Rattle.link_talk.specs.Sdus.{sdus_by}
-use Rattle.channel_model.specs.Value.{Carrier, Plain, Retransmitting}
 use Rattle.channel_model.specs.Carrying.{read_by, machine_heard, machine_sdu, sdu_heard}
 use Rattle.channel_laws.specs.Sdus.{IsHandedUp}
 use Rattle.channel_laws.proofs.Attending.{Attends, happens-last}

@@ -1,12 +1,12 @@
 -- Each end of a pair is a host to which something occurred.
-use Rattle.std.proofs.Common.{◌≡◌, ℕ, List, [], ◌∷◌, ◌++◌, fold, Bool, true, false, cond, Option, Some, None, refl, sym, ap, subst, ◌∙◌}
+use Rattle.std.proofs.Common.{◌≡◌, ℕ, List, [], ◌∷◌, ◌++◌, fold, Bool, true, false, cond, Option, Some, None, refl, sym, ap, ◌∙◌}
 use Rattle.std.proofs.lemmas.List.Sums.{fold-append}
 use Rattle.acl_fragments.specs.Pieces.{channel_of}
 use Rattle.channel_model.specs.Policies.{Policy}
 use Rattle.channel_model.specs.Calls.{has_fcs}
 use Rattle.channel_model.specs.Giving.{Given, next_given}
-use Rattle.channel_laws.specs.Runs.{Occurrence, Comes, Gives, Run, new_link, run_on, run_of}
-use Rattle.channel_laws.specs.Pairs.{End, Pair, new_pair, Happening, Acts, Puts, Takes, Repeats, Loses, Damages, is_alone, occurs, with_near, puts, let_go, takes_first, repeats_first, loses_first, damages_first, happens_near, Side, Near, Far, turned, Turn, happens_at, pair_after, pair_of, IsRunOf, EachEndRuns}
+use Rattle.channel_laws.specs.Runs.{Occurrence, Comes, Gives, new_link, run_on, run_of}
+use Rattle.channel_laws.specs.Pairs.{End, Pair, new_pair, Happening, Acts, Puts, Takes, Repeats, Loses, Damages, is_alone, occurs, with_near, puts, let_go, takes_first, repeats_first, loses_first, damages_first, happens_near, Side, Near, Far, turned, Turn, happens_at, pair_after, EachEndRuns}
 
 -- a host of the policy, with a run of it
 pub record Runs (policy : Policy) (end' : End) : Type 0 where

@@ -1,13 +1,10 @@
 -- A PDU comes in on a channel: what it hands up is what is read.
-use Rattle.std.proofs.Common.{◌≡◌, ℕ, ◌≤◌, List, [], ◌∷◌, ◌++◌, Bool, true, false, cond, ◌||◌, ◌&&◌, not, eqb, Option, Some, None, Ok, Err, refl, sym, ap, subst, ◌∙◌, ◌⊎◌, inl, inr}
+use Rattle.std.proofs.Common.{◌≡◌, ℕ, List, [], ◌∷◌, ◌++◌, Bool, true, false, cond, ◌||◌, ◌&&◌, eqb, Option, Some, None, Ok, Err, refl, sym, ap, subst, ◌∙◌, inl, inr}
 use Rattle.std.specs.Prelude.{find, drop, option_map, option_to_list, is_some}
 use Rattle.std.specs.List.{list_any, filter_map, cons_option}
 use Rattle.std.proofs.lemmas.List.Elements.{filter_map-append}
-use Rattle.acl_fragments.specs.Pieces.{channel_of}
-use Rattle.capture.specs.declared.flow.Flow.TheVariants.{Into}
 use Rattle.ertm_frames.specs.Answers.{Answer}
-use Rattle.ertm_frames.specs.Reading.{answer_in, frame_by, frame_in, frames_in}
-use Rattle.ertm_frames.specs.Picking.{sdus_in}
+use Rattle.ertm_frames.specs.Reading.{frame_by, frame_in, frames_in}
 use Rattle.ertm_model.specs.declared.reason.ErtmReason.{ErtmReason}
 use Rattle.ertm_model.specs.declared.reason.ErtmReason.TheVariants as machines
 use Rattle.ertm_model.specs.Value.{Ertm}
@@ -15,39 +12,35 @@ use Rattle.l2cap_config.specs.declared.wish.Mode.{Mode}
 use Rattle.l2cap_config.specs.declared.wish.Mode.TheVariants.{Basic, Enhanced}
 use Rattle.l2cap_config.specs.declared.wish.Wish.{Wish}
 use Rattle.l2cap_config.specs.declared.wish.Agreed.{Agreed}
-use Rattle.link_talk.specs.declared.channel.Channel.{Channel}
 use Rattle.link_talk.specs.declared.party.Party.{Party}
-use Rattle.link_talk.specs.Sayings.{Saying, Carried}
 use Rattle.link_talk.specs.Setups as read
 use Rattle.link_talk.specs.Setups.{is_set, is_enhanced, agreed_mode}
-use Rattle.link_talk.specs.Channels.{is_alive, Entry, reading}
-use Rattle.link_talk.specs.Carriages.{is_open, entry_mode, mode_of}
-use Rattle.link_talk.specs.Sdus.{sdus_by, sdus}
+use Rattle.link_talk.specs.Channels.{is_alive, Entry}
+use Rattle.link_talk.specs.Carriages.{entry_mode}
+use Rattle.link_talk.specs.Sdus.{sdus_by}
 use Rattle.channel_model.specs.declared.event.ChannelEvent.{ChannelEvent}
 use Rattle.channel_model.specs.declared.event.ChannelEvent.TheVariants.{Opened, Closed, Features, FeaturesLost, DisconnectLost}
-use Rattle.channel_model.specs.declared.event.CloseReason.{CloseReason}
-use Rattle.channel_model.specs.Value.{Own, Unasked, Asking, Granted, Carrier, Plain, Retransmitting, Setup, Stage, Requested, Connected, Leaving, Closing, Crossed, Held, Channels}
+use Rattle.channel_model.specs.Value.{Own, Unasked, Asking, Granted, Carrier, Plain, Retransmitting, Setup, Stage, Connected, Leaving, Closing, Held, Channels}
 use Rattle.channel_model.specs.Policies.{Policy}
-use Rattle.channel_model.specs.Changing.{has_own, held_at, setup_of, stage_with, with_setup, is_open as is_set_up}
+use Rattle.channel_model.specs.Changing.{has_own, setup_of, stage_with, with_setup, is_open as is_set_up}
 use Rattle.channel_model.specs.Configuring.{granted_setup}
 use Rattle.channel_model.specs.Asking.{new_request}
 use Rattle.channel_model.specs.Closing.{closes_at}
-use Rattle.channel_model.specs.Carrying.{reason_of, settles_machine, machine_heard, machine_sdu, read_by, is_frame, is_taken_with, takes_on, takes_held, Up, Nothing, Received, carried_sdu, sdu_with, sdu_at, up_by, up_on}
+use Rattle.channel_model.specs.Carrying.{reason_of, settles_machine, machine_heard, machine_sdu, read_by, is_frame, is_taken_with, takes_on, Up, Nothing, Received, carried_sdu, sdu_with, up_by}
 use Rattle.channel_model.specs.Telling.{any_reason, is_by_machine, closes_for, is_told_closed, is_told_broken}
-use Rattle.channel_model.proofs.Lookups.{own_of, found-has, found-placed, eqb-same, and_off}
+use Rattle.channel_model.proofs.Lookups.{found-placed, eqb-same, and_off}
 use Rattle.channel_model.proofs.Going.{is_stated, IsStated, staged}
-use Rattle.channel_model.proofs.Walking.{found-own, with-found}
+use Rattle.channel_model.proofs.Walking.{with-found}
 use Rattle.talk_laws.proofs.Sdus.{sdus-more}
 use Rattle.channel_model.specs.Value.{Request}
-use Rattle.channel_laws.specs.Views.{peer_of, life_of, asked_mode, carrier_mode, IsThere, read_at}
+use Rattle.channel_laws.specs.Views.{asked_mode, carrier_mode}
 use Rattle.channel_laws.specs.Runs.{sdu_up, sdus_up}
 use Rattle.channel_laws.specs.Sdus.{IsHandedUp}
-use Rattle.channel_laws.proofs.Sound.{Agrees, AgreesIf, CarrierIs, ReadsBy, Reads}
-use Rattle.channel_laws.proofs.Telling.{StageTold, HeldTold}
-use Rattle.channel_laws.proofs.Stretching.{heard_on, opens, StaysHeard}
+use Rattle.channel_laws.proofs.Sound.{Agrees, CarrierIs}
+use Rattle.channel_laws.proofs.Stretching.{opens}
 use Rattle.channel_laws.proofs.Attending.{Attends, CarrierAttends, StageAttends, HeldAttends}
 use Rattle.channel_laws.proofs.HandedUp.{Hears, hears-pdu, closes-silent, broken-up, no-frame, same-sdus}
-use Rattle.channel_laws.proofs.Taking.{Opens, Cases, takes-cases}
+use Rattle.channel_laws.proofs.Taking.{Opens, takes-cases}
 
 -- ---- what is told
 

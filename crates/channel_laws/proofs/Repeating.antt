@@ -1,6 +1,6 @@
 -- What is remembered of a request is its response.
-use Rattle.std.proofs.Common.{◌≡◌, ℕ, List, [], ◌∷◌, Bool, true, false, cond, eqb, Option, Some, None, Ok, refl, sym, ap, subst, ◌∙◌}
-use Rattle.std.specs.Prelude.{find, option_map, nat_le}
+use Rattle.std.proofs.Common.{◌≡◌, ℕ, List, Bool, true, false, cond, eqb, Option, Some, None, refl, sym, ap, ◌∙◌}
+use Rattle.std.specs.Prelude.{option_map, nat_le}
 use Rattle.l2cap_signal.specs.Commands.{Content, Command, reject, connection_request, connection_response, configuration_request, configuration_response, disconnection_request, disconnection_response, echo_request, echo_response, information_request, information_response}
 use Rattle.l2cap_config.specs.declared.agreement.ConfigAnswer.{ConfigAnswer}
 use Rattle.l2cap_config.specs.declared.agreement.ConfigAnswer.TheVariants.{Accept, Unacceptable, Unknown}
@@ -12,14 +12,14 @@ use Rattle.channel_model.specs.declared.request_kind.RequestKind.{RequestKind}
 use Rattle.channel_model.specs.declared.request_kind.RequestKind.TheVariants as kinds
 use Rattle.channel_model.specs.Value.{Own, Unasked, Asking, Granted, Setup, no_setup, Stage, Requested, Connected, Leaving, Closing, Crossed, Held, Remembered, Memory, Channels}
 use Rattle.channel_model.specs.Policies.{Policy}
-use Rattle.channel_model.specs.Changing.{has_own, held_at, is_peer, setup_of, stage_with, with_setup, to_setup}
+use Rattle.channel_model.specs.Changing.{held_at, is_peer, setup_of, stage_with, with_setup, to_setup}
 use Rattle.channel_model.specs.Closing.{closes, closes_at, peer_closes_at}
 use Rattle.channel_model.specs.Configuring.{Verdict, NoChannel, TooLate, Unreadable, Incomplete, Judged, verdict, accepted_setup, accepts_with, refused_setup, follows_answer, follows_verdict}
 use Rattle.channel_model.specs.Answers.{remembered, with_remembered, connection_result, answer_to}
 use Rattle.channel_model.specs.Following.{with_channel, follows_setup, follows_configuration, follows_disconnection, follows, remembers, says, can_say, hears_new, hears_again, hears_kind}
-use Rattle.channel_model.specs.Hearing.{hears_content, hears_command}
+use Rattle.channel_model.specs.Hearing.{hears_content}
 use Rattle.channel_model.proofs.Lookups.{eqb-same}
-use Rattle.channel_laws.specs.OwnTalk.{command_with, command_if, response_by, response_to, reply_to}
+use Rattle.channel_laws.specs.OwnTalk.{command_if, response_by, response_to}
 use Rattle.channel_laws.specs.Repeats.{RepeatsAreAnswered}
 
 -- ---- nothing that follows is remembered

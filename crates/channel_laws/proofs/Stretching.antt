@@ -1,11 +1,10 @@
 -- What a channel carries changes only with PDUs on channels.
-use Rattle.std.proofs.Common.{◌≡◌, ℕ, ◌%◌, List, [], ◌∷◌, ◌++◌, fold, map, Bool, true, false, cond, ◌&&◌, ◌||◌, eqb, Option, Some, None, refl, sym, ap, subst, ◌∙◌, ◌⊎◌, inl, inr}
+use Rattle.std.proofs.Common.{◌≡◌, ℕ, ◌%◌, List, [], ◌∷◌, ◌++◌, Bool, true, false, cond, ◌&&◌, ◌||◌, eqb, Option, Some, None, refl, sym, ap, subst, ◌∙◌, ◌⊎◌, inl, inr}
 use Rattle.std.specs.Prelude.{find, drop}
 use Rattle.std.specs.List.{list_any, filter_map}
 use Rattle.std.proofs.lemmas.Bool.{eqb-true}
 use Rattle.std.proofs.lemmas.List.Elements.{filter_map-append}
 use Rattle.acl_fragments.specs.Pieces.{channel_of}
-use Rattle.capture.specs.declared.flow.Flow.{Flow}
 use Rattle.capture.specs.declared.flow.Flow.TheVariants.{Out, Into}
 use Rattle.ertm_frames.specs.Segments.{Segment}
 use Rattle.ertm_frames.specs.Joining.{Joining, At, Stopped, Misplaced, Begins, Ends, ended, ended_by, joint, joined_by}
@@ -17,9 +16,8 @@ use Rattle.l2cap_config.specs.declared.wish.Mode.TheVariants.{Basic, Enhanced}
 use Rattle.link_talk.specs.declared.channel.Channel.{Channel}
 use Rattle.link_talk.specs.declared.party.Party.{Party}
 use Rattle.link_talk.specs.Sayings.{Saying, Command, Carried, GaveUp}
-use Rattle.link_talk.specs.Setups.{is_set}
-use Rattle.link_talk.specs.Channels.{Entry, reading, is_alive}
-use Rattle.link_talk.specs.Carriages.{Carriage, one_way, is_open, is_heard, takes, taker, is_on, carried_by, carried, stretch, pdus_of, has_own, mode_of}
+use Rattle.link_talk.specs.Channels.{Entry, reading}
+use Rattle.link_talk.specs.Carriages.{Carriage, one_way, is_open, is_heard, takes, taker, is_on, carried, stretch, pdus_of, has_own, mode_of}
 use Rattle.link_talk.specs.Sdus.{sdus_by, sdus}
 use Rattle.link_talk.specs.GrowingLaws.{has_opened}
 use Rattle.link_talk.proofs.Growing.{stretch-grows, mode-stands}
@@ -27,7 +25,7 @@ use Rattle.talk_laws.specs.Sdus.{sdus_with, heard_so_far, segment_of}
 use Rattle.talk_laws.proofs.Passes.{from_end}
 use Rattle.talk_laws.proofs.Owning.{alone, unopened-carries}
 use Rattle.talk_laws.proofs.Sdus.{sdus-more}
-use Rattle.channel_model.proofs.Lookups.{Distinct, not_found, and_off, eqb-same}
+use Rattle.channel_model.proofs.Lookups.{Distinct, not_found, and_off}
 use Rattle.channel_laws.specs.Views.{read_at, is_own}
 use Rattle.channel_laws.proofs.Entries.{own_read}
 

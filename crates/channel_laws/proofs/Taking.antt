@@ -1,18 +1,16 @@
 -- What a PDU on a channel does to it, by what carries its SDUs.
-use Rattle.std.proofs.Common.{◌≡◌, ℕ, List, [], ◌∷◌, ◌++◌, Bool, true, false, cond, ◌||◌, ◌&&◌, eqb, Option, Some, None, refl, sym, ap, subst, ◌∙◌}
+use Rattle.std.proofs.Common.{◌≡◌, ℕ, List, Bool, true, false, cond, eqb, Option, Some, None, refl, sym, ap, ◌∙◌}
 use Rattle.std.specs.Prelude.{find, is_some}
 use Rattle.ertm_model.specs.declared.reason.ErtmReason.{ErtmReason}
 use Rattle.ertm_model.specs.Value.{Ertm}
 use Rattle.l2cap_config.specs.declared.wish.Agreed.{Agreed}
 use Rattle.channel_model.specs.declared.errand.Errand.TheVariants as errands
-use Rattle.channel_model.specs.declared.event.ChannelEvent.{ChannelEvent}
-use Rattle.channel_model.specs.declared.event.ChannelEvent.TheVariants.{Opened, Closed}
 use Rattle.channel_model.specs.declared.event.CloseReason.{CloseReason}
 use Rattle.channel_model.specs.Value.{Own, Unasked, Asking, Granted, Carrier, Plain, Retransmitting, Setup, Stage, Requested, Connected, Leaving, Closing, Crossed, Held, Channels}
 use Rattle.channel_model.specs.Changing.{has_own, held_at, setup_of, stage_with, with_setup, to_setup, forgets}
 use Rattle.channel_model.specs.Asking.{new_request}
 use Rattle.channel_model.specs.Closing.{closes_at}
-use Rattle.channel_model.specs.Configuring.{opens_if, granted_setup, grants}
+use Rattle.channel_model.specs.Configuring.{opens_if, granted_setup}
 use Rattle.channel_model.specs.Carrying.{reason_of, settles_machine, machine_heard, read_by, carries, is_taken_with, opens_with, takes_with, takes_on, takes_held, takes}
 use Rattle.channel_model.proofs.Lookups.{own_of, found-has, find-placed, find-others}
 use Rattle.channel_model.proofs.Going.{is_stated, staged}

@@ -1,5 +1,5 @@
 -- What is told of a channel is how it is held.
-use Rattle.std.proofs.Common.{◌≡◌, ℕ, ◌+◌, ◌<◌, ◌≤◌, List, [], ◌∷◌, ◌++◌, fold, Bool, true, false, cond, ◌||◌, eqb, Option, Some, None, refl, sym, ap, subst, ◌∙◌, ◌⊎◌, arith}
+use Rattle.std.proofs.Common.{◌≡◌, ℕ, ◌+◌, ◌<◌, ◌≤◌, List, [], ◌∷◌, ◌++◌, Bool, true, false, cond, ◌||◌, eqb, Option, Some, None, refl, sym, ap, subst, ◌∙◌, arith}
 use Rattle.std.specs.Prelude.{find, drop, option_map, option_to_list, is_some, slice_get, nat_lt}
 use Rattle.std.specs.List.{list_any}
 use Rattle.std.proofs.lemmas.Bool.{ltb-true, ltb-false}
@@ -7,17 +7,17 @@ use Rattle.l2cap_config.specs.declared.wish.Wish.{Wish}
 use Rattle.acl_fragments.specs.Pieces.{channel_of}
 use Rattle.l2cap_signal.specs.Reading.{answers}
 use Rattle.channel_model.specs.declared.event.ChannelEvent.{ChannelEvent}
-use Rattle.channel_model.specs.Value.{Carrier, Setup, no_setup, Stage, Requested, Connected, Leaving, Closing, Crossed, Held, Channels}
+use Rattle.channel_model.specs.Value.{Carrier, Stage, Requested, Connected, Leaving, Closing, Crossed, Held, Channels}
 use Rattle.channel_model.specs.Policies.{Policy}
-use Rattle.channel_model.specs.Changing.{has_own, setup_of}
-use Rattle.channel_model.specs.Hearing.{hears, hears_commands}
+use Rattle.channel_model.specs.Changing.{has_own}
+use Rattle.channel_model.specs.Hearing.{hears_commands}
 use Rattle.channel_model.specs.Carrying.{takes}
 use Rattle.channel_model.specs.Telling.{any_reason, closes_for, is_told_closed}
 use Rattle.channel_model.proofs.Lookups.{own_of, Distinct}
-use Rattle.channel_model.proofs.Going.{IsStated, SetupGoes, StageGoes, staged, Moves, IsFirst, new_held, IsOther, Walks}
+use Rattle.channel_model.proofs.Going.{IsStated, StageGoes, staged, Moves, IsFirst, new_held, Walks}
 use Rattle.channel_model.proofs.Walking.{append_none, commands-go}
 use Rattle.channel_model.proofs.Calling.{connected-goes, asks-features-goes, disconnected-goes, sends-goes, takes-goes, timed-goes, given-goes}
-use Rattle.channel_laws.specs.Runs.{Occurrence, Comes, Connects, AsksFeatures, Disconnects, Sends, Gives, Fires, Tells, Run, new_link, run_on, run_of, arisen, told_in, value_after}
+use Rattle.channel_laws.specs.Runs.{Occurrence, Comes, Connects, AsksFeatures, Disconnects, Sends, Gives, Fires, Tells, Run, new_link, run_on, value_after}
 use Rattle.channel_laws.proofs.Sound.{at_each}
 use Rattle.channel_laws.proofs.Steps.{less-apart}
 use Rattle.channel_laws.proofs.Inviting.{held_others, held_here}
