@@ -59,7 +59,7 @@ mode_checks : (carrier : Carrier) → is_retransmitting (Some carrier) ≡ is_en
 mode_checks (Plain agreed waiting) = refl
 mode_checks (Retransmitting machine) = refl
 
-stated_mode : (wish : Wish) (own : Own) → is_stated own ≡ true → asked_mode wish own ≡ Some wish.mode
+pub stated_mode : (wish : Wish) (own : Own) → is_stated own ≡ true → asked_mode wish own ≡ Some wish.mode
 stated_mode wish Unasked is = cc
 stated_mode wish (Asking request options) is = refl
 stated_mode wish Granted is = refl

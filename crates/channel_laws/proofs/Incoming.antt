@@ -40,7 +40,7 @@ use Rattle.channel_laws.specs.OwnTalk.{spoken, reply_to, exchanged, newest, said
 use Rattle.channel_laws.specs.Runs.{Occurrence, Comes, Connects, AsksFeatures, Disconnects, Sends, Gives, Fires, Tells, forgone_at, forgone_between, given_up, features_given_up, said_again, said_on_firing, said_by_channel, fired_channel, said_by_channels, peer_at, said_by_carrier, said_as, said_in, Run, new_link, run_on, arisen, sdu_up, sdus_up}
 use Rattle.channel_laws.specs.Sdus.{StatesFrame, IsHandedUp, SdusAreRead}
 use Rattle.channel_laws.proofs.Sound.{AgreesIf, ReadsBy, Reads}
-use Rattle.channel_laws.proofs.Telling.{StageTold, HeldTold, RunTold, one_told, nothing_told}
+use Rattle.channel_laws.proofs.Telling.{StageTold, HeldTold, RunTold, one_told, nothing_told, Anything}
 use Rattle.channel_laws.proofs.Stretching.{heard_on, NoneComes, comes_in, StaysHeard, opens, carried-here, carried-else, nothing-heard, one-heard, stays-heard}
 use Rattle.channel_laws.proofs.Attending.{StageAttends, HeldAttends, AllAttend, AttendsOn, BesideCarrier, submits-aside, gives-aside, fires-aside, walks-attend}
 use Rattle.channel_laws.proofs.Taking.{takes-others}
@@ -204,9 +204,6 @@ Gains v w = (more : List ChannelEvent) × (w.events ≡ v.events ++ more)
 append_assoc : (xs ys zs : List ChannelEvent) → (xs ++ ys) ++ zs ≡ xs ++ (ys ++ zs)
 append_assoc [] ys zs = refl
 append_assoc (x ∷ xs) ys zs = ap (λ es. x ∷ es) (append_assoc xs ys zs)
-
-abbrev Anything : Carrier → Carrier → Type 0
-Anything before after = Unit {0}
 
 walks_gain : (policy : Policy) → Walks policy Anything Gains
 walks_gain policy = record {

@@ -41,6 +41,7 @@ use Rattle.channel_laws.proofs.Stretching.{opens}
 use Rattle.channel_laws.proofs.Attending.{Attends, CarrierAttends, StageAttends, HeldAttends}
 use Rattle.channel_laws.proofs.HandedUp.{Hears, hears-pdu, closes-silent, broken-up, no-frame, same-sdus}
 use Rattle.channel_laws.proofs.Taking.{Opens, takes-cases}
+use Rattle.channel_laws.proofs.CheckWords.{stated_mode}
 
 -- ---- what is told
 
@@ -109,11 +110,6 @@ up_one own ups held (Some sdu) same =
     ∙ (ap (λ n. sdus_up own ups ++ cons_option (cond (eqb n own) (Some sdu) None) []) same ∙ ap (λ t. sdus_up own ups ++ cons_option (cond t (Some sdu) None) []) (eqb-same own))
 
 -- ---- a channel that is open in the talk
-
-stated_mode : (wish : Wish) (own : Own) → is_stated own ≡ true → asked_mode wish own ≡ Some wish.mode
-stated_mode wish Unasked is = cc
-stated_mode wish (Asking request options) is = refl
-stated_mode wish Granted is = refl
 
 set_by : (wish : Wish) (setup : Setup) (said : read.Setup) (carrier : Carrier) → Agrees wish setup said → setup.carrier ≡ Some carrier → is_stated setup.own ≡ true → is_set said ≡ true
 set_by wish setup said carrier agrees is stated =

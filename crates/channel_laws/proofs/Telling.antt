@@ -154,7 +154,7 @@ silent_told v w more held_is next_is events_are none earlier told = record {
 }
 
 -- whatever carries
-abbrev Anything : Carrier → Carrier → Type 0
+abbrev pub Anything : Carrier → Carrier → Type 0
 Anything before after = Unit {0}
 
 walks-told : (policy : Policy) → Walks policy Anything GoesOn

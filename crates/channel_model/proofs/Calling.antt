@@ -119,12 +119,12 @@ carried_by policy C R walks v pdu held setup (Retransmitting machine) hearing fo
     let after : Ertm = machine_heard (read_by machine pdu) machine in
     machine-goes policy C R walks v held setup machine after after.closed found is carrier_is (hearing machine)
 
-granted_same : (stage : Stage) (setup : Setup) → setup_of stage ≡ Some setup → setup.own ≡ Granted → stage_with (granted_setup setup) stage ≡ stage
-granted_same (Requested request) setup is own = cc
-granted_same (Connected peer s) setup is own = let same : s ≡ setup = cc in ap (Connected peer) (ap (λ (o : Own). let x : Setup = record setup { own = o } in x) (sym own) ∙ sym same)
-granted_same (Leaving peer s request) setup is own = let same : s ≡ setup = cc in ap (λ x. Leaving peer x request) (ap (λ (o : Own). let x : Setup = record setup { own = o } in x) (sym own) ∙ sym same)
-granted_same (Closing peer request) setup is own = cc
-granted_same (Crossed peer request) setup is own = cc
+pub granted-same : (stage : Stage) (setup : Setup) → setup_of stage ≡ Some setup → setup.own ≡ Granted → stage_with (granted_setup setup) stage ≡ stage
+granted-same (Requested request) setup is own = cc
+granted-same (Connected peer s) setup is own = let same : s ≡ setup = cc in ap (Connected peer) (ap (λ (o : Own). let x : Setup = record setup { own = o } in x) (sym own) ∙ sym same)
+granted-same (Leaving peer s request) setup is own = let same : s ≡ setup = cc in ap (λ x. Leaving peer x request) (ap (λ (o : Own). let x : Setup = record setup { own = o } in x) (sym own) ∙ sym same)
+granted-same (Closing peer request) setup is own = cc
+granted-same (Crossed peer request) setup is own = cc
 
 opened_by : (policy : Policy) (C : Carrier → Carrier → Type 0) (R : Channels → Channels → Type 0) (walks : Walks policy C R) (v : Channels) (pdu : List ℕ) (held : Held) (setup : Setup) (carrier : Carrier) (own : Own) (taken : Bool) → Hearing C pdu
     → find (has_own held.own) v.held ≡ Some held → setup_of held.stage ≡ Some setup → setup.carrier ≡ Some carrier → setup.own ≡ own → is_taken_with own carrier pdu ≡ taken
@@ -144,7 +144,7 @@ opened_by policy C R walks v pdu held setup carrier (Asking request options) tru
         by_some true = with-found v held (granted_setup setup) found
         by_some false = with-found v held (granted_setup setup) found
 opened_by policy C R walks v pdu held setup carrier Granted true hearing found is carrier_is own_is takes =
-    let same : with_setup held (granted_setup setup) ≡ held = ap (λ (s : Stage). let h : Held = record held { stage = s } in h) (granted_same held.stage setup is own_is) in
+    let same : with_setup held (granted_setup setup) ≡ held = ap (λ (s : Stage). let h : Held = record held { stage = s } in h) (granted-same held.stage setup is own_is) in
     carried_by policy C R walks v pdu (with_setup held (granted_setup setup)) (granted_setup setup) carrier hearing (found ∙ ap Some (sym same)) (with-setup held.stage setup (granted_setup setup) is) carrier_is
 
 taken_with : (policy : Policy) (C : Carrier → Carrier → Type 0) (R : Channels → Channels → Type 0) (walks : Walks policy C R) (v : Channels) (pdu : List ℕ) (held : Held) (setup : Setup) (carrier : Option Carrier) → Hearing C pdu
