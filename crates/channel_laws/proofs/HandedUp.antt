@@ -1,5 +1,5 @@
 -- The SDUs that are handed up of a channel are those that its talk brings.
-use Rattle.std.proofs.Common.{◌≡◌, ℕ, List, [], ◌∷◌, ◌++◌, Bool, true, Option, Some, None, Ok, Err, refl, sym, ap, subst, ◌∙◌, inl, inr}
+use Rattle.std.proofs.Common.{◌≡◌, ℕ, List, [], ◌∷◌, ◌++◌, Bool, true, Option, Some, None, Ok, Err, refl, sym, ap, subst, ◌∙◌, inl, inr, append-nil}
 use Rattle.std.specs.Prelude.{option_to_list}
 use Rattle.std.specs.List.{cons_option}
 use Rattle.std.proofs.lemmas.List.Elements.{filter_map-append}
@@ -61,13 +61,9 @@ brought_is nothing = refl
 brought_is (sdu octets) = refl
 brought_is (closed reason) = refl
 
-append_none : {X : Type 0} (xs : List X) → xs ≡ xs ++ []
-append_none [] = refl
-append_none (x ∷ xs) = ap (λ ys. x ∷ ys) (append_none xs)
-
 came_up : (found : Answer) (c : Course) → (comes found c).up ≡ c.up ++ option_to_list (machine_sdu found c.machine)
 came_up (Ok frame) c = ap (λ more. c.up ++ more) (brought_is (answer_to frame c.machine))
-came_up (Err refusal) c = append_none c.up
+came_up (Err refusal) c = sym (append-nil c.up)
 
 -- the machine behind the PDU, and what it hands up
 pub record Hears (frame : ℕ) (pdus : List (List ℕ)) (m : Ertm) (pdu : List ℕ) : Type 0 where
@@ -129,10 +125,10 @@ broken-up most mode pdus pdu up broken is same =
     subst (IsHandedUp broken up) (sym (brings_is ∙ ap (λ us. us ++ brings) same)) (by brings short)
   where
     by : (brings : List (List ℕ)) → AtMostOne brings → IsHandedUp broken up (up ++ brings)
-    by brings (inl none) = inl (ap (λ b. up ++ b) none ∙ sym (append_none up))
+    by brings (inl none) = inl (ap (λ b. up ++ b) none ∙ sym (sym (append-nil up)))
     by brings (inr (one, one_is)) = inr (is, one, ap (λ b. up ++ b) one_is)
 
 -- ---- a PDU that is no frame
 
 pub no-frame : (frame : ℕ) (pdus : List (List ℕ)) (pdu : List ℕ) → frame_in frame pdu ≡ None → frames_in frame (pdus ++ pdu ∷ []) ≡ frames_in frame pdus
-no-frame frame pdus pdu none = append-frames frame pdus (pdu ∷ []) ∙ (ap (λ (found : Option _). frames_in frame pdus ++ cons_option found []) none ∙ sym (append_none (frames_in frame pdus)))
+no-frame frame pdus pdu none = append-frames frame pdus (pdu ∷ []) ∙ (ap (λ (found : Option _). frames_in frame pdus ++ cons_option found []) none ∙ sym (sym (append-nil (frames_in frame pdus))))

@@ -1,5 +1,5 @@
 -- The SDUs that are handed up in a whole run.
-use Rattle.std.proofs.Common.{◌≡◌, ℕ, ◌≤◌, List, [], ◌∷◌, ◌++◌, map, Bool, true, false, cond, ◌||◌, ◌&&◌, eqb, Option, Some, None, refl, sym, ap, subst, ◌∙◌, inl, inr, arith}
+use Rattle.std.proofs.Common.{◌≡◌, ℕ, ◌≤◌, List, [], ◌∷◌, ◌++◌, map, Bool, true, false, cond, ◌||◌, ◌&&◌, eqb, Option, Some, None, refl, sym, ap, subst, ◌∙◌, inl, inr, arith, append_assoc}
 use Rattle.std.specs.Prelude.{find, drop, option_map, option_to_list, slice_get}
 use Rattle.std.specs.Option.{option_and_then}
 use Rattle.std.specs.List.{list_any}
@@ -201,10 +201,6 @@ none_given (Some (Framed peer frame)) pdu = refl
 abbrev Gains : Channels → Channels → Type 0
 Gains v w = (more : List ChannelEvent) × (w.events ≡ v.events ++ more)
 
-append_assoc : (xs ys zs : List ChannelEvent) → (xs ++ ys) ++ zs ≡ xs ++ (ys ++ zs)
-append_assoc [] ys zs = refl
-append_assoc (x ∷ xs) ys zs = ap (λ es. x ∷ es) (append_assoc xs ys zs)
-
 walks_gain : (policy : Policy) → Walks policy Anything Gains
 walks_gain policy = record {
   same = λ carrier. tt;
@@ -303,10 +299,6 @@ before_comes policy party channel run pdu sound same =
       so_far = refl;
     }
 
-append_sayings : (xs ys zs : List Saying) → (xs ++ ys) ++ zs ≡ xs ++ (ys ++ zs)
-append_sayings [] ys zs = refl
-append_sayings (x ∷ xs) ys zs = ap (λ es. x ∷ es) (append_sayings xs ys zs)
-
 -- at each endpoint
 abbrev At : Policy → Party → Channel → (told : List ChannelEvent) (ups : List Up) (said : List Saying) (w : Channels) (own : ℕ) → Type 0
 At policy party channel told ups said w own =
@@ -367,7 +359,7 @@ carried_up policy party channel run pdu sound so_far told =
     let w : Channels = takes k pdu run.value in
     let asked : List Saying = asked_between run.value w in
     let before : List Saying = run.said ++ Carried Into pdu ∷ [] in
-    let whole : before ++ asked ≡ run.said ++ (Carried Into pdu ∷ asked) = append_sayings run.said (Carried Into pdu ∷ []) asked in
+    let whole : before ++ asked ≡ run.said ++ (Carried Into pdu ∷ asked) = append_assoc run.said (Carried Into pdu ∷ []) asked in
     let next_is : w.next ≡ run.value.next = (takes-others k pdu run.value).next_is in
     let at : (own : ℕ) → At policy party channel run.told (run.up ++ up_at k pdu run.value ∷ []) (run.said ++ (Carried Into pdu ∷ asked)) w own = λ own.
     subst (λ s. At policy party channel run.told (run.up ++ up_at k pdu run.value ∷ []) s w own) whole

@@ -1,5 +1,5 @@
 -- A PDU comes in on a channel: what it hands up is what is read.
-use Rattle.std.proofs.Common.{◌≡◌, ℕ, List, [], ◌∷◌, ◌++◌, Bool, true, false, cond, ◌||◌, ◌&&◌, eqb, Option, Some, None, Ok, Err, refl, sym, ap, subst, ◌∙◌, inl, inr}
+use Rattle.std.proofs.Common.{◌≡◌, ℕ, List, [], ◌∷◌, ◌++◌, Bool, true, false, cond, ◌||◌, ◌&&◌, eqb, Option, Some, None, Ok, Err, refl, sym, ap, subst, ◌∙◌, inl, inr, append-nil}
 use Rattle.std.specs.Prelude.{find, drop, option_map, option_to_list, is_some}
 use Rattle.std.specs.List.{list_any, filter_map, cons_option}
 use Rattle.std.proofs.lemmas.List.Elements.{filter_map-append}
@@ -93,15 +93,11 @@ open_up broken up said (inr (is, one, rest)) shut = let never : true ≡ false =
 
 -- ---- what is handed up
 
-append_nil : (xs : List (List ℕ)) → xs ++ [] ≡ xs
-append_nil [] = refl
-append_nil (x ∷ xs) = ap (λ ys. x ∷ ys) (append_nil xs)
-
 up_more : (own : ℕ) (ups : List Up) (now : Up) → sdus_up own (ups ++ now ∷ []) ≡ sdus_up own ups ++ filter_map (sdu_up own) (now ∷ [])
 up_more own ups now = filter_map-append (sdu_up own) ups (now ∷ [])
 
 pub up-nothing : (own : ℕ) (ups : List Up) (now : Up) → sdu_up own now ≡ None → sdus_up own (ups ++ now ∷ []) ≡ sdus_up own ups
-up-nothing own ups now none = up_more own ups now ∙ (ap (λ f. sdus_up own ups ++ cons_option f []) none ∙ append_nil (sdus_up own ups))
+up-nothing own ups now none = up_more own ups now ∙ (ap (λ f. sdus_up own ups ++ cons_option f []) none ∙ append-nil (sdus_up own ups))
 
 up_one : (own : ℕ) (ups : List Up) (held : Held) (sdu : Option (List ℕ)) → held.own ≡ own → sdus_up own (ups ++ up_by sdu held ∷ []) ≡ sdus_up own ups ++ option_to_list sdu
 up_one own ups held None same = up_more own ups Nothing
@@ -261,7 +257,7 @@ ignored policy party own pdu earlier ups pdus pdus' so_far now v held peer setup
     ∙ sym (h.before.so_far ∙ ap (λ x. sdus_by party.frame x pdus) mode))) in (
       subst (λ n. HeldAttends policy party.frame pdus' (find (has_own n) v.held)) h.own_is
           (subst (HeldAttends policy party.frame pdus') (sym h.found) (subst (StageAttends wish party.frame pdus') (sym h.stage_is) (attends_frames wish party.frame pdus pdus' (is_set_up setup) setup.carrier frames h.attends))),
-      subst (λ u. IsHandedUp (is_told_broken own (earlier ++ v.events)) u now) (sym (up_is own pdu ups held setup carrier false h.own_is c t ∙ append_nil (sdus_up own ups)))
+      subst (λ u. IsHandedUp (is_told_broken own (earlier ++ v.events)) u now) (sym (up_is own pdu ups held setup carrier false h.own_is c t ∙ append-nil (sdus_up own ups)))
           (subst (IsHandedUp (is_told_broken own (earlier ++ v.events)) (sdus_up own ups)) (sym same) h.handed),
     )
 
@@ -317,7 +313,7 @@ taken_framed policy party own pdu earlier ups pdus pdus' so_far now v held peer 
       subst (λ n. HeldAttends policy party.frame pdus' (find (has_own n) (closes_at (Connected peer base) (reason_of reason) at_end u).held)) h.own_is
           (subst (HeldAttends policy party.frame pdus') (sym (found-placed (staged at_end ending) at_end u.held opens.here)) tt),
       subst (λ x. IsHandedUp (is_told_broken own (earlier ++ (u.events ++ Closed held.own held.psm (reason_of reason) ∷ []))) x now)
-          (sym (up_is own pdu ups held setup (Retransmitting machine) true h.own_is c t ∙ (ap (λ f. sdus_up own ups ++ option_to_list f) (closes-silent reason machine pdu is) ∙ append_nil (sdus_up own ups))))
+          (sym (up_is own pdu ups held setup (Retransmitting machine) true h.own_is c t ∙ (ap (λ f. sdus_up own ups ++ option_to_list f) (closes-silent reason machine pdu is) ∙ append-nil (sdus_up own ups))))
           (subst (IsHandedUp (is_told_broken own (earlier ++ (u.events ++ Closed held.own held.psm (reason_of reason) ∷ []))) (sdus_up own ups)) (sym carried.1)
           (broken-up party.frame (agreed_mode entry.setup) pdus pdu (sdus_up own ups) (is_told_broken own (earlier ++ (u.events ++ Closed held.own held.psm (reason_of reason) ∷ [])))
           (broken_told own held reason earlier u.events h.own_is) (sym h.before.so_far ∙ so_far_up))),
