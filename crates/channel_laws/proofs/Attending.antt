@@ -1,14 +1,13 @@
 -- A retransmission machine has heard the frames that came in on its channel.
-use Rattle.std.proofs.Common.{◌≡◌, ℕ, ◌+◌, ◌<◌, ◌≤◌, List, [], ◌∷◌, ◌++◌, length, Bool, true, false, cond, ◌||◌, ◌&&◌, not, eqb, ltb, Option, Some, None, refl, sym, ap, subst, ◌∙◌, ◌⊎◌, inl, inr, arith}
+use Rattle.std.proofs.Common.{◌≡◌, ℕ, ◌+◌, ◌<◌, ◌≤◌, List, [], ◌∷◌, ◌++◌, length, Bool, true, false, cond, ◌||◌, ◌&&◌, not, eqb, Option, Some, None, refl, sym, ap, subst, ◌∙◌, ◌⊎◌, inl, inr, arith}
 use Rattle.std.specs.Prelude.{find, option_map, is_some, min, nat_lt, nat_le}
-use Rattle.std.specs.List.{list_any}
 use Rattle.std.proofs.lemmas.Bool.{ltb-false, ltb-true}
 use Rattle.ertm_frames.specs.Reading.{frames_in}
 use Rattle.ertm_model.specs.declared.reason.ErtmReason.TheVariants.{RetryLimit}
 use Rattle.ertm_model.specs.Value.{Ertm, Kept, Poll, NoPoll, Due, Waits, new_ertm}
 use Rattle.ertm_model.specs.Submitting.{is_busy, taking, submitted}
 use Rattle.ertm_model.specs.Giving.{Giving, PollAnswer, Acknowledgement, Rejection, Polling, Again, New, giving, after_giving, after_by, after_frame, closing, polling, first_poll, poll_timed, open_timed, timed}
-use Rattle.ertm_model.specs.Runs.{Event, Submits, Comes, Gives, Fires, Course, new_course, given, happens, all_happen}
+use Rattle.ertm_model.specs.Runs.{Event, Submits, Gives, Fires, Course, new_course, given, happens, all_happen}
 use Rattle.l2cap_config.specs.declared.agreement.ConfigAnswer.{ConfigAnswer}
 use Rattle.l2cap_config.specs.declared.agreement.ConfigAnswer.TheVariants.{Accept, Unacceptable, Unknown}
 use Rattle.l2cap_config.specs.declared.options.ConfigRefusal.{ConfigRefusal}
@@ -19,14 +18,13 @@ use Rattle.l2cap_config.specs.declared.wish.Mode.{Mode}
 use Rattle.l2cap_config.specs.declared.wish.Mode.TheVariants.{Basic, Enhanced}
 use Rattle.l2cap_config.specs.declared.wish.Wish.{Wish}
 use Rattle.l2cap_config.specs.Agreement.{asked_mode, asked_mtu, mode_number, answered, answered_values, agreed_on, sent_window}
-use Rattle.link_talk.specs.declared.party.Party.{Party}
 use Rattle.channel_model.specs.declared.event.ChannelEvent.{ChannelEvent}
-use Rattle.channel_model.specs.Value.{Own, Unasked, Asking, Granted, Carrier, Plain, Retransmitting, Setup, no_setup, Stage, Requested, Connected, Leaving, Closing, Crossed, Held, Channels}
+use Rattle.channel_model.specs.Value.{Own, Unasked, Asking, Granted, Carrier, Plain, Retransmitting, Setup, Stage, Requested, Connected, Leaving, Closing, Crossed, Held, Channels}
 use Rattle.channel_model.specs.Policies.{Policy}
 use Rattle.channel_model.specs.Changing.{has_own, is_granted, is_open}
-use Rattle.channel_model.specs.Configuring.{bounded_agreement, carrier_by, new_carrier}
-use Rattle.channel_model.proofs.Lookups.{own_of, Distinct, and_off}
-use Rattle.channel_model.proofs.Going.{OwnGoes, IsAccepted, CarrierGoes, SetupGoes, StageGoes, staged, Moves, IsFirst, new_held, IsOther, Walks}
+use Rattle.channel_model.specs.Configuring.{bounded_agreement, carrier_by}
+use Rattle.channel_model.proofs.Lookups.{and_off}
+use Rattle.channel_model.proofs.Going.{OwnGoes, IsAccepted, CarrierGoes, SetupGoes, StageGoes, staged, Moves, IsFirst, new_held, Walks}
 use Rattle.channel_laws.proofs.Sound.{at_each}
 use Rattle.channel_laws.proofs.Steps.{less-apart}
 use Rattle.channel_laws.proofs.Inviting.{held_others, held_here}

@@ -1,6 +1,6 @@
 -- Check words are where the talk says that they are.
-use Rattle.std.proofs.Common.{◌≡◌, ℕ, List, [], ◌∷◌, ◌++◌, Bool, true, false, cond, ◌&&◌, ◌||◌, eqb, not, Option, Some, None, refl, sym, ap, subst, ◌∙◌, arith}
-use Rattle.std.specs.Prelude.{find, option_map, is_some}
+use Rattle.std.proofs.Common.{◌≡◌, ℕ, List, [], ◌∷◌, Bool, true, false, cond, ◌&&◌, ◌||◌, eqb, not, Option, Some, None, refl, sym, ap, subst, ◌∙◌}
+use Rattle.std.specs.Prelude.{option_map, is_some}
 use Rattle.std.specs.List.{list_any}
 use Rattle.std.proofs.lemmas.Bool.{eqb-true}
 use Rattle.l2cap_config.specs.declared.wish.Mode.{Mode}
@@ -8,21 +8,21 @@ use Rattle.l2cap_config.specs.declared.wish.Wish.{Wish}
 use Rattle.link_talk.specs.Setups as read
 use Rattle.link_talk.specs.Setups.{is_enhanced}
 use Rattle.link_talk.specs.Channels.{is_there, Entry, reading}
-use Rattle.link_talk.specs.Waits.{is_checked, has_check_word}
+use Rattle.link_talk.specs.Waits.{is_checked}
 use Rattle.channel_model.specs.Value.{Own, Unasked, Asking, Granted, Carrier, Plain, Retransmitting, Setup, Stage, Requested, Connected, Leaving, Closing, Crossed, Held}
 use Rattle.channel_model.specs.Policies.{Policy}
 use Rattle.channel_model.specs.Changing.{setup_of, held_at}
-use Rattle.channel_model.specs.Calls.{setup_on, is_retransmitting, has_fcs_on, has_fcs}
+use Rattle.channel_model.specs.Calls.{setup_on, is_retransmitting, has_fcs_on}
 use Rattle.channel_model.specs.Telling.{is_told_closed}
 use Rattle.channel_model.proofs.Lookups.{Distinct, not_found, and_off}
 use Rattle.channel_model.proofs.Going.{is_stated, IsStated}
-use Rattle.channel_laws.specs.Views.{peer_of, life_of, asked_mode, carrier_mode, is_own, read_at, IsThere}
-use Rattle.channel_laws.specs.Runs.{Occurrence, Run, run_of, run_on, arisen}
+use Rattle.channel_laws.specs.Views.{peer_of, life_of, asked_mode, carrier_mode, is_own, read_at}
+use Rattle.channel_laws.specs.Runs.{Run, run_of, arisen}
 use Rattle.channel_laws.specs.CheckWords.{CheckWordsAreRead}
 use Rattle.channel_laws.proofs.Entries.{own_read}
-use Rattle.channel_laws.proofs.Sound.{Agrees, AgreesIf, CarrierIs, ReadsBy, Reads, Sound}
-use Rattle.channel_laws.proofs.Telling.{StageTold, HeldTold, Told, RunTold, one_told, nothing_told}
-use Rattle.channel_laws.proofs.Running.{IsSound, along}
+use Rattle.channel_laws.proofs.Sound.{Agrees, AgreesIf, CarrierIs, ReadsBy, Reads}
+use Rattle.channel_laws.proofs.Telling.{StageTold, HeldTold, RunTold, one_told, nothing_told}
+use Rattle.channel_laws.proofs.Running.{along}
 
 -- ---- one entry of all
 
@@ -59,7 +59,7 @@ mode_checks : (carrier : Carrier) → is_retransmitting (Some carrier) ≡ is_en
 mode_checks (Plain agreed waiting) = refl
 mode_checks (Retransmitting machine) = refl
 
-stated_mode : (wish : Wish) (own : Own) → is_stated own ≡ true → asked_mode wish own ≡ Some wish.mode
+pub stated_mode : (wish : Wish) (own : Own) → is_stated own ≡ true → asked_mode wish own ≡ Some wish.mode
 stated_mode wish Unasked is = cc
 stated_mode wish (Asking request options) is = refl
 stated_mode wish Granted is = refl

@@ -1,26 +1,19 @@
 -- The SDUs that are handed up of a channel are those that its talk brings.
-use Rattle.std.proofs.Common.{◌≡◌, ℕ, ◌+◌, ◌≤◌, List, [], ◌∷◌, ◌++◌, fold, map, Bool, true, false, cond, ◌||◌, ◌&&◌, eqb, Option, Some, None, Ok, Err, refl, sym, ap, subst, ◌∙◌, ◌⊎◌, inl, inr, arith}
-use Rattle.std.specs.Prelude.{find, drop, option_map, is_some, option_to_list}
-use Rattle.std.specs.List.{list_any, filter_map, cons_option}
-use Rattle.std.proofs.lemmas.Bool.{eqb-true}
+use Rattle.std.proofs.Common.{◌≡◌, ℕ, List, [], ◌∷◌, ◌++◌, Bool, true, Option, Some, None, Ok, Err, refl, sym, ap, subst, ◌∙◌, inl, inr, append-nil}
+use Rattle.std.specs.Prelude.{option_to_list}
+use Rattle.std.specs.List.{cons_option}
 use Rattle.std.proofs.lemmas.List.Elements.{filter_map-append}
-use Rattle.acl_fragments.specs.Pieces.{channel_of}
-use Rattle.capture.specs.declared.flow.Flow.TheVariants.{Out, Into}
 use Rattle.ertm_frames.specs.Answers.{Answer}
 use Rattle.ertm_frames.specs.Reading.{answer_in, frame_in, frames_in}
 use Rattle.ertm_frames.specs.Picking.{picked, sdus_in}
 use Rattle.ertm_frames.specs.Joining.{sdus_of}
 use Rattle.ertm_model.specs.declared.reason.ErtmReason.{ErtmReason}
-use Rattle.ertm_model.specs.declared.reason.ErtmReason.TheVariants as machines
 use Rattle.ertm_model.specs.Value.{Ertm}
-use Rattle.ertm_model.specs.Hearing.{heard, heard_by, open_heard, fault, refusal_fault, closed_by, answer_to, answer_by, refused, PlainHeard, nothing, sdu, closed}
-use Rattle.ertm_model.specs.Runs.{Event, Comes, Course, new_course, brought, comes, with_pdu, happens, all_happen, IsSaid}
+use Rattle.ertm_model.specs.Hearing.{heard_by, open_heard, fault, refusal_fault, closed_by, answer_to, answer_by, PlainHeard, nothing, sdu, closed}
+use Rattle.ertm_model.specs.Runs.{Comes, Course, new_course, brought, comes, happens, all_happen, IsSaid}
 use Rattle.ertm_model.proofs.Coursing.{always-said}
 use Rattle.l2cap_config.specs.declared.wish.Mode.{Mode}
-use Rattle.l2cap_config.specs.declared.wish.Mode.TheVariants.{Basic, Enhanced}
-use Rattle.link_talk.specs.declared.party.Party.{Party}
 use Rattle.link_talk.specs.Sdus.{sdus_by}
-use Rattle.channel_model.specs.Value.{Carrier, Plain, Retransmitting}
 use Rattle.channel_model.specs.Carrying.{read_by, machine_heard, machine_sdu, sdu_heard}
 use Rattle.channel_laws.specs.Sdus.{IsHandedUp}
 use Rattle.channel_laws.proofs.Attending.{Attends, happens-last}
@@ -68,13 +61,9 @@ brought_is nothing = refl
 brought_is (sdu octets) = refl
 brought_is (closed reason) = refl
 
-append_none : {X : Type 0} (xs : List X) → xs ≡ xs ++ []
-append_none [] = refl
-append_none (x ∷ xs) = ap (λ ys. x ∷ ys) (append_none xs)
-
 came_up : (found : Answer) (c : Course) → (comes found c).up ≡ c.up ++ option_to_list (machine_sdu found c.machine)
 came_up (Ok frame) c = ap (λ more. c.up ++ more) (brought_is (answer_to frame c.machine))
-came_up (Err refusal) c = append_none c.up
+came_up (Err refusal) c = sym (append-nil c.up)
 
 -- the machine behind the PDU, and what it hands up
 pub record Hears (frame : ℕ) (pdus : List (List ℕ)) (m : Ertm) (pdu : List ℕ) : Type 0 where
@@ -136,10 +125,10 @@ broken-up most mode pdus pdu up broken is same =
     subst (IsHandedUp broken up) (sym (brings_is ∙ ap (λ us. us ++ brings) same)) (by brings short)
   where
     by : (brings : List (List ℕ)) → AtMostOne brings → IsHandedUp broken up (up ++ brings)
-    by brings (inl none) = inl (ap (λ b. up ++ b) none ∙ sym (append_none up))
+    by brings (inl none) = inl (ap (λ b. up ++ b) none ∙ sym (sym (append-nil up)))
     by brings (inr (one, one_is)) = inr (is, one, ap (λ b. up ++ b) one_is)
 
 -- ---- a PDU that is no frame
 
 pub no-frame : (frame : ℕ) (pdus : List (List ℕ)) (pdu : List ℕ) → frame_in frame pdu ≡ None → frames_in frame (pdus ++ pdu ∷ []) ≡ frames_in frame pdus
-no-frame frame pdus pdu none = append-frames frame pdus (pdu ∷ []) ∙ (ap (λ (found : Option _). frames_in frame pdus ++ cons_option found []) none ∙ sym (append_none (frames_in frame pdus)))
+no-frame frame pdus pdu none = append-frames frame pdus (pdu ∷ []) ∙ (ap (λ (found : Option _). frames_in frame pdus ++ cons_option found []) none ∙ sym (sym (append-nil (frames_in frame pdus))))

@@ -1,14 +1,13 @@
 -- The SDUs that are handed up in a whole run.
-use Rattle.std.proofs.Common.{◌≡◌, ℕ, ◌≤◌, List, [], ◌∷◌, ◌++◌, fold, map, Bool, true, false, cond, ◌||◌, ◌&&◌, not, eqb, Option, Some, None, refl, sym, ap, subst, ◌∙◌, ◌⊎◌, inl, inr, arith}
-use Rattle.std.specs.Prelude.{find, drop, option_map, option_to_list, is_some, slice_get}
+use Rattle.std.proofs.Common.{◌≡◌, ℕ, ◌≤◌, List, [], ◌∷◌, ◌++◌, map, Bool, true, false, cond, ◌||◌, ◌&&◌, eqb, Option, Some, None, refl, sym, ap, subst, ◌∙◌, inl, inr, arith, append_assoc}
+use Rattle.std.specs.Prelude.{find, drop, option_map, option_to_list, slice_get}
 use Rattle.std.specs.Option.{option_and_then}
-use Rattle.std.specs.List.{list_any, filter_map}
+use Rattle.std.specs.List.{list_any}
 use Rattle.std.proofs.lemmas.Bool.{eqb-true}
 use Rattle.acl_fragments.specs.Pieces.{channel_of}
 use Rattle.capture.specs.declared.flow.Flow.TheVariants.{Into}
 use Rattle.l2cap_signal.specs.Commands.{Command}
 use Rattle.l2cap_signal.specs.Reading.{Answer as Read, answers}
-use Rattle.ertm_model.specs.Value.{Ertm}
 use Rattle.ertm_frames.specs.Reading.{frames_in}
 use Rattle.link_talk.specs.declared.channel.Channel.{Channel}
 use Rattle.link_talk.specs.declared.party.Party.{Party}
@@ -17,35 +16,35 @@ use Rattle.link_talk.specs.Sayings as sayings
 use Rattle.channel_model.specs.Following.{can_say}
 use Rattle.link_talk.specs.Setups.{is_set}
 use Rattle.link_talk.specs.Channels.{is_alive, Entry, reading}
-use Rattle.link_talk.specs.Carriages.{Carriage, is_open, is_heard, carried, entry_mode, mode_of}
+use Rattle.link_talk.specs.Carriages.{Carriage}
 use Rattle.link_talk.specs.GrowingLaws.{has_opened}
-use Rattle.link_talk.specs.Sdus.{sdus_by, sdus}
+use Rattle.link_talk.specs.Sdus.{sdus}
 use Rattle.channel_model.specs.declared.errand.Errand.{Errand}
 use Rattle.channel_model.specs.declared.errand.Errand.TheVariants as errands
 use Rattle.channel_model.specs.declared.event.ChannelEvent.{ChannelEvent}
 use Rattle.channel_model.specs.Value.{Request, Carrier, Plain, Retransmitting, Stage, Requested, Connected, Leaving, Closing, Crossed, Held, Channels}
 use Rattle.channel_model.specs.Policies.{Policy}
-use Rattle.channel_model.specs.Changing.{has_own, held_at, setup_of, is_due}
-use Rattle.channel_model.specs.Hearing.{hears, hears_command, hears_commands, up}
-use Rattle.channel_model.specs.Carrying.{takes, takes_on, takes_held, Up, Nothing, Received, sdu_at, up_by, up_on, up_at}
+use Rattle.channel_model.specs.Changing.{has_own, held_at, setup_of}
+use Rattle.channel_model.specs.Hearing.{hears_command, hears_commands, up}
+use Rattle.channel_model.specs.Carrying.{takes, takes_on, takes_held, Up, Nothing, sdu_at, up_by, up_on, up_at}
 use Rattle.channel_model.specs.Calls.{carrier_at, carrier_with, connected, asks_features, disconnected, sends, after_event}
-use Rattle.channel_model.specs.Giving.{Given, Signal, Whole, Framed, carrier_given, next_given, after_given, headed, command_of}
+use Rattle.channel_model.specs.Giving.{Given, Signal, Whole, Framed, carrier_given, next_given, after_given, command_of}
 use Rattle.channel_model.specs.Timing.{times_held, times_end, times_features, timed_out}
 use Rattle.channel_model.specs.Telling.{is_by_machine, closes_for, is_told_closed, is_told_broken}
-use Rattle.channel_model.proofs.Lookups.{own_of, Distinct, found-has, and_off}
+use Rattle.channel_model.proofs.Lookups.{own_of, found-has, and_off}
 use Rattle.channel_model.proofs.Going.{Walks}
 use Rattle.channel_model.proofs.Walking.{append_none, found-own, commands-go}
 use Rattle.channel_model.proofs.Calling.{connected-goes, asks-features-goes, disconnected-goes, sends-goes, takes-goes, timed-goes, given-goes}
-use Rattle.channel_laws.specs.Views.{peer_of, life_of, IsThere, read_at}
+use Rattle.channel_laws.specs.Views.{peer_of, life_of, read_at}
 use Rattle.channel_laws.specs.OwnTalk.{spoken, reply_to, exchanged, newest, said_of, asked_between, said_with, said_with_all}
-use Rattle.channel_laws.specs.Runs.{Occurrence, Comes, Connects, AsksFeatures, Disconnects, Sends, Gives, Fires, Tells, forgone_at, forgone_between, given_up, features_given_up, said_again, said_on_firing, said_by_channel, fired_channel, said_by_features, said_by_channels, peer_at, said_by_carrier, said_as, said_in, value_after, told_in, up_with, Run, new_link, run_on, run_of, arisen, sdu_up, sdus_up}
+use Rattle.channel_laws.specs.Runs.{Occurrence, Comes, Connects, AsksFeatures, Disconnects, Sends, Gives, Fires, Tells, forgone_at, forgone_between, given_up, features_given_up, said_again, said_on_firing, said_by_channel, fired_channel, said_by_channels, peer_at, said_by_carrier, said_as, said_in, Run, new_link, run_on, arisen, sdu_up, sdus_up}
 use Rattle.channel_laws.specs.Sdus.{StatesFrame, IsHandedUp, SdusAreRead}
-use Rattle.channel_laws.proofs.Sound.{AgreesIf, ReadsBy, Reads, Sound}
-use Rattle.channel_laws.proofs.Telling.{StageTold, HeldTold, Told, RunTold, one_told, nothing_told}
+use Rattle.channel_laws.proofs.Sound.{AgreesIf, ReadsBy, Reads}
+use Rattle.channel_laws.proofs.Telling.{StageTold, HeldTold, RunTold, one_told, nothing_told, Anything}
 use Rattle.channel_laws.proofs.Stretching.{heard_on, NoneComes, comes_in, StaysHeard, opens, carried-here, carried-else, nothing-heard, one-heard, stays-heard}
 use Rattle.channel_laws.proofs.Attending.{StageAttends, HeldAttends, AllAttend, AttendsOn, BesideCarrier, submits-aside, gives-aside, fires-aside, walks-attend}
 use Rattle.channel_laws.proofs.Taking.{takes-others}
-use Rattle.channel_laws.proofs.Receiving.{not-broken, up-nothing, Before, Behind, unchanged, Hearing, connected_comes, left_setup}
+use Rattle.channel_laws.proofs.Receiving.{not-broken, up-nothing, Before, Behind, unchanged, connected_comes, left_setup}
 use Rattle.channel_laws.proofs.Running.{IsSound, along}
 
 -- ---- whatever the channel is
@@ -202,13 +201,6 @@ none_given (Some (Framed peer frame)) pdu = refl
 abbrev Gains : Channels → Channels → Type 0
 Gains v w = (more : List ChannelEvent) × (w.events ≡ v.events ++ more)
 
-append_assoc : (xs ys zs : List ChannelEvent) → (xs ++ ys) ++ zs ≡ xs ++ (ys ++ zs)
-append_assoc [] ys zs = refl
-append_assoc (x ∷ xs) ys zs = ap (λ es. x ∷ es) (append_assoc xs ys zs)
-
-abbrev Anything : Carrier → Carrier → Type 0
-Anything before after = Unit {0}
-
 walks_gain : (policy : Policy) → Walks policy Anything Gains
 walks_gain policy = record {
   same = λ carrier. tt;
@@ -307,10 +299,6 @@ before_comes policy party channel run pdu sound same =
       so_far = refl;
     }
 
-append_sayings : (xs ys zs : List Saying) → (xs ++ ys) ++ zs ≡ xs ++ (ys ++ zs)
-append_sayings [] ys zs = refl
-append_sayings (x ∷ xs) ys zs = ap (λ es. x ∷ es) (append_sayings xs ys zs)
-
 -- at each endpoint
 abbrev At : Policy → Party → Channel → (told : List ChannelEvent) (ups : List Up) (said : List Saying) (w : Channels) (own : ℕ) → Type 0
 At policy party channel told ups said w own =
@@ -371,7 +359,7 @@ carried_up policy party channel run pdu sound so_far told =
     let w : Channels = takes k pdu run.value in
     let asked : List Saying = asked_between run.value w in
     let before : List Saying = run.said ++ Carried Into pdu ∷ [] in
-    let whole : before ++ asked ≡ run.said ++ (Carried Into pdu ∷ asked) = append_sayings run.said (Carried Into pdu ∷ []) asked in
+    let whole : before ++ asked ≡ run.said ++ (Carried Into pdu ∷ asked) = append_assoc run.said (Carried Into pdu ∷ []) asked in
     let next_is : w.next ≡ run.value.next = (takes-others k pdu run.value).next_is in
     let at : (own : ℕ) → At policy party channel run.told (run.up ++ up_at k pdu run.value ∷ []) (run.said ++ (Carried Into pdu ∷ asked)) w own = λ own.
     subst (λ s. At policy party channel run.told (run.up ++ up_at k pdu run.value ∷ []) s w own) whole

@@ -33,3 +33,6 @@ pub mod HandedUp
 pub mod Taking
 pub mod Receiving
 pub mod Incoming
+pub mod Pairing
+pub mod Naming
+pub mod Repeating

@@ -1,13 +1,10 @@
 -- A PDU comes in on a channel: what it hands up is what is read.
-use Rattle.std.proofs.Common.{◌≡◌, ℕ, ◌≤◌, List, [], ◌∷◌, ◌++◌, Bool, true, false, cond, ◌||◌, ◌&&◌, not, eqb, Option, Some, None, Ok, Err, refl, sym, ap, subst, ◌∙◌, ◌⊎◌, inl, inr}
+use Rattle.std.proofs.Common.{◌≡◌, ℕ, List, [], ◌∷◌, ◌++◌, Bool, true, false, cond, ◌||◌, ◌&&◌, eqb, Option, Some, None, Ok, Err, refl, sym, ap, subst, ◌∙◌, inl, inr, append-nil}
 use Rattle.std.specs.Prelude.{find, drop, option_map, option_to_list, is_some}
 use Rattle.std.specs.List.{list_any, filter_map, cons_option}
 use Rattle.std.proofs.lemmas.List.Elements.{filter_map-append}
-use Rattle.acl_fragments.specs.Pieces.{channel_of}
-use Rattle.capture.specs.declared.flow.Flow.TheVariants.{Into}
 use Rattle.ertm_frames.specs.Answers.{Answer}
-use Rattle.ertm_frames.specs.Reading.{answer_in, frame_by, frame_in, frames_in}
-use Rattle.ertm_frames.specs.Picking.{sdus_in}
+use Rattle.ertm_frames.specs.Reading.{frame_by, frame_in, frames_in}
 use Rattle.ertm_model.specs.declared.reason.ErtmReason.{ErtmReason}
 use Rattle.ertm_model.specs.declared.reason.ErtmReason.TheVariants as machines
 use Rattle.ertm_model.specs.Value.{Ertm}
@@ -15,39 +12,36 @@ use Rattle.l2cap_config.specs.declared.wish.Mode.{Mode}
 use Rattle.l2cap_config.specs.declared.wish.Mode.TheVariants.{Basic, Enhanced}
 use Rattle.l2cap_config.specs.declared.wish.Wish.{Wish}
 use Rattle.l2cap_config.specs.declared.wish.Agreed.{Agreed}
-use Rattle.link_talk.specs.declared.channel.Channel.{Channel}
 use Rattle.link_talk.specs.declared.party.Party.{Party}
-use Rattle.link_talk.specs.Sayings.{Saying, Carried}
 use Rattle.link_talk.specs.Setups as read
 use Rattle.link_talk.specs.Setups.{is_set, is_enhanced, agreed_mode}
-use Rattle.link_talk.specs.Channels.{is_alive, Entry, reading}
-use Rattle.link_talk.specs.Carriages.{is_open, entry_mode, mode_of}
-use Rattle.link_talk.specs.Sdus.{sdus_by, sdus}
+use Rattle.link_talk.specs.Channels.{is_alive, Entry}
+use Rattle.link_talk.specs.Carriages.{entry_mode}
+use Rattle.link_talk.specs.Sdus.{sdus_by}
 use Rattle.channel_model.specs.declared.event.ChannelEvent.{ChannelEvent}
 use Rattle.channel_model.specs.declared.event.ChannelEvent.TheVariants.{Opened, Closed, Features, FeaturesLost, DisconnectLost}
-use Rattle.channel_model.specs.declared.event.CloseReason.{CloseReason}
-use Rattle.channel_model.specs.Value.{Own, Unasked, Asking, Granted, Carrier, Plain, Retransmitting, Setup, Stage, Requested, Connected, Leaving, Closing, Crossed, Held, Channels}
+use Rattle.channel_model.specs.Value.{Own, Unasked, Asking, Granted, Carrier, Plain, Retransmitting, Setup, Stage, Connected, Leaving, Closing, Held, Channels}
 use Rattle.channel_model.specs.Policies.{Policy}
-use Rattle.channel_model.specs.Changing.{has_own, held_at, setup_of, stage_with, with_setup, is_open as is_set_up}
+use Rattle.channel_model.specs.Changing.{has_own, setup_of, stage_with, with_setup, is_open as is_set_up}
 use Rattle.channel_model.specs.Configuring.{granted_setup}
 use Rattle.channel_model.specs.Asking.{new_request}
 use Rattle.channel_model.specs.Closing.{closes_at}
-use Rattle.channel_model.specs.Carrying.{reason_of, settles_machine, machine_heard, machine_sdu, read_by, is_frame, is_taken_with, takes_on, takes_held, Up, Nothing, Received, carried_sdu, sdu_with, sdu_at, up_by, up_on}
+use Rattle.channel_model.specs.Carrying.{reason_of, settles_machine, machine_heard, machine_sdu, read_by, is_frame, is_taken_with, takes_on, Up, Nothing, Received, carried_sdu, sdu_with, up_by}
 use Rattle.channel_model.specs.Telling.{any_reason, is_by_machine, closes_for, is_told_closed, is_told_broken}
-use Rattle.channel_model.proofs.Lookups.{own_of, found-has, found-placed, eqb-same, and_off}
+use Rattle.channel_model.proofs.Lookups.{found-placed, eqb-same, and_off}
 use Rattle.channel_model.proofs.Going.{is_stated, IsStated, staged}
-use Rattle.channel_model.proofs.Walking.{found-own, with-found}
+use Rattle.channel_model.proofs.Walking.{with-found}
 use Rattle.talk_laws.proofs.Sdus.{sdus-more}
 use Rattle.channel_model.specs.Value.{Request}
-use Rattle.channel_laws.specs.Views.{peer_of, life_of, asked_mode, carrier_mode, IsThere, read_at}
+use Rattle.channel_laws.specs.Views.{asked_mode, carrier_mode}
 use Rattle.channel_laws.specs.Runs.{sdu_up, sdus_up}
 use Rattle.channel_laws.specs.Sdus.{IsHandedUp}
-use Rattle.channel_laws.proofs.Sound.{Agrees, AgreesIf, CarrierIs, ReadsBy, Reads}
-use Rattle.channel_laws.proofs.Telling.{StageTold, HeldTold}
-use Rattle.channel_laws.proofs.Stretching.{heard_on, opens, StaysHeard}
+use Rattle.channel_laws.proofs.Sound.{Agrees, CarrierIs}
+use Rattle.channel_laws.proofs.Stretching.{opens}
 use Rattle.channel_laws.proofs.Attending.{Attends, CarrierAttends, StageAttends, HeldAttends}
 use Rattle.channel_laws.proofs.HandedUp.{Hears, hears-pdu, closes-silent, broken-up, no-frame, same-sdus}
-use Rattle.channel_laws.proofs.Taking.{Opens, Cases, takes-cases}
+use Rattle.channel_laws.proofs.Taking.{Opens, takes-cases}
+use Rattle.channel_laws.proofs.CheckWords.{stated_mode}
 
 -- ---- what is told
 
@@ -99,15 +93,11 @@ open_up broken up said (inr (is, one, rest)) shut = let never : true ≡ false =
 
 -- ---- what is handed up
 
-append_nil : (xs : List (List ℕ)) → xs ++ [] ≡ xs
-append_nil [] = refl
-append_nil (x ∷ xs) = ap (λ ys. x ∷ ys) (append_nil xs)
-
 up_more : (own : ℕ) (ups : List Up) (now : Up) → sdus_up own (ups ++ now ∷ []) ≡ sdus_up own ups ++ filter_map (sdu_up own) (now ∷ [])
 up_more own ups now = filter_map-append (sdu_up own) ups (now ∷ [])
 
 pub up-nothing : (own : ℕ) (ups : List Up) (now : Up) → sdu_up own now ≡ None → sdus_up own (ups ++ now ∷ []) ≡ sdus_up own ups
-up-nothing own ups now none = up_more own ups now ∙ (ap (λ f. sdus_up own ups ++ cons_option f []) none ∙ append_nil (sdus_up own ups))
+up-nothing own ups now none = up_more own ups now ∙ (ap (λ f. sdus_up own ups ++ cons_option f []) none ∙ append-nil (sdus_up own ups))
 
 up_one : (own : ℕ) (ups : List Up) (held : Held) (sdu : Option (List ℕ)) → held.own ≡ own → sdus_up own (ups ++ up_by sdu held ∷ []) ≡ sdus_up own ups ++ option_to_list sdu
 up_one own ups held None same = up_more own ups Nothing
@@ -116,11 +106,6 @@ up_one own ups held (Some sdu) same =
     ∙ (ap (λ n. sdus_up own ups ++ cons_option (cond (eqb n own) (Some sdu) None) []) same ∙ ap (λ t. sdus_up own ups ++ cons_option (cond t (Some sdu) None) []) (eqb-same own))
 
 -- ---- a channel that is open in the talk
-
-stated_mode : (wish : Wish) (own : Own) → is_stated own ≡ true → asked_mode wish own ≡ Some wish.mode
-stated_mode wish Unasked is = cc
-stated_mode wish (Asking request options) is = refl
-stated_mode wish Granted is = refl
 
 set_by : (wish : Wish) (setup : Setup) (said : read.Setup) (carrier : Carrier) → Agrees wish setup said → setup.carrier ≡ Some carrier → is_stated setup.own ≡ true → is_set said ≡ true
 set_by wish setup said carrier agrees is stated =
@@ -272,7 +257,7 @@ ignored policy party own pdu earlier ups pdus pdus' so_far now v held peer setup
     ∙ sym (h.before.so_far ∙ ap (λ x. sdus_by party.frame x pdus) mode))) in (
       subst (λ n. HeldAttends policy party.frame pdus' (find (has_own n) v.held)) h.own_is
           (subst (HeldAttends policy party.frame pdus') (sym h.found) (subst (StageAttends wish party.frame pdus') (sym h.stage_is) (attends_frames wish party.frame pdus pdus' (is_set_up setup) setup.carrier frames h.attends))),
-      subst (λ u. IsHandedUp (is_told_broken own (earlier ++ v.events)) u now) (sym (up_is own pdu ups held setup carrier false h.own_is c t ∙ append_nil (sdus_up own ups)))
+      subst (λ u. IsHandedUp (is_told_broken own (earlier ++ v.events)) u now) (sym (up_is own pdu ups held setup carrier false h.own_is c t ∙ append-nil (sdus_up own ups)))
           (subst (IsHandedUp (is_told_broken own (earlier ++ v.events)) (sdus_up own ups)) (sym same) h.handed),
     )
 
@@ -328,7 +313,7 @@ taken_framed policy party own pdu earlier ups pdus pdus' so_far now v held peer 
       subst (λ n. HeldAttends policy party.frame pdus' (find (has_own n) (closes_at (Connected peer base) (reason_of reason) at_end u).held)) h.own_is
           (subst (HeldAttends policy party.frame pdus') (sym (found-placed (staged at_end ending) at_end u.held opens.here)) tt),
       subst (λ x. IsHandedUp (is_told_broken own (earlier ++ (u.events ++ Closed held.own held.psm (reason_of reason) ∷ []))) x now)
-          (sym (up_is own pdu ups held setup (Retransmitting machine) true h.own_is c t ∙ (ap (λ f. sdus_up own ups ++ option_to_list f) (closes-silent reason machine pdu is) ∙ append_nil (sdus_up own ups))))
+          (sym (up_is own pdu ups held setup (Retransmitting machine) true h.own_is c t ∙ (ap (λ f. sdus_up own ups ++ option_to_list f) (closes-silent reason machine pdu is) ∙ append-nil (sdus_up own ups))))
           (subst (IsHandedUp (is_told_broken own (earlier ++ (u.events ++ Closed held.own held.psm (reason_of reason) ∷ []))) (sdus_up own ups)) (sym carried.1)
           (broken-up party.frame (agreed_mode entry.setup) pdus pdu (sdus_up own ups) (is_told_broken own (earlier ++ (u.events ++ Closed held.own held.psm (reason_of reason) ∷ [])))
           (broken_told own held reason earlier u.events h.own_is) (sym h.before.so_far ∙ so_far_up))),

@@ -1,11 +1,10 @@
 -- What a channel carries changes only with PDUs on channels.
-use Rattle.std.proofs.Common.{◌≡◌, ℕ, ◌%◌, List, [], ◌∷◌, ◌++◌, fold, map, Bool, true, false, cond, ◌&&◌, ◌||◌, eqb, Option, Some, None, refl, sym, ap, subst, ◌∙◌, ◌⊎◌, inl, inr}
+use Rattle.std.proofs.Common.{◌≡◌, ℕ, ◌%◌, List, [], ◌∷◌, ◌++◌, Bool, true, false, cond, ◌&&◌, ◌||◌, eqb, Option, Some, None, refl, sym, ap, subst, ◌∙◌, ◌⊎◌, inl, inr, append-nil, append_assoc}
 use Rattle.std.specs.Prelude.{find, drop}
 use Rattle.std.specs.List.{list_any, filter_map}
 use Rattle.std.proofs.lemmas.Bool.{eqb-true}
 use Rattle.std.proofs.lemmas.List.Elements.{filter_map-append}
 use Rattle.acl_fragments.specs.Pieces.{channel_of}
-use Rattle.capture.specs.declared.flow.Flow.{Flow}
 use Rattle.capture.specs.declared.flow.Flow.TheVariants.{Out, Into}
 use Rattle.ertm_frames.specs.Segments.{Segment}
 use Rattle.ertm_frames.specs.Joining.{Joining, At, Stopped, Misplaced, Begins, Ends, ended, ended_by, joint, joined_by}
@@ -17,9 +16,8 @@ use Rattle.l2cap_config.specs.declared.wish.Mode.TheVariants.{Basic, Enhanced}
 use Rattle.link_talk.specs.declared.channel.Channel.{Channel}
 use Rattle.link_talk.specs.declared.party.Party.{Party}
 use Rattle.link_talk.specs.Sayings.{Saying, Command, Carried, GaveUp}
-use Rattle.link_talk.specs.Setups.{is_set}
-use Rattle.link_talk.specs.Channels.{Entry, reading, is_alive}
-use Rattle.link_talk.specs.Carriages.{Carriage, one_way, is_open, is_heard, takes, taker, is_on, carried_by, carried, stretch, pdus_of, has_own, mode_of}
+use Rattle.link_talk.specs.Channels.{Entry, reading}
+use Rattle.link_talk.specs.Carriages.{Carriage, one_way, is_open, is_heard, takes, taker, is_on, carried, stretch, pdus_of, has_own, mode_of}
 use Rattle.link_talk.specs.Sdus.{sdus_by, sdus}
 use Rattle.link_talk.specs.GrowingLaws.{has_opened}
 use Rattle.link_talk.proofs.Growing.{stretch-grows, mode-stands}
@@ -27,7 +25,7 @@ use Rattle.talk_laws.specs.Sdus.{sdus_with, heard_so_far, segment_of}
 use Rattle.talk_laws.proofs.Passes.{from_end}
 use Rattle.talk_laws.proofs.Owning.{alone, unopened-carries}
 use Rattle.talk_laws.proofs.Sdus.{sdus-more}
-use Rattle.channel_model.proofs.Lookups.{Distinct, not_found, and_off, eqb-same}
+use Rattle.channel_model.proofs.Lookups.{Distinct, not_found, and_off}
 use Rattle.channel_laws.specs.Views.{read_at, is_own}
 use Rattle.channel_laws.proofs.Entries.{own_read}
 
@@ -53,10 +51,6 @@ unopened-stretch channel said = from_end (λ past. has_opened (find (has_own cha
     step past more held is =
         let before = unopened_front channel past more is in
         stretch-grows channel past more ∙ (ap (λ cs. cs ++ carried is_heard channel past more) (held before) ∙ unopened-carries channel (reading past).entries more (alone past) before)
-
-append_nil : {X : Type 0} (xs : List X) → xs ++ [] ≡ xs
-append_nil [] = refl
-append_nil (x ∷ xs) = ap (λ ys. x ∷ ys) (append_nil xs)
 
 by_none : (most : ℕ) (mode : Mode) → sdus_by most mode [] ≡ []
 by_none most Basic = refl
@@ -143,7 +137,7 @@ carried-else channel said pdu apart =
 -- nothing is carried
 pub nothing-heard : (party : Party) (channel : Channel) (said : List Saying) (more : Saying) → carried is_heard channel said more ≡ [] → StaysHeard party channel said (said ++ more ∷ [])
 nothing-heard party channel said more none =
-    let same : stretch channel (said ++ more ∷ []) ≡ stretch channel said = stretch-grows channel said more ∙ (ap (λ cs. stretch channel said ++ cs) none ∙ append_nil (stretch channel said)) in
+    let same : stretch channel (said ++ more ∷ []) ≡ stretch channel said = stretch-grows channel said more ∙ (ap (λ cs. stretch channel said ++ cs) none ∙ append-nil (stretch channel said)) in
     record {
       heard_is = ap (pdus_of Into) same;
       sdus_are = stays_by party channel said more (has_opened (find (has_own channel) (reading said).entries)) refl same;
@@ -178,7 +172,7 @@ out_by party channel said pdu true is = by (has_opened (find (has_own channel) (
     grown : heard_on channel (said ++ Carried Out pdu ∷ []) ≡ heard_on channel said
     grown =
         ap (pdus_of Into) (stretch-grows channel said (Carried Out pdu) ∙ ap (λ t. stretch channel said ++ cond t (one ∷ []) []) is)
-        ∙ (filter_append (λ c. one_way Into c) (stretch channel said) (one ∷ []) ∙ append_nil (heard_on channel said))
+        ∙ (filter_append (λ c. one_way Into c) (stretch channel said) (one ∷ []) ∙ append-nil (heard_on channel said))
 
     by : (opened : Bool) → has_opened (find (has_own channel) (reading said).entries) ≡ opened → StaysHeard party channel said (said ++ Carried Out pdu ∷ [])
     by true open' = record {
@@ -193,16 +187,12 @@ stays-one party channel said (Carried Out pdu) none = out_by party channel said 
 stays-one party channel said (Carried Into pdu) none = cc
 stays-one party channel said (GaveUp forgone) none = nothing-heard party channel said (GaveUp forgone) refl
 
-append_assoc : {X : Type 0} (xs ys zs : List X) → (xs ++ ys) ++ zs ≡ xs ++ (ys ++ zs)
-append_assoc [] ys zs = refl
-append_assoc (x ∷ xs) ys zs = ap (λ es. x ∷ es) (append_assoc xs ys zs)
-
 both_false : (a b : Bool) → (a || b) ≡ false → (a ≡ false) × (b ≡ false)
 both_false true b is = cc
 both_false false b is = (refl, is)
 
 pub stays-heard : (party : Party) (channel : Channel) (chunk said : List Saying) → NoneComes chunk → StaysHeard party channel said (said ++ chunk)
-stays-heard party channel [] said none = record { heard_is = ap (heard_on channel) (append_nil said); sdus_are = ap (sdus party channel Into) (append_nil said) }
+stays-heard party channel [] said none = record { heard_is = ap (heard_on channel) (append-nil said); sdus_are = ap (sdus party channel Into) (append-nil said) }
 stays-heard party channel (more ∷ chunk) said none =
     let parts = both_false (comes_in more) (list_any comes_in chunk) none in
     let one : StaysHeard party channel said (said ++ more ∷ []) = stays-one party channel said more parts.0 in

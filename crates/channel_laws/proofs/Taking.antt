@@ -1,22 +1,21 @@
 -- What a PDU on a channel does to it, by what carries its SDUs.
-use Rattle.std.proofs.Common.{◌≡◌, ℕ, List, [], ◌∷◌, ◌++◌, Bool, true, false, cond, ◌||◌, ◌&&◌, eqb, Option, Some, None, refl, sym, ap, subst, ◌∙◌}
+use Rattle.std.proofs.Common.{◌≡◌, ℕ, List, Bool, true, false, cond, eqb, Option, Some, None, refl, sym, ap, ◌∙◌}
 use Rattle.std.specs.Prelude.{find, is_some}
 use Rattle.ertm_model.specs.declared.reason.ErtmReason.{ErtmReason}
 use Rattle.ertm_model.specs.Value.{Ertm}
 use Rattle.l2cap_config.specs.declared.wish.Agreed.{Agreed}
 use Rattle.channel_model.specs.declared.errand.Errand.TheVariants as errands
-use Rattle.channel_model.specs.declared.event.ChannelEvent.{ChannelEvent}
-use Rattle.channel_model.specs.declared.event.ChannelEvent.TheVariants.{Opened, Closed}
 use Rattle.channel_model.specs.declared.event.CloseReason.{CloseReason}
 use Rattle.channel_model.specs.Value.{Own, Unasked, Asking, Granted, Carrier, Plain, Retransmitting, Setup, Stage, Requested, Connected, Leaving, Closing, Crossed, Held, Channels}
 use Rattle.channel_model.specs.Changing.{has_own, held_at, setup_of, stage_with, with_setup, to_setup, forgets}
 use Rattle.channel_model.specs.Asking.{new_request}
 use Rattle.channel_model.specs.Closing.{closes_at}
-use Rattle.channel_model.specs.Configuring.{opens_if, granted_setup, grants}
+use Rattle.channel_model.specs.Configuring.{opens_if, granted_setup}
 use Rattle.channel_model.specs.Carrying.{reason_of, settles_machine, machine_heard, read_by, carries, is_taken_with, opens_with, takes_with, takes_on, takes_held, takes}
 use Rattle.channel_model.proofs.Lookups.{own_of, found-has, find-placed, find-others}
 use Rattle.channel_model.proofs.Going.{is_stated, staged}
 use Rattle.channel_model.proofs.Walking.{found-own, with-found}
+use Rattle.channel_model.proofs.Calling.{granted-same}
 
 -- ---- the own request is shown to be accepted
 
@@ -30,18 +29,11 @@ grants_opens : (v : Channels) (held : Held) (setup : Setup) (some : Bool) → fi
 grants_opens v held setup true found = record { here = with-found v held (granted_setup setup) found; others = λ own apart. find-placed (with_setup held (granted_setup setup)) v.held own apart; next_is = refl }
 grants_opens v held setup false found = record { here = with-found v held (granted_setup setup) found; others = λ own apart. find-placed (with_setup held (granted_setup setup)) v.held own apart; next_is = refl }
 
-granted_same : (stage : Stage) (setup : Setup) → setup_of stage ≡ Some setup → setup.own ≡ Granted → stage_with (granted_setup setup) stage ≡ stage
-granted_same (Requested request) setup is own = cc
-granted_same (Connected peer s) setup is own = let same : s ≡ setup = cc in ap (Connected peer) (ap (λ (o : Own). let x : Setup = record setup { own = o } in x) (sym own) ∙ sym same)
-granted_same (Leaving peer s request) setup is own = let same : s ≡ setup = cc in ap (λ x. Leaving peer x request) (ap (λ (o : Own). let x : Setup = record setup { own = o } in x) (sym own) ∙ sym same)
-granted_same (Closing peer request) setup is own = cc
-granted_same (Crossed peer request) setup is own = cc
-
 opens_by : (v : Channels) (held : Held) (setup : Setup) (own : Own) → setup.own ≡ own → is_stated own ≡ true → find (has_own held.own) v.held ≡ Some held → setup_of held.stage ≡ Some setup → Opens v (opens_with own held setup v) held setup
 opens_by v held setup Unasked own_is stated found is = cc
 opens_by v held setup (Asking request options) own_is stated found is = grants_opens v held setup (is_some setup.carrier) found
 opens_by v held setup Granted own_is stated found is = record {
-  here = found ∙ ap (λ (s : Stage). let h : Held = record held { stage = s } in Some h) (sym (granted_same held.stage setup is own_is));
+  here = found ∙ ap (λ (s : Stage). let h : Held = record held { stage = s } in Some h) (sym (granted-same held.stage setup is own_is));
   others = λ own apart. refl;
   next_is = refl;
 }

@@ -1,5 +1,5 @@
 -- What is told of a channel is how it is held.
-use Rattle.std.proofs.Common.{◌≡◌, ℕ, ◌+◌, ◌<◌, ◌≤◌, List, [], ◌∷◌, ◌++◌, fold, Bool, true, false, cond, ◌||◌, eqb, Option, Some, None, refl, sym, ap, subst, ◌∙◌, ◌⊎◌, arith}
+use Rattle.std.proofs.Common.{◌≡◌, ℕ, ◌+◌, ◌<◌, ◌≤◌, List, [], ◌∷◌, ◌++◌, Bool, true, false, cond, ◌||◌, eqb, Option, Some, None, refl, sym, ap, subst, ◌∙◌, arith, append_assoc}
 use Rattle.std.specs.Prelude.{find, drop, option_map, option_to_list, is_some, slice_get, nat_lt}
 use Rattle.std.specs.List.{list_any}
 use Rattle.std.proofs.lemmas.Bool.{ltb-true, ltb-false}
@@ -7,17 +7,17 @@ use Rattle.l2cap_config.specs.declared.wish.Wish.{Wish}
 use Rattle.acl_fragments.specs.Pieces.{channel_of}
 use Rattle.l2cap_signal.specs.Reading.{answers}
 use Rattle.channel_model.specs.declared.event.ChannelEvent.{ChannelEvent}
-use Rattle.channel_model.specs.Value.{Carrier, Setup, no_setup, Stage, Requested, Connected, Leaving, Closing, Crossed, Held, Channels}
+use Rattle.channel_model.specs.Value.{Carrier, Stage, Requested, Connected, Leaving, Closing, Crossed, Held, Channels}
 use Rattle.channel_model.specs.Policies.{Policy}
-use Rattle.channel_model.specs.Changing.{has_own, setup_of}
-use Rattle.channel_model.specs.Hearing.{hears, hears_commands}
+use Rattle.channel_model.specs.Changing.{has_own}
+use Rattle.channel_model.specs.Hearing.{hears_commands}
 use Rattle.channel_model.specs.Carrying.{takes}
 use Rattle.channel_model.specs.Telling.{any_reason, closes_for, is_told_closed}
 use Rattle.channel_model.proofs.Lookups.{own_of, Distinct}
-use Rattle.channel_model.proofs.Going.{IsStated, SetupGoes, StageGoes, staged, Moves, IsFirst, new_held, IsOther, Walks}
+use Rattle.channel_model.proofs.Going.{IsStated, StageGoes, staged, Moves, IsFirst, new_held, Walks}
 use Rattle.channel_model.proofs.Walking.{append_none, commands-go}
 use Rattle.channel_model.proofs.Calling.{connected-goes, asks-features-goes, disconnected-goes, sends-goes, takes-goes, timed-goes, given-goes}
-use Rattle.channel_laws.specs.Runs.{Occurrence, Comes, Connects, AsksFeatures, Disconnects, Sends, Gives, Fires, Tells, Run, new_link, run_on, run_of, arisen, told_in, value_after}
+use Rattle.channel_laws.specs.Runs.{Occurrence, Comes, Connects, AsksFeatures, Disconnects, Sends, Gives, Fires, Tells, Run, new_link, run_on, value_after}
 use Rattle.channel_laws.proofs.Sound.{at_each}
 use Rattle.channel_laws.proofs.Steps.{less-apart}
 use Rattle.channel_laws.proofs.Inviting.{held_others, held_here}
@@ -53,12 +53,8 @@ any_append p (x ∷ xs) ys = ap (λ b. p x || b) (any_append p xs ys) ∙ assoc 
     assoc true b c = refl
     assoc false b c = refl
 
-append_assoc : (xs ys zs : List ChannelEvent) → xs ++ (ys ++ zs) ≡ (xs ++ ys) ++ zs
-append_assoc [] ys zs = refl
-append_assoc (x ∷ xs) ys zs = ap (λ es. x ∷ es) (append_assoc xs ys zs)
-
 pub told-more : (own : ℕ) (earlier events more after : List ChannelEvent) → after ≡ events ++ more → is_told_closed own (earlier ++ after) ≡ (is_told_closed own (earlier ++ events) || is_told_closed own more)
-told-more own earlier events more after is = ap (λ es. is_told_closed own (earlier ++ es)) is ∙ (ap (is_told_closed own) (append_assoc earlier events more) ∙ any_append (closes_for any_reason own) (earlier ++ events) more)
+told-more own earlier events more after is = ap (λ es. is_told_closed own (earlier ++ es)) is ∙ (ap (is_told_closed own) (sym (append_assoc earlier events more)) ∙ any_append (closes_for any_reason own) (earlier ++ events) more)
 
 or_false : (b : Bool) → (b || false) ≡ b
 or_false true = refl
@@ -154,7 +150,7 @@ silent_told v w more held_is next_is events_are none earlier told = record {
 }
 
 -- whatever carries
-abbrev Anything : Carrier → Carrier → Type 0
+abbrev pub Anything : Carrier → Carrier → Type 0
 Anything before after = Unit {0}
 
 walks-told : (policy : Policy) → Walks policy Anything GoesOn
@@ -186,7 +182,7 @@ event_first (event ∷ events) = refl
 
 tells_told : (earlier : List ChannelEvent) (v : Channels) → Told earlier v → (let w : Channels = record v { events = drop 1 v.events } in Told (earlier ++ option_to_list (slice_get v.events 0)) w)
 tells_told earlier v told =
-    let same : (earlier ++ option_to_list (slice_get v.events 0)) ++ drop 1 v.events ≡ earlier ++ v.events = sym (append_assoc earlier (option_to_list (slice_get v.events 0)) (drop 1 v.events)) ∙ ap (λ es. earlier ++ es) (event_first v.events) in
+    let same : (earlier ++ option_to_list (slice_get v.events 0)) ++ drop 1 v.events ≡ earlier ++ v.events = append_assoc earlier (option_to_list (slice_get v.events 0)) (drop 1 v.events) ∙ ap (λ es. earlier ++ es) (event_first v.events) in
     record {
       at = λ own. subst (λ es. HeldTold (find (has_own own) v.held) (is_told_closed own es)) (sym same) (told.at own);
       fresh = λ own above. ap (is_told_closed own) same ∙ told.fresh own above;

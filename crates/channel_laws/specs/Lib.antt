@@ -4,3 +4,6 @@ pub mod Runs
 pub mod Laws
 pub mod CheckWords
 pub mod Sdus
+pub mod Pairs
+pub mod Endpoints
+pub mod Repeats

@@ -1,7 +1,10 @@
 //! Laws of the channels of one host.
 
 ghost use Rattle.channel_laws.specs.CheckWords.{CheckWordsAreRead};
+ghost use Rattle.channel_laws.specs.Endpoints.{EndpointsNameOneChannel};
 ghost use Rattle.channel_laws.specs.Laws.{ChannelsAreRead, EndpointsAreNew};
+ghost use Rattle.channel_laws.specs.Pairs.{EachEndRuns};
+ghost use Rattle.channel_laws.specs.Repeats.{RepeatsAreAnswered};
 ghost use Rattle.channel_laws.specs.Sdus.{SdusAreRead};
 
 /// What a host holds of each of its endpoints is what its own talk says, whatever it asks for, whatever
@@ -26,4 +29,21 @@ pub fn check_words_are_read()
 /// host's own talk brings. Where the channel was closed by its machine, the PDU for which it was may bring one more.
 pub fn sdus_are_read()
     ensures { SdusAreRead }
+{}
+
+/// On a link that loses, repeats and damages, each end is a host to which something occurred: all laws of
+/// one host hold at both.
+pub fn each_end_runs()
+    ensures { EachEndRuns }
+{}
+
+/// An endpoint of a host names one channel for as long as the link is up, so what is under way for it is for no
+/// earlier channel and for no later one.
+pub fn endpoints_name_one_channel()
+    ensures { EndpointsNameOneChannel }
+{}
+
+/// A request that the peer sends again gets the same response again, or none again, whatever followed from it.
+pub fn repeats_are_answered()
+    ensures { RepeatsAreAnswered }
 {}

@@ -1,25 +1,23 @@
 -- All that a host does by itself, and what its timer does, step by step.
-use Rattle.std.proofs.Common.{◌≡◌, ℕ, ◌+◌, List, [], ◌∷◌, ◌++◌, Bool, true, false, cond, eqb, ◌&&◌, not, Option, Some, None, Ok, Err, refl, sym, ap, subst, ◌∙◌, ◌⊎◌, inl, inr}
-use Rattle.std.specs.Prelude.{find, fold, map, option_map, is_some, nat_le}
+use Rattle.std.proofs.Common.{◌≡◌, ℕ, List, [], ◌∷◌, Bool, true, false, cond, Option, Some, None, refl, sym, ap, subst, ◌∙◌, inl}
+use Rattle.std.specs.Prelude.{find, map, option_map, is_some}
 use Rattle.ertm_model.specs.declared.reason.ErtmReason.{ErtmReason}
 use Rattle.ertm_model.specs.Value.{Ertm}
 use Rattle.ertm_model.specs.Giving.{timed}
 use Rattle.l2cap_config.specs.declared.wish.Wish.{Wish}
 use Rattle.channel_model.specs.declared.errand.Errand.{Errand}
 use Rattle.channel_model.specs.declared.errand.Errand.TheVariants as errands
-use Rattle.channel_model.specs.declared.event.ChannelEvent.{ChannelEvent}
 use Rattle.channel_model.specs.declared.event.ChannelEvent.TheVariants.{DisconnectLost, FeaturesLost}
-use Rattle.channel_model.specs.declared.event.CloseReason.{CloseReason}
 use Rattle.channel_model.specs.declared.event.CloseReason.TheVariants.{RetryLimit, OwnClosed}
 use Rattle.channel_model.specs.Value.{Request, Queued, Answer, Ask, Own, Unasked, Asking, Granted, Carrier, Plain, Retransmitting, Setup, Stage, Requested, Connected, Leaving, Closing, Crossed, Held, Channels}
 use Rattle.channel_model.specs.Policies.{Policy}
-use Rattle.channel_model.specs.Changing.{has_own, held_at, is_open, is_granted, is_due, queued, setup_of, stage_with, with_setup, to_setup, to_stage, forgets, tells}
+use Rattle.channel_model.specs.Changing.{has_own, held_at, is_open, queued, setup_of, stage_with, with_setup, to_setup, to_stage, forgets}
 use Rattle.channel_model.specs.Asking.{new_request, asks, Fired, StillDue, OnceMore, Spent, fired}
-use Rattle.channel_model.specs.Closing.{closes, closes_at, ends, ends_at}
+use Rattle.channel_model.specs.Closing.{closes, ends}
 use Rattle.channel_model.specs.Configuring.{opens_if, granted_setup, grants}
 use Rattle.channel_model.specs.Following.{with_channel}
-use Rattle.channel_model.specs.Carrying.{reason_of, settles_machine, with_machine, machine_heard, read_by, carries, is_taken_with, opens_with, takes_with, takes_on, takes_held, takes}
-use Rattle.channel_model.specs.Timing.{fires, times, times_carrier, times_setup, times_stage, times_held, loses_end, times_end_at, times_end, times_channel, loses_features, times_features, times_channels, timed_out}
+use Rattle.channel_model.specs.Carrying.{reason_of, settles_machine, machine_heard, read_by, carries, is_taken_with, opens_with, takes_with, takes_on, takes_held, takes}
+use Rattle.channel_model.specs.Timing.{fires, times_carrier, times_setup, times_stage, times_held, loses_end, times_end_at, times_end, loses_features, times_features, times_channels, timed_out}
 use Rattle.channel_model.specs.Giving.{one_more, own_given, setup_given, connection_given, configuration_given, disconnection_given, stage_given, counted, gives, carrier_given, carrier_spent, held_given, queue_given, after_given}
 use Rattle.channel_model.specs.Calls.{can_connect, connected, asks_features, disconnected_at, disconnected_held, disconnected, carrier_with, sends_setup, sends_on, sends_held, sends}
 use Rattle.channel_model.proofs.Lookups.{own_of, Distinct, found-distinct}
@@ -121,12 +119,12 @@ carried_by policy C R walks v pdu held setup (Retransmitting machine) hearing fo
     let after : Ertm = machine_heard (read_by machine pdu) machine in
     machine-goes policy C R walks v held setup machine after after.closed found is carrier_is (hearing machine)
 
-granted_same : (stage : Stage) (setup : Setup) → setup_of stage ≡ Some setup → setup.own ≡ Granted → stage_with (granted_setup setup) stage ≡ stage
-granted_same (Requested request) setup is own = cc
-granted_same (Connected peer s) setup is own = let same : s ≡ setup = cc in ap (Connected peer) (ap (λ (o : Own). let x : Setup = record setup { own = o } in x) (sym own) ∙ sym same)
-granted_same (Leaving peer s request) setup is own = let same : s ≡ setup = cc in ap (λ x. Leaving peer x request) (ap (λ (o : Own). let x : Setup = record setup { own = o } in x) (sym own) ∙ sym same)
-granted_same (Closing peer request) setup is own = cc
-granted_same (Crossed peer request) setup is own = cc
+pub granted-same : (stage : Stage) (setup : Setup) → setup_of stage ≡ Some setup → setup.own ≡ Granted → stage_with (granted_setup setup) stage ≡ stage
+granted-same (Requested request) setup is own = cc
+granted-same (Connected peer s) setup is own = let same : s ≡ setup = cc in ap (Connected peer) (ap (λ (o : Own). let x : Setup = record setup { own = o } in x) (sym own) ∙ sym same)
+granted-same (Leaving peer s request) setup is own = let same : s ≡ setup = cc in ap (λ x. Leaving peer x request) (ap (λ (o : Own). let x : Setup = record setup { own = o } in x) (sym own) ∙ sym same)
+granted-same (Closing peer request) setup is own = cc
+granted-same (Crossed peer request) setup is own = cc
 
 opened_by : (policy : Policy) (C : Carrier → Carrier → Type 0) (R : Channels → Channels → Type 0) (walks : Walks policy C R) (v : Channels) (pdu : List ℕ) (held : Held) (setup : Setup) (carrier : Carrier) (own : Own) (taken : Bool) → Hearing C pdu
     → find (has_own held.own) v.held ≡ Some held → setup_of held.stage ≡ Some setup → setup.carrier ≡ Some carrier → setup.own ≡ own → is_taken_with own carrier pdu ≡ taken
@@ -146,7 +144,7 @@ opened_by policy C R walks v pdu held setup carrier (Asking request options) tru
         by_some true = with-found v held (granted_setup setup) found
         by_some false = with-found v held (granted_setup setup) found
 opened_by policy C R walks v pdu held setup carrier Granted true hearing found is carrier_is own_is takes =
-    let same : with_setup held (granted_setup setup) ≡ held = ap (λ (s : Stage). let h : Held = record held { stage = s } in h) (granted_same held.stage setup is own_is) in
+    let same : with_setup held (granted_setup setup) ≡ held = ap (λ (s : Stage). let h : Held = record held { stage = s } in h) (granted-same held.stage setup is own_is) in
     carried_by policy C R walks v pdu (with_setup held (granted_setup setup)) (granted_setup setup) carrier hearing (found ∙ ap Some (sym same)) (with-setup held.stage setup (granted_setup setup) is) carrier_is
 
 taken_with : (policy : Policy) (C : Carrier → Carrier → Type 0) (R : Channels → Channels → Type 0) (walks : Walks policy C R) (v : Channels) (pdu : List ℕ) (held : Held) (setup : Setup) (carrier : Option Carrier) → Hearing C pdu

@@ -1,10 +1,8 @@
 -- All that comes in, step by step.
-use Rattle.std.proofs.Common.{◌≡◌, ℕ, ◌+◌, ◌%◌, List, [], ◌∷◌, ◌++◌, Bool, true, false, cond, eqb, ◌&&◌, not, Option, Some, None, Result, Ok, Err, refl, sym, ap, subst, ◌∙◌, ◌⊎◌, inl, inr}
-use Rattle.std.specs.Prelude.{find, fold, map, drop, nat_le, nat_lt, option_map, is_some}
-use Rattle.std.specs.List.{list_any}
-use Rattle.l2cap_signal.specs.Commands.{Content, Command, reject, connection_request, connection_response, configuration_request, configuration_response, disconnection_request, disconnection_response, echo_request, echo_response, information_request, information_response}
-use Rattle.l2cap_signal.specs.Reading.{Answer as Read, answers}
-use Rattle.l2cap_signal.specs.declared.refusal.SignalRefusal.{SignalRefusal}
+use Rattle.std.proofs.Common.{◌≡◌, ℕ, ◌+◌, ◌%◌, List, [], ◌∷◌, ◌++◌, Bool, true, false, cond, eqb, Option, Some, None, Result, Ok, Err, refl, sym, ap, subst, ◌∙◌, inl, inr}
+use Rattle.std.specs.Prelude.{find, nat_le, is_some}
+use Rattle.l2cap_signal.specs.Commands.{Content, reject, connection_request, connection_response, configuration_request, configuration_response, disconnection_request, disconnection_response, echo_request, echo_response, information_request, information_response}
+use Rattle.l2cap_signal.specs.Reading.{Answer as Read}
 use Rattle.l2cap_signal.specs.declared.refusal.SignalRefusal.TheVariants.{ZeroIdentifier, BadLength, UnknownCode, AboveMtu}
 use Rattle.l2cap_config.specs.declared.options.Options.{Options}
 use Rattle.l2cap_config.specs.declared.options.ConfigRefusal.{ConfigRefusal}
@@ -25,17 +23,17 @@ use Rattle.channel_model.specs.declared.request_kind.RequestKind.{RequestKind}
 use Rattle.channel_model.specs.declared.request_kind.RequestKind.TheVariants as kinds
 use Rattle.channel_model.specs.Value.{Request, Own, Unasked, Asking, Granted, Carrier, Setup, no_setup, Stage, Requested, Connected, Leaving, Closing, Crossed, Held, Remembered, Channels}
 use Rattle.channel_model.specs.Policies.{Policy}
-use Rattle.channel_model.specs.Changing.{has_own, held_at, in_place_of, is_open, is_peer, setup_of, stage_with, with_setup, to_setup, to_stage, forgets, tells}
+use Rattle.channel_model.specs.Changing.{has_own, held_at, is_open, is_peer, setup_of, stage_with, with_setup, to_setup, to_stage, forgets, tells}
 use Rattle.channel_model.specs.Telling.{any_reason, closes_for, is_told_closed}
 use Rattle.channel_model.specs.Asking.{new_request, first_options, asks_options}
 use Rattle.channel_model.specs.Closing.{closes, closes_at, peer_closes_at, ends_at}
-use Rattle.channel_model.specs.Configuring.{Verdict, NoChannel, TooLate, Unreadable, Incomplete, Judged, judged_part, judged_read, judged_setup, judged_stage, verdict_on, verdict, new_carrier, accepted_setup, accepts_with, without_parts, refused_setup, refuses, follows_answer, follows_verdict, opens_if, granted_setup, grants}
-use Rattle.channel_model.specs.Answers.{connection_result, kind_of_code, not_understood, too_long, answer_to, remembered}
-use Rattle.channel_model.specs.Following.{follows_connection, follows_setup, follows_configuration, follows_disconnection, follows, remembers, says, can_say, hears_new, hears_again, hears_kind, hears_request}
-use Rattle.channel_model.specs.Responses.{is_fresh_endpoint, connects, hears_connected, hears_grant_at, hears_grant, renews, renewed_setup, hears_settled, hears_options, is_asked, hears_response_on, hears_response, hears_end, has_identifier, hears_features, features_in}
-use Rattle.channel_model.specs.Hearing.{hears_content, hears_malformed, is_response_code, is_kind, hears_unread, hears_refused, hears_command, hears_commands}
+use Rattle.channel_model.specs.Configuring.{Verdict, NoChannel, TooLate, Unreadable, Incomplete, Judged, judged_part, judged_read, judged_setup, judged_stage, verdict_on, new_carrier, accepted_setup, accepts_with, without_parts, refused_setup, follows_answer, follows_verdict, opens_if, granted_setup, grants}
+use Rattle.channel_model.specs.Answers.{connection_result, kind_of_code, not_understood, too_long, remembered}
+use Rattle.channel_model.specs.Following.{follows_setup, follows_configuration, follows_disconnection, follows, remembers, says, can_say, hears_new, hears_again, hears_kind}
+use Rattle.channel_model.specs.Responses.{is_fresh_endpoint, connects, hears_connected, hears_grant_at, hears_grant, renewed_setup, hears_settled, hears_options, is_asked, hears_response_on, hears_response, hears_end, has_identifier, hears_features, features_in}
+use Rattle.channel_model.specs.Hearing.{hears_content, hears_malformed, is_response_code, is_kind, hears_unread, hears_command, hears_commands}
 use Rattle.channel_model.proofs.Lookups.{own_of, found-has, found-placed}
-use Rattle.channel_model.proofs.Going.{is_stated, OwnGoes, IsAccepted, CarrierGoes, IsStated, SetupGoes, StageGoes, staged, Only, Moves, IsFirst, Walks, only-none, only-closed, closed-told, placed, dropped}
+use Rattle.channel_model.proofs.Going.{is_stated, OwnGoes, IsAccepted, CarrierGoes, SetupGoes, StageGoes, Walks, only-none, only-closed, closed-told, placed, dropped}
 
 -- ---- a channel of all
 
