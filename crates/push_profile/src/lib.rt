@@ -15,3 +15,6 @@ mod waiting_frame;
 
 pub use push_model::CloseCause;
 pub use server::PushServer;
+
+#[cfg(test)]
+mod tests;
