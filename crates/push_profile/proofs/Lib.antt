@@ -7,3 +7,4 @@ pub mod StreamEnds
 pub mod FrameLaws
 pub mod ServerLaws
 pub mod LendingLaws
+pub mod NameLaws

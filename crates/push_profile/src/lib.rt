@@ -5,6 +5,7 @@
 mod causes;
 mod course;
 mod listener;
+mod object_name;
 mod octets;
 mod reception;
 mod server;
