@@ -6,3 +6,5 @@ pub mod StreamSteps
 pub mod StreamEnds
 pub mod FrameLaws
 pub mod ServerLaws
+pub mod LendingLaws
+pub mod NameLaws

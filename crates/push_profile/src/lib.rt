@@ -5,6 +5,7 @@
 mod causes;
 mod course;
 mod listener;
+mod object_name;
 mod octets;
 mod reception;
 mod server;
@@ -15,3 +16,6 @@ mod waiting_frame;
 
 pub use push_model::CloseCause;
 pub use server::PushServer;
+
+#[cfg(test)]
+mod tests;

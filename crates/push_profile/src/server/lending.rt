@@ -17,14 +17,10 @@ impl PushServer {
     pub fn next_sdu(&mut self) -> Option<Psm>
         ensures server { self.new ≡ lends self.old }
         ensures psm { IsPsmOf (lent_sdu self.new) result }
+        ensures sessions { self.new.listener.service.sessions ≡ self.old.listener.service.sessions }
     {
         self.lend();
-        match self.lent? {
-            Outlet::Records => Some(psm_of(SEARCH_PSM)),
-            Outlet::Direct => Some(psm_of(OBJECT_PSM)),
-            Outlet::Muxed if self.frame.is_there() => Some(psm_of(RFCOMM_PSM)),
-            Outlet::Muxed => None,
-        }
+        self.psm()
     }
 
     /// The octets of the SDU that is lent; none where none is.
@@ -41,7 +37,8 @@ impl PushServer {
 
     /// The channel took the SDU that was lent last.
     pub fn stepped(&mut self)
-        ensures { self.new ≡ stepped self.old }
+        ensures server { self.new ≡ stepped self.old }
+        ensures sessions { self.new.listener.service.sessions ≡ self.old.listener.service.sessions }
     {
         match self.lent {
             None => {}
@@ -50,6 +47,18 @@ impl PushServer {
             Some(Outlet::Muxed) => self.frame.clear(),
         }
         self.lent = None;
+    }
+
+    /// The PSM of the channel of what is lent.
+    fn psm(&self) -> Option<Psm>
+        ensures { IsPsmOf (lent_sdu self.now) result }
+    {
+        match self.lent? {
+            Outlet::Records => Some(psm_of(SEARCH_PSM)),
+            Outlet::Direct => Some(psm_of(OBJECT_PSM)),
+            Outlet::Muxed if self.frame.is_there() => Some(psm_of(RFCOMM_PSM)),
+            Outlet::Muxed => None,
+        }
     }
 
     /// Something is lent, if anything waits.
