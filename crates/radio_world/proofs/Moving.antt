@@ -1,6 +1,6 @@
 -- What happens between one host and the radio, one after the other.
 use Rattle.std.proofs.Common.{◌≡◌, ℕ, List, [], ◌∷◌, ◌++◌, map, Option, refl, sym, ap, subst, ◌∙◌, append_assoc}
-use Rattle.std.proofs.lemmas.List.{map-append}
+use Rattle.std.proofs.lemmas.List.{append-nil, map-append}
 use Rattle.std.proofs.lemmas.Grind.{flat_map-append}
 use Rattle.bt_base.specs.Streams.{gained}
 use Rattle.bt_base.proofs.PortLaws.{gained-gained, gained-nil}
@@ -11,9 +11,10 @@ use Rattle.radio_air.specs.Radio.{after_offer}
 use Rattle.world_model.specs.Machines.{Upper}
 use Rattle.world_model.specs.Stations.{Order, Station}
 use Rattle.world_model.specs.Worlds.{all_entries, entries_of}
-use Rattle.radio_world.specs.Hosts.{Asking, answering, JoinAnswers}
+use Rattle.radio_world.specs.Hosts.{Asking, answering, GoesOn, JoinAnswers}
 use Rattle.radio_world.specs.Leaving.{Medium, after_all, after_leaving, in_radio, leaving_entry, leaving_entries}
 use Rattle.radio_world.specs.Halves.{Half, Motion, Leaving, Returning, happening_of, happenings_of, MakesAll, half_of, Goes}
+use Rattle.radio_world.proofs.Entering.{tryings, tries, silent}
 
 -- ---- lists of motions
 
@@ -72,17 +73,24 @@ leave U side (order ∷ orders) medium station are =
 
 pub goes_out :
     {S G P : Type 0} (U : Upper S G) (side : Side) (Answers : P → List G → P → Type 0) (medium medium' : Medium) (host host' : Asking S G) (port : P) (trace trace' : Option (List ℕ))
-    → JoinAnswers Answers → medium' ≡ after_all side host.out medium → host' ≡ record host { out = [] } → trace' ≡ gained trace (capture_octets (leaving_entries side host.out))
+    → JoinAnswers Answers → medium' ≡ after_all side host.out medium → GoesOn U side (record host { out = [] }) host' → trace' ≡ gained trace (capture_octets (leaving_entries side host.out))
     → Goes U side Answers medium medium' host host' port port trace trace'
-goes_out {S} {G} U side Answers medium medium' host host' port trace trace' joins moved taken written = record {
-  motions = leavings host.out;
-  used = [];
-  answered = joins.none port;
-  makes = λ rest.
-      subst (λ (m : Medium). MakesAll U side (leavings host.out) (half_of medium host rest) (half_of m host' rest)) (sym moved)
-      (subst (λ (h : Asking S G). MakesAll U side (leavings host.out) (half_of medium host rest) (half_of (after_all side host.out medium) h rest)) (sym taken) (leave U side host.out medium (answering rest host) refl));
-  written = written ∙ ap (λ es. gained trace (capture_octets es)) (sym (leaving_are side host.out));
-}
+goes_out {S} {G} U side Answers medium medium' host host' port trace trace' joins moved taken written =
+    let after : Medium = after_all side host.out medium in
+    let offered : Asking S G = record host { out = [] } in
+    let entries : all_entries (happenings_of side (leavings host.out ++ tryings taken.efforts)) ≡ leaving_entries side host.out =
+    entries_of_both side (leavings host.out) (tryings taken.efforts) ∙ ap (λ es. es ++ all_entries (happenings_of side (tryings taken.efforts))) (leaving_are side host.out)
+    ∙ ap (λ es. leaving_entries side host.out ++ es) (silent side taken.efforts) ∙ append-nil (leaving_entries side host.out) in
+    record {
+      motions = leavings host.out ++ tryings taken.efforts;
+      used = [];
+      answered = joins.none port;
+      makes = λ rest.
+          subst (λ (m : Medium). MakesAll U side (leavings host.out ++ tryings taken.efforts) (half_of medium host rest) (half_of m host' rest)) (sym moved)
+          (makes_then U side (leavings host.out) (tryings taken.efforts) (half_of medium host rest) (half_of after offered rest) (half_of after host' rest) (leave U side host.out medium (answering rest host) refl)
+          (tries U side taken.efforts after (answering rest offered) (answering rest host') (taken.goes rest)));
+      written = written ∙ ap (λ es. gained trace (capture_octets es)) (sym entries);
+    }
 
 -- and its buffers are given back
 pub goes_back :

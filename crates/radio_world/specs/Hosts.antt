@@ -82,6 +82,11 @@ pub record Reacts {S G P : Type 0} (U : Upper S G) (side : Side) (Answers : P �
   pub efforts : List Effort
   pub reacts : (rest : List G) → MakesEfforts U side efforts (change (used ++ rest) (answering (used ++ rest) old)) (answering rest new)
 
+-- it goes on by itself, and its ports are not asked
+pub record GoesOn {S G : Type 0} (U : Upper S G) (side : Side) (old new : Asking S G) : Type 0 where
+  pub efforts : List Effort
+  pub goes : (rest : List G) → MakesEfforts U side efforts (answering rest old) (answering rest new)
+
 -- Octets of a packet come to it, behind those that it holds. It holds them until the packet is whole, and then hears it.
 pub record Hears {S G P : Type 0} (U : Upper S G) (side : Side) (Answers : P → List G → P → Type 0) (held octets held' : List ℕ) (old new : Asking S G) (port port' : P) : Type 0 where
   pub part : (coming : Coming) (left : List ℕ) → IsPacket acl_limit (coming_packet side coming) → spelling (coming_packet side coming) ≡ held ++ (octets ++ left) → left ≢ []

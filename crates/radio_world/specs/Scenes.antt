@@ -1,8 +1,7 @@
 -- Two hosts that run, what lies between them, and what happens in it (this project's own).
-use Rattle.std.specs.Prelude.{ℕ, ◌≡◌, ◌+◌, ◌&&◌, Bool, true, List, [], ◌∷◌, ◌++◌, Option, Some, None}
+use Rattle.std.specs.Prelude.{ℕ, ◌≡◌, ◌+◌, ◌&&◌, Bool, true, List, [], ◌∷◌, ◌++◌, Option, Some}
 use Rattle.bt_base.specs.Streams.{gained}
 use Rattle.push_terms.specs.declared.word.Side.{Side}
-use Rattle.push_terms.specs.declared.word.Side.TheVariants.{A, B}
 use Rattle.push_terms.specs.declared.word.Word.{Word}
 use Rattle.push_terms.specs.declared.outcome.Outcome.{Outcome}
 use Rattle.capture.specs.Entries.{Begun, Ended, entry_octets, capture_octets}

@@ -1,10 +1,9 @@
 -- Where a world stands between two words of its script, and what its end makes of it (this project's own).
-use Rattle.std.specs.Prelude.{ℕ, ◌≡◌, ◌≤◌, ◌-◌, List, [], ◌∷◌, ◌++◌, Option, length, replicate, unwrap_or, if◌then◌else◌}
-use Rattle.bt_base.specs.Streams.{gained}
+use Rattle.std.specs.Prelude.{ℕ, ◌≤◌, ◌-◌, List, [], ◌∷◌, ◌++◌, Option, length, replicate, unwrap_or, if◌then◌else◌}
 use Rattle.push_terms.specs.declared.word.Side.TheVariants.{A, B}
 use Rattle.push_terms.specs.declared.outcome.Outcome.{Outcome}
 use Rattle.push_terms.specs.declared.outcome.Outcome.TheVariants.{ScriptEnded}
-use Rattle.capture.specs.Entries.{Entry, Ended, capture_octets}
+use Rattle.capture.specs.Entries.{Entry, Ended}
 use Rattle.radio_air.specs.Queues.{IsSize}
 use Rattle.world_model.specs.Machines.{Upper}
 use Rattle.world_model.specs.Pushes.{Pushes, one_ended}

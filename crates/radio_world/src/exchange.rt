@@ -30,16 +30,18 @@ impl Medium {
         requires side { H.side ≡ side }
         requires sound { H.is_sound host.old port.now }
         ensures goes { OnOk result (Goes H.machine side H.answers self.old self.new (H.station host.old) (H.station host.new) port.now port.now (T.content trace.old) (T.content trace.new)) }
-        ensures all { OnOk result ((H.station host.new).out ≡ []) }
         ensures none { result ≡ Ok false → (H.station host.old).out ≡ [] × (self.new ≡ self.old) × (H.station host.new ≡ H.station host.old) }
         ensures held { OnOk result (H.held host.new ≡ H.held host.old) }
         ensures sound { OnOk result (H.is_sound host.new port.now) }
     {
         let offered = host.out();
         let count = offered.len();
+        if count == 0 {
+            return Ok(false);
+        }
         self.take_all(side, offered, trace)?;
         host.taken(count, port);
-        Ok(count > 0)
+        Ok(true)
     }
 
     /// Moves the first packet that a controller has for its host into it. False where it has none.

@@ -5,7 +5,7 @@ ghost use Rattle.push_script.specs.Names.{utf16_length};
 ghost use Rattle.push_terms.specs.declared.word.Side.{Side};
 ghost use Rattle.world_model.specs.Machines.{Upper, TimerFired, Cancelled, Opening};
 ghost use Rattle.world_model.specs.Stations.{IsStopped, told};
-ghost use Rattle.radio_world.specs.Hosts.{Asking, answering, order_octets, AreSent, Reacts, Hears, JoinAnswers};
+ghost use Rattle.radio_world.specs.Hosts.{Asking, answering, order_octets, AreSent, Reacts, GoesOn, Hears, JoinAnswers};
 
 use bt_base::NoMemory;
 use push_terms::Outcome;
@@ -45,11 +45,12 @@ pub trait Host<P>: Drop {
         ensures octets { result.now ≡ order_octets side (station self.now).out }
         ensures sent { AreSent side (station self.now).out };
 
-    /// Its controller took all `n` octets of `out`.
+    /// Its controller took all `n` octets of `out`. It puts out then what it held back for want of
+    /// room; its port is not asked.
     fn taken(&mut self, n: usize, port: &P)
         requires all { n ≡ length (order_octets side (station self.old).out) }
         requires sound { is_sound self.old port.now }
-        ensures out { station self.new ≡ record (station self.old) { out = [] } }
+        ensures goes { GoesOn machine side (record (station self.old) { out = [] }) (station self.new) }
         ensures held { held self.new ≡ held self.old }
         ensures sound { is_sound self.new port.now };
 

@@ -36,7 +36,7 @@ returns-clause-none g c = λ is.
     let came = c.in_ok-came.ensures.none (ap Ok still.1) in
     let medium : c.move_all_into.new.self ≡ c.give_back.new.self = came.0 in
     record {
-      none_out = ap (λ s. s.out) came.1 ∙ c.in_ok-left.ensures.all;
+      none_out = ap (λ s. s.out) (came.1 ∙ left.2) ∙ left.0;
       returned = ap (λ (m : Medium). (controller c.args.side m.radio).taken) (medium ∙ c.in_ok-give_back.ensures) ∙ returned c.args.side c.move_out.new.self.radio;
       station_is = came.1 ∙ left.2;
       other_is = ap (λ (m : Medium). controller (other_side c.args.side) m.radio) (medium ∙ c.in_ok-give_back.ensures) ∙ other_stays c.args.side c.move_out.new.self.radio ∙ ap (λ (m : Medium). controller (other_side c.args.side) m.radio) left.1;
