@@ -5,7 +5,7 @@ use Rattle.seen_channels.specs.declared.direction.Direction.{Direction}
 use Rattle.seen_channels.specs.declared.direction.Direction.TheVariants.{Out, In}
 use Rattle.seen_channels.specs.declared.channel.Channel.{Channel}
 use Rattle.seen_channels.specs.declared.channel.Request.{Request}
-use Rattle.seen_channels.specs.Sayings.{number, find, is_same, is_found, is_known, with_channel, channel_of, granted, with_channels, in_mode, with_mode, request_of}
+use Rattle.seen_channels.specs.Tellings.{number, find, is_same, is_found, is_known, with_channel, channel_of, granted, with_channels, in_mode, with_mode, request_of}
 use Rattle.seen_channels.specs.Laws.{SameResponseAgain, LaterModeCounts}
 
 eqb_same : (a : ℕ) → eqb a a ≡ true

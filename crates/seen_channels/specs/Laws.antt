@@ -3,7 +3,7 @@ use Rattle.std.specs.Prelude.{ℕ, ◌≡◌, List, Bool}
 use Rattle.l2cap_signal.specs.Commands.{connection_response}
 use Rattle.seen_channels.specs.declared.direction.Direction.{Direction}
 use Rattle.seen_channels.specs.declared.channel.Channel.{Channel}
-use Rattle.seen_channels.specs.Sayings.{Learnt, told, with_mode}
+use Rattle.seen_channels.specs.Tellings.{Learnt, told, with_mode}
 
 -- A successful response that comes again at once tells nothing more: the channel is the one that it was, with its mode.
 abbrev pub SameResponseAgain : Type 0
