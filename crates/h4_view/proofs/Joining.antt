@@ -11,10 +11,10 @@ use Rattle.acl_fragments.specs.Answers.{Answer, Pdu, More, Dropped, open_after, 
 use Rattle.acl_fragments.specs.Joiners.{Held, HoldsOpen, Joins, plain_answer}
 use Rattle.seen_channels.specs.declared.direction.Direction.{Direction}
 use Rattle.seen_channels.specs.declared.channels.Channels.{Channels}
-use Rattle.seen_channels.specs.Sayings.{Learnt}
+use Rattle.seen_channels.specs.Tellings.{Learnt}
 use Rattle.seen_channels.specs.Tables.{Keeps}
 use Rattle.h4_view.specs.Pdus.{Said, pdu_limit, turned, direction_after, goes, given, said_in, said_from, said, with_pdu, known, learnt}
-use Rattle.h4_view.specs.Details.{answer_text, joined_text, HeardPdus, Shown, goes_on}
+use Rattle.h4_view.specs.Details.{answer_text, HeardPdus, Shown, goes_on}
 
 -- which way the pieces go with one more
 pub direction-last : (past : List Piece) (p : Piece) → direction_after (past ++ p ∷ []) ≡ goes past p

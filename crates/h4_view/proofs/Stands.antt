@@ -12,7 +12,6 @@ use Rattle.h4_framing.proofs.AccountLemmas.{new_accounts}
 use Rattle.h4_view.specs.declared.refusal.ViewFault.{ViewFault}
 use Rattle.h4_view.specs.declared.refusal.ViewFault.TheVariants.{Refused, ReadFault, WriteFault, NoMemory}
 use Rattle.h4_view.specs.declared.links.Links.{Links}
-use Rattle.h4_view.specs.Details.{Knows}
 use Rattle.h4_view.specs.Lines.{lines}
 use Rattle.h4_view.specs.Shows.{Shows}
 use Rattle.h4_view.specs.Standing.{Standing}

@@ -21,7 +21,7 @@ use Rattle.acl_fragments.specs.Joiners.{Held, HoldsOpen}
 use Rattle.h4_view.specs.Texts.{word_text}
 use Rattle.seen_channels.specs.declared.direction.Direction.{Direction}
 use Rattle.seen_channels.specs.declared.channels.Channels.{Channels}
-use Rattle.seen_channels.specs.Sayings.{Learnt}
+use Rattle.seen_channels.specs.Tellings.{Learnt}
 use Rattle.seen_channels.specs.Tables.{Keeps}
 use Rattle.h4_view.specs.declared.links.Link.{Link}
 use Rattle.h4_view.specs.declared.links.Links.{Links}

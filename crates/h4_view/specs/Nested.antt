@@ -20,7 +20,7 @@ use Rattle.ertm_frames.specs.Reading.{answer_in}
 use Rattle.seen_channels.specs.declared.direction.Direction.{Direction}
 use Rattle.seen_channels.specs.declared.channel.Protocol.{Protocol}
 use Rattle.seen_channels.specs.declared.channel.Protocol.TheVariants as carries
-use Rattle.seen_channels.specs.Sayings.{Learnt, protocol}
+use Rattle.seen_channels.specs.Tellings.{Learnt, protocol}
 use Rattle.h4_view.specs.Signals.{signals_text}
 
 -- a name, and numbers with a blank before each

@@ -7,7 +7,7 @@ use Rattle.acl_fragments.specs.Pieces.{Piece, starts}
 use Rattle.acl_fragments.specs.Answers.{Answer, Pdu, More, Dropped, answer, open_after}
 use Rattle.seen_channels.specs.declared.direction.Direction.{Direction}
 use Rattle.seen_channels.specs.declared.direction.Direction.TheVariants.{Out, In}
-use Rattle.seen_channels.specs.Sayings.{Learnt, nothing, heard}
+use Rattle.seen_channels.specs.Tellings.{Learnt, nothing, heard}
 
 -- the longest PDU that a length field of two octets can state, with its header
 abbrev pub pdu_limit : ℕ

@@ -6,7 +6,7 @@ ghost use Rattle.h4_framing.specs.Packets.{Packet, Acl};
 ghost use Rattle.acl_fragments.specs.Pieces.{Piece};
 ghost use Rattle.acl_fragments.specs.Answers.{Pdu};
 ghost use Rattle.acl_fragments.specs.Joiners.{HoldsOpen, plain_answer};
-ghost use Rattle.seen_channels.specs.Sayings.{Learnt};
+ghost use Rattle.seen_channels.specs.Tellings.{Learnt};
 ghost use Rattle.seen_channels.specs.Tables.{Keeps};
 ghost use Rattle.h4_view.specs.Pdus.{pdu_limit, direction_after, turned, said_in, with_pdu, learnt};
 ghost use Rattle.h4_view.specs.Details.{drop_name, answer_text, joined_text, link_of, under, IsSpare, IsLink, IsLinkOf, Shown, Knows, HeardPdus, goes_on};

@@ -5,7 +5,7 @@ ghost use Rattle.rfcomm_frames.specs.Answers as mux;
 ghost use Rattle.rfcomm_frames.specs.FrameReading.{frame_answer};
 ghost use Rattle.ertm_frames.specs.Answers as enhanced;
 ghost use Rattle.ertm_frames.specs.Reading.{answer_in};
-ghost use Rattle.seen_channels.specs.Sayings.{Learnt};
+ghost use Rattle.seen_channels.specs.Tellings.{Learnt};
 ghost use Rattle.seen_channels.specs.Tables.{Keeps};
 ghost use Rattle.h4_view.specs.Nested.{numbered, refused, sdp_text, mux_name, mux_refusal, rfcomm_text, supervisory_name, frame_refusal, ertm_text, protocol_text, nested_text};
 

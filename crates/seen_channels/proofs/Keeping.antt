@@ -12,7 +12,7 @@ use Rattle.seen_channels.specs.declared.direction.Direction.TheVariants.{Out, In
 use Rattle.seen_channels.specs.declared.channel.Channel.{Channel}
 use Rattle.seen_channels.specs.declared.channels.Channels.{Channels}
 use Rattle.seen_channels.specs.declared.side.Side.{Side}
-use Rattle.seen_channels.specs.Sayings.{Learnt, learn, said_by, heard, find, with_mode, configured, with_channels}
+use Rattle.seen_channels.specs.Tellings.{Learnt, learn, told_by, heard, find, with_mode, configured, with_channels}
 use Rattle.seen_channels.specs.Tables.{oldest_first, place_of, IsSide, Keeps}
 use Rattle.seen_channels.proofs.Places.{place_within, length-oldest_first, place-with_mode, oldest-with_mode, mode_at}
 
@@ -58,24 +58,24 @@ places_more d far place cid cs got got' size is old = is ∙ ap (λ (n : ℕ). c
 
 -- what is still to be heard of a payload leads to what is known at its end
 pub record IsHearing (direction : Direction) (table table' : Channels) (payload : List ℕ) (rest : List Answer) : Type 0 where
-  pub along : (learnt : Learnt) → Keeps learnt table → (now : Learnt) × Keeps now table' × (fold learn now (flat_map (said_by direction) rest) ≡ heard direction payload learnt)
+  pub along : (learnt : Learnt) → Keeps learnt table → (now : Learnt) × Keeps now table' × (fold learn now (flat_map (told_by direction) rest) ≡ heard direction payload learnt)
 
 pub hearing_starts : (direction : Direction) (table : Channels) (payload : List ℕ) → IsHearing direction table table payload (answers payload)
 hearing_starts direction table payload = record { along = λ learnt keeps. (learnt, keeps, refl) }
 
 pub hearing_goes_on : (direction : Direction) (table mid new : Channels) (payload : List ℕ) (rest rest' : List Answer) (given : Option Answer) (a : Answer) → IsHearing direction table mid payload rest
-    → given ≡ slice_get rest 0 → given ≡ Some a → rest' ≡ drop 1 rest → ((learnt : Learnt) → Keeps learnt mid → Keeps (fold learn learnt (said_by direction a)) new) → IsHearing direction table new payload rest'
+    → given ≡ slice_get rest 0 → given ≡ Some a → rest' ≡ drop 1 rest → ((learnt : Learnt) → Keeps learnt mid → Keeps (fold learn learnt (told_by direction a)) new) → IsHearing direction table new payload rest'
 hearing_goes_on direction table mid new payload [] rest' given a so_far front is behind heard = absurd cc
 hearing_goes_on direction table mid new payload (b ∷ rest) rest' given a so_far front is behind hears = record {
   along = λ learnt keeps.
       let before = so_far.along learnt keeps in
       let same : a ≡ b = cc in
       let step = hears before.0 before.1 in (
-        fold learn before.0 (said_by direction a),
+        fold learn before.0 (told_by direction a),
         step,
-        ap (λ (r : List Answer). fold learn (fold learn before.0 (said_by direction a)) (flat_map (said_by direction) r)) behind
-            ∙ ap (λ (x : Answer). fold learn (fold learn before.0 (said_by direction x)) (flat_map (said_by direction) rest)) same
-            ∙ sym (fold-append learn before.0 (said_by direction b) (flat_map (said_by direction) rest))
+        ap (λ (r : List Answer). fold learn (fold learn before.0 (told_by direction a)) (flat_map (told_by direction) r)) behind
+            ∙ ap (λ (x : Answer). fold learn (fold learn before.0 (told_by direction x)) (flat_map (told_by direction) rest)) same
+            ∙ sym (fold-append learn before.0 (told_by direction b) (flat_map (told_by direction) rest))
             ∙ before.2,
       );
 }

@@ -6,7 +6,7 @@ use Rattle.std.proofs.Math.Seq.{set-append_seam}
 use Rattle.seen_channels.specs.declared.direction.Direction.{Direction}
 use Rattle.seen_channels.specs.declared.direction.Direction.TheVariants.{Out, In}
 use Rattle.seen_channels.specs.declared.channel.Channel.{Channel}
-use Rattle.seen_channels.specs.Sayings.{number, find, in_mode, with_mode}
+use Rattle.seen_channels.specs.Tellings.{number, find, in_mode, with_mode}
 use Rattle.seen_channels.specs.Tables.{oldest_first, place_of}
 
 pub length-oldest_first : (cs : List Channel) → length (oldest_first cs) ≡ length cs

@@ -1,2 +1,3 @@
-pub mod Sayings
+pub mod Tellings
 pub mod Tables
+pub mod Laws

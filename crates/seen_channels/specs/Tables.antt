@@ -7,7 +7,7 @@ use Rattle.seen_channels.specs.declared.channel.Request.{Request}
 use Rattle.seen_channels.specs.declared.channel.Channel.{Channel}
 use Rattle.seen_channels.specs.declared.side.Side.{Side}
 use Rattle.seen_channels.specs.declared.channels.Channels.{Channels}
-use Rattle.seen_channels.specs.Sayings.{Learnt, asked, request_of, number}
+use Rattle.seen_channels.specs.Tellings.{Learnt, asked, request_of, number}
 
 -- the channels in the order in which they were made
 abbrev pub oldest_first : List Channel → List Channel

@@ -1,7 +1,7 @@
 //! A channel and what it carries.
 
 ghost use Rattle.std.specs.Prelude.{◌≡◌};
-ghost use Rattle.seen_channels.specs.Sayings.{channel_of, is_same, protocol_of};
+ghost use Rattle.seen_channels.specs.Tellings.{channel_of, is_same, protocol_of};
 
 use crate::direction::Direction;
 

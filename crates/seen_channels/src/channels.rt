@@ -5,7 +5,7 @@ ghost use Rattle.std.specs.HashMap.{get};
 ghost use Rattle.l2cap_config.specs.Reading.{options_read};
 ghost use Rattle.l2cap_signal.specs.Commands.{command};
 ghost use Rattle.l2cap_signal.specs.Reading.{answer};
-ghost use Rattle.seen_channels.specs.Sayings.{Learnt, nothing, learn, find, is_known, with_channels, with_request, granted, configured, mode_asked, protocol, request_of, asked, opposite, is_found, said_by, heard};
+ghost use Rattle.seen_channels.specs.Tellings.{Learnt, nothing, learn, find, is_known, with_channels, with_request, granted, configured, mode_asked, protocol, request_of, asked, opposite, is_found, told_by, heard};
 ghost use Rattle.seen_channels.specs.Tables.{IsSide, Keeps};
 
 use crate::channel::{Channel, Protocol, Request};
@@ -181,7 +181,7 @@ impl Channels {
         direction: Direction,
         given: Result<Signal<'_>, SignalRefusal>,
     ) -> Result<(), NoMemory>
-        ensures { OnOk result ((learnt : Learnt) → Keeps learnt self.old → Keeps (fold learn learnt (said_by direction (answer given.entry))) self.new) }
+        ensures { OnOk result ((learnt : Learnt) → Keeps learnt self.old → Keeps (fold learn learnt (told_by direction (answer given.entry))) self.new) }
     {
         match given {
             Ok(signal) => self.hear(direction, &signal),

@@ -1,7 +1,7 @@
 //! The two directions of a link.
 
 ghost use Rattle.std.specs.Prelude.{◌≡◌};
-ghost use Rattle.seen_channels.specs.Sayings.{opposite};
+ghost use Rattle.seen_channels.specs.Tellings.{opposite};
 
 /// Which way a PDU goes, as the host of the link sees it.
 #[derive(Clone, Copy, Debug, PartialEq, Eq)]

@@ -5,6 +5,7 @@
 mod channel;
 mod channels;
 mod direction;
+pub mod laws;
 mod side;
 
 pub use channel::{Channel, Protocol};

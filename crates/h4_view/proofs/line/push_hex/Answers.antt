@@ -1,4 +1,4 @@
-use Rattle.std.proofs.Common.{refl, ap}
+use Rattle.std.proofs.Common.{ap}
 use Rattle.std.specs.Prelude.{slice_index}
 use Rattle.hex.specs.Hex.{upper_digits}
 use Rattle.h4_view.proofs.Signalling.{parts_none, digits_step}

@@ -1,5 +1,5 @@
 use Rattle.std.proofs.Common.{Ok, ap, arith}
-use Rattle.std.proofs.lemmas.List.{length-take, take_at}
+use Rattle.std.proofs.lemmas.List.{length-take}
 use Rattle.h4_view.specs.declared.refusal.ViewFault.TheVariants.{NoMemory}
 use Rattle.h4_view.proofs.Stands.{front_stands, fault_shows, sink_fault_shows, front_more, standing_more}
 use Rattle.h4_view.proofs.Endings.{ended, refused}

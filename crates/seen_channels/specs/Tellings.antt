@@ -22,7 +22,7 @@ opposite Out = In
 opposite In = Out
 
 -- a command, and which way it goes
-pub record Saying : Type 0 where
+pub record Telling : Type 0 where
   pub direction : Direction
   pub command : Command
 
@@ -127,21 +127,21 @@ told direction identifier (echo_response octets) learnt = learnt
 told direction identifier (information_request kind) learnt = learnt
 told direction identifier (information_response kind answer rest) learnt = learnt
 
--- what is known with one saying more
-abbrev pub learn : Learnt → Saying → Learnt
-learn learnt saying = told saying.direction saying.command.identifier saying.command.content learnt
+-- what is known with one telling more
+abbrev pub learn : Learnt → Telling → Learnt
+learn learnt telling = told telling.direction telling.command.identifier telling.command.content learnt
 
--- the sayings of a payload on the signalling channel: what is refused tells nothing
-abbrev pub said_by : Direction → Answer → List Saying
-said_by direction (Ok command) = record { direction = direction; command = command } ∷ []
-said_by direction (Err refusal) = []
+-- the tellings of a payload on the signalling channel: what is refused tells nothing
+abbrev pub told_by : Direction → Answer → List Telling
+told_by direction (Ok command) = record { direction = direction; command = command } ∷ []
+told_by direction (Err refusal) = []
 
-abbrev pub sayings : Direction → List ℕ → List Saying
-sayings direction payload = flat_map (said_by direction) (answers payload)
+abbrev pub tellings : Direction → List ℕ → List Telling
+tellings direction payload = flat_map (told_by direction) (answers payload)
 
 -- what is known with a payload more
 abbrev pub heard : Direction → List ℕ → Learnt → Learnt
-heard direction payload learnt = fold learn learnt (sayings direction payload)
+heard direction payload learnt = fold learn learnt (tellings direction payload)
 
 -- how the PDUs of a channel are read: service discovery and RFCOMM by their PSMs, whatever the mode
 abbrev pub protocol_of : Channel → Protocol
