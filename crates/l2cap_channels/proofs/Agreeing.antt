@@ -1,7 +1,7 @@
 -- What is asked for, and what is agreed on.
-use Rattle.std.proofs.Common.{◌≡◌, ◌∙◌, ℕ, ◌≤◌, ◌<◌, Bool, true, false, List, [], ◌∷◌, map, refl, sym, ap, subst, arith}
-use Rattle.std.specs.Prelude.{min, ◌==◌, ◌||◌, not, nat_lt, if◌then◌else◌, Option, Some, None, option_map, is_some, length}
-use Rattle.std.proofs.lemmas.Bool.{ltb-false, eqb-true, eqb-false, eq-eqb}
+use Rattle.std.proofs.Common.{◌≡◌, ◌∙◌, ℕ, ◌≤◌, Bool, true, false, refl, arith}
+use Rattle.std.specs.Prelude.{min, ◌==◌, ◌||◌, not, nat_lt, if◌then◌else◌, Some, length}
+use Rattle.std.proofs.lemmas.Bool.{ltb-false, eqb-false}
 use Rattle.l2cap_config.specs.declared.options.Options.{Options}
 use Rattle.l2cap_config.specs.declared.options.ModeOption.{ModeOption}
 use Rattle.l2cap_config.specs.declared.wish.Mode.{Mode}
@@ -11,7 +11,6 @@ use Rattle.l2cap_config.specs.declared.wish.Agreed.{Agreed}
 use Rattle.l2cap_config.specs.declared.agreement.ConfigAnswer.{ConfigAnswer}
 use Rattle.l2cap_config.specs.declared.agreement.ConfigAnswer.TheVariants.{Accept, Unacceptable, Unknown}
 use Rattle.l2cap_config.specs.Agreement.{asked_mode, asked_mtu, mode_number, answered_values, answered, agreed_on, agreed_if, sent_mps, sent_window}
-use Rattle.ertm_machine.specs.Windows.{IsAgreed}
 use Rattle.l2cap_channels.specs.Lines.{IsFor}
 use Rattle.l2cap_channels.specs.Steps.{IsWish, IsAccept}
 

@@ -8,15 +8,15 @@ use Rattle.ertm_frames.specs.Answers.{Answer}
 use Rattle.ertm_model.specs.declared.reason.ErtmReason.{ErtmReason}
 use Rattle.ertm_model.specs.Value.{Ertm}
 use Rattle.ertm_model.specs.Hearing.{fault, heard, heard_by, open_heard, refused, closed_by, refusal_fault, answer_by}
-use Rattle.channel_model.specs.Value.{Request, Own, Unasked, Asking, Granted, Carrier, Plain, Retransmitting, Setup, Stage, Requested, Connected, Leaving, Closing, Crossed, Held, Channels}
+use Rattle.channel_model.specs.Value.{Own, Unasked, Asking, Granted, Carrier, Plain, Retransmitting, Setup, Stage, Requested, Connected, Leaving, Closing, Crossed, Held, Channels}
 use Rattle.channel_model.specs.Changing.{to_stage, to_setup, with_setup, stage_with, setup_of}
 use Rattle.channel_model.specs.Closing.{closes}
 use Rattle.channel_model.specs.Configuring.{grants, granted_setup}
 use Rattle.channel_model.specs.Carrying as model
 use Rattle.channel_model.specs.Carrying.{reason_of, settles_machine, with_machine, read_by, machine_heard, is_frame, opens_with, takes_with, takes_on, takes_held, sdu_heard, machine_sdu, sdu_with, sdu_at, Up, up_by, up_on}
-use Rattle.l2cap_channels.specs.Arriving.{opened, opened_own, opened_setup, opens, handed_at, handed_up, carrier_fault, carrier_heard, carrier_answer, fault_on, heard_setup, frame_sdu, frame_up, refused_at}
+use Rattle.l2cap_channels.specs.Arriving.{opened, opened_own, opened_setup, opens, handed_at, handed_up, carrier_fault, carrier_answer, fault_on, heard_setup, frame_sdu, frame_up, refused_at}
 use Rattle.l2cap_channels.specs.Finding.{on_place, place_setup}
-use Rattle.l2cap_channels.specs.Readings.{PlainReading, Nothing, Basic, Framed, reading_by, shown_by, taken_by, taken_on, taken_at, IsOpenCarrier, IsOpenOn}
+use Rattle.l2cap_channels.specs.Readings.{Nothing, Basic, Framed, reading_by, shown_by, taken_by, taken_on, taken_at, IsOpenCarrier, IsOpenOn}
 use Rattle.l2cap_channels.specs.Steps.{with_change, on_setup, with_setup_at, granted}
 use Rattle.l2cap_channels.specs.Timers.{asked_by, asked_on}
 

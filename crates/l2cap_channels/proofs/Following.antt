@@ -1,6 +1,6 @@
 -- What follows at the place of a channel.
-use Rattle.std.proofs.Common.{◌≡◌, ◌∙◌, ℕ, zero, suc, ◌+◌, ◌≤◌, ◌<◌, Bool, true, false, List, [], ◌∷◌, map, refl, sym, ap, subst, arith}
-use Rattle.std.specs.Prelude.{◌==◌, nat_le, if◌then◌else◌, Option, Some, None, option_map, is_some}
+use Rattle.std.proofs.Common.{◌≡◌, ◌∙◌, ℕ, zero, suc, ◌+◌, ◌≤◌, ◌<◌, Bool, true, false, List, [], ◌∷◌, map, refl, sym, ap, arith}
+use Rattle.std.specs.Prelude.{◌==◌, nat_le, Option, Some, None, option_map, is_some}
 use Rattle.std.proofs.lemmas.Bool.{le-leb, eqb-true, eq-eqb}
 use Rattle.l2cap_config.specs.declared.options.Options.{Options}
 use Rattle.l2cap_config.specs.declared.wish.Wish.{Wish}

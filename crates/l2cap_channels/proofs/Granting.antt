@@ -1,10 +1,10 @@
 -- What follows where a channel is granted.
-use Rattle.std.proofs.Common.{◌≡◌, ◌∙◌, ℕ, ◌≤◌, ◌<◌, Bool, true, false, List, length, refl, sym, ap, subst, arith}
-use Rattle.std.specs.Prelude.{◌==◌, ◌&&◌, not, nat_lt, nat_le, if◌then◌else◌, Option, Some, None, option_map, is_some}
-use Rattle.std.proofs.lemmas.Bool.{eqb-true, eq-eqb, ne_eqb, leb-false, ltb-false, lt-ltb, le-leb, and_from, and_parts, not-false}
+use Rattle.std.proofs.Common.{◌≡◌, ℕ, ◌≤◌, Bool, true, false, length, refl, sym, subst, arith}
+use Rattle.std.specs.Prelude.{◌==◌, ◌&&◌, not, nat_lt, nat_le, if◌then◌else◌}
+use Rattle.std.proofs.lemmas.Bool.{eqb-true, leb-false, ltb-false, lt-ltb, le-leb, and_from, and_parts}
 use Rattle.bt_base.specs.declared.settings.Settings.{Settings}
 use Rattle.bt_base.specs.Numbers.{IsPsm}
-use Rattle.channel_model.specs.Policies.{Policy, policy, offered, serves_rfcomm, serves_l2cap}
+use Rattle.channel_model.specs.Policies.{Policy, policy, offered}
 use Rattle.channel_model.specs.Answers.{connection_result}
 use Rattle.channel_model.specs.Calls.{can_connect}
 use Rattle.channel_model.specs.Value.{Channels}

@@ -1,9 +1,8 @@
 -- What is known of the commands that come out of a payload.
-use Rattle.std.proofs.Common.{◌≡◌, ℕ, zero, suc, ◌+◌, ◌*◌, ◌<◌, ◌≤◌, ◌⊎◌, Bool, true, false, cond, List, [], ◌∷◌, length, take, drop, eqb, inl, inr, refl, sym, ap, subst, ◌∙◌, arith, length-drop, length-take, slice_get}
-use Rattle.std.specs.Prelude.{◌==◌, ◌||◌, Option, Some, None, Ok, Err, slice_index, nat_lt, if◌then◌else◌}
+use Rattle.std.proofs.Common.{◌≡◌, ℕ, zero, suc, ◌+◌, ◌*◌, ◌≤◌, ◌⊎◌, Bool, true, false, cond, List, [], ◌∷◌, length, take, drop, inl, inr, refl, arith, length-drop, length-take}
+use Rattle.std.specs.Prelude.{◌==◌, ◌||◌, Option, Some, None, slice_index, nat_lt}
 use Rattle.std.specs.List.{AllByRecursion}
 use Rattle.std.proofs.lemmas.Bool.{ltb-false, eqb-false}
-use Rattle.l2cap_signal.specs.declared.refusal.SignalRefusal.TheVariants.{BadLength, AboveMtu, ZeroIdentifier, UnknownCode}
 use Rattle.l2cap_signal.specs.Commands.{Content, rest_of}
 use Rattle.l2cap_signal.specs.Reading.{Answer, word_at, content_of, exactly, at_least, read_as, judged, first, answers_within, answers}
 use Rattle.l2cap_channels.specs.Usable.{IsUsable}

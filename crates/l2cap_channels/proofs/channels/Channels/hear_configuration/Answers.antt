@@ -1,5 +1,5 @@
 use Rattle.std.proofs.Common.{rules, ◌≡◌, ◌∙◌, ◌≤◌, ◌+◌, ℕ, List, length, ap, sym, subst}
-use Rattle.std.specs.Prelude.{Option, Some, option_map}
+use Rattle.std.specs.Prelude.{Some, option_map}
 use Rattle.std.specs.List.{slice_get, find}
 use Rattle.l2cap_signal.specs.Commands.{Content, configuration_request}
 use Rattle.channel_model.specs.Answers as table

@@ -1,9 +1,9 @@
-use Rattle.std.proofs.Common.{◌≡◌, ◌∙◌, List, refl, sym, ap}
+use Rattle.std.proofs.Common.{◌≡◌, ◌∙◌, refl, sym, ap}
 use Rattle.std.specs.Prelude.{Option, Some, None, slice_get, option_map, Ok, Err}
 use Rattle.ertm_frames.specs.Answers.{answer}
 use Rattle.ertm_frames.specs.Frames.{plain}
 use Rattle.channel_model.specs.declared.event.CloseReason.{CloseReason}
-use Rattle.channel_model.specs.Value.{Held, Channels}
+use Rattle.channel_model.specs.Value.{Held}
 use Rattle.channel_model.specs.Closing.{closes}
 use Rattle.channel_model.specs.Carrying.{reason_of, takes_held}
 use Rattle.l2cap_channels.specs.Arriving.{opened, opens, fault_on, frame_up}

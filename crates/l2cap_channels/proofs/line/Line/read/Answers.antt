@@ -1,4 +1,4 @@
-use Rattle.std.proofs.Common.{◌≡◌, ◌∙◌, ℕ, sym, ap, subst, arith}
+use Rattle.std.proofs.Common.{◌∙◌, ℕ, sym, ap, arith}
 use Rattle.std.specs.Prelude.{Option}
 use Rattle.ertm_frames.specs.Answers.{answer}
 use Rattle.ertm_frames.specs.Reading.{answer_in}
