@@ -10,3 +10,4 @@ pub mod Conversed
 pub mod Resulted
 pub mod Fronted
 pub mod Untouched
+pub mod Asked

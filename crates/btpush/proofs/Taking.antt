@@ -13,7 +13,8 @@ use Rattle.small_host.specs.Shelves.{LooksFor}
 use Rattle.btpush.specs.declared.status.Status.{Status}
 use Rattle.btpush.specs.Gathering.{kept_limit, reading_limit, unread}
 use Rattle.btpush.specs.Plays.{Stocked}
-use Rattle.btpush.specs.Pushing.{Refuses, Runs, Pushes, NotTaken, Taken}
+use Rattle.btpush.specs.Refusing.{Refuses}
+use Rattle.btpush.specs.Pushing.{Runs, Pushes, NotTaken, Taken}
 
 -- a text that is too long
 too_long : (missing : List Feature) (text : List ℕ) → text_limit < length text → reading missing text ≡ Err (0, TooLong)

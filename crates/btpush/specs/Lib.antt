@@ -1,7 +1,9 @@
 pub mod Status
 pub mod Words
+pub mod Refusing
 pub mod Gathering
 pub mod Plays
 pub mod Short
 pub mod Pushing
+pub mod Carrying
 pub mod Run

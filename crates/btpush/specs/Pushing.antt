@@ -17,20 +17,11 @@ use Rattle.btpush.specs.declared.status.Status.TheVariants as status
 use Rattle.btpush.specs.declared.playing.Played.{Played}
 use Rattle.btpush.specs.Gathering.{unread}
 use Rattle.btpush.specs.Plays.{Stocked, Plays}
+use Rattle.btpush.specs.Refusing.{Refuses}
 use Rattle.btpush.specs.Short.{PlaysShort}
 use Rattle.small_world.specs.Blaming.{IsNotBuilt}
 use Rattle.small_world.specs.declared.fault.WorldFault.{WorldFault}
 use Rattle.small_world.specs.declared.fault.WorldFault.TheVariants as world
-
--- A refusal is told by this line, all of it, or after a fault a front of it.
-abbrev pub Refuses : List ℕ → Option (List ℕ) → Option (List ℕ) → Status → Type 0
-Refuses line old new status.InputRefused = new ≡ gained old line
-Refuses line old new status.WriteFault = GainedFront old new line
-Refuses line old new status.NoMemory = GainedFront old new line
-Refuses line old new status.Ok = ⊥
-Refuses line old new status.SomeFailed = ⊥
-Refuses line old new status.BadWords = ⊥
-Refuses line old new status.ReadFault = ⊥
 
 -- the push is done
 abbrev pub is_done : Outcome → Bool

@@ -1,19 +1,24 @@
 -- The words of the command line (this project's own).
-use Rattle.std.specs.Prelude.{ℕ, List, [], ◌∷◌, Option, Some, None, codes, if◌then◌else◌}
-use Rattle.std.specs.Str.{bytes_eq}
-use Rattle.btpush.specs.declared.words.Form.{Form}
-use Rattle.btpush.specs.declared.words.Form.TheVariants.{Decode, Push}
+use Rattle.std.specs.Prelude.{ℕ, List, Option, codes}
+use Rattle.clap.specs.Words.{Text}
+use Rattle.command_words.specs.Forms.{AsksFor}
+use Rattle.command_words.specs.declared.form.Form.{Form}
+use Rattle.command_words.specs.declared.form.Form.TheVariants.{Decode, Push, Wire}
 
--- the form that a word asks for
-abbrev pub form_named : List ℕ → Option Form
-form_named word = if bytes_eq word (codes "decode") then Some Decode else if bytes_eq word (codes "push") then Some Push else None
+-- the forms that are built
+abbrev pub IsBuilt : Form → Type 0
+IsBuilt Decode = Unit {0}
+IsBuilt Push = Unit {0}
+IsBuilt (Wire number) = Unit {0}
+IsBuilt _ = ⊥
 
--- the program's name, which is not looked at, and the form
-abbrev pub form_of : List (List ℕ) → Option Form
-form_of [] = None
-form_of (name ∷ []) = None
-form_of (name ∷ word ∷ []) = form_named word
-form_of (name ∷ word ∷ other ∷ words) = None
+-- the words ask for no form that is built
+abbrev pub AskForNone : List Text → Type 0
+AskForNone words = (form : Form) → IsBuilt form → AsksFor words form → ⊥
+
+-- the words ask for a line, with some number or without one
+abbrev pub AskForWire : List Text → Type 0
+AskForWire words = (number : Option ℕ) × AsksFor words (Wire number)
 
 -- how the program is used
 abbrev pub usage_line : List ℕ

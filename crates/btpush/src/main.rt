@@ -3,9 +3,12 @@
 //! `btpush decode` reads a stream of H4 packets from the standard input and writes a line for each
 //! to the standard output. `btpush push` reads a scenario from the standard input, pushes files of
 //! the current folder over a simulated radio, keeps what arrives in the folder `inbox`, and writes a
-//! report to the standard output and the capture to the standard error.
+//! report to the standard output and the capture to the standard error. `btpush wire` carries the
+//! packets of the standard input over a simulated three-wire line to the standard output, and writes
+//! each packet on the line to the standard error.
 #![tactic(auto)]
 
+mod carrying;
 mod gathering;
 mod playing;
 #[cfg(test)]
@@ -15,7 +18,9 @@ mod run;
 mod status;
 #[cfg(test)]
 mod tests;
-mod words;
+mod usage;
+#[cfg(test)]
+mod wire_tests;
 
 use bt_base::{FileInbox, FileShelf, StdSink, StdSource};
 use run::run;

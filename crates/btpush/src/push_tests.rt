@@ -2,6 +2,7 @@ ghost use Rattle.std.specs.Prelude.{◌<◌, ◌^◌, length};
 
 use crate::run::run;
 use crate::status::Status;
+use crate::tests::words_of;
 use bt_base::{MemInbox, MemShelf, MemSink, MemSource};
 use std::test::Fail;
 
@@ -18,9 +19,7 @@ struct Left {
 fn push_from(rt: &HostRuntime, source: &mut MemSource, object: &[u8]) -> Result<Left, Fail>
     requires { length object.now < 2 ^ 32 }
 {
-    let mut words = Vec::new(rt.alloc());
-    words.push(String::from_str(rt.alloc(), "btpush")?)?;
-    words.push(String::from_str(rt.alloc(), "push")?)?;
+    let words = words_of(rt, "push")?;
     let mut sink = MemSink::new(rt.alloc(), &[])?;
     let mut trace = MemSink::new(rt.alloc(), &[])?;
     let mut shelf = MemShelf::new(rt.alloc(), &[])?;

@@ -9,7 +9,8 @@ ghost use Rattle.push_script.specs.Features.{missing_features, word_feature};
 ghost use Rattle.push_script.specs.Reading.{text_limit};
 ghost use Rattle.push_script.specs.Refusals.{refusal_line, object_line};
 ghost use Rattle.btpush.specs.Plays.{stocked, HasRoom};
-ghost use Rattle.btpush.specs.Pushing.{is_done, Refuses, Reports, Runs, Pushes};
+ghost use Rattle.btpush.specs.Pushing.{is_done, Reports, Runs, Pushes};
+ghost use Rattle.btpush.specs.Refusing.{Refuses};
 ghost use Rattle.btpush.specs.Run.{HasCauses, HasEnded};
 
 use crate::gathering::{GatherFault, gather};

@@ -1,17 +1,22 @@
 //! The top call: what the program does, over ports.
 
-ghost use Rattle.std.specs.Prelude.{◌≡◌, ◌≢◌, ◌≤◌, true, false, [], map, string_bytes, IfSome, Some, None};
+ghost use Rattle.std.specs.Prelude.{◌≡◌, ◌≢◌, ◌≤◌, ℕ, Option, false, [], map, string_bytes, IfSome, None};
 ghost use Rattle.bt_base.specs.Counts.{HasRisen};
 ghost use Rattle.btpush.specs.Run.{Decodes, RefusesWords, HasCauses, HasEnded};
 ghost use Rattle.btpush.specs.Plays.{stocked};
 ghost use Rattle.btpush.specs.Pushing.{Pushes};
-ghost use Rattle.btpush.specs.Words.{form_of};
+ghost use Rattle.btpush.specs.Words.{AskForNone, AskForWire};
+ghost use Rattle.btpush.specs.Carrying.{Wires, IsWell};
+ghost use Rattle.command_words.specs.Forms.{AsksFor};
+ghost use Rattle.three_wire.specs.Carrying.{AnyRose, WriteRose, IsWholeInput};
 ghost use Rattle.h4_view.specs.View.{IsAnswered};
 
+use crate::carrying::wire;
 use crate::pushing::push;
 use crate::status::Status;
-use crate::words::{Form, USAGE, form_of};
+use crate::usage::USAGE;
 use bt_base::{Inbox, PortFault, Shelf, Sink, Source};
+use command_words::{Form, form_of};
 use h4_view::{ViewFault, view_raw};
 use std::alloc::Global;
 
@@ -51,8 +56,10 @@ fn decode<S: Source, K: Sink>(alloc: Global, source: &mut S, sink: &mut K) -> St
 ///
 /// `decode` shows the packets of the source in the sink. `push` reads a scenario from the source and
 /// runs it: the objects of the shelf are pushed, the inbox keeps what arrives, the trace gets the
-/// capture and the sink the report. Any other words are `BadWords`, and the sink gets a line on the
-/// usage. No object may be pending in the inbox.
+/// capture and the sink the report. `wire` carries the packets of the source over a three-wire line to
+/// the sink, and the trace gets an entry for each packet on the line; `wire --number N` loses some by
+/// the draws of N. Any other words are `BadWords`, and the sink gets a line on the usage. No object may
+/// be pending in the inbox.
 pub fn run<S: Source, K: Sink, T: Sink, F: Shelf, B: Inbox>(
     alloc: Global,
     words: &Vec<String>,
@@ -64,15 +71,20 @@ pub fn run<S: Source, K: Sink, T: Sink, F: Shelf, B: Inbox>(
 ) -> Status
     requires { B.is_pending inbox.old ≡ false }
     // What the sink gains from `decode` is the view of the input, up to and with the first refusal.
-    ensures decode { form_of (map string_bytes words.now.items) ≡ Some Form.Decode → IfSome (S.content source.old) (λ input. Decodes input (S.content source.new) (K.content sink.old) (K.content sink.new) result) }
+    ensures decode { AsksFor (map string_bytes words.now.items) Form.Decode → IfSome (S.content source.old) (λ input. Decodes input (S.content source.new) (K.content sink.old) (K.content sink.new) result) }
     // `push` runs the scenario that the input is, or tells why it is none. Where it stops short, the whole entries in the
     // trace are those of a run so far: both hosts kept within the buffers, and the air to the script.
-    ensures push { form_of (map string_bytes words.now.items) ≡ Some Form.Push → IfSome (S.content source.old) (λ input. Pushes input (stocked (F.content shelf.old) (F.faults shelf.old) (F.absences shelf.old) (B.content inbox.old) (B.faults inbox.old) (B.shortages inbox.old)) (stocked (F.content shelf.new) (F.faults shelf.new) (F.absences shelf.new) (B.content inbox.new) (B.faults inbox.new) (B.shortages inbox.new)) (S.content source.new) (K.content sink.old) (K.content sink.new) (T.content trace.old) (T.content trace.new) (HasRisen (T.faults trace.old) (T.faults trace.new)) ((trace.new ≡ trace.old) × (shelf.new ≡ shelf.old) × (inbox.new ≡ inbox.old)) result) }
+    ensures push { AsksFor (map string_bytes words.now.items) Form.Push → IfSome (S.content source.old) (λ input. Pushes input (stocked (F.content shelf.old) (F.faults shelf.old) (F.absences shelf.old) (B.content inbox.old) (B.faults inbox.old) (B.shortages inbox.old)) (stocked (F.content shelf.new) (F.faults shelf.new) (F.absences shelf.new) (B.content inbox.new) (B.faults inbox.new) (B.shortages inbox.new)) (S.content source.new) (K.content sink.old) (K.content sink.new) (T.content trace.old) (T.content trace.new) (HasRisen (T.faults trace.old) (T.faults trace.new)) ((trace.new ≡ trace.old) × (shelf.new ≡ shelf.old) × (inbox.new ≡ inbox.old)) result) }
+    // `wire` carries the units of the input to the sink, or the units up to where it stops, and the trace tells each packet on
+    // the line. Whole units are all carried where no packet is to be lost and no port fails.
+    ensures wire { (number : Option ℕ) → AsksFor (map string_bytes words.now.items) (Form.Wire number) → Wires number (S.content source.old) (K.content sink.old) (K.content sink.new) (T.content trace.old) (T.content trace.new) (AnyRose (K.faults sink.old) (K.faults sink.new) (K.shortages sink.old) (K.shortages sink.new) (T.faults trace.old) (T.faults trace.new) (T.shortages trace.old) (T.shortages trace.new)) result }
+    ensures wire_clean { AsksFor (map string_bytes words.now.items) (Form.Wire None) → IsWholeInput (S.content source.old) → (HasRisen (S.faults source.old) (S.faults source.new) → ⊥) → (WriteRose (K.faults sink.old) (K.faults sink.new) (T.faults trace.old) (T.faults trace.new) → ⊥) → IsWell result }
     // Other words are refused, and no others.
-    ensures words { form_of (map string_bytes words.now.items) ≡ None → RefusesWords (K.content sink.old) (K.content sink.new) result }
-    ensures bad_words { result ≡ Status.BadWords → form_of (map string_bytes words.now.items) ≡ None }
-    // A mode runs to its end only where the input was read to its end.
-    ensures finish { HasEnded result → IfSome (S.content source.new) (λ left. left ≡ []) }
+    ensures words { AskForNone (map string_bytes words.now.items) → RefusesWords (K.content sink.old) (K.content sink.new) result }
+    ensures bad_words { result ≡ Status.BadWords → AskForNone (map string_bytes words.now.items) }
+    // A mode runs to its end only where the input was read to its end, but for a line whose rounds are spent.
+    ensures finish { result ≡ Status.Ok → IfSome (S.content source.new) (λ left. left ≡ []) }
+    ensures finish_push { AsksFor (map string_bytes words.now.items) Form.Push → HasEnded result → IfSome (S.content source.new) (λ left. left ≡ []) }
     // Each fault has its cause.
     ensures causes { HasCauses (S.faults source.old) (S.faults source.new) (K.faults sink.old) (K.faults sink.new) (T.faults trace.old) (T.faults trace.new) result }
     // A shortage of memory of a port is answered.
@@ -85,14 +97,21 @@ pub fn run<S: Source, K: Sink, T: Sink, F: Shelf, B: Inbox>(
     ensures shelf_content { F.content shelf.new ≡ F.content shelf.old }
     ensures shelf_faults { F.faults shelf.old ≤ F.faults shelf.new }
     ensures inbox_faults { B.faults inbox.old ≤ B.faults inbox.new }
-    // Only `push` touches the other ports.
-    ensures trace { form_of (map string_bytes words.now.items) ≢ Some Form.Push → trace.new ≡ trace.old }
-    ensures shelf { form_of (map string_bytes words.now.items) ≢ Some Form.Push → shelf.new ≡ shelf.old }
-    ensures inbox { form_of (map string_bytes words.now.items) ≢ Some Form.Push → inbox.new ≡ inbox.old }
+    // Only `push` and `wire` touch the trace, and only `push` the shelf and the inbox.
+    ensures trace { (AsksFor (map string_bytes words.now.items) Form.Push → ⊥) → (AskForWire (map string_bytes words.now.items) → ⊥) → trace.new ≡ trace.old }
+    ensures shelf { (AsksFor (map string_bytes words.now.items) Form.Push → ⊥) → shelf.new ≡ shelf.old }
+    ensures inbox { (AsksFor (map string_bytes words.now.items) Form.Push → ⊥) → inbox.new ≡ inbox.old }
 {
-    match form_of(words) {
-        Some(Form::Decode) => decode(alloc, source, sink),
-        Some(Form::Push) => push(alloc, source, sink, trace, shelf, inbox),
-        None => refuse_words(sink),
+    let form = match form_of(alloc, words) {
+        Ok(Some(form)) => form,
+        Ok(None) => return refuse_words(sink),
+        Err(_) => return Status::NoMemory,
+    };
+    match form {
+        Form::Decode => decode(alloc, source, sink),
+        Form::Push => push(alloc, source, sink, trace, shelf, inbox),
+        Form::Wire(number) => wire(alloc, number, source, sink, trace),
+        // The other forms are not built yet.
+        _ => refuse_words(sink),
     }
 }

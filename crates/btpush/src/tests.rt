@@ -46,10 +46,15 @@ fn run_of(
     run_over(rt, words, &mut source, failing.1)
 }
 
-fn words_of(rt: &HostRuntime, word: &str) -> Result<Vec<String>, Fail> {
+/// The words of a line, apart by blanks, with the program's name ahead of them.
+pub(crate) fn words_of(rt: &HostRuntime, line: &str) -> Result<Vec<String>, Fail> {
     let mut words = Vec::new(rt.alloc());
     words.push(String::from_str(rt.alloc(), "btpush")?)?;
-    words.push(String::from_str(rt.alloc(), word)?)?;
+    for word in line.split(' ') {
+        if !word.is_empty() {
+            words.push(String::from_str(rt.alloc(), word)?)?;
+        }
+    }
     Ok(words)
 }
 
@@ -161,12 +166,37 @@ fn faults_of_ports_have_their_status(rt: HostRuntime) -> Result<(), Fail> {
     assert_eq!(rt; sink.octets(), b"0 cmd 0C03 Reset -\n".as_slice());
     let (status, _) = run_of(&rt, words_of(&rt, "decode")?, &TWO_PACKETS, 4, (&[], &[2]))?;
     assert_eq!(rt; status, Status::WriteFault);
-    let (status, sink) = run_of(&rt, words_of(&rt, "decoder")?, &TWO_PACKETS, 4, (&[], &[]))?;
-    assert_eq!(rt; status, Status::BadWords);
-    assert_eq!(rt;
-        sink.octets(),
-        b"usage: btpush decode|push|receive|make [--tagged] [--number N]\n".as_slice()
-    );
+    Ok(())
+}
+
+/// Lines that are no form of the program, or one that is not built.
+const BAD_LINES: [&str; 9] = [
+    "",
+    "decoder",
+    "push --tagged",
+    "push --number 1",
+    "decode --tagged",
+    "make --number 1",
+    "receive",
+    "wire --tagged",
+    "wire --number 01",
+];
+
+/// Whether the words of a line are refused with the line on the usage.
+fn refuses_words(rt: &HostRuntime, line: &str) -> Result<bool, Fail> {
+    let (status, sink) = run_of(rt, words_of(rt, line)?, &TWO_PACKETS, 4, (&[], &[]))?;
+    Ok(
+        status == Status::BadWords
+            && sink.octets()
+                == b"usage: btpush decode|push|receive|make [--tagged] [--number N]\n".as_slice(),
+    )
+}
+
+#[test]
+fn other_words_are_refused(rt: HostRuntime) -> Result<(), Fail> {
+    for line in BAD_LINES.iter() {
+        assert!(rt; refuses_words(&rt, line)?);
+    }
     Ok(())
 }
 
