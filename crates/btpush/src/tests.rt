@@ -145,7 +145,7 @@ fn pieces_and_parameters_are_judged(rt: HostRuntime) -> Result<(), Fail> {
             &rt,
             &JOINED,
             Status::Ok,
-            "0 acl 2001 12\n  pdu 0001 8\n  sig 02 01 ConnectionRequest 01004000\n17 acl 2001 6\n28 acl 2002 4\n  pdu 0040 0\n37 acl 1001 7\n  drop Overrun\n49 acl 2001 8\n  pdu 0001 4\n  sig bad ZeroIdentifier\n"
+            "0 acl 2001 12\n  pdu 0001 8\n  sig 02 01 ConnectionRequest 01004000\n17 acl 2001 6\n28 acl 2002 4\n  pdu 0040 0\n  data 0\n37 acl 1001 7\n  drop Overrun\n49 acl 2001 8\n  pdu 0001 4\n  sig bad ZeroIdentifier\n"
         )?
     );
     assert!(rt;
