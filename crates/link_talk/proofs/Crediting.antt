@@ -1,5 +1,5 @@
 -- How a reader counts credits, frame by frame.
-use Rattle.std.proofs.Common.{◌≡◌, ℕ, ℤ, pos, zero, suc, ◌+◌, ◌*◌, ◌<◌, ◌≤◌, ◌-ℤ◌, List, [], ◌∷◌, length, take, drop, get_or, map, Bool, true, false, cond, Option, Some, None, Result, Ok, Err, IfOk, eqb, refl, sym, ap, subst, ◌∙◌, add-one, add-zero, drop-cons, arith}
+use Rattle.std.proofs.Common.{◌≡◌, ℕ, pos, zero, suc, ◌+◌, ◌*◌, ◌<◌, ◌≤◌, ◌-ℤ◌, List, [], ◌∷◌, length, take, drop, get_or, map, Bool, true, false, cond, Option, Some, None, Result, Ok, Err, IfOk, eqb, refl, sym, ap, subst, ◌∙◌, add-one, add-zero, drop-cons, arith}
 use Rattle.std.specs.Prelude.{sum_by}
 use Rattle.std.specs.List.{cons_option, filter_map}
 use Rattle.std.specs.Option.{option_or}
@@ -9,11 +9,10 @@ use Rattle.std.proofs.lemmas.List.{drop_all, length-drop}
 use Rattle.bt_base.specs.Octets.{IsOctets}
 use Rattle.capture.specs.Channels.{last_of}
 use Rattle.rfcomm_frames.specs.declared.control.Control.{Control}
-use Rattle.rfcomm_frames.specs.declared.connection.Role.{Role}
 use Rattle.rfcomm_frames.specs.declared.refusal.MuxRefusal.{MuxRefusal}
 use Rattle.rfcomm_frames.specs.Controls.{PlainControl, SpellsControl, plain_control}
 use Rattle.rfcomm_frames.specs.ControlAnswers.{control_answer, IsControlAnswer}
-use Rattle.rfcomm_frames.specs.FrameReading.{MessageAnswer, message_answer, messages}
+use Rattle.rfcomm_frames.specs.FrameReading.{message_answer, messages}
 use Rattle.rfcomm_frames.specs.Multiplexing.{Framed, no_connections, stated_by, granted_by, granted, spent_by, spent}
 use Rattle.rfcomm_frames.specs.Ending.{Course, no_course, course_after, is_last, to_closing}
 use Rattle.rfcomm_frames.specs.UserChannel.{live_frames, credits_held}
@@ -23,7 +22,6 @@ use Rattle.link_talk.specs.declared.party.Party.{Party}
 use Rattle.link_talk.specs.declared.readers.Spoken.{Spoken as LentSpoken}
 use Rattle.link_talk.specs.declared.readers.crediting.Credits.{Credits}
 use Rattle.link_talk.specs.declared.readers.entries.Entry.{Entry as LentEntry}
-use Rattle.link_talk.specs.Channels.{Entry}
 use Rattle.link_talk.specs.Packets.{role_of, passed}
 use Rattle.link_talk.specs.Frames.{frame_in}
 use Rattle.link_talk.specs.Accounts.{carries_rfcomm, multiplexed}

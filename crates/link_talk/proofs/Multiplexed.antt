@@ -1,8 +1,8 @@
 -- How a reader goes over the SDUs of RFCOMM.
-use Rattle.std.proofs.Common.{◌≡◌, ℕ, ◌+◌, ◌<◌, List, [], ◌∷◌, ◌++◌, length, take, drop, get_or, map, Bool, false, cond, eqb, true, Option, Some, None, refl, sym, ap, subst, ◌∙◌, append_assoc, append-nil, add-one, drop-cons}
+use Rattle.std.proofs.Common.{◌≡◌, ℕ, ◌+◌, ◌<◌, List, [], ◌∷◌, ◌++◌, length, take, drop, get_or, map, Bool, false, cond, eqb, true, refl, sym, ap, subst, ◌∙◌, append_assoc, append-nil}
 use Rattle.std.proofs.lemmas.Bool.{eqb-true}
 use Rattle.std.proofs.lemmas.List.{take-append-drop}
-use Rattle.std.specs.List.{cons_option, flat_map, AllByRecursion}
+use Rattle.std.specs.List.{flat_map, AllByRecursion}
 use Rattle.bt_base.specs.Octets.{IsOctets}
 use Rattle.capture.specs.declared.flow.Flow.{Flow}
 use Rattle.capture.specs.Histories.{each_after, given_by}
@@ -20,7 +20,7 @@ use Rattle.link_talk.specs.declared.party.Party.{Party}
 use Rattle.link_talk.specs.declared.readers.Spoken.{Spoken as LentSpoken}
 use Rattle.link_talk.specs.Gains.{beyond, gained}
 use Rattle.link_talk.specs.Sdus.{Spoken, spoken_as}
-use Rattle.link_talk.specs.Packets.{OverL2cap, OverRfcomm, OverNothing, role_of, passed, packets_over_rfcomm, packet_with, packets_spoken}
+use Rattle.link_talk.specs.Packets.{OverL2cap, OverRfcomm, OverNothing, passed, packets_over_rfcomm, packet_with, packets_spoken}
 use Rattle.link_talk.specs.Frames.{frame_in}
 use Rattle.link_talk.specs.Lent.{plain_spoken}
 

@@ -1,6 +1,6 @@
 -- How a reader finds what a server passes over.
-use Rattle.std.proofs.Common.{◌≡◌, ℕ, ◌+◌, ◌<◌, List, [], ◌∷◌, ◌++◌, length, drop, get_or, map, Bool, true, false, cond, ◌||◌, ◌&&◌, eqb, not, Option, Some, None, Result, Ok, Err, refl, sym, ap, ◌∙◌, append_assoc, add-one, drop-cons}
-use Rattle.std.specs.List.{AllByRecursion, list_any}
+use Rattle.std.proofs.Common.{◌≡◌, ℕ, ◌+◌, ◌<◌, List, [], ◌∷◌, ◌++◌, length, drop, get_or, map, Bool, true, false, cond, ◌||◌, ◌&&◌, eqb, not, Ok, refl, sym, ap, ◌∙◌, append_assoc, add-one, drop-cons}
+use Rattle.std.specs.List.{AllByRecursion}
 use Rattle.std.proofs.lemmas.Bool.{cond-true, cond-false}
 use Rattle.bt_base.specs.Octets.{IsOctets}
 use Rattle.capture.specs.declared.flow.Flow.{Flow}
@@ -8,11 +8,10 @@ use Rattle.capture.specs.Pdus.{same_flow}
 use Rattle.obex_headers.specs.declared.packet.Packet.{Packet}
 use Rattle.obex_headers.specs.declared.packet.Phase.{Phase}
 use Rattle.obex_headers.specs.declared.packet.Phase.TheVariants.{Request, Response}
-use Rattle.obex_headers.specs.Packets.{PlainHeader, PlainPacket, IsHeader, header_octets, headers_octets, Shows}
+use Rattle.obex_headers.specs.Packets.{PlainHeader, PlainPacket, IsHeader, header_octets, headers_octets}
 use Rattle.obex_headers.specs.Reading.{packet_in, GivesPacket}
 use Rattle.obex_headers.proofs.PacketLaws.{packet_takes}
-use Rattle.link_talk.specs.declared.course.Asked.{Asked}
-use Rattle.link_talk.specs.declared.course.Asked.TheVariants.{Put, Other, Refused}
+use Rattle.link_talk.specs.declared.course.Asked.TheVariants.{Put, Other}
 use Rattle.link_talk.specs.declared.course.Course.{Course}
 use Rattle.link_talk.specs.declared.readers.silencing.Marks.{Marks}
 use Rattle.link_talk.specs.declared.readers.Spoken.{Spoken as LentSpoken}

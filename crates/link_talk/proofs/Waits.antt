@@ -1,11 +1,11 @@
 -- How readers find what waits, saying by saying.
-use Rattle.std.proofs.Common.{◌≡◌, ℕ, ◌+◌, ◌<◌, Bool, List, [], ◌∷◌, ◌++◌, length, take, drop, get_or, map, fold, Option, Some, None, refl, sym, ap, ◌∙◌, add-one, drop-cons}
+use Rattle.std.proofs.Common.{◌≡◌, ℕ, ◌+◌, ◌<◌, Bool, List, [], ◌∷◌, length, take, drop, get_or, fold, Option, Some, None, refl, sym, ap, ◌∙◌, add-one, drop-cons}
 use Rattle.std.specs.Prelude.{option_to_list}
 use Rattle.std.specs.List.{filter_map, cons_option}
 use Rattle.std.proofs.lemmas.List.Sums.{fold-append}
 use Rattle.capture.specs.Histories.{given_by}
 use Rattle.capture.proofs.HistoryLaws.{front-more, given_by-more}
-use Rattle.ertm_frames.specs.Picking.{Passage, waits_after, poll_waits}
+use Rattle.ertm_frames.specs.Picking.{Passage, poll_waits}
 use Rattle.link_talk.specs.declared.channel.Channel.{Channel}
 use Rattle.link_talk.specs.declared.party.Party.{Party}
 use Rattle.link_talk.specs.declared.readers.Saying.{Saying as LentSaying}

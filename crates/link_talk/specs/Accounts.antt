@@ -1,6 +1,6 @@
 -- What a host owes and is owed on a channel: I-frames that are not acknowledged (Core 5.1, Volume 3 Part A, 8.3 and 8.6), and
 -- credits (RFCOMM 1.2, 6.5).
-use Rattle.std.specs.Prelude.{ℕ, ℤ, pos, ◌==◌, ◌&&◌, List, [], ◌∷◌, map, fold, max, Option, Some, None, if◌then◌else◌}
+use Rattle.std.specs.Prelude.{ℕ, ℤ, pos, ◌==◌, ◌&&◌, List, map, fold, max, Option, Some, None, if◌then◌else◌}
 use Rattle.std.specs.List.{filter_map}
 use Rattle.std.specs.Option.{option_map}
 use Rattle.capture.specs.Channels.{last_of}

@@ -1,5 +1,5 @@
 -- What a reader of credits holds.
-use Rattle.std.specs.Prelude.{ℕ, ℤ, pos, ◌-ℤ◌, ◌+◌, ◌≡◌, Bool, true, false}
+use Rattle.std.specs.Prelude.{ℕ, ℤ, pos, ◌-ℤ◌, ◌+◌, ◌≡◌}
 use Rattle.rfcomm_frames.specs.declared.connection.Role.{Role}
 use Rattle.rfcomm_frames.specs.Multiplexing.{Framed, granted_by, spent_by}
 use Rattle.rfcomm_frames.specs.Ending.{Course}

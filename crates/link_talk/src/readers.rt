@@ -9,6 +9,7 @@ mod demanding;
 mod enhanced_samples;
 mod entries;
 mod exchanging;
+mod holding;
 mod joining;
 mod meaning;
 #[cfg(test)]
@@ -43,6 +44,7 @@ pub use carrying::{mode_of, passages, stretch};
 pub use crediting::{Credits, link_credits};
 pub use entries::{Entry, Setup};
 pub use exchanging::{Exchange, Pending, exchanges};
+pub use holding::credits_peak;
 use l2cap_signal::{Signal, SignalRefusal};
 pub use meaning::Requests;
 pub use moments::{is_armed, is_checked_at};

@@ -6,7 +6,7 @@ use Rattle.ertm_frames.specs.Frames.{PlainFrame}
 use Rattle.ertm_frames.specs.Picking.{Passage, Out, In, outs, ins, picked, last_req}
 use Rattle.ertm_frames.proofs.Telling.{picked-more, req-more, outs-more, outs-same}
 use Rattle.rfcomm_frames.specs.declared.connection.Role.{Role}
-use Rattle.rfcomm_frames.specs.Multiplexing.{Passed, Framed, frames, no_connections, granted_by, granted, spent_by, spent}
+use Rattle.rfcomm_frames.specs.Multiplexing.{Passed, Framed, frames, no_connections, granted_by, granted, spent_by}
 use Rattle.rfcomm_frames.specs.Ending.{Course, no_course, course_after, is_last, to_closing}
 use Rattle.rfcomm_frames.specs.UserChannel.{credits_held}
 use Rattle.link_talk.specs.Picks.{pick}

@@ -1,11 +1,9 @@
 -- Check words, looking back and in one pass.
-use Rattle.std.proofs.Common.{◌≡◌, ℕ, List, [], ◌∷◌, ◌++◌, Bool, ◌||◌, ◌&&◌, eqb, not, refl, sym, ap, ◌∙◌}
+use Rattle.std.proofs.Common.{◌≡◌, ℕ, List, [], ◌∷◌, ◌||◌, ◌&&◌, eqb, not, refl, ap, ◌∙◌}
 use Rattle.std.specs.List.{list_any}
 use Rattle.link_talk.specs.declared.channel.Channel.{Channel}
-use Rattle.link_talk.specs.Sayings.{Saying}
 use Rattle.link_talk.specs.Meanings.{Meaning, meanings}
-use Rattle.link_talk.specs.Setups.{Setup}
-use Rattle.link_talk.specs.Channels.{Birth, births, words, is_gone, is_there, Entry, Reading, reading, read_on}
+use Rattle.link_talk.specs.Channels.{Birth, births, words, is_gone, is_there, Entry, Reading, reading}
 use Rattle.link_talk.specs.ReadingLaws.{IsRead, AreRead}
 use Rattle.link_talk.specs.Waits.{is_checked}
 use Rattle.link_talk.proofs.OnePass.{reading-more, reading-is_right}

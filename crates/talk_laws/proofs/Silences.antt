@@ -1,5 +1,5 @@
 -- What a server passes over, looking back and in one pass.
-use Rattle.std.proofs.Common.{◌≡◌, ℕ, List, [], ◌∷◌, ◌++◌, fold, Bool, true, false, cond, ◌&&◌, eqb, not, refl, sym, ap, subst, ◌∙◌, append_assoc, append-nil}
+use Rattle.std.proofs.Common.{◌≡◌, ℕ, List, [], ◌∷◌, ◌++◌, fold, Bool, true, false, cond, ◌&&◌, eqb, not, refl, sym, ap, subst, ◌∙◌, append_assoc}
 use Rattle.std.specs.List.{AllByRecursion}
 use Rattle.std.proofs.lemmas.List.Sums.{fold-append}
 use Rattle.capture.specs.declared.flow.Flow.{Flow}
@@ -10,11 +10,10 @@ use Rattle.obex_headers.specs.declared.packet.Phase.TheVariants as phases
 use Rattle.obex_headers.specs.Reading.{packet_in}
 use Rattle.link_talk.specs.Sdus.{Spoken}
 use Rattle.link_talk.specs.Exchanges.{code_of, exchanges}
-use Rattle.link_talk.specs.declared.course.Asked.{Asked}
 use Rattle.link_talk.specs.declared.course.Asked.TheVariants.{Put, Other, Refused}
 use Rattle.link_talk.specs.declared.course.Course.{Course}
 use Rattle.link_talk.specs.declared.course.Course.TheVariants.{Resting, Offered, Singly, Together, Silent}
-use Rattle.link_talk.specs.Silences.{asked_in, answers_single, after_asked, after_answer, course_after, heard_at, answered_from, answered, channel_exchanges}
+use Rattle.link_talk.specs.Silences.{asked_in, answers_single, after_asked, after_answer, course_after, answered_from, answered, channel_exchanges}
 use Rattle.talk_laws.specs.Exchanges.{answered_behind}
 use Rattle.talk_laws.specs.Silences.{Word, Asks, Says, word_of, course_of, heard_behind, begins_with, is_more_put, grants, stays_together, refuses, stays_silent, All, IsOffered, IsTogether, IsSilent, SilencesLookBack, SilencesGrow}
 use Rattle.talk_laws.proofs.Passes.{from_end}

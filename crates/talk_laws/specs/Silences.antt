@@ -8,7 +8,7 @@ use Rattle.capture.specs.Pdus.{same_flow}
 use Rattle.obex_headers.specs.declared.packet.Phase.TheVariants as phases
 use Rattle.obex_headers.specs.Reading.{packet_in}
 use Rattle.link_talk.specs.Sdus.{Spoken}
-use Rattle.link_talk.specs.Exchanges.{code_of, exchanges}
+use Rattle.link_talk.specs.Exchanges.{code_of}
 use Rattle.link_talk.specs.declared.course.Asked.{Asked}
 use Rattle.link_talk.specs.declared.course.Asked.TheVariants.{Put, Other, Refused}
 use Rattle.link_talk.specs.declared.course.Course.{Course}

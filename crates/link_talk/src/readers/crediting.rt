@@ -113,7 +113,7 @@ fn spent_by(dlci: u8, side: Role, framed: &Framed<'_>) -> u128
 }
 
 impl Credits {
-    fn none() -> Credits
+    pub(super) fn none() -> Credits
         ensures { result ≡ record { granted = 0; spent = 0 } }
     {
         Credits {

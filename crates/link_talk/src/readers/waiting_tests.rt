@@ -100,8 +100,12 @@ fn one_channel_is_read(rt: HostRuntime) -> Result<(), Fail> {
     Ok(())
 }
 
-/// Captures, and the credits that host b was granted and those that it spent.
-const CREDITED: [(Said, u128, u128); 3] = [(BASIC, 0, 0), (RFCOMM, 10, 1), (RFCOMM_CLOSED, 7, 0)];
+/// Captures, the credits that host b was granted and those that it spent, and the most that it held.
+const CREDITED: [(Said, u128, u128, u128); 3] = [
+    (BASIC, 0, 0, 0),
+    (RFCOMM, 10, 1, 10),
+    (RFCOMM_CLOSED, 7, 0, 7),
+];
 
 /// The credits of a capture.
 fn credited(alloc: Global, said: Said) -> Result<Credits, Fail> {
@@ -113,11 +117,19 @@ fn credited(alloc: Global, said: Said) -> Result<Credits, Fail> {
     Ok(link_credits(alloc, &SERVER, &said)?.ok_or("few credits")?)
 }
 
+/// The most credits of a capture.
+fn most_credited(alloc: Global, said: Said) -> Result<u128, Fail> {
+    let octets = octets_of(alloc, said)?;
+    let entries = entries_of(alloc, &octets).ok().ok_or("a capture")?;
+    Ok(credits_peak(alloc, &SERVER, Side::B, &entries)?.ok_or("few credits")?)
+}
+
 #[test]
 fn credits_are_granted_and_spent(rt: HostRuntime) -> Result<(), Fail> {
-    for (said, granted, spent) in CREDITED {
+    for (said, granted, spent, most) in CREDITED {
         let found = credited(rt.alloc(), said)?;
         assert!(rt; found.granted == granted && found.spent == spent);
+        assert_eq!(rt; most_credited(rt.alloc(), said)?, most);
     }
     Ok(())
 }

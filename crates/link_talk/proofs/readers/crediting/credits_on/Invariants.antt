@@ -1,4 +1,4 @@
-use Rattle.std.proofs.Common.{◌≡◌, ◌+◌, drop, map}
+use Rattle.std.proofs.Common.{drop}
 use Rattle.link_talk.specs.Frames.{plain_course}
 use Rattle.link_talk.proofs.Multiplexed.{left_of}
 use Rattle.link_talk.proofs.Crediting.{Totals}

@@ -1,8 +1,6 @@
 use Rattle.std.proofs.Common.{◌≡◌, drop}
-use Rattle.std.specs.List.{filter_map}
 use Rattle.std.specs.Option.{option_or}
-use Rattle.capture.specs.Channels.{last_of}
-use Rattle.link_talk.specs.Accounts.{carries_rfcomm, multiplexed}
+use Rattle.link_talk.specs.Accounts.{multiplexed}
 use Rattle.link_talk.specs.Lent.{plain_entries}
 use Rattle.link_talk.proofs.readers.crediting.multiplexed.Given as goal
 
