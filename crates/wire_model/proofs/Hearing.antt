@@ -22,7 +22,7 @@ pub record Keeps (w w' : Wire) : Type 0 where
 pub keeps_same : (w : Wire) → Keeps w w
 keeps_same w = record { own = refl; first = refl; unacked = refl; given = refl; next = inl refl; expected = refl; window = inl refl; stage = λ e. e }
 
-waits_keeps : (m : LinkMessage) (w : Wire) → Keeps w (waits m w)
+pub waits_keeps : (m : LinkMessage) (w : Wire) → Keeps w (waits m w)
 waits_keeps m w = elim (ltb (length w.waiting) most_waiting) as (λ b. Keeps w (cond b (record w { waiting = w.waiting ++ m ∷ [] }) w)) [
   | true ↦ record { own = refl; first = refl; unacked = refl; given = refl; next = inl refl; expected = refl; window = inl refl; stage = λ e. e }
   | false ↦ keeps_same w

@@ -15,3 +15,5 @@ pub mod Numbering
 pub mod Emptying
 pub mod Rounding
 pub mod Causing
+pub mod Reading
+pub mod Fitting

@@ -6,3 +6,4 @@ pub mod Pair
 pub mod Rounds
 pub mod Causes
 pub mod Laws
+pub mod Reading

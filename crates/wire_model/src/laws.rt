@@ -1,6 +1,7 @@
 //! Laws of the two ends. Each is the contract of a function that does nothing.
 
 ghost use Rattle.wire_model.specs.Laws.{TagsObey, NeverReset, CarriedInOrder, WithinWindow, AllCarried, RoundsAreFew, OncePerCause};
+ghost use Rattle.wire_model.specs.Reading.{TracesAreReadInOneWay, NumbersOfRunsFit, RunsAreReadInOneWay};
 
 /// The tags of a run obey the draws.
 pub fn tags_obey()
@@ -37,4 +38,19 @@ pub fn rounds_are_few()
 /// timer asks for.
 pub fn once_per_cause()
     ensures { OncePerCause }
+{}
+
+/// The octets of a trace are the entries of one list of packets, with one cut behind them.
+pub fn traces_are_read_in_one_way()
+    ensures { TracesAreReadInOneWay }
+{}
+
+/// The numbers of each packet of a run fit their three bits.
+pub fn numbers_of_runs_fit()
+    ensures { NumbersOfRunsFit }
+{}
+
+/// Runs with the same trace have the same packets on the line, and the same units are accepted.
+pub fn runs_are_read_in_one_way()
+    ensures { RunsAreReadInOneWay }
 {}

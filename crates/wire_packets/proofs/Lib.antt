@@ -3,3 +3,4 @@ pub mod Spelling
 pub mod Spelled
 pub mod Finding
 pub mod Taking
+pub mod Fronts

@@ -1,11 +1,11 @@
 -- The octets of a packet, and the packet again.
-use Rattle.std.proofs.Common.{◌≡◌, ℕ, zero, suc, get_or, take, ◌+◌, ◌-◌, ◌*◌, ◌/◌, ◌%◌, ◌<◌, ◌≤◌, Bool, true, false, List, [], ◌∷◌, ◌++◌, length, drop, Ok, Err, eqb, ltb, inl, inr, refl, sym, ap, subst, ◌∙◌, arith}
+use Rattle.std.proofs.Common.{◌≡◌, ℕ, zero, suc, get_or, take, ◌+◌, ◌-◌, ◌*◌, ◌/◌, ◌%◌, ◌<◌, ◌≤◌, Bool, true, false, List, [], ◌∷◌, length, drop, Ok, Err, eqb, inl, inr, refl, sym, ap, subst, ◌∙◌, arith}
 use Rattle.std.specs.Prelude.{slice_index}
 use Rattle.std.proofs.lemmas.List.{take_all}
 use Rattle.bt_base.specs.Octets.{IsOctets}
 use Rattle.wire_packets.specs.declared.refusal.WireRefusal.{WireRefusal}
 use Rattle.wire_packets.specs.declared.refusal.WireRefusal.TheVariants.{Short, BadEscape, BadChecksum, Checked, BadLength, BadKind}
-use Rattle.wire_packets.specs.Packets.{Packet, IsPacket, IsKind, bit, numbers_of, kind_of, high_length_of, checksum, spelling}
+use Rattle.wire_packets.specs.Packets.{Packet, IsPacket, IsKind, bit, numbers_of, kind_of, spelling}
 use Rattle.wire_packets.specs.Answers.{Answer, IsAnswer, Refuses, AddsUp, check_bit, stated_length, stated_kind}
 
 pub bit_small : (b : Bool) → bit b ≤ 1
@@ -92,25 +92,24 @@ one_refusal o BadKind Checked a b = absurd (omega (arith, b.2, a.2))
 one_refusal o BadKind BadLength a b = absurd (b.3 a.3)
 one_refusal o BadKind BadKind a b = refl
 
--- two packets with the same octets are one
-one_packet : (p q : Packet) → IsPacket p → IsPacket q → spelling p ≡ spelling q → p ≡ q
-one_packet p q f g e =
+-- two packets with the same octets are one, where their numbers fit their fields
+pub one_packet : (p q : Packet) → p.seq < 8 → p.ack < 8 → q.seq < 8 → q.ack < 8 → spelling p ≡ spelling q → p ≡ q
+one_packet p q ps pa qs qa e =
     let small = bit_small p.reliable in
     let small' = bit_small q.reliable in
     let n : numbers_of p ≡ numbers_of q = ap (λ xs. slice_index xs 0) e in
     let k : kind_of p ≡ kind_of q = ap (λ xs. slice_index xs 1) e in
-    let pk : p.kind < 16 = elim f.kind_known [ inl l ↦ omega arith | inr e ↦ omega arith ] in
-    let qk : q.kind < 16 = elim g.kind_known [ inl l ↦ omega arith | inr e ↦ omega arith ] in
-    let seq : p.seq ≡ q.seq = omega (arith, f.seq_fits, g.seq_fits) in
-    let ack : p.ack ≡ q.ack = omega (arith, f.seq_fits, g.seq_fits, f.ack_fits, g.ack_fits) in
-    let rel : p.reliable ≡ q.reliable = bit_same p.reliable q.reliable (omega (arith, f.seq_fits, g.seq_fits, f.ack_fits, g.ack_fits)) in
-    let kind : p.kind ≡ q.kind = omega arith in
     let payload : p.payload ≡ q.payload = ap (drop 4) e in
+    let long = ap length payload in
+    let seq : p.seq ≡ q.seq = omega (arith, ps, qs) in
+    let ack : p.ack ≡ q.ack = omega (arith, ps, qs, pa, qa) in
+    let rel : p.reliable ≡ q.reliable = bit_same p.reliable q.reliable (omega (arith, ps, qs, pa, qa)) in
+    let kind : p.kind ≡ q.kind = omega (arith, long) in
     same_fields p q seq ack rel kind payload
 
 -- an answer is the only one
 pub one_answer_lem : (octets : List ℕ) (first second : Answer) → IsAnswer octets first → IsAnswer octets second → first ≡ second
-one_answer_lem octets (Ok p) (Ok q) a b = ap Ok (one_packet p q a.0 b.0 (sym a.1 ∙ b.1))
+one_answer_lem octets (Ok p) (Ok q) a b = ap Ok (one_packet p q a.0.seq_fits a.0.ack_fits b.0.seq_fits b.0.ack_fits (sym a.1 ∙ b.1))
 one_answer_lem octets (Ok p) (Err r) a b = absurd (no_refusal p r a.0 (subst (λ (o : List ℕ). Refuses o r) a.1 b))
 one_answer_lem octets (Err r) (Ok p) a b = absurd (no_refusal p r b.0 (subst (λ (o : List ℕ). Refuses o r) b.1 a))
 one_answer_lem octets (Err r) (Err s) a b = ap Err (one_refusal octets r s a b)
