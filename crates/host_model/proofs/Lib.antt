@@ -1,0 +1,4 @@
+pub mod Keeping
+pub mod Resting
+pub mod Paging
+pub mod Orderly

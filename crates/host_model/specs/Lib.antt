@@ -7,3 +7,4 @@ pub mod Saying
 pub mod Clients
 pub mod Servers
 pub mod Machines
+pub mod Laws
