@@ -2,3 +2,4 @@ pub mod Keeping
 pub mod Resting
 pub mod Paging
 pub mod Orderly
+pub mod Spelled

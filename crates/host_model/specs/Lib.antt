@@ -7,4 +7,5 @@ pub mod Saying
 pub mod Clients
 pub mod Servers
 pub mod Machines
+pub mod Spelling
 pub mod Laws

@@ -1,9 +1,14 @@
 //! What the hosts promise.
 
 ghost use Rattle.host_model.specs.Laws.{HostsAreOrderly};
+ghost use Rattle.host_model.specs.Spelling.{OctetsAreRight};
 
 /// Both hosts say PDUs alone that hosts take, and a client asks for one link a push.
-#[tactic(auto, using(crate::proofs::Orderly::hosts_are_orderly))]
 pub fn hosts_are_orderly()
     ensures { HostsAreOrderly }
+{}
+
+/// The octets that a host says are those of the commands, SDUs and frames that its channels give.
+pub fn octets_are_right()
+    ensures { OctetsAreRight }
 {}
