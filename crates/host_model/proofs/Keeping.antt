@@ -1,19 +1,18 @@
 -- What a profile keeps in whatever its host does and hears.
-use Rattle.std.proofs.Common.{subst, ◌≡◌, ℕ, zero, suc, Bool, true, false, List, [], ◌∷◌, Option, Some, None, refl, fold, is_some, if◌then◌else◌}
+use Rattle.std.proofs.Common.{subst, ◌≡◌, ℕ, zero, suc, Bool, true, false, List, [], ◌∷◌, Option, Some, None, fold, is_some, if◌then◌else◌}
 use Rattle.acl_fragments.specs.Pieces.{channel_of}
 use Rattle.channel_model.specs.declared.event.ChannelEvent.{ChannelEvent}
 use Rattle.channel_model.specs.Value.{Channels}
-use Rattle.channel_model.specs.Calls.{link_up, link_down}
+use Rattle.channel_model.specs.Calls.{link_down}
 use Rattle.channel_model.specs.Carrying.{Up as Handed, Nothing, Received}
 use Rattle.channel_model.specs.Hearing as channels
 use Rattle.channel_model.specs.Timing.{timed_out}
 use Rattle.channel_model.specs.Giving.{Given, next_given, after_given}
 use Rattle.world_model.specs.Machines.{News, Linked, Up, Down, Failed, Heard, TimerFired, Cancelled, Opening}
-use Rattle.turn_laws.specs.Premises.{IsAside}
 use Rattle.host_model.specs.Circumstances.{Standing, Sending, Sent, Settled, Circumstance, standing_in}
 use Rattle.host_model.specs.Pdus.{pdu_of, is_frame}
 use Rattle.host_model.specs.Profiles.{Stride, Profile}
-use Rattle.host_model.specs.Hosts.{Host, drives, driven, goes_on, goes_by, strides, settles, tells_events, brought, handed, hears_pdu, hears_news, told, ready, hear, says, next, with_channels, most_steps}
+use Rattle.host_model.specs.Hosts.{Host, drives, driven, goes_by, strides, settles, tells_events, brought, handed, hears_news, told, ready, hear, says, next, with_channels, most_steps}
 
 pub record Keeps {P : Type 0} (A : Profile P) (K : P → Type 0) : Type 0 where
   pub given : (circumstances : List Circumstance) (p : P) → K p → K (A.given circumstances p)
@@ -35,12 +34,12 @@ module _ {P : Type 0} (A : Profile P) (K : P → Type 0) (keeps : Keeps A K) whe
   tells host kept = each host.channels host.channels.events host.profile kept
 
   strides_by : (more : Host P → Host P) (stride : Stride P) (test : Bool) (host : Host P) → ((next : Host P) → K next.profile → K (more next).profile) → K stride.profile
-    → K (if test then more (strides A stride host) else strides A stride host).profile
+      → K (if test then more (strides A stride host) else strides A stride host).profile
   strides_by more stride true host goes kept = goes (strides A stride host) (tells (record host { channels = stride.channels; profile = stride.profile }) kept)
   strides_by more stride false host goes kept = tells (record host { channels = stride.channels; profile = stride.profile }) kept
 
   goes_by_test : (more : Host P → Host P) (test : Bool) (host : Host P) → ((next : Host P) → K next.profile → K (more next).profile) → K host.profile
-    → K (if test then host else goes_by A more (A.steps host.channels host.profile) host).profile
+      → K (if test then host else goes_by A more (A.steps host.channels host.profile) host).profile
   goes_by_test more true host goes kept = kept
   goes_by_test more false host goes kept =
       let stride = A.steps host.channels host.profile in strides_by more stride stride.more host goes (keeps.steps host.channels host.profile kept)
@@ -72,7 +71,7 @@ module _ {P : Type 0} (A : Profile P) (K : P → Type 0) (keeps : Keeps A K) whe
   hears_any circumstances (Failed status) host told kept = told circumstances host.profile kept
   hears_any circumstances (Heard pdu) host told kept =
       tells (record host { channels = channels.hears A.policy (channel_of pdu) pdu host.channels; profile = handed A (channels.up (channel_of pdu) pdu host.channels) host.profile })
-        (hands (channels.up (channel_of pdu) pdu host.channels) host.profile kept)
+      (hands (channels.up (channel_of pdu) pdu host.channels) host.profile kept)
   hears_any circumstances TimerFired host told kept =
       told circumstances (tells_events A (with_channels (timed_out A.policy host.channels) host)).profile (tells (with_channels (timed_out A.policy host.channels) host) kept)
   hears_any circumstances Cancelled host told kept = told circumstances host.profile kept

@@ -3,3 +3,4 @@ pub mod Resting
 pub mod Paging
 pub mod Orderly
 pub mod Spelled
+pub mod Worked

@@ -1,22 +1,22 @@
 -- Both hosts are orderly.
-use Rattle.std.proofs.Common.{true≢false, ap, sym, subst, ◌∙◌, ◌≡◌, ◌≤◌, ◌⊎◌, inl, inr, ℕ, zero, suc, Bool, true, false, ◌&&◌, not, List, [], length, nat_le, ◌==◌, Option, Some, None, refl, if◌then◌else◌, tests, arith}
+use Rattle.std.proofs.Common.{true≢false, ap, sym, subst, ◌≡◌, ◌⊎◌, inl, inr, ℕ, zero, suc, Bool, true, false, ◌&&◌, not, List, length, nat_le, ◌==◌, Option, Some, None, refl, if◌then◌else◌, tests, arith}
 use Rattle.bt_base.specs.declared.settings.Settings.{Settings}
 use Rattle.acl_fragments.specs.Pieces.{pdu_length}
 use Rattle.channel_model.specs.Giving.{Given, next_given, after_given}
 use Rattle.push_model.specs.declared.course.Stage.{Stage}
 use Rattle.push_model.specs.declared.course.Stage.TheVariants.{Rest}
 use Rattle.push_model.specs.Client.{is_rest, is_idle}
-use Rattle.world_model.specs.Machines.{News, Linked, Up}
+use Rattle.world_model.specs.Machines.{News}
 use Rattle.world_model.specs.Stations.{longest_pdu}
 use Rattle.turn_laws.specs.Premises.{IsFrame, SaysFrames, IsAside, Idles}
-use Rattle.rest_laws.specs.Premises.{AsksOnce, AreOrderly}
+use Rattle.rest_laws.specs.Premises.{AsksOnce}
 use Rattle.host_model.specs.Circumstances.{Circumstance}
 use Rattle.host_model.specs.Pdus.{pdu_of, is_frame}
 use Rattle.host_model.specs.Profiles.{Profile}
 use Rattle.host_model.specs.Hosts.{Host, driven, says, next, hear}
-use Rattle.host_model.specs.Clients.{Bid, None', Paging, Parting, Pushing, client_profile, is_paging}
+use Rattle.host_model.specs.Clients.{Pushing, client_profile, is_paging}
 use Rattle.host_model.specs.Servers.{server_profile}
-use Rattle.host_model.specs.Machines.{upper, client_host, server_host}
+use Rattle.host_model.specs.Machines.{upper, client_host}
 use Rattle.host_model.specs.Laws.{HostsAreOrderly}
 use Rattle.host_model.proofs.Keeping.{hears_on, goes_next}
 use Rattle.host_model.proofs.Resting.{IsResting, keeps_rest, told_rest}
@@ -69,7 +69,7 @@ idles settings = record {
   wants_none = λ host is. none_wanted (is_paging host.profile.bid) (is_idle host.profile.client) is;
   hears = λ circumstances news host aside is.
       idle (hear (client_profile settings) circumstances news host).profile
-        (hears_on (client_profile settings) IsResting (keeps_rest settings) circumstances news host (told_rest settings news aside) (at_rest host.profile.client.stage is));
+      (hears_on (client_profile settings) IsResting (keeps_rest settings) circumstances news host (told_rest settings news aside) (at_rest host.profile.client.stage is));
   says = λ host pdu after same is. idle after.profile (goes_next (client_profile settings) IsResting (keeps_rest settings) host pdu after same (at_rest host.profile.client.stage is));
 }
 
@@ -92,7 +92,7 @@ hears_none settings circumstances news host aside (inl is) =
 hears_none settings circumstances news host aside (inr off) =
     let after = hear (client_profile settings) circumstances news host in
     unpaged (is_paging after.profile.bid) (is_idle after.profile.client)
-      (hears_on (client_profile settings) PagesNot (keeps_unpaged settings) circumstances news host (told_unpaged settings news aside) off)
+    (hears_on (client_profile settings) PagesNot (keeps_unpaged settings) circumstances news host (told_unpaged settings news aside) off)
 
 says_none : (settings : Settings) (host : Host Pushing) (pdu : List ℕ) (after : Host Pushing) → next (client_profile settings) host ≡ Some (pdu, after)
     → (is_idle host.profile.client ≡ true) ⊎ PagesNot host.profile → (upper (client_profile settings)).wants_link after ≡ false

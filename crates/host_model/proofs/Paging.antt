@@ -1,5 +1,5 @@
 -- A client asks for a link as a push begins, and not before.
-use Rattle.std.proofs.Common.{◌≡◌, ℕ, Bool, true, false, List, [], Option, Some, None, refl, if◌then◌else◌}
+use Rattle.std.proofs.Common.{◌≡◌, ℕ, Bool, true, false, Option, Some, None, refl, if◌then◌else◌}
 use Rattle.bt_base.specs.declared.settings.Settings.{Settings}
 use Rattle.channel_model.specs.Value.{Channels}
 use Rattle.channel_model.specs.Calls.{waits, sends}

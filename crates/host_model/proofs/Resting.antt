@@ -1,28 +1,24 @@
 -- A client that rests goes on resting, whatever it hears but a begin.
-use Rattle.std.proofs.Common.{true≢false, ap, sym, subst, ◌∙◌, ◌≡◌, ℕ, zero, suc, Bool, true, false, List, [], ◌∷◌, Option, Some, None, refl, fold, is_some, if◌then◌else◌}
+use Rattle.std.proofs.Common.{true≢false, ◌≡◌, ℕ, Bool, true, false, List, [], Option, Some, None, refl, if◌then◌else◌}
 use Rattle.bt_base.specs.declared.settings.Settings.{Settings}
 use Rattle.channel_model.specs.declared.event.ChannelEvent.{ChannelEvent}
 use Rattle.channel_model.specs.declared.event.ChannelEvent.TheVariants.{Opened, Closed, Features, FeaturesLost, DisconnectLost}
 use Rattle.channel_model.specs.Value.{Channels}
 use Rattle.channel_model.specs.Calls.{peer_mtu, waits, sends}
-use Rattle.channel_model.specs.Giving.{next_given}
 use Rattle.push_model.specs.declared.closing.CloseCause.{CloseCause}
-use Rattle.push_model.specs.declared.course.Stage.{Stage}
 use Rattle.push_model.specs.declared.course.Stage.TheVariants.{Rest}
 use Rattle.push_terms.specs.declared.outcome.Outcome.TheVariants as outcome
-use Rattle.push_model.specs.Client.{Client, is_rest, cancelled, may_cancel, ends}
+use Rattle.push_model.specs.Client.{Client, cancelled, may_cancel, ends}
 use Rattle.push_model.specs.Payloads.{Payload}
 use Rattle.push_model.specs.Events as events
 use Rattle.push_model.specs.Events.{hears_news, linked_at, opened_at, closed_at, sdu_at, is_linked, is_paging, is_asking_features}
-use Rattle.push_model.specs.Steps.{Part, Step, Wait, MakeLink, AskFeatures, OpenChannel, SendSdu, CloseChannel, BreakLink, Ended, NoMemory, steps, steps_at, rests, stepped}
+use Rattle.push_model.specs.Steps.{Part, Step, Wait, MakeLink, AskFeatures, OpenChannel, SendSdu, CloseChannel, BreakLink, Ended, NoMemory, steps, steps_at, rests}
 use Rattle.turn_laws.specs.Premises.{IsAside}
 use Rattle.world_model.specs.Machines.{News, Linked, Up, Down, Failed, Heard, TimerFired, Cancelled, Opening}
 use Rattle.host_model.specs.Pdus.{sdu_of}
 use Rattle.host_model.proofs.Keeping.{Keeps, KeepsNews}
 use Rattle.host_model.specs.Endpoints.{endpoint_of, takes_sdu}
-use Rattle.host_model.specs.Profiles.{Stride, Profile}
-use Rattle.host_model.specs.Hosts.{Host, drives, goes_on, goes_by, strides, settles, tells_events}
-use Rattle.host_model.specs.Clients.{Pushing, client_profile, ended, after_end, cause_of, closed_by, opened_by, event_heard, happened, sent, sent_on, done, submits, takes, next_stride, going, waiting}
+use Rattle.host_model.specs.Clients.{Pushing, client_profile, ended, after_end, cause_of, closed_by, opened_by, event_heard, sent_on, done, submits, takes, next_stride, going, waiting}
 
 abbrev pub Rests : Client → Type 0
 Rests client = client.stage ≡ Rest

@@ -1,8 +1,7 @@
 -- Check words as numbers, and the octets of frames.
-use Rattle.std.proofs.Common.{ap, sym, subst, ◌∙◌, ◌≡◌, ◌<◌, ℕ, zero, suc, ◌+◌, ◌*◌, ◌/◌, ◌%◌, ◌^◌, ◌==◌, Bool, true, false, not, map, List, [], ◌∷◌, ◌++◌, length, refl, arith, length-append, replicate}
+use Rattle.std.proofs.Common.{ap, sym, subst, ◌∙◌, ◌≡◌, ◌<◌, ℕ, suc, ◌+◌, ◌*◌, ◌/◌, ◌%◌, ◌^◌, ◌==◌, Bool, true, false, not, List, [], ◌∷◌, length, refl, arith, length-append, replicate}
 use Rattle.std.proofs.Math.Nat.{pow-suc}
 use Rattle.std.proofs.lemmas.List.{length-map}
-use Rattle.bt_base.specs.Octets.{le16}
 use Rattle.check_words.specs.CheckWords.{low_bits, bits_of, l2cap_check, rfcomm_check, rfcomm_rest}
 use Rattle.check_words.specs.Division.{zeros}
 use Rattle.check_words.proofs.Steps.{length-kept_all}
@@ -16,7 +15,7 @@ use Rattle.rfcomm_frames.proofs.Lengths.{states-shortest}
 use Rattle.rfcomm_frames.specs.Frames as mux
 use Rattle.channel_model.specs.Giving.{Given, Signal, Whole, Framed, IsPdu}
 use Rattle.push_model.specs.Payloads.{IsShortest}
-use Rattle.host_model.specs.Pdus.{number_of, checked, frame_octets, pdu_of, mux_octets}
+use Rattle.host_model.specs.Pdus.{number_of, frame_octets, pdu_of, mux_octets}
 use Rattle.host_model.specs.Spelling.{Fits, CanSpell, OctetsAreRight}
 
 -- ---- numbers and bits

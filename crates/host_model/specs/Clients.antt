@@ -1,5 +1,5 @@
 -- The profile of a client: its push, the answers of its shelf, its channels and what it asks of its line (Object Push Profile 1.2, 4.3).
-use Rattle.std.specs.Prelude.{ℕ, ◌&&◌, not, Bool, true, false, List, [], ◌++◌, Option, Some, None, option_map, if◌then◌else◌}
+use Rattle.std.specs.Prelude.{ℕ, ◌&&◌, not, Bool, true, false, List, [], ◌++◌, Option, Some, None, if◌then◌else◌}
 use Rattle.bt_base.specs.declared.settings.Settings.{Settings}
 use Rattle.channel_model.specs.declared.event.ChannelEvent.{ChannelEvent}
 use Rattle.channel_model.specs.declared.event.ChannelEvent.TheVariants.{Opened, Closed, Features, FeaturesLost, DisconnectLost}
@@ -15,7 +15,7 @@ use Rattle.push_model.specs.Client.{Client, new_client, begins, cancelled, is_id
 use Rattle.push_model.specs.Events as events
 use Rattle.push_model.specs.Events.{hears_news, armed}
 use Rattle.push_model.specs.Payloads.{Payload}
-use Rattle.push_model.specs.Steps.{Part, Step, Wait, MakeLink, AskFeatures, OpenChannel, SendSdu, CloseChannel, BreakLink, Ended, NoMemory, Stepped, steps, stepped}
+use Rattle.push_model.specs.Steps.{Part, Step, Wait, MakeLink, AskFeatures, OpenChannel, SendSdu, CloseChannel, BreakLink, Ended, NoMemory, steps, stepped}
 use Rattle.world_model.specs.Machines.{News, Linked, Up, Down, Failed, Heard, TimerFired, Cancelled, Opening}
 use Rattle.host_model.specs.Circumstances.{Circumstance, size_in, parts_in}
 use Rattle.host_model.specs.Pdus.{sdu_of}

@@ -1,6 +1,6 @@
 -- A host above its line, as a value: the channels of its link and its profile. What it hears goes to the channels first; what it says is
 -- the channels' next PDU, and where there is none its profile is asked until there is one (this project's own).
-use Rattle.std.specs.Prelude.{ℕ, zero, suc, Bool, List, [], fold, Option, Some, None, is_some, if◌then◌else◌}
+use Rattle.std.specs.Prelude.{ℕ, zero, suc, ◌^◌, List, [], fold, Option, Some, None, is_some, if◌then◌else◌}
 use Rattle.acl_fragments.specs.Pieces.{channel_of}
 use Rattle.channel_model.specs.Value.{Channels, no_channels}
 use Rattle.channel_model.specs.Calls.{link_up, link_down}
@@ -19,9 +19,10 @@ pub record Host (P : Type 0) : Type 0 where
   -- how many PDUs it may say until it hears something
   pub may_say : ℕ
 
--- Answers, windows and credits let a host say some hundreds of PDUs, far fewer than this, with each thing that it hears.
+-- Answers, windows and credits let a host say some hundreds of PDUs with each thing that it hears, and where nothing else does, the
+-- octets of an object, fewer than 2 ^ 24, do so: this is far more.
 abbrev pub most_said : ℕ
-most_said = 65536
+most_said = 2 ^ 32
 
 abbrev pub first_host : {P : Type 0} → Profile P → Host P
 first_host profile = record { channels = no_channels; profile = profile.first; may_say = 0 }

@@ -1,5 +1,5 @@
 -- What both hosts promise a world that they are put into, whatever their settings and whatever the inbox holds.
-use Rattle.std.specs.Prelude.{ℕ, ◌≡◌, List, Option, Some}
+use Rattle.std.specs.Prelude.{Option}
 use Rattle.bt_base.specs.declared.settings.Settings.{Settings}
 use Rattle.bt_base.specs.Objects.{Contents}
 use Rattle.rest_laws.specs.Premises.{AreOrderly}

@@ -8,4 +8,5 @@ pub mod Clients
 pub mod Servers
 pub mod Machines
 pub mod Spelling
+pub mod Examples
 pub mod Laws

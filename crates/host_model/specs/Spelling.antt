@@ -1,5 +1,5 @@
 -- The octets that are worked out are those of what a host gives.
-use Rattle.std.specs.Prelude.{ℕ, ◌+◌, ◌^◌, ◌<◌, List, length}
+use Rattle.std.specs.Prelude.{ℕ, ◌+◌, ◌^◌, ◌<◌, length}
 use Rattle.ertm_frames.specs.Frames.{PlainFrame, IsFrame, body_of}
 use Rattle.rfcomm_frames.specs.Frames as mux
 use Rattle.channel_model.specs.Giving.{Given, Signal, Whole, Framed, IsPdu}

@@ -1,5 +1,6 @@
 //! What the hosts promise.
 
+ghost use Rattle.host_model.specs.Examples.{PushesBegin};
 ghost use Rattle.host_model.specs.Laws.{HostsAreOrderly};
 ghost use Rattle.host_model.specs.Spelling.{OctetsAreRight};
 
@@ -11,4 +12,10 @@ pub fn hosts_are_orderly()
 /// The octets that a host says are those of the commands, SDUs and frames that its channels give.
 pub fn octets_are_right()
     ensures { OctetsAreRight }
+{}
+
+/// A push begins as one works it out by hand: a link, and a channel to the service records, which the server
+/// answers.
+pub fn pushes_begin()
+    ensures { PushesBegin }
 {}
