@@ -4,3 +4,4 @@ pub mod Paging
 pub mod Orderly
 pub mod Spelled
 pub mod Worked
+pub mod Stopping

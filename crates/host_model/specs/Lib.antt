@@ -6,6 +6,7 @@ pub mod Hosts
 pub mod Saying
 pub mod Clients
 pub mod Servers
+pub mod Waiting
 pub mod Machines
 pub mod Spelling
 pub mod Examples

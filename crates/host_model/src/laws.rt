@@ -2,7 +2,9 @@
 
 ghost use Rattle.host_model.specs.Examples.{PushesBegin};
 ghost use Rattle.host_model.specs.Laws.{HostsAreOrderly};
+ghost use Rattle.host_model.specs.Profiles.{Profile};
 ghost use Rattle.host_model.specs.Spelling.{OctetsAreRight};
+ghost use Rattle.host_model.specs.Waiting.{MoreChangesNothing};
 
 /// Both hosts say PDUs alone that hosts take, and a client asks for one link a push.
 pub fn hosts_are_orderly()
@@ -18,4 +20,10 @@ pub fn octets_are_right()
 /// answers.
 pub fn pushes_begin()
     ensures { PushesBegin }
+{}
+
+/// Where a profile waits after so many steps, any number of steps more changes nothing.
+#[tactic(auto, using(crate::proofs::Stopping::more_is_same))]
+pub fn more_changes_nothing<P>()
+    ensures { (A : Profile P) → MoreChangesNothing A }
 {}
