@@ -1,9 +1,9 @@
 -- Steps behind the last one change nothing.
-use Rattle.std.proofs.Common.{true≢false, ap, sym, subst, ◌∙◌, ◌≡◌, ℕ, zero, suc, ◌+◌, Bool, true, false, is_some, refl, suc-add, if◌then◌else◌}
+use Rattle.std.proofs.Common.{true≢false, ap, sym, ◌∙◌, ◌≡◌, ℕ, zero, suc, ◌+◌, Bool, true, false, is_some, refl, suc-add, if◌then◌else◌}
 use Rattle.channel_model.specs.Giving.{next_given}
-use Rattle.host_model.specs.Profiles.{Stride, Profile}
-use Rattle.host_model.specs.Hosts.{Host, settles, strides, drives, goes_by, goes_on}
-use Rattle.host_model.specs.Waiting.{waits_within, waits_by, waits_on, MoreChangesNothing}
+use Rattle.host_model.specs.Profiles.{Profile}
+use Rattle.host_model.specs.Hosts.{Host, settles, strides, drives, goes_by}
+use Rattle.host_model.specs.Waiting.{waits_within, waits_by}
 
 module _ {P : Type 0} (A : Profile P) where
   strides_same : (test : Bool) (next : Host P) (f g : Host P → Host P) (w : Host P → Bool) → ((host : Host P) → w host ≡ true → f host ≡ g host)
@@ -24,4 +24,4 @@ module _ {P : Type 0} (A : Profile P) where
       let now = settles A host in
       ap (λ (k : ℕ). drives A k host) (suc-add count more)
       ∙ goes_same (is_some (next_given now.channels)) now (λ next. drives A (count + more) next) (λ next. drives A count next) (λ next. waits_within A count next)
-          (λ next still. more_is_same count more next still) waits
+      (λ next still. more_is_same count more next still) waits
