@@ -5,3 +5,5 @@ pub mod Orderly
 pub mod Spelled
 pub mod Worked
 pub mod Stopping
+pub mod Ending
+pub mod Halting

@@ -24,7 +24,7 @@ sending None channels pushing off = off
 sending (Some own) channels pushing off = sending_by (waits own channels) pushing off
 
 submitting_by : (test : Bool) (own : ℕ) (on : Channels) (channels : Channels) (pushing : Pushing) → PagesNot pushing
-    → PagesNot (if test then going on (record pushing { submitted = Some own }) else waiting channels pushing).profile
+    → PagesNot (if test then waiting on (record pushing { submitted = Some own }) else waiting channels pushing).profile
 submitting_by true own on channels pushing off = off
 submitting_by false own on channels pushing off = off
 

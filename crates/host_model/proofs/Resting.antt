@@ -88,7 +88,7 @@ sending None channels pushing rest = rest
 sending (Some own) channels pushing rest = sending_by (waits own channels) pushing rest
 
 submitting_by : (test : Bool) (own : ℕ) (on : Channels) (channels : Channels) (pushing : Pushing) → IsResting pushing
-    → IsResting (if test then going on (record pushing { submitted = Some own }) else waiting channels pushing).profile
+    → IsResting (if test then waiting on (record pushing { submitted = Some own }) else waiting channels pushing).profile
 submitting_by true own on channels pushing rest = rest
 submitting_by false own on channels pushing rest = rest
 

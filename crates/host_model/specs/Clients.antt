@@ -116,6 +116,8 @@ sent_on (Some own) channels pushing = if waits own channels then pushing else do
 abbrev pub sent : Channels → Pushing → Pushing
 sent channels pushing = sent_on pushing.submitted channels pushing
 
+-- Behind the end of a channel it is asked again: one that is only asked for ends at once, without a PDU. Any other step has a PDU, or
+-- is awaited.
 abbrev pub waiting : Channels → Pushing → Stride Pushing
 waiting channels pushing = record { channels = channels; profile = pushing; more = false }
 
@@ -125,7 +127,7 @@ going channels pushing = record { channels = channels; profile = pushing; more =
 abbrev pub submits : Option ℕ → Payload → Channels → Pushing → Stride Pushing
 submits None payload channels pushing = waiting channels pushing
 submits (Some own) payload channels pushing =
-    if takes_sdu own channels then going (sends own (sdu_of payload) channels) (record pushing { submitted = Some own }) else waiting channels pushing
+    if takes_sdu own channels then waiting (sends own (sdu_of payload) channels) (record pushing { submitted = Some own }) else waiting channels pushing
 
 abbrev pub closes : Option ℕ → Channels → Channels
 closes None channels = channels
@@ -135,8 +137,8 @@ closes (Some own) channels = disconnected own channels
 abbrev pub takes : Step → Channels → (after before : Pushing) → Stride Pushing
 takes Wait channels after before = waiting channels after
 takes MakeLink channels after before = waiting channels before
-takes AskFeatures channels after before = going (asks_features channels) (done after)
-takes (OpenChannel psm) channels after before = going (connected psm channels) (done (record after { endpoints = with_answer psm (connect_answer channels) after.endpoints }))
+takes AskFeatures channels after before = waiting (asks_features channels) (done after)
+takes (OpenChannel psm) channels after before = waiting (connected psm channels) (done (record after { endpoints = with_answer psm (connect_answer channels) after.endpoints }))
 takes (SendSdu psm payload) channels after before = submits (endpoint_of psm after.endpoints) payload channels after
 takes (CloseChannel psm) channels after before = going (closes (endpoint_of psm after.endpoints) channels) (done after)
 takes BreakLink channels after before = waiting channels (done (record after { bid = Parting }))

@@ -57,10 +57,9 @@ unfoldable pub drives : {P : Type 0} → Profile P → ℕ → Host P → Host P
 drives A zero host = settles A host
 drives A (suc count) host = goes_on A (λ next. drives A count next) (settles A host)
 
--- Two channels to be made and to be ended, the features, an SDU that finds its channel's window full, and the end of the link: there are
--- no more steps that lead to no PDU.
+-- A client has at most two channels to end, and a server an SDU for each of three channels, before it waits.
 abbrev pub most_steps : ℕ
-most_steps = 8
+most_steps = 4
 
 -- all its pieces are out and a buffer is free: it has a PDU to say, or its profile waits
 abbrev pub driven : {P : Type 0} → Profile P → Host P → Host P

@@ -4,7 +4,7 @@ ghost use Rattle.host_model.specs.Examples.{PushesBegin, SuccessesComeEarly};
 ghost use Rattle.host_model.specs.Laws.{HostsAreOrderly};
 ghost use Rattle.host_model.specs.Profiles.{Profile};
 ghost use Rattle.host_model.specs.Spelling.{OctetsAreRight};
-ghost use Rattle.host_model.specs.Waiting.{MoreChangesNothing};
+ghost use Rattle.host_model.specs.Waiting.{ClientsWait, MoreChangesNothing};
 
 /// Both hosts say PDUs alone that hosts take, and a client asks for one link a push.
 pub fn hosts_are_orderly()
@@ -32,4 +32,9 @@ pub fn more_changes_nothing<P>()
 /// how far it had come.
 pub fn successes_come_early()
     ensures { SuccessesComeEarly }
+{}
+
+/// A client waits, or has a PDU, within the steps that it is asked for, whatever its channels and its push are.
+pub fn clients_wait()
+    ensures { ClientsWait }
 {}
