@@ -1,18 +1,13 @@
 -- A client waits within a few steps: each channel that it ends is one less.
-use Rattle.std.proofs.Common.{true≢false, ap, sym, subst, ◌∙◌, ◌≡◌, ◌≤◌, ◌<◌, ℕ, zero, suc, ◌==◌, nat_lt, min, Bool, true, false, is_some, fold, List, [], ◌∷◌, Option, Some, None, Result, Ok, Err, refl, arith, if◌then◌else◌}
-use Rattle.bt_base.specs.declared.ports.PortFault.{PortFault}
-use Rattle.bt_base.specs.declared.settings.Settings.{Settings}
+use Rattle.std.proofs.Common.{ap, ◌≡◌, ◌≤◌, ℕ, ◌==◌, nat_lt, min, Bool, true, false, fold, List, [], ◌∷◌, Option, Some, None, refl, arith, if◌then◌else◌}
 use Rattle.bt_base.specs.declared.settings.Transport.{Transport}
 use Rattle.bt_base.specs.declared.settings.Transport.TheVariants.{L2cap, Rfcomm}
 use Rattle.push_terms.specs.declared.outcome.Outcome.{Outcome}
 use Rattle.push_terms.specs.declared.outcome.Outcome.TheVariants as outcomes
-use Rattle.rfcomm_model.specs.Saying.{Said, next}
-use Rattle.sdp_client.specs.Asking.{is_due}
 use Rattle.channel_model.specs.declared.event.ChannelEvent.{ChannelEvent}
 use Rattle.channel_model.specs.declared.event.ChannelEvent.TheVariants as event
 use Rattle.channel_model.specs.Value.{Channels}
-use Rattle.channel_model.specs.Calls.{peer_mtu, waits}
-use Rattle.channel_model.specs.Giving.{next_given}
+use Rattle.channel_model.specs.Calls.{peer_mtu}
 use Rattle.push_model.specs.declared.closing.CloseCause.{CloseCause}
 use Rattle.push_model.specs.declared.course.Point.TheVariants.{Due, Asked}
 use Rattle.push_model.specs.declared.course.Stage.{Stage}
@@ -20,14 +15,7 @@ use Rattle.push_model.specs.declared.course.Stage.TheVariants.{Rest, Link, Searc
 use Rattle.push_model.specs.Causes.{Ending, InOrder, AtOnce, ending_of, cause_of_close, small_channel}
 use Rattle.push_model.specs.Client.{Client, ends, ends_by, ends_if, in_order, at_once, stage_after}
 use Rattle.push_model.specs.Events as events
-use Rattle.push_model.specs.Payloads.{Payload}
-use Rattle.push_model.specs.Steps as course
-use Rattle.push_model.specs.Steps.{Part, Step, Wait, MakeLink, AskFeatures, OpenChannel, SendSdu, CloseChannel, BreakLink, Ended, NoMemory, Stepped, Made, Ask, Connect, Put, Abort, Disconnect, Close, Nothing, steps}
-use Rattle.host_model.specs.Endpoints.{endpoint_of, takes_sdu}
-use Rattle.host_model.specs.Profiles.{Stride}
-use Rattle.host_model.specs.Hosts.{Host, settles, strides, most_steps, tells_events}
-use Rattle.host_model.specs.Clients.{Pushing, client_profile, cause_of, closed_by, opened_by, event_heard, happened, sent_on, done, submits, takes, next_stride}
-use Rattle.host_model.specs.Waiting.{waits_within, waits_by, ClientsWait}
+use Rattle.host_model.specs.Clients.{Pushing, cause_of, closed_by, opened_by, event_heard, happened}
 
 -- how many channels it may still end
 abbrev pub left : Stage → ℕ

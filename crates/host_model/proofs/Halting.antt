@@ -1,5 +1,5 @@
 -- A client is asked again only behind the end of a channel, so it soon waits.
-use Rattle.std.proofs.Common.{true≢false, ap, sym, ◌∙◌, ◌≡◌, ◌≤◌, ◌<◌, ℕ, zero, suc, ◌-◌, Bool, true, false, is_some, fold, List, [], Option, Some, None, Result, Ok, Err, refl, arith, if◌then◌else◌}
+use Rattle.std.proofs.Common.{true≢false, sym, ◌∙◌, ◌≡◌, ◌≤◌, ◌<◌, ℕ, zero, suc, ◌-◌, Bool, true, false, is_some, List, [], Option, Some, None, Result, Ok, Err, refl, arith, if◌then◌else◌}
 use Rattle.bt_base.specs.declared.ports.PortFault.{PortFault}
 use Rattle.bt_base.specs.declared.settings.Settings.{Settings}
 use Rattle.bt_base.specs.declared.settings.Transport.{Transport}

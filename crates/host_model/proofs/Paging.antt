@@ -9,7 +9,7 @@ use Rattle.world_model.specs.Machines.{News, Linked, Up, Down, Failed, Heard, Ti
 use Rattle.turn_laws.specs.Premises.{IsAside}
 use Rattle.host_model.specs.Pdus.{sdu_of}
 use Rattle.host_model.specs.Endpoints.{endpoint_of, takes_sdu}
-use Rattle.host_model.specs.Clients.{Pushing, client_profile, sent_on, done, submits, takes, next_stride, going, waiting, is_paging}
+use Rattle.host_model.specs.Clients.{Pushing, client_profile, sent_on, done, submits, takes, next_stride, waiting, is_paging}
 use Rattle.host_model.proofs.Keeping.{Keeps, KeepsNews}
 
 abbrev pub PagesNot : Pushing → Type 0

@@ -18,7 +18,7 @@ use Rattle.world_model.specs.Machines.{News, Linked, Up, Down, Failed, Heard, Ti
 use Rattle.host_model.specs.Pdus.{sdu_of}
 use Rattle.host_model.proofs.Keeping.{Keeps, KeepsNews}
 use Rattle.host_model.specs.Endpoints.{endpoint_of, takes_sdu}
-use Rattle.host_model.specs.Clients.{Pushing, client_profile, ended, after_end, cause_of, closed_by, opened_by, event_heard, sent_on, done, submits, takes, next_stride, going, waiting}
+use Rattle.host_model.specs.Clients.{Pushing, client_profile, ended, after_end, cause_of, closed_by, opened_by, event_heard, sent_on, done, submits, takes, next_stride, waiting}
 
 abbrev pub Rests : Client → Type 0
 Rests client = client.stage ≡ Rest
