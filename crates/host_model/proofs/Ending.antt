@@ -15,7 +15,7 @@ use Rattle.push_model.specs.declared.course.Stage.TheVariants.{Rest, Link, Searc
 use Rattle.push_model.specs.Causes.{Ending, InOrder, AtOnce, ending_of, cause_of_close, small_channel}
 use Rattle.push_model.specs.Client.{Client, ends, ends_by, ends_if, in_order, at_once, stage_after}
 use Rattle.push_model.specs.Events as events
-use Rattle.host_model.specs.Clients.{Pushing, cause_of, closed_by, opened_by, event_heard, happened}
+use Rattle.host_model.specs.Clients.{ClientProfile, cause_of, closed_by, opened_by, event_heard, happened}
 
 -- how many channels it may still end
 abbrev pub left : Stage → ℕ
@@ -194,7 +194,7 @@ event_low (event.Features features) channels client = told_low client.stage clie
 event_low event.FeaturesLost channels client = either (events.is_asking_features client.stage) client (ends outcomes.RetryLimit client) client (ends_low client.cause outcomes.RetryLimit client) (same client)
 event_low (event.DisconnectLost own) channels client = same client
 
-pub all_low : (channels : Channels) (list : List ChannelEvent) (pushing : Pushing) → Low pushing.client (fold (λ profile one. happened one channels profile) pushing list).client
+pub all_low : (channels : Channels) (list : List ChannelEvent) (pushing : ClientProfile) → Low pushing.client (fold (λ profile one. happened one channels profile) pushing list).client
 all_low channels [] pushing = same pushing.client
 all_low channels (one ∷ list) pushing =
     let first = event_low one channels pushing.client in

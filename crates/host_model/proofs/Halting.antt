@@ -23,7 +23,7 @@ use Rattle.host_model.specs.Endpoints.{endpoint_of, takes_sdu}
 use Rattle.host_model.specs.Pdus.{sdu_of}
 use Rattle.host_model.specs.Profiles.{Stride}
 use Rattle.host_model.specs.Hosts.{Host, settles, strides, most_steps}
-use Rattle.host_model.specs.Clients.{Pushing, client_profile, sent_on, done, submits, takes, next_stride, waiting}
+use Rattle.host_model.specs.Clients.{ClientProfile, client_profile, sent_on, done, submits, takes, next_stride, waiting}
 use Rattle.host_model.specs.Waiting.{waits_within, waits_by, ClientsWait}
 use Rattle.host_model.proofs.Ending.{left, all_low}
 
@@ -135,15 +135,15 @@ lowers client parts = by client.failed client.given client parts
 
 -- ---- the profile
 
-submitted : (test : Bool) (on channels : Channels) (after pushing : Pushing) → (if test then waiting on after else waiting channels pushing).more ≡ false
+submitted : (test : Bool) (on channels : Channels) (after pushing : ClientProfile) → (if test then waiting on after else waiting channels pushing).more ≡ false
 submitted true on channels after pushing = refl
 submitted false on channels after pushing = refl
 
-submits_once : (own : Option ℕ) (payload : Payload) (channels : Channels) (pushing : Pushing) → (submits own payload channels pushing).more ≡ false
+submits_once : (own : Option ℕ) (payload : Payload) (channels : Channels) (pushing : ClientProfile) → (submits own payload channels pushing).more ≡ false
 submits_once None payload channels pushing = refl
 submits_once (Some own) payload channels pushing = submitted (takes_sdu own channels) (sends own (sdu_of payload) channels) channels (record pushing { submitted = Some own }) pushing
 
-taken : (step : Step) (channels : Channels) (after before : Pushing) (bound : ℕ) → Lowers bound step after.client → (takes step channels after before).more ≡ true
+taken : (step : Step) (channels : Channels) (after before : ClientProfile) (bound : ℕ) → Lowers bound step after.client → (takes step channels after before).more ≡ true
     → left (takes step channels after before).profile.client.stage < bound
 taken (CloseChannel psm) channels after before bound lower more = lower
 taken Wait channels after before bound lower more = absurd (true≢false (sym more))
@@ -155,22 +155,22 @@ taken BreakLink channels after before bound lower more = absurd (true≢false (s
 taken (Ended outcome) channels after before bound lower more = absurd (true≢false (sym more))
 taken NoMemory channels after before bound lower more = absurd (true≢false (sym more))
 
-strides_low : (channels : Channels) (pushing : Pushing) → (next_stride channels pushing).more ≡ true → left (next_stride channels pushing).profile.client.stage < left pushing.client.stage
+strides_low : (channels : Channels) (pushing : ClientProfile) → (next_stride channels pushing).more ≡ true → left (next_stride channels pushing).profile.client.stage < left pushing.client.stage
 strides_low channels pushing more =
     let one = steps pushing.client pushing.parts in
     taken one.step channels (record pushing { client = one.client; parts = one.left }) pushing (left pushing.client.stage) (lowers pushing.client pushing.parts) more
 
-sent_by : (test : Bool) (pushing : Pushing) → left (if test then pushing else done (record pushing { submitted = None })).client.stage ≡ left pushing.client.stage
+sent_by : (test : Bool) (pushing : ClientProfile) → left (if test then pushing else done (record pushing { submitted = None })).client.stage ≡ left pushing.client.stage
 sent_by true pushing = refl
 sent_by false pushing = refl
 
-sent_same : (own : Option ℕ) (channels : Channels) (pushing : Pushing) → left (sent_on own channels pushing).client.stage ≡ left pushing.client.stage
+sent_same : (own : Option ℕ) (channels : Channels) (pushing : ClientProfile) → left (sent_on own channels pushing).client.stage ≡ left pushing.client.stage
 sent_same None channels pushing = refl
 sent_same (Some own) channels pushing = sent_by (waits own channels) pushing
 
 module _ (settings : Settings) where
-  after_stride : (count : ℕ) (host : Host Pushing) (stride : Stride Pushing) (test : Bool) → stride.more ≡ test
-      → (test ≡ true → left stride.profile.client.stage < count) → ((next : Host Pushing) → left next.profile.client.stage < count → waits_within (client_profile settings) count next ≡ true)
+  after_stride : (count : ℕ) (host : Host ClientProfile) (stride : Stride ClientProfile) (test : Bool) → stride.more ≡ test
+      → (test ≡ true → left stride.profile.client.stage < count) → ((next : Host ClientProfile) → left next.profile.client.stage < count → waits_within (client_profile settings) count next ≡ true)
       → (if test then waits_within (client_profile settings) count (strides (client_profile settings) stride host) else true) ≡ true
   after_stride count host stride true is low more =
       let new = record host { channels = stride.channels; profile = stride.profile } in
@@ -179,15 +179,15 @@ module _ (settings : Settings) where
       more (strides (client_profile settings) stride host) (omega (arith, first, rest))
   after_stride count host stride false is low more = refl
 
-  step_by : (test : Bool) (count : ℕ) (host : Host Pushing) → left host.profile.client.stage ≤ count
-      → ((next : Host Pushing) → left next.profile.client.stage < count → waits_within (client_profile settings) count next ≡ true)
+  step_by : (test : Bool) (count : ℕ) (host : Host ClientProfile) → left host.profile.client.stage ≤ count
+      → ((next : Host ClientProfile) → left next.profile.client.stage < count → waits_within (client_profile settings) count next ≡ true)
       → (if test then true else waits_by (client_profile settings) (λ next. waits_within (client_profile settings) count next) (next_stride host.channels host.profile) host) ≡ true
   step_by true count host low more = refl
   step_by false count host low more =
       let stride = next_stride host.channels host.profile in
       after_stride count host stride stride.more refl (λ again. let first = strides_low host.channels host.profile again in omega (arith, first, low)) more
 
-  waits_soon : (count : ℕ) (host : Host Pushing) → left host.profile.client.stage < count → waits_within (client_profile settings) count host ≡ true
+  waits_soon : (count : ℕ) (host : Host ClientProfile) → left host.profile.client.stage < count → waits_within (client_profile settings) count host ≡ true
   unfolding waits_within
   waits_soon zero host low = absurd (omega (arith, low))
   waits_soon (suc count) host low =

@@ -14,7 +14,7 @@ use Rattle.host_model.specs.Circumstances.{Circumstance}
 use Rattle.host_model.specs.Pdus.{pdu_of, is_frame}
 use Rattle.host_model.specs.Profiles.{Profile}
 use Rattle.host_model.specs.Hosts.{Host, driven, says, next, hear}
-use Rattle.host_model.specs.Clients.{Pushing, client_profile, is_paging}
+use Rattle.host_model.specs.Clients.{ClientProfile, client_profile, is_paging}
 use Rattle.host_model.specs.Servers.{server_profile}
 use Rattle.host_model.specs.Machines.{upper, client_host}
 use Rattle.host_model.specs.Laws.{HostsAreOrderly}
@@ -56,7 +56,7 @@ at_rest : (stage : Stage) → is_rest stage ≡ true → stage ≡ Rest
 at_rest Rest holds = refl
 at_rest stage holds = absurd (true≢false (sym holds))
 
-idle : (pushing : Pushing) → IsResting pushing → is_idle pushing.client ≡ true
+idle : (pushing : ClientProfile) → IsResting pushing → is_idle pushing.client ≡ true
 idle pushing rest = ap is_rest rest
 
 none_wanted : (paging idle : Bool) → idle ≡ true → (paging && not idle) ≡ false
@@ -85,7 +85,7 @@ unpaged : (paging idle : Bool) → paging ≡ false → (paging && not idle) ≡
 unpaged true idle off = absurd (true≢false off)
 unpaged false idle off = refl
 
-hears_none : (settings : Settings) (circumstances : List Circumstance) (news : News) (host : Host Pushing) → IsAside news
+hears_none : (settings : Settings) (circumstances : List Circumstance) (news : News) (host : Host ClientProfile) → IsAside news
     → (is_idle host.profile.client ≡ true) ⊎ PagesNot host.profile → (upper (client_profile settings)).wants_link (hear (client_profile settings) circumstances news host) ≡ false
 hears_none settings circumstances news host aside (inl is) =
     let after = hear (client_profile settings) circumstances news host in none_wanted (is_paging after.profile.bid) (is_idle after.profile.client) ((idles settings).hears circumstances news host aside is)
@@ -94,7 +94,7 @@ hears_none settings circumstances news host aside (inr off) =
     unpaged (is_paging after.profile.bid) (is_idle after.profile.client)
     (hears_on (client_profile settings) PagesNot (keeps_unpaged settings) circumstances news host (told_unpaged settings news aside) off)
 
-says_none : (settings : Settings) (host : Host Pushing) (pdu : List ℕ) (after : Host Pushing) → next (client_profile settings) host ≡ Some (pdu, after)
+says_none : (settings : Settings) (host : Host ClientProfile) (pdu : List ℕ) (after : Host ClientProfile) → next (client_profile settings) host ≡ Some (pdu, after)
     → (is_idle host.profile.client ≡ true) ⊎ PagesNot host.profile → (upper (client_profile settings)).wants_link after ≡ false
 says_none settings host pdu after same (inl is) = none_wanted (is_paging after.profile.bid) (is_idle after.profile.client) ((idles settings).says host pdu after same is)
 says_none settings host pdu after same (inr off) =

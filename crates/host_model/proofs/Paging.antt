@@ -9,30 +9,30 @@ use Rattle.world_model.specs.Machines.{News, Linked, Up, Down, Failed, Heard, Ti
 use Rattle.turn_laws.specs.Premises.{IsAside}
 use Rattle.host_model.specs.Pdus.{sdu_of}
 use Rattle.host_model.specs.Endpoints.{endpoint_of, takes_sdu}
-use Rattle.host_model.specs.Clients.{Pushing, client_profile, sent_on, done, submits, takes, next_stride, waiting, is_paging}
+use Rattle.host_model.specs.Clients.{ClientProfile, client_profile, sent_on, done, submits, takes, next_stride, waiting, is_paging}
 use Rattle.host_model.proofs.Keeping.{Keeps, KeepsNews}
 
-abbrev pub PagesNot : Pushing → Type 0
+abbrev pub PagesNot : ClientProfile → Type 0
 PagesNot pushing = is_paging pushing.bid ≡ false
 
-sending_by : (test : Bool) (pushing : Pushing) → PagesNot pushing → PagesNot (if test then pushing else done (record pushing { submitted = None }))
+sending_by : (test : Bool) (pushing : ClientProfile) → PagesNot pushing → PagesNot (if test then pushing else done (record pushing { submitted = None }))
 sending_by true pushing off = off
 sending_by false pushing off = off
 
-sending : (submitted : Option ℕ) (channels : Channels) (pushing : Pushing) → PagesNot pushing → PagesNot (sent_on submitted channels pushing)
+sending : (submitted : Option ℕ) (channels : Channels) (pushing : ClientProfile) → PagesNot pushing → PagesNot (sent_on submitted channels pushing)
 sending None channels pushing off = off
 sending (Some own) channels pushing off = sending_by (waits own channels) pushing off
 
-submitting_by : (test : Bool) (own : ℕ) (on : Channels) (channels : Channels) (pushing : Pushing) → PagesNot pushing
+submitting_by : (test : Bool) (own : ℕ) (on : Channels) (channels : Channels) (pushing : ClientProfile) → PagesNot pushing
     → PagesNot (if test then waiting on (record pushing { submitted = Some own }) else waiting channels pushing).profile
 submitting_by true own on channels pushing off = off
 submitting_by false own on channels pushing off = off
 
-submitting : (own : Option ℕ) (payload : Payload) (channels : Channels) (pushing : Pushing) → PagesNot pushing → PagesNot (submits own payload channels pushing).profile
+submitting : (own : Option ℕ) (payload : Payload) (channels : Channels) (pushing : ClientProfile) → PagesNot pushing → PagesNot (submits own payload channels pushing).profile
 submitting None payload channels pushing off = off
 submitting (Some own) payload channels pushing off = submitting_by (takes_sdu own channels) own (sends own (sdu_of payload) channels) channels pushing off
 
-taking : (step : Step) (channels : Channels) (after before : Pushing) → PagesNot after → PagesNot before → PagesNot (takes step channels after before).profile
+taking : (step : Step) (channels : Channels) (after before : ClientProfile) → PagesNot after → PagesNot before → PagesNot (takes step channels after before).profile
 taking Wait channels after before off same = off
 taking MakeLink channels after before off same = same
 taking AskFeatures channels after before off same = off
@@ -43,7 +43,7 @@ taking BreakLink channels after before off same = refl
 taking (Ended outcome) channels after before off same = off
 taking NoMemory channels after before off same = off
 
-striding : (channels : Channels) (pushing : Pushing) → PagesNot pushing → PagesNot (next_stride channels pushing).profile
+striding : (channels : Channels) (pushing : ClientProfile) → PagesNot pushing → PagesNot (next_stride channels pushing).profile
 striding channels pushing off =
     let one = steps pushing.client pushing.parts in taking one.step channels (record pushing { client = one.client; parts = one.left }) pushing off off
 

@@ -18,7 +18,7 @@ use Rattle.world_model.specs.Machines.{News, Linked, Up, Down, Failed, Heard, Ti
 use Rattle.host_model.specs.Pdus.{sdu_of}
 use Rattle.host_model.proofs.Keeping.{Keeps, KeepsNews}
 use Rattle.host_model.specs.Endpoints.{endpoint_of, takes_sdu}
-use Rattle.host_model.specs.Clients.{Pushing, client_profile, ended, after_end, cause_of, closed_by, opened_by, event_heard, sent_on, done, submits, takes, next_stride, waiting}
+use Rattle.host_model.specs.Clients.{ClientProfile, client_profile, ended, after_end, cause_of, closed_by, opened_by, event_heard, sent_on, done, submits, takes, next_stride, waiting}
 
 abbrev pub Rests : Client → Type 0
 Rests client = client.stage ≡ Rest
@@ -61,7 +61,7 @@ ending client rest = ending_by (steps client []).step (steps client []).client c
 
 -- ---- its profile
 
-abbrev pub IsResting : Pushing → Type 0
+abbrev pub IsResting : ClientProfile → Type 0
 IsResting pushing = Rests pushing.client
 
 opening_by : (mtu : Option ℕ) (psm : ℕ) (client : Client) → Rests client → Rests (opened_by mtu psm client)
@@ -79,24 +79,24 @@ happening (Features features) channels client rest = hears events.FeaturesTold c
 happening FeaturesLost channels client rest = hears events.FeaturesLost client rest
 happening (DisconnectLost own) channels client rest = rest
 
-sending_by : (test : Bool) (pushing : Pushing) → IsResting pushing → IsResting (if test then pushing else done (record pushing { submitted = None }))
+sending_by : (test : Bool) (pushing : ClientProfile) → IsResting pushing → IsResting (if test then pushing else done (record pushing { submitted = None }))
 sending_by true pushing rest = rest
 sending_by false pushing rest = rest
 
-sending : (submitted : Option ℕ) (channels : Channels) (pushing : Pushing) → IsResting pushing → IsResting (sent_on submitted channels pushing)
+sending : (submitted : Option ℕ) (channels : Channels) (pushing : ClientProfile) → IsResting pushing → IsResting (sent_on submitted channels pushing)
 sending None channels pushing rest = rest
 sending (Some own) channels pushing rest = sending_by (waits own channels) pushing rest
 
-submitting_by : (test : Bool) (own : ℕ) (on : Channels) (channels : Channels) (pushing : Pushing) → IsResting pushing
+submitting_by : (test : Bool) (own : ℕ) (on : Channels) (channels : Channels) (pushing : ClientProfile) → IsResting pushing
     → IsResting (if test then waiting on (record pushing { submitted = Some own }) else waiting channels pushing).profile
 submitting_by true own on channels pushing rest = rest
 submitting_by false own on channels pushing rest = rest
 
-submitting : (own : Option ℕ) (payload : Payload) (channels : Channels) (pushing : Pushing) → IsResting pushing → IsResting (submits own payload channels pushing).profile
+submitting : (own : Option ℕ) (payload : Payload) (channels : Channels) (pushing : ClientProfile) → IsResting pushing → IsResting (submits own payload channels pushing).profile
 submitting None payload channels pushing rest = rest
 submitting (Some own) payload channels pushing rest = submitting_by (takes_sdu own channels) own (sends own (sdu_of payload) channels) channels pushing rest
 
-taking : (step : Step) (channels : Channels) (after before : Pushing) → IsResting after → IsResting before → IsResting (takes step channels after before).profile
+taking : (step : Step) (channels : Channels) (after before : ClientProfile) → IsResting after → IsResting before → IsResting (takes step channels after before).profile
 taking Wait channels after before rest same = rest
 taking MakeLink channels after before rest same = same
 taking AskFeatures channels after before rest same = rest
@@ -107,7 +107,7 @@ taking BreakLink channels after before rest same = rest
 taking (Ended outcome) channels after before rest same = rest
 taking NoMemory channels after before rest same = rest
 
-striding : (channels : Channels) (pushing : Pushing) → IsResting pushing → IsResting (next_stride channels pushing).profile
+striding : (channels : Channels) (pushing : ClientProfile) → IsResting pushing → IsResting (next_stride channels pushing).profile
 striding channels pushing rest =
     let one = steps pushing.client pushing.parts in
     taking one.step channels (record pushing { client = one.client; parts = one.left }) pushing (stepping pushing.client pushing.parts rest) rest

@@ -24,11 +24,11 @@ use Rattle.host_model.specs.Profiles.{Stride, Profile}
 
 -- what it asks of its line: nothing, that a link be made, that the link end
 pub data Bid : Type 0 where
-  None' : Bid
+  NoBid : Bid
   Paging : Bid
   Parting : Bid
 
-pub record Pushing : Type 0 where
+pub record ClientProfile : Type 0 where
   pub client : Client
   -- the answers of the shelf that are not used up
   pub parts : List Part
@@ -41,8 +41,8 @@ pub record Pushing : Type 0 where
 -- ---- a link, and a push
 
 -- no link is there or it is new
-abbrev pub unlinked : Client → Pushing → Pushing
-unlinked client pushing = record pushing { client = client; endpoints = []; submitted = None; bid = None' }
+abbrev pub unlinked : Client → ClientProfile → ClientProfile
+unlinked client pushing = record pushing { client = client; endpoints = []; submitted = None; bid = NoBid }
 
 abbrev pub after_end : Step → (after before : Client) → Client
 after_end (Ended outcome) after before = after
@@ -52,22 +52,22 @@ after_end step after before = before
 abbrev pub ended : Client → Client
 ended client = let one = steps client [] in after_end one.step one.client client
 
-abbrev pub after_call : Step → Client → Pushing → Pushing
+abbrev pub after_call : Step → Client → ClientProfile → ClientProfile
 after_call MakeLink client pushing = record pushing { client = stepped client; bid = Paging }
 after_call step client pushing = pushing
 
 -- its link is asked for as a push begins
-abbrev pub calls : Pushing → Pushing
+abbrev pub calls : ClientProfile → ClientProfile
 calls pushing = let one = steps pushing.client [] in after_call one.step one.client pushing
 
-abbrev pub told : List Circumstance → News → Pushing → Pushing
+abbrev pub told : List Circumstance → News → ClientProfile → ClientProfile
 told circumstances (Linked Up) pushing = unlinked (hears_news events.LinkUp pushing.client) pushing
 told circumstances (Linked (Down reason)) pushing = unlinked (ended (hears_news (events.LinkDown reason) pushing.client)) pushing
 told circumstances (Failed status) pushing = unlinked (ended (hears_news (events.LinkFailed status) pushing.client)) pushing
 told circumstances (Heard pdu) pushing = pushing
 told circumstances TimerFired pushing = record pushing { client = hears_news events.Timer pushing.client }
 told circumstances Cancelled pushing = record pushing { client = ended (cancelled pushing.client) }
-told circumstances (Opening name) pushing = calls (record pushing { client = ended (begins (size_in circumstances) name pushing.client); submitted = None; bid = None' })
+told circumstances (Opening name) pushing = calls (record pushing { client = ended (begins (size_in circumstances) name pushing.client); submitted = None; bid = NoBid })
 
 -- ---- its channels
 
@@ -97,34 +97,34 @@ event_heard (Features features) channels client = hears_news events.FeaturesTold
 event_heard FeaturesLost channels client = hears_news events.FeaturesLost client
 event_heard (DisconnectLost own) channels client = client
 
-abbrev pub happened : ChannelEvent → Channels → Pushing → Pushing
+abbrev pub happened : ChannelEvent → Channels → ClientProfile → ClientProfile
 happened event channels pushing = record pushing { client = event_heard event channels pushing.client }
 
-abbrev pub received : (own psm : ℕ) → List ℕ → Pushing → Pushing
+abbrev pub received : (own psm : ℕ) → List ℕ → ClientProfile → ClientProfile
 received own psm sdu pushing = record pushing { client = hears_news (events.Sdu psm sdu) pushing.client }
 
 -- ---- its steps
 
 -- the step was done
-abbrev pub done : Pushing → Pushing
+abbrev pub done : ClientProfile → ClientProfile
 done pushing = record pushing { client = stepped pushing.client }
 
-abbrev pub sent_on : Option ℕ → Channels → Pushing → Pushing
+abbrev pub sent_on : Option ℕ → Channels → ClientProfile → ClientProfile
 sent_on None channels pushing = pushing
 sent_on (Some own) channels pushing = if waits own channels then pushing else done (record pushing { submitted = None })
 
-abbrev pub sent : Channels → Pushing → Pushing
+abbrev pub sent : Channels → ClientProfile → ClientProfile
 sent channels pushing = sent_on pushing.submitted channels pushing
 
 -- Behind the end of a channel it is asked again: one that is only asked for ends at once, without a PDU. Any other step has a PDU, or
 -- is awaited.
-abbrev pub waiting : Channels → Pushing → Stride Pushing
+abbrev pub waiting : Channels → ClientProfile → Stride ClientProfile
 waiting channels pushing = record { channels = channels; profile = pushing; more = false }
 
-abbrev pub going : Channels → Pushing → Stride Pushing
+abbrev pub going : Channels → ClientProfile → Stride ClientProfile
 going channels pushing = record { channels = channels; profile = pushing; more = true }
 
-abbrev pub submits : Option ℕ → Payload → Channels → Pushing → Stride Pushing
+abbrev pub submits : Option ℕ → Payload → Channels → ClientProfile → Stride ClientProfile
 submits None payload channels pushing = waiting channels pushing
 submits (Some own) payload channels pushing =
     if takes_sdu own channels then waiting (sends own (sdu_of payload) channels) (record pushing { submitted = Some own }) else waiting channels pushing
@@ -134,7 +134,7 @@ closes None channels = channels
 closes (Some own) channels = disconnected own channels
 
 -- what a step does; a link is asked for as a push begins, and not here
-abbrev pub takes : Step → Channels → (after before : Pushing) → Stride Pushing
+abbrev pub takes : Step → Channels → (after before : ClientProfile) → Stride ClientProfile
 takes Wait channels after before = waiting channels after
 takes MakeLink channels after before = waiting channels before
 takes AskFeatures channels after before = waiting (asks_features channels) (done after)
@@ -145,25 +145,25 @@ takes BreakLink channels after before = waiting channels (done (record after { b
 takes (Ended outcome) channels after before = waiting channels after
 takes NoMemory channels after before = waiting channels after
 
-abbrev pub next_stride : Channels → Pushing → Stride Pushing
+abbrev pub next_stride : Channels → ClientProfile → Stride ClientProfile
 next_stride channels pushing = let one = steps pushing.client pushing.parts in takes one.step channels (record pushing { client = one.client; parts = one.left }) pushing
 
 -- ---- all of it
 
 abbrev pub is_paging : Bid → Bool
-is_paging None' = false
+is_paging NoBid = false
 is_paging Paging = true
 is_paging Parting = false
 
 abbrev pub is_parting : Bid → Bool
-is_parting None' = false
+is_parting NoBid = false
 is_parting Paging = false
 is_parting Parting = true
 
-abbrev pub client_profile : Settings → Profile Pushing
+abbrev pub client_profile : Settings → Profile ClientProfile
 client_profile settings = record {
   policy = policy settings false;
-  first = record { client = new_client settings; parts = []; endpoints = []; submitted = None; bid = None' };
+  first = record { client = new_client settings; parts = []; endpoints = []; submitted = None; bid = NoBid };
   given = λ circumstances pushing. record pushing { parts = pushing.parts ++ parts_in circumstances };
   told = told;
   received = received;

@@ -15,15 +15,15 @@ use Rattle.push_model.specs.Client.{new_client}
 use Rattle.world_model.specs.Machines.{Linked, Up, Heard, Opening}
 use Rattle.host_model.specs.Circumstances.{Standing, Sending, Sent, Stands, Size}
 use Rattle.host_model.specs.Hosts.{Host}
-use Rattle.host_model.specs.Clients.{Pushing, None'}
-use Rattle.host_model.specs.Servers.{Serving}
+use Rattle.host_model.specs.Clients.{ClientProfile, NoBid}
+use Rattle.host_model.specs.Servers.{ServerProfile}
 use Rattle.host_model.specs.Machines.{client_host, server_host}
 
 -- an object of three octets, whose name is of one unit
-abbrev pub opened : Settings → Host Pushing
+abbrev pub opened : Settings → Host ClientProfile
 opened settings = (client_host settings).hear (Size (Ok 3) ∷ []) (Opening (0x61 ∷ [])) (client_host settings).first
 
-abbrev pub linked : Settings → Host Pushing
+abbrev pub linked : Settings → Host ClientProfile
 linked settings = (client_host settings).hear [] (Linked Up) (opened settings)
 
 -- code 02, identifier 1, four octets: the PSM and the endpoint
@@ -34,7 +34,7 @@ request = 8 ∷ 0 ∷ 1 ∷ 0 ∷ 0x02 ∷ 1 ∷ 4 ∷ 0 ∷ 0x01 ∷ 0 ∷ 0x40
 abbrev pub response : List ℕ
 response = 12 ∷ 0 ∷ 1 ∷ 0 ∷ 0x03 ∷ 1 ∷ 8 ∷ 0 ∷ 0x40 ∷ 0 ∷ 0x40 ∷ 0 ∷ 0 ∷ 0 ∷ 0 ∷ 0 ∷ []
 
-abbrev pub asked : Settings → Option Contents → Host Serving
+abbrev pub asked : Settings → Option Contents → Host ServerProfile
 asked settings content = (server_host settings content).hear [] (Heard request) ((server_host settings content).hear [] (Linked Up) (server_host settings content).first)
 
 abbrev pub said : {S : Type 0} → Option (List ℕ × S) → Option (List ℕ)
@@ -50,7 +50,7 @@ pub record PushesBegin : Type 0 where
 -- ---- how far the host had come
 
 -- a client whose CONNECT was taken by its channel, in basic mode
-abbrev pub connecting : Settings → Agreed → Host Pushing
+abbrev pub connecting : Settings → Agreed → Host ClientProfile
 connecting settings agreed = record {
   channels = record no_channels { held = record { psm = 0x1001; own = 0x40; stage = Connected 0x41 (record no_setup { carrier = Some (Plain agreed None); own = Granted }) } ∷ [] };
   profile = record {
@@ -58,7 +58,7 @@ connecting settings agreed = record {
     parts = [];
     endpoints = record { psm = 0x1001; own = 0x40 } ∷ [];
     submitted = Some 0x40;
-    bid = None';
+    bid = NoBid;
   };
   may_say = 0;
 }
@@ -67,7 +67,7 @@ connecting settings agreed = record {
 abbrev pub success : List ℕ
 success = 7 ∷ 0 ∷ 0x40 ∷ 0 ∷ 0xA0 ∷ 0 ∷ 7 ∷ 0x10 ∷ 0 ∷ 4 ∷ 0 ∷ []
 
-abbrev pub met : Standing → Settings → Agreed → Host Pushing
+abbrev pub met : Standing → Settings → Agreed → Host ClientProfile
 met standing settings agreed = (client_host settings).hear (Stands standing ∷ []) (Heard success) (connecting settings agreed)
 
 -- The same response ends the push while pieces of CONNECT wait, and is its answer once they are out. So the host must be told.

@@ -7,8 +7,8 @@ use Rattle.world_model.specs.Machines.{Upper}
 use Rattle.host_model.specs.Circumstances.{Circumstance}
 use Rattle.host_model.specs.Profiles.{Profile}
 use Rattle.host_model.specs.Hosts.{Host, first_host, driven, hear, next}
-use Rattle.host_model.specs.Clients.{Pushing, client_profile}
-use Rattle.host_model.specs.Servers.{Serving, server_profile}
+use Rattle.host_model.specs.Clients.{ClientProfile, client_profile}
+use Rattle.host_model.specs.Servers.{ServerProfile, server_profile}
 use Rattle.host_model.specs.Saying.{says_less}
 
 -- Whether it ends its link, what waits for the timer, and what can be cancelled, are asked of it as it is once its profile waits.
@@ -28,8 +28,8 @@ upper A = record {
   has_check = λ host own. channels.has_fcs own (driven A host).channels;
 }
 
-abbrev pub client_host : Settings → Upper (Host Pushing) Circumstance
+abbrev pub client_host : Settings → Upper (Host ClientProfile) Circumstance
 client_host settings = upper (client_profile settings)
 
-abbrev pub server_host : Settings → Option Contents → Upper (Host Serving) Circumstance
+abbrev pub server_host : Settings → Option Contents → Upper (Host ServerProfile) Circumstance
 server_host settings content = upper (server_profile settings content)

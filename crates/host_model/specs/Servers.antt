@@ -18,7 +18,7 @@ use Rattle.host_model.specs.Pdus.{sdu_of}
 use Rattle.host_model.specs.Endpoints.{Endpoint, endpoint_of, with_endpoint, takes_sdu}
 use Rattle.host_model.specs.Profiles.{Stride, Profile}
 
-pub record Serving : Type 0 where
+pub record ServerProfile : Type 0 where
   pub server : Server
   -- what the inbox holds, and its answers that are not used up
   pub inbox : Gift
@@ -27,15 +27,15 @@ pub record Serving : Type 0 where
   -- it ends the link
   pub breaks : Bool
 
-abbrev pub reacts : Reacted → Serving → Serving
+abbrev pub reacts : Reacted → ServerProfile → ServerProfile
 reacts reacted serving = record serving { server = reacted.server; inbox = reacted.gift }
 
 -- ---- links
 
-abbrev pub unlinked : Serving → Serving
+abbrev pub unlinked : ServerProfile → ServerProfile
 unlinked serving = record serving { endpoints = []; breaks = false }
 
-abbrev pub told : List Circumstance → News → Serving → Serving
+abbrev pub told : List Circumstance → News → ServerProfile → ServerProfile
 told circumstances (Linked Up) serving = unlinked serving
 told circumstances (Linked (Down reason)) serving = unlinked (reacts (push.link_down serving.server serving.inbox) serving)
 told circumstances (Failed status) serving = serving
@@ -57,42 +57,42 @@ is_told LinkDown = false
 is_told OwnClosed = true
 
 -- where the client never answers the end of a channel that was closed, the server breaks the link
-abbrev pub happened : ChannelEvent → Channels → Serving → Serving
+abbrev pub happened : ChannelEvent → Channels → ServerProfile → ServerProfile
 happened (Opened own psm) channels serving = serving
 happened (Closed own psm reason) channels serving = if is_told reason then reacts (channel_down psm serving.server serving.inbox) serving else serving
 happened (Features features) channels serving = serving
 happened FeaturesLost channels serving = serving
 happened (DisconnectLost own) channels serving = record serving { breaks = true }
 
-abbrev pub received : (own psm : ℕ) → List ℕ → Serving → Serving
+abbrev pub received : (own psm : ℕ) → List ℕ → ServerProfile → ServerProfile
 received own psm sdu serving = reacts (on_sdu psm sdu serving.server serving.inbox) (record serving { endpoints = with_endpoint psm own serving.endpoints })
 
 -- ---- its steps
 
-abbrev pub waiting : Channels → Server → Serving → Stride Serving
+abbrev pub waiting : Channels → Server → ServerProfile → Stride ServerProfile
 waiting channels server serving = record { channels = channels; profile = record serving { server = server }; more = false }
 
 -- what is lent is lent until its channel takes it
-abbrev pub submits : Option ℕ → Lent → Channels → Server → Serving → Stride Serving
+abbrev pub submits : Option ℕ → Lent → Channels → Server → ServerProfile → Stride ServerProfile
 submits None lent channels server serving = waiting channels server serving
 submits (Some own) lent channels server serving =
     if takes_sdu own channels then record { channels = sends own (sdu_of lent.payload) channels; profile = record serving { server = stepped server }; more = true }
     else waiting channels server serving
 
-abbrev pub takes : Option Lent → Channels → Server → Serving → Stride Serving
+abbrev pub takes : Option Lent → Channels → Server → ServerProfile → Stride ServerProfile
 takes None channels server serving = waiting channels server serving
 takes (Some lent) channels server serving = submits (endpoint_of lent.psm serving.endpoints) lent channels server serving
 
-abbrev pub next_stride : Channels → Serving → Stride Serving
+abbrev pub next_stride : Channels → ServerProfile → Stride ServerProfile
 next_stride channels serving = let server = lends serving.server in takes (lent_sdu server) channels server serving
 
 -- ---- all of it
 
-abbrev pub with_answers : List Circumstance → Serving → Serving
+abbrev pub with_answers : List Circumstance → ServerProfile → ServerProfile
 with_answers circumstances serving = record serving { inbox = record { content = serving.inbox.content; answers = serving.inbox.answers ++ answers_in circumstances } }
 
 -- its inbox holds that at first; it pushes nothing, and nothing of its own waits for the timer
-abbrev pub server_profile : Settings → Option Contents → Profile Serving
+abbrev pub server_profile : Settings → Option Contents → Profile ServerProfile
 server_profile settings content = record {
   policy = policy settings true;
   first = record { server = new_server settings; inbox = record { content = content; answers = [] }; endpoints = []; breaks = false };

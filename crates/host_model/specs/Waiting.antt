@@ -4,7 +4,7 @@ use Rattle.bt_base.specs.declared.settings.Settings.{Settings}
 use Rattle.channel_model.specs.Giving.{next_given}
 use Rattle.host_model.specs.Profiles.{Stride, Profile}
 use Rattle.host_model.specs.Hosts.{Host, settles, strides, drives, most_steps}
-use Rattle.host_model.specs.Clients.{Pushing, client_profile}
+use Rattle.host_model.specs.Clients.{ClientProfile, client_profile}
 
 abbrev pub waits_by : {P : Type 0} → Profile P → (Host P → Bool) → Stride P → Host P → Bool
 waits_by A more stride host = if stride.more then more (strides A stride host) else true
@@ -23,4 +23,4 @@ MoreChangesNothing {P} A = (count more : ℕ) (host : Host P) → waits_within A
 
 -- a client waits within the steps that it is asked for, whatever it is
 abbrev pub ClientsWait : Type 0
-ClientsWait = (settings : Settings) (host : Host Pushing) → waits_within (client_profile settings) most_steps host ≡ true
+ClientsWait = (settings : Settings) (host : Host ClientProfile) → waits_within (client_profile settings) most_steps host ≡ true
