@@ -9,7 +9,7 @@ use Rattle.channel_model.specs.Hearing as channels
 use Rattle.channel_model.specs.Timing.{timed_out}
 use Rattle.channel_model.specs.Giving.{Given, next_given, after_given}
 use Rattle.world_model.specs.Machines.{News, Linked, Up, Down, Failed, Heard, TimerFired, Cancelled, Opening}
-use Rattle.host_model.specs.Circumstances.{Standing, Sending, Sent, Settled, Circumstance, standing_in}
+use Rattle.host_model.specs.Circumstances.{Headway, Sending, Sent, Settled, Circumstance, headway_in}
 use Rattle.host_model.specs.Pdus.{pdu_of, is_frame}
 use Rattle.host_model.specs.Profiles.{Stride, Profile}
 use Rattle.host_model.specs.Hosts.{Host, drives, driven, goes_by, strides, settles, tells_events, brought, handed, hears_news, told, ready, hear, says, next, with_channels, most_steps}
@@ -51,14 +51,14 @@ module _ {P : Type 0} (A : Profile P) (K : P → Type 0) (keeps : Keeps A K) whe
       let now = settles A host in
       goes_by_test (λ next. drives A count next) (is_some (next_given now.channels)) now (λ next. drives_on count next) (keeps.sent host.channels host.profile kept)
 
-  brings : (far : Standing) (host : Host P) → K host.profile → K (brought A far host).profile
+  brings : (far : Headway) (host : Host P) → K host.profile → K (brought A far host).profile
   brings Sending host kept = kept
   brings Sent host kept = keeps.sent host.channels host.profile kept
   brings Settled host kept = drives_on most_steps host kept
 
   readies : (circumstances : List Circumstance) (host : Host P) → K host.profile → K (ready A circumstances host).profile
   readies circumstances host kept =
-      let old = brought A (standing_in circumstances) host in keeps.given circumstances old.profile (brings (standing_in circumstances) host kept)
+      let old = brought A (headway_in circumstances) host in keeps.given circumstances old.profile (brings (headway_in circumstances) host kept)
 
   hands : (up : Handed) (p : P) → K p → K (handed A up p)
   hands Nothing p kept = kept

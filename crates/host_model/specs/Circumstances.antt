@@ -9,35 +9,35 @@ use Rattle.push_model.specs.Steps.{Part as Octets}
 
 -- Pieces of its last PDU wait to be put out. All are out, but no buffer was free since, and its profile was not asked for more. The
 -- profile was asked until it waited.
-pub data Standing : Type 0 where
-  Sending : Standing
-  Sent : Standing
-  Settled : Standing
+pub data Headway : Type 0 where
+  Sending : Headway
+  Sent : Headway
+  Settled : Headway
 
 pub data Circumstance : Type 0 where
-  Stands : (far : Standing) → Circumstance
+  Comes : (far : Headway) → Circumstance
   -- the shelf answers how long an object is, and with a part of one; the inbox answers a call
   Size : (answer : Result ℕ PortFault) → Circumstance
   Part : (answer : Octets) → Circumstance
   Stored : (answer : Answer) → Circumstance
 
 -- the first of them says how far the host had come
-abbrev pub standing_in : List Circumstance → Standing
-standing_in [] = Settled
-standing_in (Stands far ∷ rest) = far
-standing_in (Size answer ∷ rest) = Settled
-standing_in (Part answer ∷ rest) = Settled
-standing_in (Stored answer ∷ rest) = Settled
+abbrev pub headway_in : List Circumstance → Headway
+headway_in [] = Settled
+headway_in (Comes far ∷ rest) = far
+headway_in (Size answer ∷ rest) = Settled
+headway_in (Part answer ∷ rest) = Settled
+headway_in (Stored answer ∷ rest) = Settled
 
 abbrev pub size_in : List Circumstance → Result ℕ PortFault
 size_in [] = Err Failed
-size_in (Stands far ∷ rest) = size_in rest
+size_in (Comes far ∷ rest) = size_in rest
 size_in (Size answer ∷ rest) = answer
 size_in (Part answer ∷ rest) = size_in rest
 size_in (Stored answer ∷ rest) = size_in rest
 
 abbrev pub part_of : Circumstance → List Octets
-part_of (Stands far) = []
+part_of (Comes far) = []
 part_of (Size answer) = []
 part_of (Part answer) = answer ∷ []
 part_of (Stored answer) = []
@@ -46,7 +46,7 @@ abbrev pub parts_in : List Circumstance → List Octets
 parts_in circumstances = flat_map part_of circumstances
 
 abbrev pub answer_of : Circumstance → List Answer
-answer_of (Stands far) = []
+answer_of (Comes far) = []
 answer_of (Size answer) = []
 answer_of (Part answer) = []
 answer_of (Stored answer) = answer ∷ []

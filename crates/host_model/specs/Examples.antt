@@ -13,7 +13,7 @@ use Rattle.push_model.specs.declared.course.Stage.TheVariants.{Object}
 use Rattle.push_model.specs.Causes.{unawaited_response}
 use Rattle.push_model.specs.Client.{new_client}
 use Rattle.world_model.specs.Machines.{Linked, Up, Heard, Opening}
-use Rattle.host_model.specs.Circumstances.{Standing, Sending, Sent, Stands, Size}
+use Rattle.host_model.specs.Circumstances.{Headway, Sending, Sent, Comes, Size}
 use Rattle.host_model.specs.Hosts.{Host}
 use Rattle.host_model.specs.Clients.{ClientProfile, NoBid}
 use Rattle.host_model.specs.Servers.{ServerProfile}
@@ -67,8 +67,8 @@ connecting settings agreed = record {
 abbrev pub success : List ℕ
 success = 7 ∷ 0 ∷ 0x40 ∷ 0 ∷ 0xA0 ∷ 0 ∷ 7 ∷ 0x10 ∷ 0 ∷ 4 ∷ 0 ∷ []
 
-abbrev pub met : Standing → Settings → Agreed → Host ClientProfile
-met standing settings agreed = (client_host settings).hear (Stands standing ∷ []) (Heard success) (connecting settings agreed)
+abbrev pub met : Headway → Settings → Agreed → Host ClientProfile
+met headway settings agreed = (client_host settings).hear (Comes headway ∷ []) (Heard success) (connecting settings agreed)
 
 -- The same response ends the push while pieces of CONNECT wait, and is its answer once they are out. So the host must be told.
 pub record SuccessesComeEarly : Type 0 where

@@ -9,7 +9,7 @@ use Rattle.channel_model.specs.Hearing.{hears, up}
 use Rattle.channel_model.specs.Timing.{timed_out}
 use Rattle.channel_model.specs.Giving.{Given, next_given, after_given}
 use Rattle.world_model.specs.Machines.{News, Linked, Up, Down, Failed, Heard, TimerFired, Cancelled, Opening}
-use Rattle.host_model.specs.Circumstances.{Standing, Sending, Sent, Settled, Circumstance, standing_in}
+use Rattle.host_model.specs.Circumstances.{Headway, Sending, Sent, Settled, Circumstance, headway_in}
 use Rattle.host_model.specs.Pdus.{pdu_of, is_frame}
 use Rattle.host_model.specs.Profiles.{Stride, Profile}
 
@@ -68,7 +68,7 @@ driven A host = drives A most_steps host
 -- ---- hearing
 
 -- what it did before it hears
-abbrev pub brought : {P : Type 0} → Profile P → Standing → Host P → Host P
+abbrev pub brought : {P : Type 0} → Profile P → Headway → Host P → Host P
 brought A Sending host = host
 brought A Sent host = settles A host
 brought A Settled host = driven A host
@@ -98,7 +98,7 @@ hears_news A circumstances (Opening name) host = told A circumstances (Opening n
 
 -- the answers of its ports are for what it does from then on
 abbrev pub ready : {P : Type 0} → Profile P → List Circumstance → Host P → Host P
-ready A circumstances host = let old = brought A (standing_in circumstances) host in record old { profile = A.given circumstances old.profile; may_say = most_said }
+ready A circumstances host = let old = brought A (headway_in circumstances) host in record old { profile = A.given circumstances old.profile; may_say = most_said }
 
 abbrev pub hear : {P : Type 0} → Profile P → List Circumstance → News → Host P → Host P
 hear A circumstances news host = hears_news A circumstances news (ready A circumstances host)
