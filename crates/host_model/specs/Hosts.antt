@@ -1,0 +1,117 @@
+-- A host above its line, as a value: the channels of its link and its profile. What it hears goes to the channels first; what it says is
+-- the channels' next PDU, and where there is none its profile is asked until there is one (this project's own).
+use Rattle.std.specs.Prelude.{ℕ, zero, suc, ◌^◌, List, [], fold, Option, Some, None, is_some, if◌then◌else◌}
+use Rattle.acl_fragments.specs.Pieces.{channel_of}
+use Rattle.channel_model.specs.Value.{Channels, no_channels}
+use Rattle.channel_model.specs.Calls.{link_up, link_down}
+use Rattle.channel_model.specs.Carrying.{Up as Handed, Nothing, Received}
+use Rattle.channel_model.specs.Hearing.{hears, up}
+use Rattle.channel_model.specs.Timing.{timed_out}
+use Rattle.channel_model.specs.Giving.{Given, next_given, after_given}
+use Rattle.world_model.specs.Machines.{News, Linked, Up, Down, Failed, Heard, TimerFired, Cancelled, Opening}
+use Rattle.host_model.specs.Circumstances.{Headway, Sending, Sent, Settled, Circumstance, headway_in}
+use Rattle.host_model.specs.Pdus.{pdu_of, is_frame}
+use Rattle.host_model.specs.Profiles.{Stride, Profile}
+
+pub record Host (P : Type 0) : Type 0 where
+  pub channels : Channels
+  pub profile : P
+  -- how many PDUs it may say until it hears something
+  pub may_say : ℕ
+
+-- Answers, windows and credits let a host say some hundreds of PDUs with each thing that it hears, and where nothing else does, the
+-- octets of an object, fewer than 2 ^ 24, do so: this is far more.
+abbrev pub most_said : ℕ
+most_said = 2 ^ 32
+
+abbrev pub first_host : {P : Type 0} → Profile P → Host P
+first_host profile = record { channels = no_channels; profile = profile.first; may_say = 0 }
+
+abbrev pub with_channels : {P : Type 0} → Channels → Host P → Host P
+with_channels channels host = record host { channels = channels }
+
+-- the profile is told what happened to the channels, one thing after the other
+abbrev pub tells_events : {P : Type 0} → Profile P → Host P → Host P
+tells_events A host = record host {
+  channels = record (host.channels) { events = [] };
+  profile = fold (λ profile event. A.happened event host.channels profile) host.profile host.channels.events;
+}
+
+-- ---- what it does by itself
+
+abbrev pub settles : {P : Type 0} → Profile P → Host P → Host P
+settles A host = record host { profile = A.sent host.channels host.profile }
+
+abbrev pub strides : {P : Type 0} → Profile P → Stride P → Host P → Host P
+strides A stride host = tells_events A (record host { channels = stride.channels; profile = stride.profile })
+
+abbrev pub goes_by : {P : Type 0} → Profile P → (Host P → Host P) → Stride P → Host P → Host P
+goes_by A more stride host = if stride.more then more (strides A stride host) else strides A stride host
+
+-- where its channels have a PDU nothing more is asked
+abbrev pub goes_on : {P : Type 0} → Profile P → (Host P → Host P) → Host P → Host P
+goes_on A more host = if is_some (next_given host.channels) then host else goes_by A more (A.steps host.channels host.profile) host
+
+-- so many steps of its profile at most
+unfoldable pub drives : {P : Type 0} → Profile P → ℕ → Host P → Host P
+drives A zero host = settles A host
+drives A (suc count) host = goes_on A (λ next. drives A count next) (settles A host)
+
+-- A client has at most two channels to end, and a server an SDU for each of three channels, before it waits.
+abbrev pub most_steps : ℕ
+most_steps = 4
+
+-- all its pieces are out and a buffer is free: it has a PDU to say, or its profile waits
+abbrev pub driven : {P : Type 0} → Profile P → Host P → Host P
+driven A host = drives A most_steps host
+
+-- ---- hearing
+
+-- what it did before it hears
+abbrev pub brought : {P : Type 0} → Profile P → Headway → Host P → Host P
+brought A Sending host = host
+brought A Sent host = settles A host
+brought A Settled host = driven A host
+
+abbrev pub handed : {P : Type 0} → Profile P → Handed → P → P
+handed A Nothing profile = profile
+handed A (Received own psm sdu) profile = A.received own psm sdu profile
+
+-- the profile hears the SDU first, and then what happened
+abbrev pub hears_pdu : {P : Type 0} → Profile P → List ℕ → Host P → Host P
+hears_pdu A pdu host = tells_events A (record host {
+  channels = hears A.policy (channel_of pdu) pdu host.channels;
+  profile = handed A (up (channel_of pdu) pdu host.channels) host.profile;
+})
+
+abbrev pub told : {P : Type 0} → Profile P → List Circumstance → News → Host P → Host P
+told A circumstances news host = record host { profile = A.told circumstances news host.profile }
+
+abbrev pub hears_news : {P : Type 0} → Profile P → List Circumstance → News → Host P → Host P
+hears_news A circumstances (Linked Up) host = told A circumstances (Linked Up) (with_channels (link_up host.channels) host)
+hears_news A circumstances (Linked (Down reason)) host = told A circumstances (Linked (Down reason)) (tells_events A (with_channels (link_down host.channels) host))
+hears_news A circumstances (Failed status) host = told A circumstances (Failed status) host
+hears_news A circumstances (Heard pdu) host = hears_pdu A pdu host
+hears_news A circumstances TimerFired host = told A circumstances TimerFired (tells_events A (with_channels (timed_out A.policy host.channels) host))
+hears_news A circumstances Cancelled host = told A circumstances Cancelled host
+hears_news A circumstances (Opening name) host = told A circumstances (Opening name) host
+
+-- the answers of its ports are for what it does from then on
+abbrev pub ready : {P : Type 0} → Profile P → List Circumstance → Host P → Host P
+ready A circumstances host = let old = brought A (headway_in circumstances) host in record old { profile = A.given circumstances old.profile; may_say = most_said }
+
+abbrev pub hear : {P : Type 0} → Profile P → List Circumstance → News → Host P → Host P
+hear A circumstances news host = hears_news A circumstances news (ready A circumstances host)
+
+-- ---- saying
+
+abbrev pub says_frame : {P : Type 0} → List ℕ → Host P → Option (List ℕ × Host P)
+says_frame pdu after = if is_frame pdu then Some (pdu, after) else None
+
+abbrev pub says : {P : Type 0} → Option Given → (may_say : ℕ) → Host P → Option (List ℕ × Host P)
+says None count host = None
+says (Some given) zero host = None
+says (Some given) (suc count) host = says_frame (pdu_of given) (record host { channels = after_given host.channels; may_say = count })
+
+abbrev pub next : {P : Type 0} → Profile P → Host P → Option (List ℕ × Host P)
+next A host = let now = driven A host in says (next_given now.channels) host.may_say now

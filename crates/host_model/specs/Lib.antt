@@ -1,0 +1,13 @@
+pub mod Circumstances
+pub mod Pdus
+pub mod Endpoints
+pub mod Profiles
+pub mod Hosts
+pub mod Saying
+pub mod Clients
+pub mod Servers
+pub mod Waiting
+pub mod Machines
+pub mod Spelling
+pub mod Examples
+pub mod Laws
