@@ -36,3 +36,4 @@ pub mod Incoming
 pub mod Pairing
 pub mod Naming
 pub mod Repeating
+pub mod Awaiting

@@ -7,3 +7,4 @@ pub mod Sdus
 pub mod Pairs
 pub mod Endpoints
 pub mod Repeats
+pub mod Awaited

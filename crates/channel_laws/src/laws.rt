@@ -1,5 +1,6 @@
 //! Laws of the channels of one host.
 
+ghost use Rattle.channel_laws.specs.Awaited.{RequestsAreAwaited};
 ghost use Rattle.channel_laws.specs.CheckWords.{CheckWordsAreRead};
 ghost use Rattle.channel_laws.specs.Endpoints.{EndpointsNameOneChannel};
 ghost use Rattle.channel_laws.specs.Laws.{ChannelsAreRead, EndpointsAreNew};
@@ -46,4 +47,10 @@ pub fn endpoints_name_one_channel()
 /// A request that the peer sends again gets the same response again, or none again, whatever followed from it.
 pub fn repeats_are_answered()
     ensures { RepeatsAreAnswered }
+{}
+
+/// A request of a host for a channel, or for the end of one, waits for its answer exactly where its own talk
+/// says that it was neither answered nor given up, whatever it asks for and whatever comes in.
+pub fn requests_are_awaited()
+    ensures { RequestsAreAwaited }
 {}
