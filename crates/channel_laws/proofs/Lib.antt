@@ -37,3 +37,5 @@ pub mod Pairing
 pub mod Naming
 pub mod Repeating
 pub mod Awaiting
+pub mod Lasting
+pub mod Informing

@@ -1,9 +1,9 @@
--- Which requests of a host wait for their answer: what its timer finds of them (Core 5.1, Volume 3 Part A, 4.1, 4.2 and 4.6).
-use Rattle.std.specs.Prelude.{ℕ, ◌≡◌, ◌&&◌, Bool, true, false, List, Option, Some, None}
+-- Which requests of a host wait for their answer: what its timer finds of them (Core 5.1, Volume 3 Part A, 4.1, 4.2, 4.6 and 4.10).
+use Rattle.std.specs.Prelude.{ℕ, ◌≡◌, ◌&&◌, Bool, true, false, is_some, List, Option, Some, None}
 use Rattle.std.specs.List.{list_any}
 use Rattle.link_talk.specs.Requests.{has_source}
 use Rattle.link_talk.specs.Channels.{Entry, waits_for_end, Reading, reading}
-use Rattle.link_talk.specs.Waits.{call_waits}
+use Rattle.link_talk.specs.Waits.{call_waits, information_waits}
 use Rattle.channel_model.specs.Value.{Stage, Requested, Connected, Leaving, Closing, Crossed, Held}
 use Rattle.channel_model.specs.Policies.{Policy}
 use Rattle.channel_model.specs.Changing.{held_at}
@@ -41,7 +41,7 @@ abbrev pub end_waits : Option Entry → Bool
 end_waits None = false
 end_waits (Some entry) = waits_for_end entry.life
 
--- ---- the law
+-- ---- the laws
 
 pub record Awaits (run : Run) (own : ℕ) : Type 0 where
   pub channel_is : channel_waits own (reading run.said) ≡ is_at asks_for_channel (held_at own run.value)
@@ -50,3 +50,7 @@ pub record Awaits (run : Run) (own : ℕ) : Type 0 where
 -- Whatever happens: a host waits for a channel, or for the end of one, exactly where its own talk says so.
 abbrev pub RequestsAreAwaited : Type 0
 RequestsAreAwaited = (policy : Policy) (list : List Occurrence) (own : ℕ) → Awaits (run_of policy list) own
+
+-- And for the peer's features exactly where its own talk says that information is waited for.
+abbrev pub FeaturesAreAwaited : Type 0
+FeaturesAreAwaited = (policy : Policy) (list : List Occurrence) → information_waits (run_of policy list).said ≡ is_some (run_of policy list).value.features

@@ -1,6 +1,6 @@
 //! Laws of the channels of one host.
 
-ghost use Rattle.channel_laws.specs.Awaited.{RequestsAreAwaited};
+ghost use Rattle.channel_laws.specs.Awaited.{FeaturesAreAwaited, RequestsAreAwaited};
 ghost use Rattle.channel_laws.specs.CheckWords.{CheckWordsAreRead};
 ghost use Rattle.channel_laws.specs.Endpoints.{EndpointsNameOneChannel};
 ghost use Rattle.channel_laws.specs.Laws.{ChannelsAreRead, EndpointsAreNew};
@@ -53,4 +53,10 @@ pub fn repeats_are_answered()
 /// says that it was neither answered nor given up, whatever it asks for and whatever comes in.
 pub fn requests_are_awaited()
     ensures { RequestsAreAwaited }
+{}
+
+/// A host waits for the features of its peer exactly where its own talk says that it asked for information and
+/// was neither answered nor gave it up.
+pub fn features_are_awaited()
+    ensures { FeaturesAreAwaited }
 {}
