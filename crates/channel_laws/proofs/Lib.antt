@@ -39,3 +39,6 @@ pub mod Repeating
 pub mod Awaiting
 pub mod Lasting
 pub mod Informing
+pub mod Trying
+pub mod Sparing
+pub mod Spending

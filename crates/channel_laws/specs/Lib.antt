@@ -8,3 +8,4 @@ pub mod Pairs
 pub mod Endpoints
 pub mod Repeats
 pub mod Awaited
+pub mod Tries

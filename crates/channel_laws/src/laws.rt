@@ -7,6 +7,7 @@ ghost use Rattle.channel_laws.specs.Laws.{ChannelsAreRead, EndpointsAreNew};
 ghost use Rattle.channel_laws.specs.Pairs.{EachEndRuns};
 ghost use Rattle.channel_laws.specs.Repeats.{RepeatsAreAnswered};
 ghost use Rattle.channel_laws.specs.Sdus.{SdusAreRead};
+ghost use Rattle.channel_laws.specs.Tries.{TriesAreKept};
 
 /// What a host holds of each of its endpoints is what its own talk says, whatever it asks for, whatever
 /// PDUs come in on whatever channels, and whenever its timer fires: which channels there are, how far each
@@ -59,4 +60,9 @@ pub fn requests_are_awaited()
 /// was neither answered nor gave it up.
 pub fn features_are_awaited()
     ensures { FeaturesAreAwaited }
+{}
+
+/// A host gives a request that waits for its answer at most as often as it tries, and once where it tries less.
+pub fn tries_are_kept()
+    ensures { TriesAreKept }
 {}
