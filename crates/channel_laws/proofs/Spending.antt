@@ -24,15 +24,15 @@ use Rattle.channel_model.specs.Following.{with_channel, follows, remembers, says
 use Rattle.channel_model.specs.Responses.{has_identifier, hears_features, features_in}
 use Rattle.channel_model.specs.Hearing.{hears_content, hears_malformed, is_response_code, is_kind, hears_unread, hears_command, hears_commands}
 use Rattle.channel_model.specs.Carrying.{takes}
-use Rattle.channel_model.specs.Timing.{fires, times, times_carrier, times_setup, times_stage, times_held, loses_end, times_end_at, times_end, loses_features, times_features, times_channels}
+use Rattle.channel_model.specs.Timing.{fires, times, times_carrier, times_setup, times_stage, times_held, loses_end, times_end_at, times_end, loses_features, times_features, times_channels, timed_out}
 use Rattle.channel_model.specs.Giving.{gives, one_more, own_given, connection_given, configuration_given, disconnection_given, stage_given, counted, carrier_given, carrier_spent, held_given, queue_given, after_given}
 use Rattle.channel_model.specs.Calls.{can_connect}
 use Rattle.channel_model.proofs.Lookups.{own_of, Distinct, found-has, eqb-away, find-append, found-distinct}
 use Rattle.channel_model.proofs.Going.{new_held}
 use Rattle.channel_model.proofs.Walking.{found-own}
-use Rattle.channel_laws.specs.Runs.{Occurrence, Comes, Connects, AsksFeatures, Disconnects, Sends, Gives, Fires, Tells, value_after, new_link}
-use Rattle.channel_laws.specs.Tries.{for_channel, own_request, for_options, for_end, request_at, request_of, one_if, copies, TriesAreKept}
-use Rattle.channel_laws.proofs.Running.{along}
+use Rattle.channel_laws.specs.Runs.{Occurrence, Comes, Connects, AsksFeatures, Disconnects, Sends, Gives, Fires, Tells, value_after, Run, new_link, run_of}
+use Rattle.channel_laws.specs.Tries.{for_channel, own_request, for_options, for_end, request_at, request_of, one_if, copies, is_firing, TriesAreKept, FiringsAloneRepeat}
+use Rattle.channel_laws.proofs.Running.{IsSound, along, all-sound}
 use Rattle.channel_laws.proofs.Trying.{copies-less, copies-append, copies-none, copies-asked, copies-others, same-self, By, Tame, both-tame, still-tame, same-tame, same-requests, Here, rests-here, goes-tame}
 use Rattle.channel_laws.proofs.Sparing.{closes-tame, ends-tame, setup-tame, follows-tame, grant-tame, response-tame, end-tame, settles-tame, takes-tame, disconnects-tame, sends-tame}
 
@@ -427,17 +427,32 @@ features_kept most tries v None is some low so_far = so_far
 features_kept most tries v (Some request) is some low so_far =
     fires_kept most tries v errands.Features request loses_features some low is (features_tame v (loses_features v) refl refl (λ e. omega arith)) so_far
 
-one_kept : (policy : Policy) (most : ℕ) (more : Occurrence) (v : Channels) → 1 ≤ most → policy.tries ≤ most → find (has_own v.next) v.held ≡ None → Distinct own_of v.held → Kept most v → Kept most (value_after policy more v)
-one_kept policy most (Comes pdu) v some low none lone so_far = kept most v (value_after policy (Comes pdu) v) some (comes_tame policy pdu v (eqb (channel_of pdu) 0x0001)) so_far
-one_kept policy most (Connects psm) v some low none lone so_far = kept most v (value_after policy (Connects psm) v) some (connects_tame v psm (can_connect v) none) so_far
-one_kept policy most AsksFeatures v some low none lone so_far = kept most v (value_after policy AsksFeatures v) some (asks_features_tame v (is_some v.features)) so_far
-one_kept policy most (Disconnects own) v some low none lone so_far = kept most v (value_after policy (Disconnects own) v) some (disconnects-tame own v) so_far
-one_kept policy most (Sends own sdu) v some low none lone so_far = kept most v (value_after policy (Sends own sdu) v) some (sends-tame own sdu v) so_far
-one_kept policy most (Gives pdu) v some low none lone so_far = kept most v (after_given v) some (gives_tame v v.queue refl lone) so_far
-one_kept policy most Fires v some low none lone so_far =
+-- whatever happens but a firing
+one_tame : (policy : Policy) (more : Occurrence) (v : Channels) → is_firing more ≡ false → find (has_own v.next) v.held ≡ None → Distinct own_of v.held → Tame v (value_after policy more v)
+one_tame policy (Comes pdu) v other none lone = comes_tame policy pdu v (eqb (channel_of pdu) 0x0001)
+one_tame policy (Connects psm) v other none lone = connects_tame v psm (can_connect v) none
+one_tame policy AsksFeatures v other none lone = asks_features_tame v (is_some v.features)
+one_tame policy (Disconnects own) v other none lone = disconnects-tame own v
+one_tame policy (Sends own sdu) v other none lone = sends-tame own sdu v
+one_tame policy (Gives pdu) v other none lone = gives_tame v v.queue refl lone
+one_tame policy Fires v other none lone = cc
+one_tame policy Tells v other none lone = still-tame v (value_after policy Tells v) refl refl (λ e. omega arith)
+
+timed_kept : (policy : Policy) (most : ℕ) (v : Channels) → 1 ≤ most → policy.tries ≤ most → Kept most v → Kept most (timed_out policy v)
+timed_kept policy most v some low so_far =
     let u : Channels = times_channels policy.tries (map (λ held. held.own) v.held) v in
     features_kept most policy.tries u u.features refl some low (channels_kept most policy.tries (map (λ held. held.own) v.held) v some low so_far)
-one_kept policy most Tells v some low none lone so_far = kept most v (value_after policy Tells v) some (still-tame v (value_after policy Tells v) refl refl (λ e. omega arith)) so_far
+
+one_kept : (policy : Policy) (most : ℕ) (more : Occurrence) (v : Channels) (firing : Bool) → is_firing more ≡ firing → 1 ≤ most → policy.tries ≤ most → find (has_own v.next) v.held ≡ None → Distinct own_of v.held → Kept most v → Kept most (value_after policy more v)
+one_kept policy most more v false is some low none lone so_far = kept most v (value_after policy more v) some (one_tame policy more v is none lone) so_far
+one_kept policy most (Comes pdu) v true is some low none lone so_far = cc
+one_kept policy most (Connects psm) v true is some low none lone so_far = cc
+one_kept policy most AsksFeatures v true is some low none lone so_far = cc
+one_kept policy most (Disconnects own) v true is some low none lone so_far = cc
+one_kept policy most (Sends own sdu) v true is some low none lone so_far = cc
+one_kept policy most (Gives pdu) v true is some low none lone so_far = cc
+one_kept policy most Fires v true is some low none lone so_far = timed_kept policy most v some low so_far
+one_kept policy most Tells v true is some low none lone so_far = cc
 
 first_kept : (most : ℕ) → Kept most new_link.value
 first_kept most (errands.Connection own) r is = cc
@@ -447,4 +462,10 @@ first_kept most errands.Features r is = cc
 
 pub tries-are_kept : TriesAreKept
 tries-are_kept policy list most some low =
-    (along policy (λ run. Kept most run.value) (first_kept most) (λ run more sound so_far. one_kept policy most more run.value some low (sound.core.held_below run.value.next (omega arith)) sound.core.lone so_far) list).1
+    (along policy (λ run. Kept most run.value) (first_kept most) (λ run more sound so_far. one_kept policy most more run.value (is_firing more) refl some low (sound.core.held_below run.value.next (omega arith)) sound.core.lone so_far) list).1
+
+pub firings-alone_repeat : FiringsAloneRepeat
+firings-alone_repeat policy list more other errand request is =
+    let run : Run = run_of policy list in
+    let sound : IsSound policy run = all-sound policy list in
+    one_tame policy more run.value other (sound.core.held_below run.value.next (omega arith)) sound.core.lone errand request is

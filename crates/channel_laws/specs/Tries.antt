@@ -1,11 +1,11 @@
 -- How often a host gives its own requests (Core 5.1, Volume 3 Part A, 6.2.1).
-use Rattle.std.specs.Prelude.{ℕ, ◌≡◌, ◌≤◌, ◌+◌, Bool, true, false, List, [], ◌∷◌, Option, Some, None}
+use Rattle.std.specs.Prelude.{ℕ, ◌≡◌, ◌≤◌, ◌+◌, ◌⊎◌, Bool, true, false, List, [], ◌∷◌, Option, Some, None}
 use Rattle.channel_model.specs.declared.errand.Errand.{Errand}
 use Rattle.channel_model.specs.declared.errand.Errand.TheVariants.{Connection, Configuration, Disconnection, Features}
 use Rattle.channel_model.specs.Value.{Request, Queued, Own, Unasked, Asking, Granted, Stage, Requested, Connected, Leaving, Closing, Crossed, Held, Channels}
 use Rattle.channel_model.specs.Policies.{Policy}
 use Rattle.channel_model.specs.Changing.{held_at, is_copy}
-use Rattle.channel_laws.specs.Runs.{Occurrence, run_of}
+use Rattle.channel_laws.specs.Runs.{Occurrence, Comes, Connects, AsksFeatures, Disconnects, Sends, Gives, Fires, Tells, value_after, run_of}
 
 -- ---- the requests that wait for their answers
 
@@ -45,7 +45,7 @@ request_of (Configuration own) v = request_at for_options (held_at own v)
 request_of (Disconnection own) v = request_at for_end (held_at own v)
 request_of Features v = v.features
 
--- ---- the law
+-- ---- the laws
 
 abbrev pub one_if : Bool → ℕ
 one_if true = 1
@@ -61,3 +61,24 @@ copies errand (waiting ∷ queue) = one_if (is_copy errand waiting) + copies err
 abbrev pub TriesAreKept : Type 0
 TriesAreKept = (policy : Policy) (list : List Occurrence) (most : ℕ) → 1 ≤ most → policy.tries ≤ most
     → (errand : Errand) (request : Request) → request_of errand (run_of policy list).value ≡ Some request → copies errand (run_of policy list).value.queue + request.given ≤ most
+
+abbrev pub is_firing : Occurrence → Bool
+is_firing (Comes pdu) = false
+is_firing (Connects psm) = false
+is_firing AsksFeatures = false
+is_firing (Disconnects own) = false
+is_firing (Sends own sdu) = false
+is_firing (Gives pdu) = false
+is_firing Fires = true
+is_firing Tells = false
+
+-- a request is new, with at most one copy, or it was there, with as many copies that were given or that wait
+abbrev pub IsNotRepeated : (before after : Channels) → Errand → Request → Type 0
+IsNotRepeated before after errand request =
+    (copies errand after.queue + request.given ≤ 1)
+    ⊎ ((was : Request) × (request_of errand before ≡ Some was) × (copies errand after.queue + request.given ≤ copies errand before.queue + was.given))
+
+-- Whatever happens but a firing of the timer, no request is to be given once more.
+abbrev pub FiringsAloneRepeat : Type 0
+FiringsAloneRepeat = (policy : Policy) (list : List Occurrence) (more : Occurrence) → is_firing more ≡ false
+    → (errand : Errand) (request : Request) → request_of errand (value_after policy more (run_of policy list).value) ≡ Some request → IsNotRepeated (run_of policy list).value (value_after policy more (run_of policy list).value) errand request

@@ -7,7 +7,7 @@ ghost use Rattle.channel_laws.specs.Laws.{ChannelsAreRead, EndpointsAreNew};
 ghost use Rattle.channel_laws.specs.Pairs.{EachEndRuns};
 ghost use Rattle.channel_laws.specs.Repeats.{RepeatsAreAnswered};
 ghost use Rattle.channel_laws.specs.Sdus.{SdusAreRead};
-ghost use Rattle.channel_laws.specs.Tries.{TriesAreKept};
+ghost use Rattle.channel_laws.specs.Tries.{FiringsAloneRepeat, TriesAreKept};
 
 /// What a host holds of each of its endpoints is what its own talk says, whatever it asks for, whatever
 /// PDUs come in on whatever channels, and whenever its timer fires: which channels there are, how far each
@@ -65,4 +65,9 @@ pub fn features_are_awaited()
 /// A host gives a request that waits for its answer at most as often as it tries, and once where it tries less.
 pub fn tries_are_kept()
     ensures { TriesAreKept }
+{}
+
+/// A request is to be given once more only because the timer fired.
+pub fn firings_alone_repeat()
+    ensures { FiringsAloneRepeat }
 {}
