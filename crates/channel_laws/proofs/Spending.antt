@@ -25,7 +25,7 @@ use Rattle.channel_model.specs.Responses.{has_identifier, hears_features, featur
 use Rattle.channel_model.specs.Hearing.{hears_content, hears_malformed, is_response_code, is_kind, hears_unread, hears_command, hears_commands}
 use Rattle.channel_model.specs.Carrying.{takes}
 use Rattle.channel_model.specs.Timing.{fires, times, times_carrier, times_setup, times_stage, times_held, loses_end, times_end_at, times_end, loses_features, times_features, times_channels, timed_out}
-use Rattle.channel_model.specs.Giving.{gives, one_more, own_given, connection_given, configuration_given, disconnection_given, stage_given, counted, carrier_given, carrier_spent, held_given, queue_given, after_given}
+use Rattle.channel_model.specs.Giving.{gives, one_more, own_given, connection_given, configuration_given, disconnection_given, stage_given, counted, carrier_given, carrier_spent, held_given, queue_given}
 use Rattle.channel_model.specs.Calls.{can_connect}
 use Rattle.channel_model.proofs.Lookups.{own_of, Distinct, found-has, eqb-away, find-append, found-distinct}
 use Rattle.channel_model.proofs.Going.{new_held}
@@ -82,46 +82,53 @@ fewer errand e behind = omega arith
 abbrev waiting : List Queued → Channels → Channels
 waiting queue v = record v { queue = queue }
 
-connection_counted : (v : Channels) (own : ℕ) (behind : List Queued) (held : Option Held) → find (has_own own) v.held ≡ held → Tame (waiting (Ask (errands.Connection own) ∷ behind) v) (stage_given connection_given held (waiting behind v))
-connection_counted v own behind None is = still-tame (waiting (Ask (errands.Connection own) ∷ behind) v) (waiting behind v) refl refl (λ e. fewer (errands.Connection own) e behind)
-connection_counted v own behind (Some held) is =
-    subst (λ n. Tame (waiting (Ask (errands.Connection n) ∷ behind) v) (stage_given connection_given (Some held) (waiting behind v))) (found-has own_of own v.held held is)
-    (let (one, two, three) = connection_once held.stage in goes-tame (waiting (Ask (errands.Connection held.own) ∷ behind) v) (stage_given connection_given (Some held) (waiting behind v)) held (connection_given held.stage) (record {
-      found = found-own own v held is;
-      held_is = refl;
-      features_is = refl;
-      others = λ e apart. fewer (errands.Connection held.own) e behind;
-      channel = once_more (errands.Connection held.own) behind (for_channel (connection_given held.stage)) (for_channel held.stage) one;
-      options = rests-here _ _ (for_options (connection_given held.stage)) (for_options held.stage) (fewer (errands.Connection held.own) (errands.Configuration held.own) behind) (inr two);
-      ending = rests-here _ _ (for_end (connection_given held.stage)) (for_end held.stage) (fewer (errands.Connection held.own) (errands.Disconnection held.own) behind) (inr three);
-    }))
+-- of the three requests of a channel one is given once more
+abbrev GivenOnce : (errand : Errand) (behind : List Queued) (held : Held) (after : Stage) → Type 0
+GivenOnce errand behind held after =
+    Here (copies (errands.Connection held.own) behind) (copies (errands.Connection held.own) (Ask errand ∷ behind)) (for_channel after) (for_channel held.stage)
+    × Here (copies (errands.Configuration held.own) behind) (copies (errands.Configuration held.own) (Ask errand ∷ behind)) (for_options after) (for_options held.stage)
+    × Here (copies (errands.Disconnection held.own) behind) (copies (errands.Disconnection held.own) (Ask errand ∷ behind)) (for_end after) (for_end held.stage)
 
-configuration_counted : (v : Channels) (own : ℕ) (behind : List Queued) (held : Option Held) → find (has_own own) v.held ≡ held → Tame (waiting (Ask (errands.Configuration own) ∷ behind) v) (stage_given configuration_given held (waiting behind v))
-configuration_counted v own behind None is = still-tame (waiting (Ask (errands.Configuration own) ∷ behind) v) (waiting behind v) refl refl (λ e. fewer (errands.Configuration own) e behind)
-configuration_counted v own behind (Some held) is =
-    subst (λ n. Tame (waiting (Ask (errands.Configuration n) ∷ behind) v) (stage_given configuration_given (Some held) (waiting behind v))) (found-has own_of own v.held held is)
-    (let (one, two, three) = configuration_once held.stage in goes-tame (waiting (Ask (errands.Configuration held.own) ∷ behind) v) (stage_given configuration_given (Some held) (waiting behind v)) held (configuration_given held.stage) (record {
-      found = found-own own v held is;
-      held_is = refl;
-      features_is = refl;
-      others = λ e apart. fewer (errands.Configuration held.own) e behind;
-      channel = rests-here _ _ (for_channel (configuration_given held.stage)) (for_channel held.stage) (fewer (errands.Configuration held.own) (errands.Connection held.own) behind) (inr one);
-      options = once_more (errands.Configuration held.own) behind (for_options (configuration_given held.stage)) (for_options held.stage) two;
-      ending = rests-here _ _ (for_end (configuration_given held.stage)) (for_end held.stage) (fewer (errands.Configuration held.own) (errands.Disconnection held.own) behind) (inr three);
-    }))
+connection_more : (behind : List Queued) (held : Held) → GivenOnce (errands.Connection held.own) behind held (connection_given held.stage)
+connection_more behind held =
+    let errand : Errand = errands.Connection held.own in
+    let (one, two, three) = connection_once held.stage in (
+      once_more errand behind (for_channel (connection_given held.stage)) (for_channel held.stage) one,
+      rests-here _ _ (for_options (connection_given held.stage)) (for_options held.stage) (fewer errand (errands.Configuration held.own) behind) (inr two),
+      rests-here _ _ (for_end (connection_given held.stage)) (for_end held.stage) (fewer errand (errands.Disconnection held.own) behind) (inr three),
+    )
 
-disconnection_counted : (v : Channels) (own : ℕ) (behind : List Queued) (held : Option Held) → find (has_own own) v.held ≡ held → Tame (waiting (Ask (errands.Disconnection own) ∷ behind) v) (stage_given disconnection_given held (waiting behind v))
-disconnection_counted v own behind None is = still-tame (waiting (Ask (errands.Disconnection own) ∷ behind) v) (waiting behind v) refl refl (λ e. fewer (errands.Disconnection own) e behind)
-disconnection_counted v own behind (Some held) is =
-    subst (λ n. Tame (waiting (Ask (errands.Disconnection n) ∷ behind) v) (stage_given disconnection_given (Some held) (waiting behind v))) (found-has own_of own v.held held is)
-    (let (one, two, three) = disconnection_once held.stage in goes-tame (waiting (Ask (errands.Disconnection held.own) ∷ behind) v) (stage_given disconnection_given (Some held) (waiting behind v)) held (disconnection_given held.stage) (record {
+configuration_more : (behind : List Queued) (held : Held) → GivenOnce (errands.Configuration held.own) behind held (configuration_given held.stage)
+configuration_more behind held =
+    let errand : Errand = errands.Configuration held.own in
+    let (one, two, three) = configuration_once held.stage in (
+      rests-here _ _ (for_channel (configuration_given held.stage)) (for_channel held.stage) (fewer errand (errands.Connection held.own) behind) (inr one),
+      once_more errand behind (for_options (configuration_given held.stage)) (for_options held.stage) two,
+      rests-here _ _ (for_end (configuration_given held.stage)) (for_end held.stage) (fewer errand (errands.Disconnection held.own) behind) (inr three),
+    )
+
+disconnection_more : (behind : List Queued) (held : Held) → GivenOnce (errands.Disconnection held.own) behind held (disconnection_given held.stage)
+disconnection_more behind held =
+    let errand : Errand = errands.Disconnection held.own in
+    let (one, two, three) = disconnection_once held.stage in (
+      rests-here _ _ (for_channel (disconnection_given held.stage)) (for_channel held.stage) (fewer errand (errands.Connection held.own) behind) (inr one),
+      rests-here _ _ (for_options (disconnection_given held.stage)) (for_options held.stage) (fewer errand (errands.Configuration held.own) behind) (inr two),
+      once_more errand behind (for_end (disconnection_given held.stage)) (for_end held.stage) three,
+    )
+
+stage_counted : (v : Channels) (errand : ℕ → Errand) (given : Stage → Stage) (own : ℕ) (behind : List Queued) (held : Option Held) → ((h : Held) → GivenOnce (errand h.own) behind h (given h.stage)) → find (has_own own) v.held ≡ held
+    → Tame (waiting (Ask (errand own) ∷ behind) v) (stage_given given held (waiting behind v))
+stage_counted v errand given own behind None more is = still-tame (waiting (Ask (errand own) ∷ behind) v) (waiting behind v) refl refl (λ e. fewer (errand own) e behind)
+stage_counted v errand given own behind (Some held) more is =
+    subst (λ n. Tame (waiting (Ask (errand n) ∷ behind) v) (stage_given given (Some held) (waiting behind v))) (found-has own_of own v.held held is)
+    (let (one, two, three) = more held in goes-tame (waiting (Ask (errand held.own) ∷ behind) v) (stage_given given (Some held) (waiting behind v)) held (given held.stage) (record {
       found = found-own own v held is;
       held_is = refl;
       features_is = refl;
-      others = λ e apart. fewer (errands.Disconnection held.own) e behind;
-      channel = rests-here _ _ (for_channel (disconnection_given held.stage)) (for_channel held.stage) (fewer (errands.Disconnection held.own) (errands.Connection held.own) behind) (inr one);
-      options = rests-here _ _ (for_options (disconnection_given held.stage)) (for_options held.stage) (fewer (errands.Disconnection held.own) (errands.Configuration held.own) behind) (inr two);
-      ending = once_more (errands.Disconnection held.own) behind (for_end (disconnection_given held.stage)) (for_end held.stage) three;
+      others = λ e apart. fewer (errand held.own) e behind;
+      channel = one;
+      options = two;
+      ending = three;
     }))
 
 counted_features : (v : Channels) (behind : List Queued) → Tame (waiting (Ask errands.Features ∷ behind) v) (counted errands.Features (waiting behind v))
@@ -134,9 +141,9 @@ counted_features v behind e r is = by e r is
     by errands.Features r is = once_more errands.Features behind (option_map one_more v.features) v.features refl r is
 
 counted_tame : (v : Channels) (errand : Errand) (behind : List Queued) → Tame (waiting (Ask errand ∷ behind) v) (counted errand (waiting behind v))
-counted_tame v (errands.Connection own) behind = connection_counted v own behind (held_at own v) refl
-counted_tame v (errands.Configuration own) behind = configuration_counted v own behind (held_at own v) refl
-counted_tame v (errands.Disconnection own) behind = disconnection_counted v own behind (held_at own v) refl
+counted_tame v (errands.Connection own) behind = stage_counted v errands.Connection connection_given own behind (held_at own v) (connection_more behind) refl
+counted_tame v (errands.Configuration own) behind = stage_counted v errands.Configuration configuration_given own behind (held_at own v) (configuration_more behind) refl
+counted_tame v (errands.Disconnection own) behind = stage_counted v errands.Disconnection disconnection_given own behind (held_at own v) (disconnection_more behind) refl
 counted_tame v errands.Features behind = counted_features v behind
 
 held_tame : (v : Channels) (held : Option Held) → Distinct own_of v.held → find gives v.held ≡ held → Tame v (held_given held v)

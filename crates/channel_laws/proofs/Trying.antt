@@ -163,67 +163,63 @@ rests-tame v w held stage found held_is features_is less a b c = goes-tame v w h
   ending = rests-here (copies (errands.Disconnection held.own) w.queue) (copies (errands.Disconnection held.own) v.queue) (for_end stage) (for_end held.stage) (less (errands.Disconnection held.own)) c;
 })
 
--- it goes on with a new request for options, or for its end
-pub asks-options-tame : (v w : Channels) (held : Held) (stage : Stage) (request : Request) (queue : List Queued) → find (has_own held.own) v.held ≡ Some held → w.held ≡ map (in_place_of (staged held stage)) v.held → w.features ≡ v.features
-    → w.queue ≡ asked_queue (errands.Configuration held.own) queue → ((e : Errand) → copies e queue ≤ copies e v.queue)
-    → for_options stage ≡ Some request → request.given ≡ 0 → Rests (for_channel stage) (for_channel held.stage) → Rests (for_end stage) (for_end held.stage) → Tame v w
-asks-options-tame v w held stage request queue found held_is features_is queue_is less asks none a c = goes-tame v w held stage (record {
-  found = found;
-  held_is = held_is;
-  features_is = features_is;
-  others = λ e apart. lower e (about e apart);
-  channel = rests-here (copies (errands.Connection held.own) w.queue) (copies (errands.Connection held.own) v.queue) (for_channel stage) (for_channel held.stage) (lower (errands.Connection held.own) refl) a;
-  options = λ r is.
-      let same : request ≡ r = some_is request r (sym asks ∙ is) in
-      let given : r.given ≡ 0 = ap (λ (x : Request). x.given) (sym same) ∙ none in
-      let one : copies (errands.Configuration held.own) w.queue ≡ 1 = ap (copies (errands.Configuration held.own)) queue_is ∙ copies-asked (errands.Configuration held.own) queue in
-      inl (omega (arith, given, one));
-  ending = rests-here (copies (errands.Disconnection held.own) w.queue) (copies (errands.Disconnection held.own) v.queue) (for_end stage) (for_end held.stage) (lower (errands.Disconnection held.own) refl) c;
-})
+-- a new request waits as its one copy
+new_here : (errand : Errand) (queue after : List Queued) (before : ℕ) (request : Request) (now was : Option Request) → after ≡ asked_queue errand queue → now ≡ Some request → request.given ≡ 0 → Here (copies errand after) before now was
+new_here errand queue after before request now was queue_is asks none r is =
+    let same : request ≡ r = some_is request r (sym asks ∙ is) in
+    let given : r.given ≡ 0 = ap (λ (x : Request). x.given) (sym same) ∙ none in
+    let one : copies errand after ≡ 1 = ap (copies errand) queue_is ∙ copies-asked errand queue in
+    inl (omega (arith, given, one))
   where
     some_is : (x y : Request) → Some x ≡ Some y → x ≡ y
     some_is x y is = cc
 
-    lower : (e : Errand) → same_errand e (errands.Configuration held.own) ≡ false → copies e w.queue ≤ copies e v.queue
-    lower e apart =
-        let now : copies e w.queue ≡ copies e (asked_queue (errands.Configuration held.own) queue) = ap (copies e) queue_is in
-        let first = copies-others e (errands.Configuration held.own) queue apart in
-        let second = less e in
-        omega (arith, now, first, second)
+-- and of any other no more copies wait
+asked_less : (errand : Errand) (queue before after : List Queued) → after ≡ asked_queue errand queue → ((e : Errand) → copies e queue ≤ copies e before) → (e : Errand) → same_errand e errand ≡ false → copies e after ≤ copies e before
+asked_less errand queue before after queue_is less e apart =
+    let now : copies e after ≡ copies e (asked_queue errand queue) = ap (copies e) queue_is in
+    let first = copies-others e errand queue apart in
+    let second = less e in
+    omega (arith, now, first, second)
 
+-- it goes on with a new request for options
+pub asks-options-tame : (v w : Channels) (held : Held) (stage : Stage) (request : Request) (queue : List Queued) → find (has_own held.own) v.held ≡ Some held → w.held ≡ map (in_place_of (staged held stage)) v.held → w.features ≡ v.features
+    → w.queue ≡ asked_queue (errands.Configuration held.own) queue → ((e : Errand) → copies e queue ≤ copies e v.queue)
+    → for_options stage ≡ Some request → request.given ≡ 0 → Rests (for_channel stage) (for_channel held.stage) → Rests (for_end stage) (for_end held.stage) → Tame v w
+asks-options-tame v w held stage request queue found held_is features_is queue_is less asks none a c =
+    let lower = asked_less (errands.Configuration held.own) queue v.queue w.queue queue_is less in
+    goes-tame v w held stage (record {
+      found = found;
+      held_is = held_is;
+      features_is = features_is;
+      others = λ e apart. lower e (about e apart);
+      channel = rests-here (copies (errands.Connection held.own) w.queue) (copies (errands.Connection held.own) v.queue) (for_channel stage) (for_channel held.stage) (lower (errands.Connection held.own) refl) a;
+      options = new_here (errands.Configuration held.own) queue w.queue (copies (errands.Configuration held.own) v.queue) request (for_options stage) (for_options held.stage) queue_is asks none;
+      ending = rests-here (copies (errands.Disconnection held.own) w.queue) (copies (errands.Disconnection held.own) v.queue) (for_end stage) (for_end held.stage) (lower (errands.Disconnection held.own) refl) c;
+    })
+  where
     about : (e : Errand) → is_about held.own e ≡ false → same_errand e (errands.Configuration held.own) ≡ false
     about (errands.Connection own) apart = refl
     about (errands.Configuration own) apart = apart
     about (errands.Disconnection own) apart = refl
     about errands.Features apart = refl
 
+-- or for its end
 pub asks-end-tame : (v w : Channels) (held : Held) (stage : Stage) (request : Request) (queue : List Queued) → find (has_own held.own) v.held ≡ Some held → w.held ≡ map (in_place_of (staged held stage)) v.held → w.features ≡ v.features
     → w.queue ≡ asked_queue (errands.Disconnection held.own) queue → ((e : Errand) → copies e queue ≤ copies e v.queue)
     → for_end stage ≡ Some request → request.given ≡ 0 → Rests (for_channel stage) (for_channel held.stage) → Rests (for_options stage) (for_options held.stage) → Tame v w
-asks-end-tame v w held stage request queue found held_is features_is queue_is less asks none a b = goes-tame v w held stage (record {
-  found = found;
-  held_is = held_is;
-  features_is = features_is;
-  others = λ e apart. lower e (about e apart);
-  channel = rests-here (copies (errands.Connection held.own) w.queue) (copies (errands.Connection held.own) v.queue) (for_channel stage) (for_channel held.stage) (lower (errands.Connection held.own) refl) a;
-  options = rests-here (copies (errands.Configuration held.own) w.queue) (copies (errands.Configuration held.own) v.queue) (for_options stage) (for_options held.stage) (lower (errands.Configuration held.own) refl) b;
-  ending = λ r is.
-      let same : request ≡ r = some_is request r (sym asks ∙ is) in
-      let given : r.given ≡ 0 = ap (λ (x : Request). x.given) (sym same) ∙ none in
-      let one : copies (errands.Disconnection held.own) w.queue ≡ 1 = ap (copies (errands.Disconnection held.own)) queue_is ∙ copies-asked (errands.Disconnection held.own) queue in
-      inl (omega (arith, given, one));
-})
+asks-end-tame v w held stage request queue found held_is features_is queue_is less asks none a b =
+    let lower = asked_less (errands.Disconnection held.own) queue v.queue w.queue queue_is less in
+    goes-tame v w held stage (record {
+      found = found;
+      held_is = held_is;
+      features_is = features_is;
+      others = λ e apart. lower e (about e apart);
+      channel = rests-here (copies (errands.Connection held.own) w.queue) (copies (errands.Connection held.own) v.queue) (for_channel stage) (for_channel held.stage) (lower (errands.Connection held.own) refl) a;
+      options = rests-here (copies (errands.Configuration held.own) w.queue) (copies (errands.Configuration held.own) v.queue) (for_options stage) (for_options held.stage) (lower (errands.Configuration held.own) refl) b;
+      ending = new_here (errands.Disconnection held.own) queue w.queue (copies (errands.Disconnection held.own) v.queue) request (for_end stage) (for_end held.stage) queue_is asks none;
+    })
   where
-    some_is : (x y : Request) → Some x ≡ Some y → x ≡ y
-    some_is x y is = cc
-
-    lower : (e : Errand) → same_errand e (errands.Disconnection held.own) ≡ false → copies e w.queue ≤ copies e v.queue
-    lower e apart =
-        let now : copies e w.queue ≡ copies e (asked_queue (errands.Disconnection held.own) queue) = ap (copies e) queue_is in
-        let first = copies-others e (errands.Disconnection held.own) queue apart in
-        let second = less e in
-        omega (arith, now, first, second)
-
     about : (e : Errand) → is_about held.own e ≡ false → same_errand e (errands.Disconnection held.own) ≡ false
     about (errands.Connection own) apart = refl
     about (errands.Configuration own) apart = refl
