@@ -36,3 +36,9 @@ pub mod Incoming
 pub mod Pairing
 pub mod Naming
 pub mod Repeating
+pub mod Awaiting
+pub mod Lasting
+pub mod Informing
+pub mod Trying
+pub mod Sparing
+pub mod Spending

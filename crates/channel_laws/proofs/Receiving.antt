@@ -33,7 +33,7 @@ use Rattle.channel_model.proofs.Going.{is_stated, IsStated, staged}
 use Rattle.channel_model.proofs.Walking.{with-found}
 use Rattle.talk_laws.proofs.Sdus.{sdus-more}
 use Rattle.channel_model.specs.Value.{Request}
-use Rattle.channel_laws.specs.Views.{asked_mode, carrier_mode}
+use Rattle.channel_laws.specs.Views.{carrier_mode}
 use Rattle.channel_laws.specs.Runs.{sdu_up, sdus_up}
 use Rattle.channel_laws.specs.Sdus.{IsHandedUp}
 use Rattle.channel_laws.proofs.Sound.{Agrees, CarrierIs}

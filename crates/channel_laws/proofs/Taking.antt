@@ -7,7 +7,7 @@ use Rattle.l2cap_config.specs.declared.wish.Agreed.{Agreed}
 use Rattle.channel_model.specs.declared.errand.Errand.TheVariants as errands
 use Rattle.channel_model.specs.declared.event.CloseReason.{CloseReason}
 use Rattle.channel_model.specs.Value.{Own, Unasked, Asking, Granted, Carrier, Plain, Retransmitting, Setup, Stage, Requested, Connected, Leaving, Closing, Crossed, Held, Channels}
-use Rattle.channel_model.specs.Changing.{has_own, held_at, setup_of, stage_with, with_setup, to_setup, forgets}
+use Rattle.channel_model.specs.Changing.{has_own, held_at, setup_of, with_setup, to_setup, forgets}
 use Rattle.channel_model.specs.Asking.{new_request}
 use Rattle.channel_model.specs.Closing.{closes_at}
 use Rattle.channel_model.specs.Configuring.{opens_if, granted_setup}

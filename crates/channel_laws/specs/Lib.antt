@@ -7,3 +7,5 @@ pub mod Sdus
 pub mod Pairs
 pub mod Endpoints
 pub mod Repeats
+pub mod Awaited
+pub mod Tries

@@ -1,11 +1,13 @@
 //! Laws of the channels of one host.
 
+ghost use Rattle.channel_laws.specs.Awaited.{FeaturesAreAwaited, RequestsAreAwaited};
 ghost use Rattle.channel_laws.specs.CheckWords.{CheckWordsAreRead};
 ghost use Rattle.channel_laws.specs.Endpoints.{EndpointsNameOneChannel};
 ghost use Rattle.channel_laws.specs.Laws.{ChannelsAreRead, EndpointsAreNew};
 ghost use Rattle.channel_laws.specs.Pairs.{EachEndRuns};
 ghost use Rattle.channel_laws.specs.Repeats.{RepeatsAreAnswered};
 ghost use Rattle.channel_laws.specs.Sdus.{SdusAreRead};
+ghost use Rattle.channel_laws.specs.Tries.{FiringsAloneRepeat, TriesAreKept};
 
 /// What a host holds of each of its endpoints is what its own talk says, whatever it asks for, whatever
 /// PDUs come in on whatever channels, and whenever its timer fires: which channels there are, how far each
@@ -46,4 +48,26 @@ pub fn endpoints_name_one_channel()
 /// A request that the peer sends again gets the same response again, or none again, whatever followed from it.
 pub fn repeats_are_answered()
     ensures { RepeatsAreAnswered }
+{}
+
+/// A request of a host for a channel, or for the end of one, waits for its answer exactly where its own talk
+/// says that it was neither answered nor given up, whatever it asks for and whatever comes in.
+pub fn requests_are_awaited()
+    ensures { RequestsAreAwaited }
+{}
+
+/// A host waits for the features of its peer exactly where its own talk says that it asked for information and
+/// was neither answered nor gave it up.
+pub fn features_are_awaited()
+    ensures { FeaturesAreAwaited }
+{}
+
+/// A host gives a request that waits for its answer at most as often as it tries, and once where it tries less.
+pub fn tries_are_kept()
+    ensures { TriesAreKept }
+{}
+
+/// A request is to be given once more only because the timer fired.
+pub fn firings_alone_repeat()
+    ensures { FiringsAloneRepeat }
 {}

@@ -1,0 +1,478 @@
+-- A host gives each request at most as often as it tries.
+use Rattle.std.proofs.Common.{◌≡◌, ℕ, ◌+◌, ◌<◌, ◌≤◌, List, [], ◌∷◌, ◌++◌, map, drop, Bool, true, false, cond, eqb, not, Option, Some, None, Ok, Err, refl, sym, ap, subst, ◌∙◌, inl, inr, arith}
+use Rattle.std.specs.Prelude.{find, option_map, is_some, min, nat_le}
+use Rattle.std.specs.Option.{option_or}
+use Rattle.std.proofs.lemmas.Bool.{eqb-true, leb-false}
+use Rattle.acl_fragments.specs.Pieces.{channel_of}
+use Rattle.l2cap_signal.specs.Commands.{Content, reject, connection_request, connection_response, configuration_request, configuration_response, disconnection_request, disconnection_response, echo_request, echo_response, information_request, information_response}
+use Rattle.l2cap_signal.specs.Reading.{Answer as Read, answers}
+use Rattle.l2cap_signal.specs.declared.refusal.SignalRefusal.TheVariants.{ZeroIdentifier, BadLength, UnknownCode, AboveMtu}
+use Rattle.ertm_model.specs.Giving.{timed}
+use Rattle.channel_model.specs.declared.errand.Errand.{Errand}
+use Rattle.channel_model.specs.declared.errand.Errand.TheVariants as errands
+use Rattle.channel_model.specs.declared.event.ChannelEvent.TheVariants.{Features}
+use Rattle.channel_model.specs.declared.event.CloseReason.TheVariants.{RetryLimit}
+use Rattle.channel_model.specs.declared.request_kind.RequestKind.{RequestKind}
+use Rattle.channel_model.specs.declared.request_kind.RequestKind.TheVariants as kinds
+use Rattle.channel_model.specs.Value.{Request, Queued, Answer, Ask, Own, Unasked, Asking, Granted, Carrier, Plain, Retransmitting, Setup, Stage, Requested, Connected, Leaving, Closing, Crossed, Held, Remembered, Channels}
+use Rattle.channel_model.specs.Policies.{Policy}
+use Rattle.channel_model.specs.Changing.{has_own, held_at, setup_of, to_setup, same_errand, is_copy, is_due, queued, forgets, tells}
+use Rattle.channel_model.specs.Asking.{new_request, asks, StillDue, OnceMore, Spent}
+use Rattle.channel_model.specs.Closing.{closes, ends}
+use Rattle.channel_model.specs.Answers.{kind_of_code, remembered, not_understood, too_long, answer_to}
+use Rattle.channel_model.specs.Following.{with_channel, follows, remembers, says, can_say, hears_new, hears_again, hears_kind}
+use Rattle.channel_model.specs.Responses.{has_identifier, hears_features, features_in}
+use Rattle.channel_model.specs.Hearing.{hears_content, hears_malformed, is_response_code, is_kind, hears_unread, hears_command, hears_commands}
+use Rattle.channel_model.specs.Carrying.{takes}
+use Rattle.channel_model.specs.Timing.{fires, times, times_carrier, times_setup, times_stage, times_held, loses_end, times_end_at, times_end, loses_features, times_features, times_channels, timed_out}
+use Rattle.channel_model.specs.Giving.{gives, one_more, own_given, connection_given, configuration_given, disconnection_given, stage_given, counted, carrier_given, carrier_spent, held_given, queue_given}
+use Rattle.channel_model.specs.Calls.{can_connect}
+use Rattle.channel_model.proofs.Lookups.{own_of, Distinct, found-has, eqb-away, find-append, found-distinct}
+use Rattle.channel_model.proofs.Going.{new_held}
+use Rattle.channel_model.proofs.Walking.{found-own}
+use Rattle.channel_laws.specs.Runs.{Occurrence, Comes, Connects, AsksFeatures, Disconnects, Sends, Gives, Fires, Tells, value_after, Run, new_link, run_of}
+use Rattle.channel_laws.specs.Tries.{for_channel, own_request, for_options, for_end, request_at, request_of, one_if, copies, is_firing, TriesAreKept, FiringsAloneRepeat}
+use Rattle.channel_laws.proofs.Running.{IsSound, along, all-sound}
+use Rattle.channel_laws.proofs.Trying.{copies-less, copies-append, copies-none, copies-asked, copies-others, same-self, By, Tame, both-tame, still-tame, same-tame, same-requests, Here, rests-here, goes-tame}
+use Rattle.channel_laws.proofs.Sparing.{closes-tame, ends-tame, setup-tame, follows-tame, grant-tame, response-tame, end-tame, settles-tame, takes-tame, disconnects-tame, sends-tame}
+
+-- ---- a request is given
+
+-- one copy less waits, and it was given one time more
+once_more : (errand : Errand) (behind : List Queued) (now was : Option Request) → now ≡ option_map one_more was → Here (copies errand behind) (one_if (same_errand errand errand) + copies errand behind) now was
+once_more errand behind now None same r is = let never : None ≡ Some r = sym same ∙ is in absurd cc
+once_more errand behind now (Some was) same r is =
+    let given : r.given ≡ min (was.given + 1) 255 = ap (λ (x : Request). x.given) (some_is r (one_more was) (sym is ∙ same)) in
+    let one : one_if (same_errand errand errand) ≡ 1 = ap one_if (same-self errand) in
+    inr (was, refl, omega (arith, given, one))
+  where
+    some_is : (x y : Request) → Some x ≡ Some y → x ≡ y
+    some_is x y is = cc
+
+own_once : (own : Own) → own_request (own_given own) ≡ option_map one_more (own_request own)
+own_once Unasked = refl
+own_once (Asking request options) = refl
+own_once Granted = refl
+
+-- what becomes of the three requests of a channel
+connection_once : (stage : Stage) → (for_channel (connection_given stage) ≡ option_map one_more (for_channel stage)) × (for_options (connection_given stage) ≡ for_options stage) × (for_end (connection_given stage) ≡ for_end stage)
+connection_once (Requested request) = (refl, refl, refl)
+connection_once (Connected peer setup) = (refl, refl, refl)
+connection_once (Leaving peer setup request) = (refl, refl, refl)
+connection_once (Closing peer request) = (refl, refl, refl)
+connection_once (Crossed peer request) = (refl, refl, refl)
+
+configuration_once : (stage : Stage) → (for_channel (configuration_given stage) ≡ for_channel stage) × (for_options (configuration_given stage) ≡ option_map one_more (for_options stage)) × (for_end (configuration_given stage) ≡ for_end stage)
+configuration_once (Requested request) = (refl, refl, refl)
+configuration_once (Connected peer setup) = (refl, own_once setup.own, refl)
+configuration_once (Leaving peer setup request) = (refl, own_once setup.own, refl)
+configuration_once (Closing peer request) = (refl, refl, refl)
+configuration_once (Crossed peer request) = (refl, refl, refl)
+
+disconnection_once : (stage : Stage) → (for_channel (disconnection_given stage) ≡ for_channel stage) × (for_options (disconnection_given stage) ≡ for_options stage) × (for_end (disconnection_given stage) ≡ option_map one_more (for_end stage))
+disconnection_once (Requested request) = (refl, refl, refl)
+disconnection_once (Connected peer setup) = (refl, refl, refl)
+disconnection_once (Leaving peer setup request) = (refl, refl, refl)
+disconnection_once (Closing peer request) = (refl, refl, refl)
+disconnection_once (Crossed peer request) = (refl, refl, refl)
+
+fewer : (errand e : Errand) (behind : List Queued) → copies e behind ≤ copies e (Ask errand ∷ behind)
+fewer errand e behind = omega arith
+
+abbrev waiting : List Queued → Channels → Channels
+waiting queue v = record v { queue = queue }
+
+-- of the three requests of a channel one is given once more
+abbrev GivenOnce : (errand : Errand) (behind : List Queued) (held : Held) (after : Stage) → Type 0
+GivenOnce errand behind held after =
+    Here (copies (errands.Connection held.own) behind) (copies (errands.Connection held.own) (Ask errand ∷ behind)) (for_channel after) (for_channel held.stage)
+    × Here (copies (errands.Configuration held.own) behind) (copies (errands.Configuration held.own) (Ask errand ∷ behind)) (for_options after) (for_options held.stage)
+    × Here (copies (errands.Disconnection held.own) behind) (copies (errands.Disconnection held.own) (Ask errand ∷ behind)) (for_end after) (for_end held.stage)
+
+connection_more : (behind : List Queued) (held : Held) → GivenOnce (errands.Connection held.own) behind held (connection_given held.stage)
+connection_more behind held =
+    let errand : Errand = errands.Connection held.own in
+    let (one, two, three) = connection_once held.stage in (
+      once_more errand behind (for_channel (connection_given held.stage)) (for_channel held.stage) one,
+      rests-here _ _ (for_options (connection_given held.stage)) (for_options held.stage) (fewer errand (errands.Configuration held.own) behind) (inr two),
+      rests-here _ _ (for_end (connection_given held.stage)) (for_end held.stage) (fewer errand (errands.Disconnection held.own) behind) (inr three),
+    )
+
+configuration_more : (behind : List Queued) (held : Held) → GivenOnce (errands.Configuration held.own) behind held (configuration_given held.stage)
+configuration_more behind held =
+    let errand : Errand = errands.Configuration held.own in
+    let (one, two, three) = configuration_once held.stage in (
+      rests-here _ _ (for_channel (configuration_given held.stage)) (for_channel held.stage) (fewer errand (errands.Connection held.own) behind) (inr one),
+      once_more errand behind (for_options (configuration_given held.stage)) (for_options held.stage) two,
+      rests-here _ _ (for_end (configuration_given held.stage)) (for_end held.stage) (fewer errand (errands.Disconnection held.own) behind) (inr three),
+    )
+
+disconnection_more : (behind : List Queued) (held : Held) → GivenOnce (errands.Disconnection held.own) behind held (disconnection_given held.stage)
+disconnection_more behind held =
+    let errand : Errand = errands.Disconnection held.own in
+    let (one, two, three) = disconnection_once held.stage in (
+      rests-here _ _ (for_channel (disconnection_given held.stage)) (for_channel held.stage) (fewer errand (errands.Connection held.own) behind) (inr one),
+      rests-here _ _ (for_options (disconnection_given held.stage)) (for_options held.stage) (fewer errand (errands.Configuration held.own) behind) (inr two),
+      once_more errand behind (for_end (disconnection_given held.stage)) (for_end held.stage) three,
+    )
+
+stage_counted : (v : Channels) (errand : ℕ → Errand) (given : Stage → Stage) (own : ℕ) (behind : List Queued) (held : Option Held) → ((h : Held) → GivenOnce (errand h.own) behind h (given h.stage)) → find (has_own own) v.held ≡ held
+    → Tame (waiting (Ask (errand own) ∷ behind) v) (stage_given given held (waiting behind v))
+stage_counted v errand given own behind None more is = still-tame (waiting (Ask (errand own) ∷ behind) v) (waiting behind v) refl refl (λ e. fewer (errand own) e behind)
+stage_counted v errand given own behind (Some held) more is =
+    subst (λ n. Tame (waiting (Ask (errand n) ∷ behind) v) (stage_given given (Some held) (waiting behind v))) (found-has own_of own v.held held is)
+    (let (one, two, three) = more held in goes-tame (waiting (Ask (errand held.own) ∷ behind) v) (stage_given given (Some held) (waiting behind v)) held (given held.stage) (record {
+      found = found-own own v held is;
+      held_is = refl;
+      features_is = refl;
+      others = λ e apart. fewer (errand held.own) e behind;
+      channel = one;
+      options = two;
+      ending = three;
+    }))
+
+counted_features : (v : Channels) (behind : List Queued) → Tame (waiting (Ask errands.Features ∷ behind) v) (counted errands.Features (waiting behind v))
+counted_features v behind e r is = by e r is
+  where
+    by : (e : Errand) (r : Request) → request_of e (counted errands.Features (waiting behind v)) ≡ Some r → By (copies e behind) (copies e (Ask errands.Features ∷ behind)) (request_of e (waiting (Ask errands.Features ∷ behind) v)) r
+    by (errands.Connection own) r is = inr (r, is, omega arith)
+    by (errands.Configuration own) r is = inr (r, is, omega arith)
+    by (errands.Disconnection own) r is = inr (r, is, omega arith)
+    by errands.Features r is = once_more errands.Features behind (option_map one_more v.features) v.features refl r is
+
+counted_tame : (v : Channels) (errand : Errand) (behind : List Queued) → Tame (waiting (Ask errand ∷ behind) v) (counted errand (waiting behind v))
+counted_tame v (errands.Connection own) behind = stage_counted v errands.Connection connection_given own behind (held_at own v) (connection_more behind) refl
+counted_tame v (errands.Configuration own) behind = stage_counted v errands.Configuration configuration_given own behind (held_at own v) (configuration_more behind) refl
+counted_tame v (errands.Disconnection own) behind = stage_counted v errands.Disconnection disconnection_given own behind (held_at own v) (disconnection_more behind) refl
+counted_tame v errands.Features behind = counted_features v behind
+
+held_tame : (v : Channels) (held : Option Held) → Distinct own_of v.held → find gives v.held ≡ held → Tame v (held_given held v)
+held_tame v None lone is = same-tame v
+held_tame v (Some held) lone is = by (setup_of held.stage) refl
+  where
+    by : (setup : Option Setup) → setup_of held.stage ≡ setup → Tame v (carrier_spent setup held v)
+    by None none = same-tame v
+    by (Some setup) some =
+        let after : Setup = record setup { carrier = option_map carrier_given setup.carrier } in
+        setup-tame v (to_setup held after v) held setup after (found-distinct own_of gives v.held held lone is) some refl refl (λ e. omega arith) (inr refl)
+
+gives_tame : (v : Channels) (queue : List Queued) → v.queue ≡ queue → Distinct own_of v.held → Tame v (queue_given queue v)
+gives_tame v [] is lone = held_tame v (find gives v.held) lone refl
+gives_tame v (Answer command ∷ behind) is lone = still-tame v (waiting behind v) refl refl (λ e. let whole = ap (copies e) is in omega (arith, whole))
+gives_tame v (Ask errand ∷ behind) is lone = subst (λ q. Tame (waiting q v) (queue_given (Ask errand ∷ behind) v)) (sym is) (counted_tame v errand behind)
+
+-- ---- features and new channels
+
+features_tame : (v w : Channels) → w.held ≡ v.held → w.features ≡ None → ((e : Errand) → copies e w.queue ≤ copies e v.queue) → Tame v w
+features_tame v w held_is none less e r is = by e r is
+  where
+    by : (e : Errand) (r : Request) → request_of e w ≡ Some r → By (copies e w.queue) (copies e v.queue) (request_of e v) r
+    by (errands.Connection own) r is = let l = less (errands.Connection own) in inr (r, sym (ap (λ hs. request_at for_channel (find (has_own own) hs)) held_is) ∙ is, omega (arith, l))
+    by (errands.Configuration own) r is = let l = less (errands.Configuration own) in inr (r, sym (ap (λ hs. request_at for_options (find (has_own own) hs)) held_is) ∙ is, omega (arith, l))
+    by (errands.Disconnection own) r is = let l = less (errands.Disconnection own) in inr (r, sym (ap (λ hs. request_at for_end (find (has_own own) hs)) held_is) ∙ is, omega (arith, l))
+    by errands.Features r is = let never : None ≡ Some r = sym none ∙ is in absurd cc
+
+hears_features_tame : (v : Channels) (identifier : ℕ) (given : Option ℕ) → Tame v (hears_features identifier given v)
+hears_features_tame v identifier given = by (has_identifier identifier v.features)
+  where
+    by : (same : Bool) → Tame v (cond same (tells (Features given) (forgets errands.Features (record v { features = None }))) v)
+    by true = features_tame v (tells (Features given) (forgets errands.Features (record v { features = None }))) refl refl (λ e. copies-less e (λ x. not (is_copy errands.Features x)) v.queue)
+    by false = same-tame v
+
+asked_features : (v : Channels) → Tame v (asks errands.Features (record v { features = Some (new_request v) }))
+asked_features v e r is = by e r is
+  where
+    w : Channels
+    w = asks errands.Features (record v { features = Some (new_request v) })
+
+    by : (e : Errand) (r : Request) → request_of e w ≡ Some r → By (copies e w.queue) (copies e v.queue) (request_of e v) r
+    by (errands.Connection own) r is = let l = copies-others (errands.Connection own) errands.Features v.queue refl in inr (r, is, omega (arith, l))
+    by (errands.Configuration own) r is = let l = copies-others (errands.Configuration own) errands.Features v.queue refl in inr (r, is, omega (arith, l))
+    by (errands.Disconnection own) r is = let l = copies-others (errands.Disconnection own) errands.Features v.queue refl in inr (r, is, omega (arith, l))
+    by errands.Features r is =
+        let same : new_request v ≡ r = cc in
+        let none : r.given ≡ 0 = ap (λ (x : Request). x.given) (sym same) in
+        let one = copies-asked errands.Features v.queue in
+        inl (omega (arith, none, one))
+
+asks_features_tame : (v : Channels) (asked : Bool) → (let w : Channels = asks errands.Features (record v { features = Some (new_request v) }) in Tame v (cond asked v w))
+asks_features_tame v true = same-tame v
+asks_features_tame v false = asked_features v
+
+called_tame : (v : Channels) (psm : ℕ) → find (has_own v.next) v.held ≡ None → Tame v (asks (errands.Connection v.next) (with_channel psm (Requested (new_request v)) v))
+called_tame v psm none e r is = by e r is
+  where
+    new : Held
+    new = new_held psm v.next (Requested (new_request v))
+
+    w : Channels
+    w = asks (errands.Connection v.next) (with_channel psm (Requested (new_request v)) v)
+
+    -- it asks for nothing else
+    at : (f : Stage → Option Request) (found : Option Held) (t : Bool) (r : Request) → f (Requested (new_request v)) ≡ None → request_at f (option_or found (cond t (Some new) None)) ≡ Some r → request_at f found ≡ Some r
+    at f None true r empty some = let never : None ≡ Some r = sym empty ∙ some in absurd cc
+    at f None false r empty some = some
+    at f (Some held) t r empty some = some
+
+    old : (found : Option Held) (r : Request) → request_at for_channel (option_or found None) ≡ Some r → request_at for_channel found ≡ Some r
+    old None r some = some
+    old (Some held) r some = some
+
+    called : (own : ℕ) (r : Request) (t : Bool) → eqb v.next own ≡ t → request_at for_channel (option_or (find (has_own own) v.held) (cond t (Some new) None)) ≡ Some r
+        → By (copies (errands.Connection own) w.queue) (copies (errands.Connection own) v.queue) (request_at for_channel (find (has_own own) v.held)) r
+    called own r true now some =
+        let same : v.next ≡ own = eqb-true v.next own now in
+        let unheld : find (has_own own) v.held ≡ None = ap (λ n. find (has_own n) v.held) (sym same) ∙ none in
+        let request : Some (new_request v) ≡ Some r = sym (ap (λ h. request_at for_channel (option_or h (Some new))) unheld) ∙ some in
+        let it : new_request v ≡ r = cc in
+        let nothing : r.given ≡ 0 = ap (λ (x : Request). x.given) (sym it) in
+        let one : copies (errands.Connection own) w.queue ≡ 1 = ap (λ n. copies (errands.Connection n) w.queue) (sym same) ∙ copies-asked (errands.Connection v.next) v.queue in
+        inl (omega (arith, nothing, one))
+    called own r false now some =
+        let l = copies-others (errands.Connection own) (errands.Connection v.next) v.queue (eqb-away v.next own now) in
+        inr (r, old (find (has_own own) v.held) r some, omega (arith, l))
+
+    by : (e : Errand) (r : Request) → request_of e w ≡ Some r → By (copies e w.queue) (copies e v.queue) (request_of e v) r
+    by (errands.Connection own) r is = called own r (eqb v.next own) refl (sym (ap (request_at for_channel) (find-append own_of own v.held new)) ∙ is)
+    by (errands.Configuration own) r is =
+        let l = copies-others (errands.Configuration own) (errands.Connection v.next) v.queue refl in
+        inr (r, at for_options (find (has_own own) v.held) (eqb v.next own) r refl (sym (ap (request_at for_options) (find-append own_of own v.held new)) ∙ is), omega (arith, l))
+    by (errands.Disconnection own) r is =
+        let l = copies-others (errands.Disconnection own) (errands.Connection v.next) v.queue refl in
+        inr (r, at for_end (find (has_own own) v.held) (eqb v.next own) r refl (sym (ap (request_at for_end) (find-append own_of own v.held new)) ∙ is), omega (arith, l))
+    by errands.Features r is = let l = copies-others errands.Features (errands.Connection v.next) v.queue refl in inr (r, is, omega (arith, l))
+
+connects_tame : (v : Channels) (psm : ℕ) (can : Bool) → find (has_own v.next) v.held ≡ None → (let w : Channels = asks (errands.Connection v.next) (with_channel psm (Requested (new_request v)) v) in Tame v (cond can w v))
+connects_tame v psm false none = same-tame v
+connects_tame v psm true none = called_tame v psm none
+
+-- ---- commands
+
+says_tame : (v : Channels) (identifier : ℕ) (response : Option Content) → Tame v (says identifier response v)
+says_tame v identifier None = same-tame v
+says_tame v identifier (Some content) =
+    still-tame v (says identifier (Some content) v) refl refl (λ e. let whole = copies-append e v.queue (Answer (record { identifier = identifier; content = content })) in omega (arith, whole))
+
+new_tame : (v : Channels) (kind : RequestKind) (identifier : ℕ) (response : Option Content) (more : Channels → Channels) (can : Bool) → ((u : Channels) → Tame u (more u)) → Tame v (cond can (more (says identifier response (remembers kind identifier response v))) v)
+new_tame v kind identifier response more false goes = same-tame v
+new_tame v kind identifier response more true goes =
+    let t : Channels = remembers kind identifier response v in
+    let u : Channels = says identifier response t in
+    both-tame v u (more u) (both-tame v t u (still-tame v t refl refl (λ e. omega arith)) (says_tame t identifier response)) (goes u)
+
+again_tame : (v : Channels) (identifier : ℕ) (response : Option Content) (can : Bool) → Tame v (cond can (says identifier response v) v)
+again_tame v identifier response true = says_tame v identifier response
+again_tame v identifier response false = same-tame v
+
+kind_tame : (v : Channels) (last : Option Remembered) (kind : RequestKind) (identifier : ℕ) (response : Option Content) (more : Channels → Channels) → ((u : Channels) → Tame u (more u)) → Tame v (hears_kind last kind identifier response more v)
+kind_tame v None kind identifier response more goes = new_tame v kind identifier response more (can_say response v) goes
+kind_tame v (Some last) kind identifier response more goes = by (eqb last.identifier identifier)
+  where
+    by : (same : Bool) → Tame v (cond same (hears_again identifier last.response v) (hears_new kind identifier response more v))
+    by true = again_tame v identifier last.response (can_say last.response v)
+    by false = new_tame v kind identifier response more (can_say response v) goes
+
+content_tame : (policy : Policy) (identifier : ℕ) (content : Content) (v : Channels) → Tame v (hears_content policy identifier content v)
+content_tame policy identifier (reject reason rest) v = hears_features_tame v identifier None
+content_tame policy identifier (connection_request psm source) v = let c : Content = connection_request psm source in kind_tame v v.memory.connection kinds.Connection identifier (answer_to policy c v) (follows policy c) (follows-tame policy c)
+content_tame policy identifier (connection_response destination source answer status) v = grant-tame v source (held_at source v) policy identifier destination answer refl
+content_tame policy identifier (configuration_request destination flags options) v = let c : Content = configuration_request destination flags options in kind_tame v v.memory.configuration kinds.Configuration identifier (answer_to policy c v) (follows policy c) (follows-tame policy c)
+content_tame policy identifier (configuration_response source flags answer options) v = response-tame v source (held_at source v) policy identifier answer options refl
+content_tame policy identifier (disconnection_request destination source) v = let c : Content = disconnection_request destination source in kind_tame v v.memory.disconnection kinds.Disconnection identifier (answer_to policy c v) (follows policy c) (follows-tame policy c)
+content_tame policy identifier (disconnection_response destination source) v = end-tame v (held_at source v) destination
+content_tame policy identifier (echo_request octets) v = let c : Content = echo_request octets in kind_tame v v.memory.echo kinds.Echo identifier (answer_to policy c v) (follows policy c) (follows-tame policy c)
+content_tame policy identifier (echo_response octets) v = same-tame v
+content_tame policy identifier (information_request kind) v = let c : Content = information_request kind in kind_tame v v.memory.information kinds.Information identifier (answer_to policy c v) (follows policy c) (follows-tame policy c)
+content_tame policy identifier (information_response kind answer rest) v = hears_features_tame v identifier (features_in kind answer rest)
+
+malformed_tame : (kind : Option RequestKind) (identifier : ℕ) (v : Channels) → Tame v (hears_malformed kind identifier v)
+malformed_tame None identifier v = same-tame v
+malformed_tame (Some kind) identifier v = kind_tame v (remembered kind v.memory) kind identifier (Some not_understood) (λ w. w) (λ u. same-tame u)
+
+unread_tame : (code identifier : ℕ) (v : Channels) → Tame v (hears_unread code identifier v)
+unread_tame code identifier v = by (eqb identifier 0) (is_response_code code) (is_kind (kind_of_code code))
+  where
+    by : (zero response kind : Bool) → Tame v (cond zero v (cond response v (cond kind (hears_malformed (kind_of_code code) identifier v) (hears_again identifier (Some not_understood) v))))
+    by true response kind = same-tame v
+    by false true kind = same-tame v
+    by false false true = malformed_tame (kind_of_code code) identifier v
+    by false false false = again_tame v identifier (Some not_understood) (can_say (Some not_understood) v)
+
+long_tame : (identifier : ℕ) (v : Channels) (zero : Bool) → Tame v (cond zero v (hears_again identifier (Some too_long) v))
+long_tame identifier v true = same-tame v
+long_tame identifier v false = again_tame v identifier (Some too_long) (can_say (Some too_long) v)
+
+command_tame : (policy : Policy) (one : Read) (v : Channels) → Tame v (hears_command policy one v)
+command_tame policy (Ok command) v = content_tame policy command.identifier command.content v
+command_tame policy (Err (ZeroIdentifier code identifier)) v = same-tame v
+command_tame policy (Err (BadLength code None)) v = same-tame v
+command_tame policy (Err (BadLength code (Some identifier))) v = unread_tame code identifier v
+command_tame policy (Err (UnknownCode code None)) v = same-tame v
+command_tame policy (Err (UnknownCode code (Some identifier))) v = unread_tame code identifier v
+command_tame policy (Err (AboveMtu code None)) v = same-tame v
+command_tame policy (Err (AboveMtu code (Some identifier))) v = long_tame identifier v (eqb identifier 0)
+
+commands_tame : (policy : Policy) (list : List Read) (v : Channels) → Tame v (hears_commands policy list v)
+commands_tame policy [] v = same-tame v
+commands_tame policy (one ∷ list) v = let w : Channels = hears_command policy one v in both-tame v w (hears_commands policy list w) (command_tame policy one v) (commands_tame policy list w)
+
+comes_tame : (policy : Policy) (pdu : List ℕ) (v : Channels) (signals : Bool) → Tame v (cond signals (hears_commands policy (answers (drop 4 pdu)) v) (takes (channel_of pdu) pdu v))
+comes_tame policy pdu v true = commands_tame policy (answers (drop 4 pdu)) v
+comes_tame policy pdu v false = takes-tame (channel_of pdu) pdu v
+
+-- ---- what always holds
+
+abbrev Kept : (most : ℕ) → Channels → Type 0
+Kept most v = (e : Errand) (r : Request) → request_of e v ≡ Some r → copies e v.queue + r.given ≤ most
+
+kept : (most : ℕ) (v w : Channels) → 1 ≤ most → Tame v w → Kept most v → Kept most w
+kept most v w some tame so_far e r is = by (tame e r is)
+  where
+    by : By (copies e w.queue) (copies e v.queue) (request_of e v) r → copies e w.queue + r.given ≤ most
+    by (inl new) = omega (arith, new, some)
+    by (inr (was, was_is, less)) = let bound = so_far e was was_is in omega (arith, less, bound)
+
+same_is : (e errand : Errand) → same_errand e errand ≡ true → e ≡ errand
+same_is (errands.Connection m) (errands.Connection n) is = ap errands.Connection (eqb-true m n is)
+same_is (errands.Connection m) (errands.Configuration n) is = cc
+same_is (errands.Connection m) (errands.Disconnection n) is = cc
+same_is (errands.Connection m) errands.Features is = cc
+same_is (errands.Configuration m) (errands.Connection n) is = cc
+same_is (errands.Configuration m) (errands.Configuration n) is = ap errands.Configuration (eqb-true m n is)
+same_is (errands.Configuration m) (errands.Disconnection n) is = cc
+same_is (errands.Configuration m) errands.Features is = cc
+same_is (errands.Disconnection m) (errands.Connection n) is = cc
+same_is (errands.Disconnection m) (errands.Configuration n) is = cc
+same_is (errands.Disconnection m) (errands.Disconnection n) is = ap errands.Disconnection (eqb-true m n is)
+same_is (errands.Disconnection m) errands.Features is = cc
+same_is errands.Features (errands.Connection n) is = cc
+same_is errands.Features (errands.Configuration n) is = cc
+same_is errands.Features (errands.Disconnection n) is = cc
+same_is errands.Features errands.Features is = refl
+
+-- a request is given once more
+fires_kept : (most tries : ℕ) (v : Channels) (errand : Errand) (request : Request) (spent : Channels → Channels) → 1 ≤ most → tries ≤ most → request_of errand v ≡ Some request → Tame v (spent v) → Kept most v → Kept most (times tries errand request spent v)
+fires_kept most tries v errand request spent some low at tame so_far = by (is_due errand v) refl (nat_le tries request.given) refl
+  where
+    again : is_due errand v ≡ false → nat_le tries request.given ≡ false → Kept most (queued (Ask errand) v)
+    again new more e r is = here (same_errand e errand) refl
+      where
+        was : request_of e v ≡ Some r
+        was = sym (same-requests v (queued (Ask errand) v) refl refl e) ∙ is
+
+        here : (t : Bool) → same_errand e errand ≡ t → copies e (v.queue ++ Ask errand ∷ []) + r.given ≤ most
+        here true same =
+            let it : e ≡ errand = same_is e errand same in
+            let none : copies e v.queue ≡ 0 = ap (λ x. copies x v.queue) it ∙ copies-none errand v.queue new in
+            let found : Some r ≡ Some request = sym was ∙ (ap (λ x. request_of x v) it ∙ at) in
+            let one : r ≡ request = cc in
+            let given : r.given ≡ request.given = ap (λ (x : Request). x.given) one in
+            let below : request.given < tries = leb-false tries request.given more in
+            let whole = copies-append e v.queue (Ask errand) ∙ ap (λ t. copies e v.queue + one_if t) same in
+            omega (arith, none, given, below, whole, low)
+        here false same =
+            let whole = copies-append e v.queue (Ask errand) ∙ ap (λ t. copies e v.queue + one_if t) same in
+            let bound = so_far e r was in
+            omega (arith, whole, bound)
+
+    by : (due : Bool) → is_due errand v ≡ due → (most' : Bool) → nat_le tries request.given ≡ most' → Kept most (fires (cond due StillDue (cond most' Spent OnceMore)) errand spent v)
+    by true d most' m = so_far
+    by false d true m = kept most v (spent v) some tame so_far
+    by false d false m = again d m
+
+carrier_kept : (most : ℕ) (v : Channels) (carrier : Option Carrier) (held : Held) (setup : Setup) → 1 ≤ most → find (has_own held.own) v.held ≡ Some held → setup_of held.stage ≡ Some setup → Kept most v → Kept most (times_carrier carrier held setup v)
+carrier_kept most v None held setup some found is so_far = so_far
+carrier_kept most v (Some (Plain agreed waits)) held setup some found is so_far = so_far
+carrier_kept most v (Some (Retransmitting machine)) held setup some found is so_far =
+    kept most v (times_carrier (Some (Retransmitting machine)) held setup v) some (settles-tame v (timed machine).closed (timed machine) held setup found is) so_far
+
+setup_kept : (most tries : ℕ) (v : Channels) (own : Own) (held : Held) (setup : Setup) → setup.own ≡ own → 1 ≤ most → tries ≤ most → find (has_own held.own) v.held ≡ Some held → setup_of held.stage ≡ Some setup → for_options held.stage ≡ own_request setup.own → Kept most v
+    → Kept most (times_setup own tries held setup v)
+setup_kept most tries v Unasked held setup own_is some low found is asks so_far = carrier_kept most v setup.carrier held setup some found is so_far
+setup_kept most tries v (Asking request options) held setup own_is some low found is asks so_far =
+    fires_kept most tries v (errands.Configuration held.own) request (closes RetryLimit held) some low (ap (request_at for_options) found ∙ (asks ∙ ap own_request own_is)) (closes-tame v held RetryLimit found) so_far
+setup_kept most tries v Granted held setup own_is some low found is asks so_far = carrier_kept most v setup.carrier held setup some found is so_far
+
+stage_kept : (most tries : ℕ) (v : Channels) (stage : Stage) (held : Held) → held.stage ≡ stage → 1 ≤ most → tries ≤ most → find (has_own held.own) v.held ≡ Some held → Kept most v → Kept most (times_stage stage tries held v)
+stage_kept most tries v (Requested request) held is some low found so_far =
+    fires_kept most tries v (errands.Connection held.own) request (closes RetryLimit held) some low (ap (request_at for_channel) found ∙ ap for_channel is) (closes-tame v held RetryLimit found) so_far
+stage_kept most tries v (Connected peer setup) held is some low found so_far = setup_kept most tries v setup.own held setup refl some low found (ap setup_of is) (ap for_options is) so_far
+stage_kept most tries v (Leaving peer setup request) held is some low found so_far = setup_kept most tries v setup.own held setup refl some low found (ap setup_of is) (ap for_options is) so_far
+stage_kept most tries v (Closing peer request) held is some low found so_far = so_far
+stage_kept most tries v (Crossed peer request) held is some low found so_far = so_far
+
+held_kept : (most tries own : ℕ) (v : Channels) (held : Option Held) → 1 ≤ most → tries ≤ most → find (has_own own) v.held ≡ held → Kept most v → Kept most (times_held held tries v)
+held_kept most tries own v None some low is so_far = so_far
+held_kept most tries own v (Some held) some low is so_far = stage_kept most tries v held.stage held refl some low (found-own own v held is) so_far
+
+loses_tame : (v : Channels) (held : Held) → Tame v (loses_end held v)
+loses_tame v held = let u : Channels = ends RetryLimit held v in both-tame v u (loses_end held v) (ends-tame v held RetryLimit held.stage) (still-tame u (loses_end held v) refl refl (λ e. omega arith))
+
+end_kept : (most tries : ℕ) (v : Channels) (stage : Stage) (held : Held) → held.stage ≡ stage → 1 ≤ most → tries ≤ most → find (has_own held.own) v.held ≡ Some held → Kept most v → Kept most (times_end_at stage tries held v)
+end_kept most tries v (Requested request) held is some low found so_far = so_far
+end_kept most tries v (Connected peer setup) held is some low found so_far = so_far
+end_kept most tries v (Leaving peer setup request) held is some low found so_far =
+    fires_kept most tries v (errands.Disconnection held.own) request (ends RetryLimit held) some low (ap (request_at for_end) found ∙ ap for_end is) (ends-tame v held RetryLimit held.stage) so_far
+end_kept most tries v (Closing peer request) held is some low found so_far =
+    fires_kept most tries v (errands.Disconnection held.own) request (loses_end held) some low (ap (request_at for_end) found ∙ ap for_end is) (loses_tame v held) so_far
+end_kept most tries v (Crossed peer request) held is some low found so_far =
+    fires_kept most tries v (errands.Disconnection held.own) request (loses_end held) some low (ap (request_at for_end) found ∙ ap for_end is) (loses_tame v held) so_far
+
+ended_kept : (most tries own : ℕ) (v : Channels) (held : Option Held) → 1 ≤ most → tries ≤ most → find (has_own own) v.held ≡ held → Kept most v → Kept most (times_end held tries v)
+ended_kept most tries own v None some low is so_far = so_far
+ended_kept most tries own v (Some held) some low is so_far = end_kept most tries v held.stage held refl some low (found-own own v held is) so_far
+
+channels_kept : (most tries : ℕ) (owns : List ℕ) (v : Channels) → 1 ≤ most → tries ≤ most → Kept most v → Kept most (times_channels tries owns v)
+channels_kept most tries [] v some low so_far = so_far
+channels_kept most tries (own ∷ owns) v some low so_far =
+    let u : Channels = times_held (held_at own v) tries v in
+    let w : Channels = times_end (held_at own u) tries u in
+    channels_kept most tries owns w some low (ended_kept most tries own u (held_at own u) some low refl (held_kept most tries own v (held_at own v) some low refl so_far))
+
+features_kept : (most tries : ℕ) (v : Channels) (features : Option Request) → v.features ≡ features → 1 ≤ most → tries ≤ most → Kept most v → Kept most (times_features features tries v)
+features_kept most tries v None is some low so_far = so_far
+features_kept most tries v (Some request) is some low so_far =
+    fires_kept most tries v errands.Features request loses_features some low is (features_tame v (loses_features v) refl refl (λ e. omega arith)) so_far
+
+-- whatever happens but a firing
+one_tame : (policy : Policy) (more : Occurrence) (v : Channels) → is_firing more ≡ false → find (has_own v.next) v.held ≡ None → Distinct own_of v.held → Tame v (value_after policy more v)
+one_tame policy (Comes pdu) v other none lone = comes_tame policy pdu v (eqb (channel_of pdu) 0x0001)
+one_tame policy (Connects psm) v other none lone = connects_tame v psm (can_connect v) none
+one_tame policy AsksFeatures v other none lone = asks_features_tame v (is_some v.features)
+one_tame policy (Disconnects own) v other none lone = disconnects-tame own v
+one_tame policy (Sends own sdu) v other none lone = sends-tame own sdu v
+one_tame policy (Gives pdu) v other none lone = gives_tame v v.queue refl lone
+one_tame policy Fires v other none lone = cc
+one_tame policy Tells v other none lone = still-tame v (value_after policy Tells v) refl refl (λ e. omega arith)
+
+timed_kept : (policy : Policy) (most : ℕ) (v : Channels) → 1 ≤ most → policy.tries ≤ most → Kept most v → Kept most (timed_out policy v)
+timed_kept policy most v some low so_far =
+    let u : Channels = times_channels policy.tries (map (λ held. held.own) v.held) v in
+    features_kept most policy.tries u u.features refl some low (channels_kept most policy.tries (map (λ held. held.own) v.held) v some low so_far)
+
+one_kept : (policy : Policy) (most : ℕ) (more : Occurrence) (v : Channels) (firing : Bool) → is_firing more ≡ firing → 1 ≤ most → policy.tries ≤ most → find (has_own v.next) v.held ≡ None → Distinct own_of v.held → Kept most v → Kept most (value_after policy more v)
+one_kept policy most more v false is some low none lone so_far = kept most v (value_after policy more v) some (one_tame policy more v is none lone) so_far
+one_kept policy most (Comes pdu) v true is some low none lone so_far = cc
+one_kept policy most (Connects psm) v true is some low none lone so_far = cc
+one_kept policy most AsksFeatures v true is some low none lone so_far = cc
+one_kept policy most (Disconnects own) v true is some low none lone so_far = cc
+one_kept policy most (Sends own sdu) v true is some low none lone so_far = cc
+one_kept policy most (Gives pdu) v true is some low none lone so_far = cc
+one_kept policy most Fires v true is some low none lone so_far = timed_kept policy most v some low so_far
+one_kept policy most Tells v true is some low none lone so_far = cc
+
+first_kept : (most : ℕ) → Kept most new_link.value
+first_kept most (errands.Connection own) r is = cc
+first_kept most (errands.Configuration own) r is = cc
+first_kept most (errands.Disconnection own) r is = cc
+first_kept most errands.Features r is = cc
+
+pub tries-are_kept : TriesAreKept
+tries-are_kept policy list most some low =
+    (along policy (λ run. Kept most run.value) (first_kept most) (λ run more sound so_far. one_kept policy most more run.value (is_firing more) refl some low (sound.core.held_below run.value.next (omega arith)) sound.core.lone so_far) list).1
+
+pub firings-alone_repeat : FiringsAloneRepeat
+firings-alone_repeat policy list more other errand request is =
+    let run : Run = run_of policy list in
+    let sound : IsSound policy run = all-sound policy list in
+    one_tame policy more run.value other (sound.core.held_below run.value.next (omega arith)) sound.core.lone errand request is
