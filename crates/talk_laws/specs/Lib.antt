@@ -9,3 +9,4 @@ pub mod Objects
 pub mod CheckWords
 pub mod Captures
 pub mod Silences
+pub mod Peaks

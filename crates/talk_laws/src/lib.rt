@@ -7,6 +7,7 @@ ghost use Rattle.talk_laws.specs.Captures.{OnlyMovesTell};
 ghost use Rattle.talk_laws.specs.CheckWords.{CheckWordsLookBack};
 ghost use Rattle.talk_laws.specs.Exchanges.{ExchangesGrow, ExchangesLookBack};
 ghost use Rattle.talk_laws.specs.Objects.{ObjectsGrow};
+ghost use Rattle.talk_laws.specs.Peaks.{PeaksGrow};
 ghost use Rattle.talk_laws.specs.Sdus.{SdusGrow, SdusLookBack};
 ghost use Rattle.talk_laws.specs.ServiceAnswers.{ServiceAnswersLookBack};
 ghost use Rattle.talk_laws.specs.Silences.{SilencesGrow, SilencesLookBack};
@@ -70,4 +71,10 @@ pub fn only_moves_tell()
 /// The packets and objects on a channel only gain, over RFCOMM too.
 pub fn objects_only_grow()
     ensures { ObjectsGrow }
+{}
+
+/// A peak of I-frames or of credits with one entry more is the greater of the peak before it and of what
+/// is held behind it.
+pub fn peaks_grow()
+    ensures { PeaksGrow }
 {}
