@@ -10,3 +10,4 @@ pub mod CheckWords
 pub mod Captures
 pub mod Silences
 pub mod Peaks
+pub mod Stretches

@@ -12,6 +12,7 @@ ghost use Rattle.talk_laws.specs.Sdus.{SdusGrow, SdusLookBack};
 ghost use Rattle.talk_laws.specs.ServiceAnswers.{ServiceAnswersLookBack};
 ghost use Rattle.talk_laws.specs.Silences.{SilencesGrow, SilencesLookBack};
 ghost use Rattle.talk_laws.specs.Setups.{SetupsLookBack};
+ghost use Rattle.talk_laws.specs.Stretches.{ObjectsFallIntoStretches};
 ghost use Rattle.talk_laws.specs.Waits.{CountsGrow, WaitsGrow, WaitsLookBack};
 
 /// What both sides agree on of a channel is what they asked for and accepted last before it opened.
@@ -77,4 +78,9 @@ pub fn objects_only_grow()
 /// is held behind it.
 pub fn peaks_grow()
     ensures { PeaksGrow }
+{}
+
+/// Within any longest packet the objects are those of the stretches into which the packets fall.
+pub fn objects_fall_into_stretches()
+    ensures { ObjectsFallIntoStretches }
 {}
