@@ -12,3 +12,4 @@ pub mod Captures
 pub mod Silences
 pub mod Peaks
 pub mod Stretches
+pub mod Unanswered

@@ -11,3 +11,4 @@ pub mod Captures
 pub mod Silences
 pub mod Peaks
 pub mod Stretches
+pub mod Unanswered

@@ -13,6 +13,7 @@ ghost use Rattle.talk_laws.specs.ServiceAnswers.{ServiceAnswersLookBack};
 ghost use Rattle.talk_laws.specs.Silences.{SilencesGrow, SilencesLookBack};
 ghost use Rattle.talk_laws.specs.Setups.{SetupsLookBack};
 ghost use Rattle.talk_laws.specs.Stretches.{ObjectsFallIntoStretches};
+ghost use Rattle.talk_laws.specs.Unanswered.{RequestsLookBack};
 ghost use Rattle.talk_laws.specs.Waits.{CountsGrow, WaitsGrow, WaitsLookBack};
 
 /// What both sides agree on of a channel is what they asked for and accepted last before it opened.
@@ -83,4 +84,10 @@ pub fn peaks_grow()
 /// Within any longest packet the objects are those of the stretches into which the packets fall.
 pub fn objects_fall_into_stretches()
     ensures { ObjectsFallIntoStretches }
+{}
+
+/// A request for information waits, or one for options on a channel, where no answer stands behind the
+/// last of its kind.
+pub fn requests_look_back()
+    ensures { RequestsLookBack }
 {}
