@@ -1,80 +1,47 @@
 -- Answers of service discovery, looking back and in one pass.
-use Rattle.std.proofs.Common.{◌≡◌, ℕ, List, [], ◌∷◌, ◌++◌, fold, Bool, true, false, cond, ◌||◌, not, Option, Some, None, refl, sym, ap, subst, ◌∙◌, append_assoc, append-nil}
-use Rattle.std.specs.Prelude.{is_some}
+use Rattle.std.proofs.Common.{◌≡◌, ℕ, List, [], ◌∷◌, ◌++◌, Bool, true, false, cond, ◌||◌, not, Option, Some, None, refl, sym, ap, subst, ◌∙◌, append_assoc, append-nil}
 use Rattle.std.specs.Option.{option_or}
-use Rattle.std.specs.List.{filter_map, flat_map, list_any, AllByRecursion}
-use Rattle.std.proofs.lemmas.List.Folds.{list_any-append}
-use Rattle.std.proofs.lemmas.List.Sums.{fold-append}
+use Rattle.std.specs.List.{flat_map, AllByRecursion}
 use Rattle.std.proofs.lemmas.Grind.{flat_map-append}
 use Rattle.capture.specs.declared.flow.Flow.{Flow}
 use Rattle.capture.specs.declared.flow.Flow.TheVariants.{Out, Into}
-use Rattle.capture.specs.Channels.{last_of}
 use Rattle.capture.specs.Histories.{each_after}
 use Rattle.sdp_elements.specs.Pdus.{pdu_in}
 use Rattle.sdp_client.specs.Replies.{PlainPart, is_of_another}
 use Rattle.link_talk.specs.Sdus.{Spoken}
 use Rattle.link_talk.specs.ServiceAnswers.{transaction_of, waiting_with, waiting_after, part_with, parts_from, is_last, joined_from, answers_in}
 use Rattle.link_talk.specs.ServiceAnswers as link
-use Rattle.talk_laws.specs.Lists.{behind_last}
-use Rattle.talk_laws.specs.ServiceAnswers.{asked, asks, replies, unless_replied, unanswered, part_behind, parts, AreJoined, ServiceAnswersLookBack}
-use Rattle.talk_laws.proofs.Passes.{from_end, last_picked, behind_last-more}
+use Rattle.talk_laws.specs.Unanswered.{unless_answered}
+use Rattle.talk_laws.specs.ServiceAnswers.{asked, replies, unanswered, part_behind, parts, AreJoined, ServiceAnswersLookBack}
+use Rattle.talk_laws.proofs.Unanswered.{waiting_behind, unanswered-more, pass-finds}
 
 -- ---- which request waits
-
-none_more : (b : Bool) → (b || (false || false)) ≡ b
-none_more true = refl
-none_more false = refl
-
-more_by : (transaction : ℕ) (any another : Bool) → cond (any || (not another || false)) None (Some transaction) ≡ cond any None (cond another (Some transaction) None)
-more_by transaction true another = refl
-more_by transaction false true = refl
-more_by transaction false false = refl
 
 abbrev sdu : Flow → List ℕ → Spoken
 sdu flow octets = record { flow = flow; octets = octets }
 
-since_more : (past : List Spoken) (more : Spoken) (found : Option ℕ) → asked more ≡ found → behind_last asks (past ++ more ∷ []) ≡ cond (is_some found) [] (behind_last asks past ++ more ∷ [])
-since_more past more found is = behind_last-more asks past more ∙ ap (λ o. cond (is_some o) [] (behind_last asks past ++ more ∷ [])) is
+out_is : (waiting : Option ℕ) (octets : List ℕ) (found : Option ℕ) → link.asked_by waiting found ≡ option_or found (unless_answered replies (sdu Out octets ∷ []) waiting)
+out_is None octets None = refl
+out_is (Some transaction) octets None = refl
+out_is waiting octets (Some transaction) = refl
 
-asked_more : (past : List Spoken) (more : Spoken) (found : Option ℕ) → asked more ≡ found
-    → unanswered (past ++ more ∷ []) ≡ unless_replied (cond (is_some found) [] (behind_last asks past ++ more ∷ [])) (option_or found (last_of (filter_map asked past)))
-asked_more past more found is =
-    ap (λ since. unless_replied since (last_of (filter_map asked (past ++ more ∷ [])))) (since_more past more found is)
-    ∙ ap (unless_replied (cond (is_some found) [] (behind_last asks past ++ more ∷ []))) (last_picked asked past more ∙ ap (λ o. option_or o (last_of (filter_map asked past))) is)
+came_by : (transaction : ℕ) (another : Bool) → cond another (Some transaction) None ≡ cond (not another || false) None (Some transaction)
+came_by transaction true = refl
+came_by transaction false = refl
 
-out_quiet : (since : List Spoken) (octets : List ℕ) (last : Option ℕ) → unless_replied (since ++ sdu Out octets ∷ []) last ≡ unless_replied since last
-out_quiet since octets None = refl
-out_quiet since octets (Some transaction) =
-    ap (λ b. cond b None (Some transaction)) (list_any-append (replies transaction) since (sdu Out octets ∷ []) ∙ none_more (list_any (replies transaction) since))
+came_is : (waiting : Option ℕ) (octets : List ℕ) → link.answered_by waiting octets ≡ unless_answered replies (sdu Into octets ∷ []) waiting
+came_is None octets = refl
+came_is (Some transaction) octets = came_by transaction (is_of_another octets transaction)
 
-came_by : (since : List Spoken) (octets : List ℕ) (last : Option ℕ) → unless_replied (since ++ sdu Into octets ∷ []) last ≡ waiting_with Into (unless_replied since last) octets
-came_by since octets None = refl
-came_by since octets (Some transaction) =
-    ap (λ b. cond b None (Some transaction)) (list_any-append (replies transaction) since (sdu Into octets ∷ []))
-    ∙ (more_by transaction (list_any (replies transaction) since) (is_of_another octets transaction) ∙ found (list_any (replies transaction) since))
+after_is : (waiting : Option ℕ) (more : Spoken) → waiting_after waiting more ≡ waiting_behind asked replies waiting more
+after_is waiting more = by_flow more.flow more.octets
   where
-    found : (any : Bool) → cond any None (cond (is_of_another octets transaction) (Some transaction) None) ≡ waiting_with Into (cond any None (Some transaction)) octets
-    found true = refl
-    found false = refl
-
-out_by : (past : List Spoken) (octets : List ℕ) (found : Option ℕ) → transaction_of (pdu_in octets) ≡ found → unanswered (past ++ sdu Out octets ∷ []) ≡ waiting_with Out (unanswered past) octets
-out_by past octets None is =
-    asked_more past (sdu Out octets) None is
-    ∙ (out_quiet (behind_last asks past) octets (last_of (filter_map asked past)) ∙ sym (ap (link.asked_by (unanswered past)) is))
-out_by past octets (Some transaction) is =
-    asked_more past (sdu Out octets) (Some transaction) is ∙ sym (ap (link.asked_by (unanswered past)) is)
+    by_flow : (flow : Flow) (octets : List ℕ) → waiting_with flow waiting octets ≡ waiting_behind asked replies waiting (sdu flow octets)
+    by_flow Out octets = out_is waiting octets (transaction_of (pdu_in octets))
+    by_flow Into octets = came_is waiting octets
 
 with_more : (past : List Spoken) (more : Spoken) → unanswered (past ++ more ∷ []) ≡ waiting_after (unanswered past) more
-with_more past more = by_flow more.flow more.octets
-  where
-    by_flow : (flow : Flow) (octets : List ℕ) → unanswered (past ++ sdu flow octets ∷ []) ≡ waiting_with flow (unanswered past) octets
-    by_flow Out octets = out_by past octets (transaction_of (pdu_in octets)) refl
-    by_flow Into octets = asked_more past (sdu Into octets) None refl ∙ came_by (behind_last asks past) octets (last_of (filter_map asked past))
-
-waiting-all : (sdus : List Spoken) → fold waiting_after None sdus ≡ unanswered sdus
-waiting-all sdus =
-    from_end (λ past. fold waiting_after None past ≡ unanswered past) refl
-    (λ past more held. fold-append waiting_after None past (more ∷ []) ∙ (ap (λ w. waiting_after w more) held ∙ sym (with_more past more))) sdus
+with_more past more = unanswered-more asked replies past more ∙ sym (after_is (unanswered past) more)
 
 -- ---- the parts
 
@@ -133,7 +100,7 @@ only_joined parts (answer ∷ answers) (front, last, behind, is, all, ends, whol
 
 pub service_answers-look_back : ServiceAnswersLookBack
 service_answers-look_back = record {
-  waits = waiting-all;
+  waits = pass-finds asked replies waiting_after after_is;
   joined = λ sdus. subst (λ ps. AreJoined ps (answers_in sdus)) (parts-are sdus) (joined_behind (parts_from None sdus) [] tt);
   only = λ sdus answers are. only_joined (parts sdus) answers are ∙ ap (joined_from []) (sym (parts-are sdus));
 }

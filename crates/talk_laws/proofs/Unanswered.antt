@@ -1,21 +1,17 @@
--- Which request waits, looking back and in one pass.
-use Rattle.std.proofs.Common.{◌≡◌, ℕ, eqb, List, [], ◌∷◌, ◌++◌, fold, Bool, true, false, cond, ◌||◌, Option, Some, None, refl, sym, ap, ◌∙◌}
+-- Which request of a kind waits, looking back and in one pass.
+use Rattle.std.proofs.Common.{◌≡◌, ℕ, List, [], ◌∷◌, ◌++◌, fold, Bool, true, false, cond, ◌||◌, Option, Some, None, refl, sym, ap, ◌∙◌}
 use Rattle.std.specs.Prelude.{is_some}
 use Rattle.std.specs.Option.{option_or}
 use Rattle.std.specs.List.{filter_map, list_any}
 use Rattle.std.proofs.lemmas.List.Folds.{list_any-append}
 use Rattle.std.proofs.lemmas.List.Sums.{fold-append}
 use Rattle.capture.specs.Channels.{last_of}
-use Rattle.capture.specs.Histories.{given_by}
-use Rattle.link_talk.specs.Waits.{Notice, AsksInformation, InformationEnds, notice, noticed, Demand, AsksOptions, OptionsAnswered, OptionsImplied, demand, demanded}
 use Rattle.talk_laws.specs.Lists.{behind_last}
-use Rattle.talk_laws.specs.Unanswered.{unless_answered, last_unanswered, information_asked, ends_information, options_asked, answers_options, RequestsLookBack}
+use Rattle.talk_laws.specs.Unanswered.{unless_answered, last_unanswered}
 use Rattle.talk_laws.proofs.Passes.{from_end, last_picked, behind_last-more}
 
--- ---- any kind of request
-
 -- one thing more: it asks, or it may answer what waits
-abbrev waiting_behind : {X : Type 0} → (X → Option ℕ) → (ℕ → X → Bool) → Option ℕ → X → Option ℕ
+abbrev pub waiting_behind : {X : Type 0} → (X → Option ℕ) → (ℕ → X → Bool) → Option ℕ → X → Option ℕ
 waiting_behind asked answers waiting x = option_or (asked x) (unless_answered answers (x ∷ []) waiting)
 
 unless_by : {X : Type 0} (answers : ℕ → X → Bool) (x : X) (identifier : ℕ) (any : Bool)
@@ -34,7 +30,7 @@ found_by : {X : Type 0} (answers : ℕ → X → Bool) (since : List X) (x : X) 
 found_by answers since x last None = unless_more answers since x last
 found_by answers since x last (Some identifier) = refl
 
-unanswered-more : {X : Type 0} (asked : X → Option ℕ) (answers : ℕ → X → Bool) (past : List X) (x : X)
+pub unanswered-more : {X : Type 0} (asked : X → Option ℕ) (answers : ℕ → X → Bool) (past : List X) (x : X)
     → last_unanswered asked answers (past ++ x ∷ []) ≡ waiting_behind asked answers (last_unanswered asked answers past) x
 unanswered-more asked answers past x =
     ap (λ since. unless_answered answers since (last_of (filter_map asked (past ++ x ∷ [])))) (behind_last-more (λ one. is_some (asked one)) past x)
@@ -42,32 +38,8 @@ unanswered-more asked answers past x =
     ∙ found_by answers (behind_last (λ one. is_some (asked one)) past) x (last_of (filter_map asked past)) (asked x))
 
 -- a pass whose steps are these finds it
-pass-finds : {X : Type 0} (asked : X → Option ℕ) (answers : ℕ → X → Bool) (step : Option ℕ → X → Option ℕ) → ((waiting : Option ℕ) (x : X) → step waiting x ≡ waiting_behind asked answers waiting x)
+pub pass-finds : {X : Type 0} (asked : X → Option ℕ) (answers : ℕ → X → Bool) (step : Option ℕ → X → Option ℕ) → ((waiting : Option ℕ) (x : X) → step waiting x ≡ waiting_behind asked answers waiting x)
     → (list : List X) → fold step None list ≡ last_unanswered asked answers list
 pass-finds asked answers step steps list =
     from_end (λ past. fold step None past ≡ last_unanswered asked answers past) refl
     (λ past x held. fold-append step None past (x ∷ []) ∙ (ap (λ w. step w x) held ∙ (steps (last_unanswered asked answers past) x ∙ sym (unanswered-more asked answers past x)))) list
-
--- ---- information and options
-
-same_by : (waiting : ℕ) (same : Bool) → cond same None (Some waiting) ≡ cond (same || false) None (Some waiting)
-same_by waiting true = refl
-same_by waiting false = refl
-
-noticed_is : (waiting : Option ℕ) (one : Notice) → noticed waiting one ≡ waiting_behind information_asked ends_information waiting one
-noticed_is waiting (AsksInformation identifier) = refl
-noticed_is None (InformationEnds identifier) = refl
-noticed_is (Some waiting) (InformationEnds identifier) = same_by waiting (eqb waiting identifier)
-
-demanded_is : (waiting : Option ℕ) (one : Demand) → demanded waiting one ≡ waiting_behind options_asked answers_options waiting one
-demanded_is waiting (AsksOptions identifier) = refl
-demanded_is None (OptionsAnswered identifier) = refl
-demanded_is (Some waiting) (OptionsAnswered identifier) = same_by waiting (eqb waiting identifier)
-demanded_is None OptionsImplied = refl
-demanded_is (Some waiting) OptionsImplied = refl
-
-pub requests-look_back : RequestsLookBack
-requests-look_back = record {
-  information = λ said. ap is_some (pass-finds information_asked ends_information noticed noticed_is (filter_map notice said));
-  options = λ party said channel. ap is_some (pass-finds options_asked answers_options demanded demanded_is (given_by (demand party channel) said));
-}

@@ -1,6 +1,7 @@
 pub mod Lists
 pub mod Setups
 pub mod Exchanges
+pub mod Unanswered
 pub mod ServiceAnswers
 pub mod Sdus
 pub mod Accounts
@@ -11,4 +12,4 @@ pub mod Captures
 pub mod Silences
 pub mod Peaks
 pub mod Stretches
-pub mod Unanswered
+pub mod Requests

@@ -1,15 +1,14 @@
 -- The answers of service discovery on a channel, looking back from each reply (Core 5.1, Volume 3 Part B, 4.2, 4.3 and 4.7).
-use Rattle.std.specs.Prelude.{ℕ, ◌≡◌, not, Bool, true, false, List, [], ◌∷◌, ◌++◌, fold, Option, Some, None, is_some, if◌then◌else◌}
-use Rattle.std.specs.List.{filter_map, flat_map, list_any, AllByRecursion}
+use Rattle.std.specs.Prelude.{ℕ, ◌≡◌, not, Bool, true, false, List, [], ◌∷◌, ◌++◌, fold, Option, None}
+use Rattle.std.specs.List.{flat_map, AllByRecursion}
 use Rattle.capture.specs.declared.flow.Flow.{Flow}
 use Rattle.capture.specs.declared.flow.Flow.TheVariants.{Out, Into}
-use Rattle.capture.specs.Channels.{last_of}
 use Rattle.capture.specs.Histories.{given_by}
 use Rattle.sdp_elements.specs.Pdus.{pdu_in}
 use Rattle.sdp_client.specs.Replies.{PlainPart, is_of_another}
 use Rattle.link_talk.specs.Sdus.{Spoken}
 use Rattle.link_talk.specs.ServiceAnswers.{transaction_of, waiting_after, part_with, is_last, answers_in}
-use Rattle.talk_laws.specs.Lists.{behind_last}
+use Rattle.talk_laws.specs.Unanswered.{last_unanswered}
 
 -- ---- which request waits
 
@@ -21,9 +20,6 @@ asked_by Into octets = None
 abbrev pub asked : Spoken → Option ℕ
 asked sdu = asked_by sdu.flow sdu.octets
 
-abbrev pub asks : Spoken → Bool
-asks sdu = is_some (asked sdu)
-
 -- a reply of the peer that has no other transaction
 abbrev pub replied_by : Flow → ℕ → List ℕ → Bool
 replied_by Out transaction octets = false
@@ -32,13 +28,9 @@ replied_by Into transaction octets = not (is_of_another octets transaction)
 abbrev pub replies : ℕ → Spoken → Bool
 replies transaction sdu = replied_by sdu.flow transaction sdu.octets
 
-abbrev pub unless_replied : List Spoken → Option ℕ → Option ℕ
-unless_replied since None = None
-unless_replied since (Some transaction) = if list_any (replies transaction) since then None else Some transaction
-
 -- the transaction of the last request, if no reply to it stands behind it
 abbrev pub unanswered : List Spoken → Option ℕ
-unanswered sdus = unless_replied (behind_last asks sdus) (last_of (filter_map asked sdus))
+unanswered sdus = last_unanswered asked replies sdus
 
 -- ---- the parts, and the answers
 

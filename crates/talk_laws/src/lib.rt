@@ -8,12 +8,12 @@ ghost use Rattle.talk_laws.specs.CheckWords.{CheckWordsLookBack};
 ghost use Rattle.talk_laws.specs.Exchanges.{ExchangesGrow, ExchangesLookBack};
 ghost use Rattle.talk_laws.specs.Objects.{ObjectsGrow};
 ghost use Rattle.talk_laws.specs.Peaks.{PeaksGrow};
+ghost use Rattle.talk_laws.specs.Requests.{RequestsLookBack};
 ghost use Rattle.talk_laws.specs.Sdus.{SdusGrow, SdusLookBack};
 ghost use Rattle.talk_laws.specs.ServiceAnswers.{ServiceAnswersLookBack};
 ghost use Rattle.talk_laws.specs.Silences.{SilencesGrow, SilencesLookBack};
 ghost use Rattle.talk_laws.specs.Setups.{SetupsLookBack};
 ghost use Rattle.talk_laws.specs.Stretches.{ObjectsFallIntoStretches};
-ghost use Rattle.talk_laws.specs.Unanswered.{RequestsLookBack};
 ghost use Rattle.talk_laws.specs.Waits.{CountsGrow, WaitsGrow, WaitsLookBack};
 
 /// What both sides agree on of a channel is what they asked for and accepted last before it opened.

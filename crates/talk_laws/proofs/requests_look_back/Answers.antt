@@ -1,4 +1,4 @@
-use Rattle.talk_laws.proofs.Unanswered.{requests-look_back}
+use Rattle.talk_laws.proofs.Requests.{requests-look_back}
 use Rattle.talk_laws.proofs.requests_look_back.Goals as goal
 
 pub returns : goal.returns
