@@ -42,3 +42,4 @@ pub mod Informing
 pub mod Trying
 pub mod Sparing
 pub mod Spending
+pub mod Demanding
