@@ -43,3 +43,4 @@ pub mod Trying
 pub mod Sparing
 pub mod Spending
 pub mod Demanding
+pub mod Wishing
