@@ -106,6 +106,9 @@ ends_rest v held reason (Leaving peer setup request) = gone_rests v (ends_at (Le
 ends_rest v held reason (Closing peer request) = gone_rests v (ends_at (Closing peer request) reason held v) held refl
 ends_rest v held reason (Crossed peer request) = gone_rests v (ends_at (Crossed peer request) reason held v) held refl
 
+pub closes-rests : (v : Channels) (held : Held) (reason : CloseReason) → find (has_own held.own) v.held ≡ Some held → Rests v (closes reason held v)
+closes-rests v held reason found = closes_rests v held reason held.stage found
+
 pub disconnection-rests : (v : Channels) (own peer : ℕ) (held : Option Held) → held_at own v ≡ held → Rests v (follows_disconnection held peer v)
 disconnection-rests v own peer None at = same-rests v v refl
 disconnection-rests v own peer (Some held) at = either (is_peer peer held.stage) v (peer_closes_at held.stage held v) v (peer_rests v held held.stage (found-own own v held at)) (same-rests v v refl)

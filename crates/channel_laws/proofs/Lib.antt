@@ -44,3 +44,4 @@ pub mod Sparing
 pub mod Spending
 pub mod Demanding
 pub mod Wishing
+pub mod Anew
