@@ -45,3 +45,4 @@ pub mod Spending
 pub mod Demanding
 pub mod Wishing
 pub mod Anew
+pub mod Accepting
