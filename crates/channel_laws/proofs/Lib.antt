@@ -46,3 +46,4 @@ pub mod Demanding
 pub mod Wishing
 pub mod Anew
 pub mod Accepting
+pub mod Replies
