@@ -42,3 +42,8 @@ pub mod Informing
 pub mod Trying
 pub mod Sparing
 pub mod Spending
+pub mod Demanding
+pub mod Wishing
+pub mod Anew
+pub mod Accepting
+pub mod Replies
