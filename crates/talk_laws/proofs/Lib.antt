@@ -7,7 +7,11 @@ pub mod Sdus
 pub mod Accounts
 pub mod Owning
 pub mod Waits
+pub mod Streams
 pub mod Objects
+pub mod Packets
+pub mod Spelling
+pub mod LinkObjects
 pub mod CheckWords
 pub mod Captures
 pub mod Silences

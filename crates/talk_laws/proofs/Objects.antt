@@ -1,16 +1,15 @@
 -- Packets and objects with more of them.
-use Rattle.std.proofs.Common.{◌≡◌, ℕ, List, [], ◌∷◌, ◌++◌, length, drop, map, Bool, true, false, cond, ◌||◌, ◌&&◌, Option, Some, None, Ok, Err, inl, arith, refl, sym, ap, ◌∙◌, append_assoc, append-nil}
-use Rattle.std.specs.List.{flat_map, cons_option, AllByRecursion}
+use Rattle.std.proofs.Common.{◌≡◌, ℕ, List, [], ◌∷◌, ◌++◌, map, fold, Bool, true, false, cond, Option, Some, None, Ok, Err, refl, sym, ap, ◌∙◌, append_assoc, append-nil}
+use Rattle.std.specs.List.{cons_option}
 use Rattle.std.proofs.lemmas.List.{map-append}
 use Rattle.std.proofs.lemmas.List.Elements.{filter_map-append}
-use Rattle.std.proofs.lemmas.Grind.{flat_map-append}
 use Rattle.bt_base.specs.Objects.{Object}
 use Rattle.capture.specs.declared.flow.Flow.{Flow}
 use Rattle.capture.specs.declared.flow.Flow.TheVariants.{Out, Into}
 use Rattle.capture.specs.Histories.{each_after, given_by}
 use Rattle.capture.proofs.HistoryLaws.{each_after-append, given_by-more}
 use Rattle.obex_headers.specs.Packets.{PlainPacket}
-use Rattle.obex_headers.specs.Runs.{is_final, run_headers, breaks, lacks, object_of, objects_from}
+use Rattle.obex_headers.specs.Runs.{is_final, run_headers, object_of, objects_from}
 use Rattle.rfcomm_frames.specs.declared.connection.Role.{Role}
 use Rattle.rfcomm_frames.specs.declared.connection.Role.TheVariants.{Initiator, Responder}
 use Rattle.rfcomm_frames.specs.Answers.{Answer}
@@ -20,10 +19,9 @@ use Rattle.rfcomm_frames.specs.Multiplexing.{Passed, Framed, framed, frames, no_
 use Rattle.rfcomm_frames.specs.Ending.{no_course, has_last, to_closing}
 use Rattle.rfcomm_frames.specs.UserChannel.{user_octets}
 use Rattle.rfcomm_frames.specs.LookingBack.{connections}
-use Rattle.rfcomm_frames.specs.ObexPackets.{IsPacket, AreObexPackets, obex_packets}
+use Rattle.rfcomm_frames.specs.ObexPackets.{obex_packets}
 use Rattle.rfcomm_frames.proofs.Ending.{counting, to_closing-more}
 use Rattle.rfcomm_frames.proofs.LookingBack.{looks-back}
-use Rattle.rfcomm_frames.proofs.ObexSplits.{obex_packets-right, obex_packets-one}
 use Rattle.link_talk.specs.declared.channel.Channel.{Channel}
 use Rattle.link_talk.specs.declared.party.Party.{Party}
 use Rattle.link_talk.specs.Sayings.{Saying}
@@ -35,45 +33,28 @@ use Rattle.link_talk.specs.Carriages.{is_heard, carried as heard, stretch, mode_
 use Rattle.talk_laws.specs.Sdus.{ears_so_far, spoken_from}
 use Rattle.talk_laws.specs.Objects.{GrowsTo, ObjectsGrow}
 use Rattle.talk_laws.proofs.Passes.{from_end}
+use Rattle.talk_laws.specs.Packets.{rest_of}
+use Rattle.talk_laws.specs.Spelling.{is_refused, run_with}
 use Rattle.talk_laws.proofs.Waits.{spoken-more}
+use Rattle.talk_laws.proofs.Streams.{drop_front, stream-splits, no_stream}
 
 -- ---- streams
 
-all_both : {X : Type 0} (P : X → Type 0) (xs ys : List X) → AllByRecursion P xs → AllByRecursion P ys → AllByRecursion P (xs ++ ys)
-all_both P [] ys first second = second
-all_both P (x ∷ xs) ys (now, first) second = (now, all_both P xs ys first second)
-
 stream-grows : (xs ys : List ℕ) → GrowsTo (obex_packets xs) (obex_packets (xs ++ ys))
-stream-grows xs ys =
-    let before = obex_packets-right xs in
-    let later = obex_packets-right (before.rest ++ ys) in
-    let old = obex_packets xs in
-    let new = obex_packets (before.rest ++ ys) in
-    let all : AreObexPackets (xs ++ ys) (old ++ new) = record {
-      rest = later.rest;
-      whole =
-          ap (λ zs. zs ++ ys) before.whole
-          ∙ (append_assoc (flat_map (λ packet. packet) old) before.rest ys
-          ∙ (ap (λ zs. flat_map (λ (packet : List ℕ). packet) old ++ zs) later.whole
-          ∙ (sym (append_assoc (flat_map (λ packet. packet) old) (flat_map (λ packet. packet) new) later.rest)
-          ∙ ap (λ zs. zs ++ later.rest) (sym (flat_map-append (λ (packet : List ℕ). packet) old new)))));
-      each = all_both IsPacket old new before.each later.each;
-      no_more = later.no_more;
-    } in
-    record { more = new; grown = sym (obex_packets-one (xs ++ ys) (old ++ new) all) }
+stream-grows xs ys = record { more = obex_packets (rest_of xs ++ ys); grown = (stream-splits xs ys).0 }
 
 -- ---- octets on the user channel
 
 -- the frames of the own multiplexer up to its closing
-abbrev live : Party → List Framed → List Framed
+abbrev pub live : Party → List Framed → List Framed
 live party fs = to_closing party.dlci party.role no_course fs
 
 -- what a frame brings behind those before it
-abbrev brought_live : ℕ → Role → List Framed → Option Framed → List ℕ
+abbrev pub brought_live : ℕ → Role → List Framed → Option Framed → List ℕ
 brought_live dlci way fs None = []
 brought_live dlci way fs (Some f) = cond (carries_on (connections dlci fs)) (information dlci way f) []
 
-abbrev brought : Party → Role → List Framed → Option Framed → List ℕ
+abbrev pub brought : Party → Role → List Framed → Option Framed → List ℕ
 brought party way fs frame = brought_live party.dlci way (live party fs) (counting (has_last party.dlci party.role no_course fs) frame)
 
 carried_option : (dlci : ℕ) (way : Role) (fs : List Framed) (frame : Option Framed)
@@ -87,21 +68,21 @@ live_more party way fs frame =
     ap (carried party.dlci way no_connections) (to_closing-more party.dlci party.role no_course fs frame)
     ∙ carried_option party.dlci way (live party fs) (counting (has_last party.dlci party.role no_course fs) frame)
 
-abbrev framed_by : Party → Spoken → Option Framed
+abbrev pub framed_by : Party → Spoken → Option Framed
 framed_by party sdu = framed (role_of party sdu.flow) (frame_answer sdu.octets)
 
-abbrev all_frames : Party → List Spoken → List Framed
+abbrev pub all_frames : Party → List Spoken → List Framed
 all_frames party sdus = frames (map (passed party) sdus)
 
-frames_more : (party : Party) (past : List Spoken) (more : Spoken) → all_frames party (past ++ more ∷ []) ≡ all_frames party past ++ cons_option (framed_by party more) []
+pub frames_more : (party : Party) (past : List Spoken) (more : Spoken) → all_frames party (past ++ more ∷ []) ≡ all_frames party past ++ cons_option (framed_by party more) []
 frames_more party past more =
     ap frames (map-append (passed party) past (more ∷ []))
     ∙ filter_map-append (λ (p : Passed). framed p.from (frame_answer p.sdu)) (map (passed party) past) (passed party more ∷ [])
 
-abbrev stream : Party → Flow → List Spoken → List ℕ
+abbrev pub stream : Party → Flow → List Spoken → List ℕ
 stream party flow sdus = user_octets party.dlci party.role (role_of party flow) (map (passed party) sdus)
 
-stream_more : (party : Party) (flow : Flow) (past : List Spoken) (more : Spoken)
+pub stream_more : (party : Party) (flow : Flow) (past : List Spoken) (more : Spoken)
     → stream party flow (past ++ more ∷ []) ≡ stream party flow past ++ brought party (role_of party flow) (all_frames party past) (framed_by party more)
 stream_more party flow past more =
     ap (λ fs. carried party.dlci (role_of party flow) no_connections (live party fs)) (frames_more party past more)
@@ -136,10 +117,6 @@ packets-grow : (party : Party) (flow : Flow) (past : List Spoken) (more : Spoken
 packets-grow party flow past more =
     let grows = stream-grows (stream party flow past) (brought party (role_of party flow) (all_frames party past) (framed_by party more)) in
     record { more = grows.more; grown = ap obex_packets (stream_more party flow past more) ∙ grows.grown }
-
-drop_front : {X : Type 0} (xs ys : List X) → drop (length xs) (xs ++ ys) ≡ ys
-drop_front [] ys = refl
-drop_front (x ∷ xs) ys = drop_front xs ys
 
 same_way : (flow : Flow) (list : List (List ℕ)) → spoken_one_way flow (map (spoken_as flow) list) ≡ list
 same_way Out [] = refl
@@ -192,42 +169,26 @@ whole_more party flow past more held =
     ∙ way_by party flow more.flow past more.octets))
 
 no_packets : (party : Party) (flow : Flow) → [] ≡ packets_over_rfcomm party flow []
-no_packets party flow = obex_packets-one [] [] (record { rest = []; whole = refl; each = tt; no_more = inl (omega arith) })
+no_packets party flow = sym no_stream.0
 
 -- ---- objects
 
--- the run behind packets
-abbrev is_refused : List PlainPacket → PlainPacket → Bool
-is_refused run put = breaks (run_headers (run ++ put ∷ [])) || (is_final put && lacks (run_headers (run ++ put ∷ [])))
+-- with one packet more in front
+chosen : (refused final : Bool) (object : Object) (next : List PlainPacket) (packets more : List (Option PlainPacket))
+    → objects_from [] (packets ++ more) ≡ objects_from [] packets ++ objects_from (fold run_with [] packets) more
+    → objects_from next (packets ++ more) ≡ objects_from next packets ++ objects_from (fold run_with next packets) more
+    → cond refused (objects_from [] (packets ++ more)) (cond final (object ∷ objects_from [] (packets ++ more)) (objects_from next (packets ++ more)))
+    ≡ cond refused (objects_from [] packets) (cond final (object ∷ objects_from [] packets) (objects_from next packets)) ++ objects_from (fold run_with (cond refused [] (cond final [] next)) packets) more
+chosen true final object next packets more anew on = anew
+chosen false true object next packets more anew on = ap (λ xs. object ∷ xs) anew
+chosen false false object next packets more anew on = on
 
-abbrev run_after : List PlainPacket → List (Option PlainPacket) → List PlainPacket
-run_after run [] = run
-run_after run (None ∷ rest) = run_after [] rest
-run_after run (Some put ∷ rest) = cond (is_refused run put) (run_after [] rest) (cond (is_final put) (run_after [] rest) (run_after (run ++ put ∷ []) rest))
-
-chosen : (refused final : Bool) (object : Object) (old_none old_on more_none more_on : List Object)
-    → cond refused (old_none ++ more_none) (cond final (object ∷ (old_none ++ more_none)) (old_on ++ more_on))
-    ≡ cond refused old_none (cond final (object ∷ old_none) old_on) ++ cond refused more_none (cond final more_none more_on)
-chosen true final object old_none old_on more_none more_on = refl
-chosen false true object old_none old_on more_none more_on = refl
-chosen false false object old_none old_on more_none more_on = refl
-
-from_chosen : (refused final : Bool) (none on : List PlainPacket) (more : List (Option PlainPacket))
-    → cond refused (objects_from none more) (cond final (objects_from none more) (objects_from on more)) ≡ objects_from (cond refused none (cond final none on)) more
-from_chosen true final none on more = refl
-from_chosen false true none on more = refl
-from_chosen false false none on more = refl
-
-objects_append : (run : List PlainPacket) (packets more : List (Option PlainPacket)) → objects_from run (packets ++ more) ≡ objects_from run packets ++ objects_from (run_after run packets) more
-objects_append run [] more = refl
-objects_append run (None ∷ packets) more = objects_append [] packets more
-objects_append run (Some put ∷ packets) more =
+pub objects-append : (run : List PlainPacket) (packets more : List (Option PlainPacket)) → objects_from run (packets ++ more) ≡ objects_from run packets ++ objects_from (fold run_with run packets) more
+objects-append run [] more = refl
+objects-append run (None ∷ packets) more = objects-append [] packets more
+objects-append run (Some put ∷ packets) more =
     let next = run ++ put ∷ [] in
-    let object = object_of (run_headers next) in
-    ap (λ xs. cond (is_refused run put) xs (cond (is_final put) (object ∷ xs) (objects_from next (packets ++ more)))) (objects_append [] packets more)
-    ∙ (ap (λ xs. cond (is_refused run put) (objects_from [] packets ++ objects_from (run_after [] packets) more) (cond (is_final put) (object ∷ (objects_from [] packets ++ objects_from (run_after [] packets) more)) xs)) (objects_append next packets more)
-    ∙ (chosen (is_refused run put) (is_final put) object (objects_from [] packets) (objects_from next packets) (objects_from (run_after [] packets) more) (objects_from (run_after next packets) more)
-    ∙ ap (λ xs. objects_from run (Some put ∷ packets) ++ xs) (from_chosen (is_refused run put) (is_final put) (run_after [] packets) (run_after next packets) more)))
+    chosen (is_refused run put) (is_final put) (object_of (run_headers next)) next packets more (objects-append [] packets more) (objects-append next packets more)
 
 -- ---- one saying more
 
@@ -248,8 +209,8 @@ objects_growing party channel said more =
     let old = map (put_within party.packet) (packets_heard party channel said) in
     let new = map (put_within party.packet) grows.more in
     record {
-      more = objects_from (run_after [] old) new;
-      grown = ap (objects_from []) (ap (map (put_within party.packet)) grows.grown ∙ map-append (put_within party.packet) (packets_heard party channel said) grows.more) ∙ objects_append [] old new;
+      more = objects_from (fold run_with [] old) new;
+      grown = ap (objects_from []) (ap (map (put_within party.packet)) grows.grown ∙ map-append (put_within party.packet) (packets_heard party channel said) grows.more) ∙ objects-append [] old new;
     }
 
 pub objects-grow : ObjectsGrow

@@ -25,7 +25,7 @@ Alone (entry ∷ entries) = (list_any (has_own entry.channel) entries ≡ false)
 
 -- ---- tests
 
-either_false : (a b : Bool) → (a || b) ≡ false → (a ≡ false) × (b ≡ false)
+pub either_false : (a b : Bool) → (a || b) ≡ false → (a ≡ false) × (b ≡ false)
 either_false true b is = cc
 either_false false b is = (refl, is)
 
@@ -33,14 +33,14 @@ both_true : (a b : Bool) → (a && b) ≡ true → a ≡ true
 both_true true b is = refl
 both_true false b is = is
 
-eqb_other : (m n : ℕ) → eqb m n ≡ false → eqb n m ≡ false
+pub eqb_other : (m n : ℕ) → eqb m n ≡ false → eqb n m ≡ false
 eqb_other m n is = by_test (eqb n m) refl
   where
     by_test : (b : Bool) → eqb n m ≡ b → b ≡ false
     by_test true same = sym (eq-eqb m n (sym (eqb-true n m same))) ∙ is
     by_test false same = refl
 
-some_is : {X : Type 0} (x y : X) → Some x ≡ Some y → x ≡ y
+pub some_is : {X : Type 0} (x y : X) → Some x ≡ Some y → x ≡ y
 some_is x y is = ap (λ o. unwrap_or o x) is
 
 -- ---- one meaning more

@@ -6,7 +6,10 @@ pub mod ServiceAnswers
 pub mod Sdus
 pub mod Accounts
 pub mod Waits
+pub mod Packets
 pub mod Objects
+pub mod Spelling
+pub mod LinkObjects
 pub mod CheckWords
 pub mod Captures
 pub mod Silences

@@ -6,13 +6,16 @@ ghost use Rattle.talk_laws.specs.Accounts.{AccountsGrow, AccountsLookBack};
 ghost use Rattle.talk_laws.specs.Captures.{OnlyMovesTell};
 ghost use Rattle.talk_laws.specs.CheckWords.{CheckWordsLookBack};
 ghost use Rattle.talk_laws.specs.Exchanges.{ExchangesGrow, ExchangesLookBack};
+ghost use Rattle.talk_laws.specs.LinkObjects.{LinkObjectsGrow, LinkObjectsLookBack, ObjectsFallToChannels};
 ghost use Rattle.talk_laws.specs.Objects.{ObjectsGrow};
+ghost use Rattle.talk_laws.specs.Packets.{PacketsGrow, PacketsLookBack};
 ghost use Rattle.talk_laws.specs.Peaks.{PeaksGrow};
 ghost use Rattle.talk_laws.specs.Requests.{RequestsLookBack};
 ghost use Rattle.talk_laws.specs.Sdus.{SdusGrow, SdusLookBack};
 ghost use Rattle.talk_laws.specs.ServiceAnswers.{ServiceAnswersLookBack};
 ghost use Rattle.talk_laws.specs.Silences.{SilencesGrow, SilencesLookBack};
 ghost use Rattle.talk_laws.specs.Setups.{SetupsLookBack};
+ghost use Rattle.talk_laws.specs.Spelling.{ChannelObjectsGrow, ChannelObjectsLookBack};
 ghost use Rattle.talk_laws.specs.Stretches.{ObjectsFallIntoStretches};
 ghost use Rattle.talk_laws.specs.Waits.{CountsGrow, WaitsGrow, WaitsLookBack};
 
@@ -70,9 +73,29 @@ pub fn only_moves_tell()
     ensures { OnlyMovesTell }
 {}
 
+/// The packets on a channel are found SDU by SDU, over RFCOMM too, on whatever channel.
+pub fn packets_look_back()
+    ensures back { PacketsLookBack }
+    ensures grow { PacketsGrow }
+{}
+
 /// The packets and objects on a channel only gain, over RFCOMM too.
 pub fn objects_only_grow()
     ensures { ObjectsGrow }
+{}
+
+/// So are the objects on a channel.
+pub fn channel_objects_look_back()
+    ensures back { ChannelObjectsLookBack }
+    ensures grow { ChannelObjectsGrow }
+{}
+
+/// The objects of a link are found saying by saying, each on the one channel that hears it; and they are
+/// those of its channels.
+pub fn link_objects_look_back()
+    ensures back { LinkObjectsLookBack }
+    ensures grow { LinkObjectsGrow }
+    ensures channels { ObjectsFallToChannels }
 {}
 
 /// A peak of I-frames or of credits with one entry more is the greater of the peak before it and of what

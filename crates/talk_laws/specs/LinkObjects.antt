@@ -1,0 +1,110 @@
+-- The objects of a link in one pass, and by its channels (IrOBEX 1.5, 3.4.3; Core 5.1, Volume 3 Part A, 3.1).
+use Rattle.std.specs.Prelude.{ℕ, ◌≡◌, ◌==◌, Bool, false, List, [], ◌∷◌, ◌++◌, length, map, drop, fold, find, Option, Some, None, if◌then◌else◌}
+use Rattle.std.specs.List.{filter_map, flat_map}
+use Rattle.bt_base.specs.Objects.{Object}
+use Rattle.capture.specs.declared.flow.Flow.TheVariants.{Out, Into}
+use Rattle.capture.specs.Histories.{given_by}
+use Rattle.link_talk.specs.declared.channel.Channel.{Channel}
+use Rattle.link_talk.specs.declared.party.Party.{Party}
+use Rattle.link_talk.specs.Sayings.{Saying, Command, Carried, GaveUp}
+use Rattle.link_talk.specs.Channels.{Entry, Reading, nothing_read, read_on, reading}
+use Rattle.link_talk.specs.Carriages.{Carriage, is_heard, taker, has_own}
+use Rattle.link_talk.specs.Gains.{beyond}
+use Rattle.link_talk.specs.ObjectsHeard.{channel_objects, objects}
+use Rattle.talk_laws.specs.Waits.{mode_held}
+use Rattle.talk_laws.specs.Spelling.{Hearing, no_hearing, objects_now, hearing_with, objects_told, hearing_of}
+
+-- ---- one pass over a link
+
+-- a channel, and what is held of it
+pub record Listener : Type 0 where
+  pub channel : Channel
+  pub hearing : Hearing
+
+-- what is held of the talk, and of each channel, in the order in which they came to be
+pub record Listening : Type 0 where
+  pub held : Reading
+  pub listeners : List Listener
+
+abbrev pub no_listening : Listening
+no_listening = record { held = nothing_read; listeners = [] }
+
+abbrev pub listener_after : Party → Reading → Saying → Listener → Listener
+listener_after party held saying one = record { channel = one.channel; hearing = hearing_with party one.channel held one.hearing saying }
+
+abbrev pub new_listener : Entry → Listener
+new_listener entry = record { channel = entry.channel; hearing = no_hearing }
+
+abbrev pub listening_after : Party → Listening → Saying → Listening
+listening_after party listening saying =
+    record {
+      held = read_on listening.held saying;
+      listeners = map (listener_after party listening.held saying) listening.listeners ++ map new_listener (drop (length listening.listeners) (read_on listening.held saying).entries);
+    }
+
+-- the objects that are whole with one saying
+abbrev pub objects_listened : Party → Listening → Saying → List Object
+objects_listened party listening saying = flat_map (λ (one : Listener). objects_told party one.channel listening.held one.hearing saying) listening.listeners
+
+abbrev pub objects_along : Party → Listening → List Saying → List Object
+objects_along party listening [] = []
+objects_along party listening (saying ∷ said) = objects_listened party listening saying ++ objects_along party (listening_after party listening saying) said
+
+-- ---- the laws
+
+abbrev pub listener_of : Party → List Saying → Entry → Listener
+listener_of party said entry = record { channel = entry.channel; hearing = hearing_of party entry.channel said }
+
+pub record LinkObjectsLookBack : Type 0 where
+  pub held : (party : Party) (said : List Saying) → fold (listening_after party) no_listening said ≡ record { held = reading said; listeners = map (listener_of party said) (reading said).entries }
+  pub objects : (party : Party) (said : List Saying) → objects party said ≡ objects_along party no_listening said
+
+-- A PDU is heard on one channel alone; nothing else brings an object.
+abbrev pub objects_by : Party → Reading → (Channel → Hearing) → List ℕ → Option Entry → List Object
+objects_by party held hearings pdu None = []
+objects_by party held hearings pdu (Some entry) = objects_now party entry.channel (mode_held entry.channel held) (hearings entry.channel) (record { flow = Into; pdu = pdu } ∷ [])
+
+abbrev pub objects_on : Party → Reading → (Channel → Hearing) → Saying → List Object
+objects_on party held hearings (Command flow answer) = []
+objects_on party held hearings (Carried Out pdu) = []
+objects_on party held hearings (Carried Into pdu) = objects_by party held hearings pdu (taker is_heard Into pdu held.entries)
+objects_on party held hearings (GaveUp forgone) = []
+
+-- one saying more
+abbrev pub LinkObjectsGrow : Type 0
+LinkObjectsGrow = (party : Party) (said : List Saying) (more : Saying) → objects party (said ++ more ∷ []) ≡ objects party said ++ objects_on party (reading said) (λ channel. hearing_of party channel said) more
+
+-- ---- by channels
+
+-- an object, and the channel on which its last packet came
+pub record Spelled : Type 0 where
+  pub channel : Channel
+  pub object : Object
+
+abbrev pub spelled_on : Channel → Object → Spelled
+spelled_on channel object = record { channel = channel; object = object }
+
+abbrev pub spelled_of : Party → (past now : List Saying) → Entry → List Spelled
+spelled_of party past now entry = map (spelled_on entry.channel) (beyond (channel_objects party entry.channel past) (channel_objects party entry.channel now))
+
+abbrev pub spelled_with : Party → List Saying → Saying → List Spelled
+spelled_with party past more = flat_map (spelled_of party past (past ++ more ∷ [])) (reading past).entries
+
+-- the objects of a link with their channels, in the order of their last packets
+abbrev pub spelled : Party → List Saying → List Spelled
+spelled party said = given_by (spelled_with party) said
+
+abbrev pub object_on : Channel → Spelled → Option Object
+object_on channel one = if one.channel.own == channel.own then Some one.object else None
+
+pub record ObjectsFallToChannels : Type 0 where
+  -- they are the objects of the link
+  pub all : (party : Party) (said : List Saying) → map (λ (one : Spelled). one.object) (spelled party said) ≡ objects party said
+  -- those of one channel are its objects, in their order
+  pub each : (party : Party) (said : List Saying) (channel : Channel) (entry : Entry) → find (has_own channel) (reading said).entries ≡ Some entry → filter_map (object_on channel) (spelled party said) ≡ channel_objects party entry.channel said
+  -- and there are no others
+  pub none : (party : Party) (said : List Saying) (channel : Channel) → find (has_own channel) (reading said).entries ≡ None → filter_map (object_on channel) (spelled party said) ≡ []
+  -- where one channel alone has objects they are those of the link
+  pub alone : (party : Party) (said : List Saying) (entry : Entry) → find (has_own entry.channel) (reading said).entries ≡ Some entry
+      → ((other : Entry) → find (has_own other.channel) (reading said).entries ≡ Some other → (other.channel.own == entry.channel.own) ≡ false → channel_objects party other.channel said ≡ [])
+      → objects party said ≡ channel_objects party entry.channel said
