@@ -1,5 +1,5 @@
 -- The objects of a link in one pass, and by its channels.
-use Rattle.std.proofs.Common.{◌≡◌, ℕ, List, [], ◌∷◌, ◌++◌, length, drop, map, fold, Bool, true, false, cond, ◌||◌, eqb, Option, Some, None, refl, sym, ap, subst, ◌∙◌, append_assoc, append-nil}
+use Rattle.std.proofs.Common.{◌≡◌, ℕ, suc, List, [], ◌∷◌, ◌++◌, length, drop, map, fold, Bool, true, false, cond, ◌||◌, eqb, Option, Some, None, refl, sym, ap, subst, ◌∙◌, append_assoc, append-nil}
 use Rattle.std.specs.Prelude.{find, option_to_list}
 use Rattle.std.specs.List.{filter_map, flat_map, list_any, cons_option, AllByRecursion}
 use Rattle.std.proofs.lemmas.Bool.{eqb-true, eq-eqb}
@@ -239,12 +239,10 @@ kept party said more meaning (entry ∷ entries) =
     ∙ ap (λ rest. listener_after party (reading said) more (listener_of party said entry) ∷ rest) (kept party said more meaning entries)
 
 hearing_anew : (party : Party) (said : List Saying) (more : Saying) (channel : Channel) → list_any (has_own channel) (reading said).entries ≡ false → hearing_of party channel (said ++ more ∷ []) ≡ no_hearing
-hearing_anew party said more channel none = hearing-more party channel said more ∙ (with_none (nothing-carried channel is_heard (reading said).entries more none) ∙ refl)
-  where
-    with_none : _ → hearing_with party channel (reading said) (hearing_of party channel said) more ≡ no_hearing
-    with_none nothing =
-        ap (λ h. hearing_with party channel (reading said) h more) (hearing-before party channel said none)
-        ∙ ap (λ carriages. hearing_after party channel (mode_held channel (reading said)) no_hearing carriages) nothing
+hearing_anew party said more channel none =
+    hearing-more party channel said more
+    ∙ (ap (λ h. hearing_with party channel (reading said) h more) (hearing-before party channel said none)
+    ∙ ap (hearing_after party channel (mode_held channel (reading said)) no_hearing) (nothing-carried channel is_heard (reading said).entries more none))
 
 mapped_own : (channel : Channel) (meaning : Meaning) (entries : List Entry) → list_any (has_own channel) (map (entry_after meaning) entries) ≡ list_any (has_own channel) entries
 mapped_own channel meaning [] = refl
@@ -374,13 +372,14 @@ find_more past more channel found is =
     ∙ find_kept channel (meaning_of past more) (reading past).entries grows.behind found is
 
 -- a channel that has come to be with the saying has no objects
+none_by : (channel : Channel) (entry : Entry) (entries : List Entry) (own : Bool) → has_own channel entry ≡ own → cond own (Some entry) (find (has_own channel) entries) ≡ None
+    → (find (has_own channel) entries ≡ None → list_any (has_own channel) entries ≡ false) → (has_own channel entry || list_any (has_own channel) entries) ≡ false
+none_by channel entry entries true owns none rest = cc
+none_by channel entry entries false owns none rest = ap (λ b. b || list_any (has_own channel) entries) owns ∙ rest none
+
 none_found : (channel : Channel) (entries : List Entry) → find (has_own channel) entries ≡ None → list_any (has_own channel) entries ≡ false
 none_found channel [] is = refl
-none_found channel (entry ∷ entries) is = by_test (has_own channel entry) refl is
-  where
-    by_test : (own : Bool) → has_own channel entry ≡ own → cond own (Some entry) (find (has_own channel) entries) ≡ None → (has_own channel entry || list_any (has_own channel) entries) ≡ false
-    by_test true owns none = cc
-    by_test false owns none = ap (λ b. b || list_any (has_own channel) entries) owns ∙ none_found channel entries none
+none_found channel (entry ∷ entries) is = none_by channel entry entries (has_own channel entry) refl is (none_found channel entries)
 
 objects_anew : (party : Party) (past : List Saying) (more : Saying) (channel : Channel) → list_any (has_own channel) (reading past).entries ≡ false → channel_objects party channel (past ++ more ∷ []) ≡ []
 objects_anew party past more channel none =
@@ -428,18 +427,24 @@ no_tail (Some x) rest none = cc
 abbrev NoOthers : Channel → List Spelled → Type 0
 NoOthers channel list = (other : Channel) → eqb other.own channel.own ≡ false → filter_map (object_on other) list ≡ []
 
+-- an object on another channel would be one of that channel's
+no_first : (first : Option Object) (object : Object) (rest : List Object) (all found : List Object) → first ≡ Some object → cons_option first rest ≡ [] → all ≡ found
+no_first None object rest all found is none = cc
+no_first (Some one) object rest all found is none = cc
+
+sole_by : (channel : Channel) (one : Spelled) (list : List Spelled) (own : Bool) → eqb one.channel.own channel.own ≡ own → NoOthers channel (one ∷ list) → map object_of list ≡ filter_map (object_on channel) list
+    → one.object ∷ map object_of list ≡ filter_map (object_on channel) (one ∷ list)
+sole_by channel one list true is others rest =
+    ap (λ xs. one.object ∷ xs) rest ∙ sym (ap (λ b. cons_option (cond b (Some one.object) None) (filter_map (object_on channel) list)) is)
+sole_by channel one list false is others rest =
+    no_first (object_on one.channel one) one.object (filter_map (object_on one.channel) list) (one.object ∷ map object_of list) (filter_map (object_on channel) (one ∷ list))
+    (ap (λ b. let first : Option Object = cond b (Some one.object) None in first) (eq-eqb one.channel.own one.channel.own refl)) (others one.channel is)
+
 sole : (channel : Channel) (list : List Spelled) → NoOthers channel list → map object_of list ≡ filter_map (object_on channel) list
 sole channel [] others = refl
-sole channel (one ∷ list) others = by_test (eqb one.channel.own channel.own) refl
-  where
-    rest : map object_of list ≡ filter_map (object_on channel) list
-    rest = sole channel list (λ other apart. no_tail (object_on other one) (filter_map (object_on other) list) (others other apart))
-    no_first : (own : Bool) → own ≡ true → cons_option (cond own (Some one.object) None) (filter_map (object_on one.channel) list) ≡ [] → one.object ∷ map object_of list ≡ filter_map (object_on channel) (one ∷ list)
-    no_first true is none = cc
-    no_first false is none = cc
-    by_test : (own : Bool) → eqb one.channel.own channel.own ≡ own → one.object ∷ map object_of list ≡ filter_map (object_on channel) (one ∷ list)
-    by_test true is = ap (λ xs. one.object ∷ xs) rest ∙ sym (ap (λ b. cons_option (cond b (Some one.object) None) (filter_map (object_on channel) list)) is)
-    by_test false is = no_first (eqb one.channel.own one.channel.own) (eq-eqb one.channel.own one.channel.own refl) (others one.channel is)
+sole channel (one ∷ list) others =
+    sole_by channel one list (eqb one.channel.own channel.own) refl others
+    (sole channel list (λ other apart. no_tail (object_on other one) (filter_map (object_on other) list) (others other apart)))
 
 abbrev OthersHaveNone : Party → List Saying → Entry → Type 0
 OthersHaveNone party said entry = (other : Entry) → find (has_own other.channel) (reading said).entries ≡ Some other → eqb other.channel.own entry.channel.own ≡ false → channel_objects party other.channel said ≡ []
