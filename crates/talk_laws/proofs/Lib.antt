@@ -11,6 +11,7 @@ pub mod Streams
 pub mod Objects
 pub mod Packets
 pub mod Spelling
+pub mod LinkPass
 pub mod LinkObjects
 pub mod CheckWords
 pub mod Captures

@@ -33,11 +33,13 @@ use Rattle.obex_headers.specs.Runs.{objects_from as spelled_from}
 use Rattle.talk_laws.specs.Packets.{Line, line_after, stream_with, packets_now, packets_from}
 use Rattle.talk_laws.specs.Waits.{mode_held}
 use Rattle.talk_laws.specs.Spelling.{Hearing, no_hearing, hearing_after, hearing_with, objects_now, objects_told, hearing_of}
-use Rattle.talk_laws.specs.LinkObjects.{Listener, Listening, no_listening, listener_after, new_listener, listening_after, objects_listened, objects_along, listener_of, LinkObjectsLookBack, objects_by, objects_on, LinkObjectsGrow, Spelled, spelled_on, spelled_of, spelled_with, spelled, object_on, ObjectsFallToChannels}
+use Rattle.talk_laws.specs.LinkPass.{Kept, held_by, kept_of, pass_back, Follows}
+use Rattle.talk_laws.specs.LinkObjects.{hears, objects_heard, objects_along, LinkObjectsLookBack, objects_by, objects_on, LinkObjectsGrow, Spelled, spelled_on, spelled_of, spelled_with, spelled, object_on, ObjectsFallToChannels}
 use Rattle.talk_laws.proofs.Passes.{from_end}
 use Rattle.talk_laws.proofs.Streams.{drop_front}
+use Rattle.talk_laws.proofs.LinkPass.{meaning_of, entries_grow, held-back, pass-more, pass-is}
 use Rattle.talk_laws.proofs.Owning.{Alone, either_false, eqb_other, some_is, alone, found_passes, found_one, nothing-carried}
-use Rattle.talk_laws.proofs.Spelling.{hearing-more, hearing-before, objects-more, objects-before}
+use Rattle.talk_laws.proofs.Spelling.{hearing-more, hearing-anew, objects-more, objects-before}
 
 -- ---- lists
 
@@ -186,126 +188,26 @@ link-objects_grow party said more =
 
 -- ---- one pass
 
--- entries stay in their places, and new ones come behind them
-record Grown (old new : List Entry) : Type 0 where
-  behind : List Entry
-  grown : new ≡ old ++ behind
-
-grown_if : (new : Channel) (entries : List Entry) (known : Bool) → Grown entries (cond known entries (entries ++ fresh new ∷ []))
-grown_if new entries true = record { behind = []; grown = sym (append-nil entries) }
-grown_if new entries false = record { behind = fresh new ∷ []; grown = refl }
-
-grown_all : (news : List Channel) (entries : List Entry) → Grown entries (fold with_fresh entries news)
-grown_all [] entries = record { behind = []; grown = sym (append-nil entries) }
-grown_all (new ∷ news) entries =
-    let first = grown_if new entries (list_any (is_owner new) entries) in
-    let rest = grown_all news (with_fresh entries new) in
-    record { behind = first.behind ++ rest.behind; grown = rest.grown ∙ (ap (λ xs. xs ++ rest.behind) first.grown ∙ append_assoc entries first.behind rest.behind) }
-
-abbrev meaning_of : List Saying → Saying → Meaning
-meaning_of said more = meant (reading said).requests (sense more)
-
-entries_grow : (said : List Saying) (more : Saying) → Grown (map (entry_after (meaning_of said more)) (reading said).entries) (read_on (reading said) more).entries
-entries_grow said more = grown_all (option_to_list (made_by (meaning_of said more))) (map (entry_after (meaning_of said more)) (reading said).entries)
-
--- the new ones have endpoints of their own
-apart : (x : Entry) (ys : List Entry) → list_any (has_own x.channel) ys ≡ false → AllByRecursion (λ (y : Entry). eqb x.channel.own y.channel.own ≡ false) ys
-apart x [] none = tt
-apart x (y ∷ ys) none =
-    let both = either_false (has_own x.channel y) (list_any (has_own x.channel) ys) none in
-    (eqb_other y.channel.own x.channel.own both.0, apart x ys both.1)
-
-with_first : (x : Entry) (xs ys : List Entry) → AllByRecursion (λ (y : Entry). eqb x.channel.own y.channel.own ≡ false) ys → AllByRecursion (λ (y : Entry). list_any (has_own y.channel) xs ≡ false) ys
-    → AllByRecursion (λ (y : Entry). list_any (has_own y.channel) (x ∷ xs) ≡ false) ys
-with_first x xs [] first rest = tt
-with_first x xs (y ∷ ys) (first, firsts) (rest, rests) = (ap (λ b. b || list_any (has_own y.channel) xs) first ∙ rest, with_first x xs ys firsts rests)
-
-none_yet : (ys : List Entry) → AllByRecursion (λ (y : Entry). list_any (has_own y.channel) [] ≡ false) ys
-none_yet [] = tt
-none_yet (y ∷ ys) = (refl, none_yet ys)
-
-new_apart : (xs ys : List Entry) → Alone (xs ++ ys) → AllByRecursion (λ (y : Entry). list_any (has_own y.channel) xs ≡ false) ys
-new_apart [] ys all = none_yet ys
-new_apart (x ∷ xs) ys (now, all) =
-    let both = either_false (list_any (has_own x.channel) xs) (list_any (has_own x.channel) ys) (sym (list_any-append (has_own x.channel) xs ys) ∙ now) in
-    with_first x xs ys (apart x ys both.1) (new_apart xs ys all)
-
--- what is held of each
-kept : (party : Party) (said : List Saying) (more : Saying) (meaning : Meaning) (entries : List Entry)
-    → map (listener_of party (said ++ more ∷ [])) (map (entry_after meaning) entries) ≡ map (listener_after party (reading said) more) (map (listener_of party said) entries)
-kept party said more meaning [] = refl
-kept party said more meaning (entry ∷ entries) =
-    ap (λ h. let one : Listener = record { channel = entry.channel; hearing = h } in one ∷ map (listener_of party (said ++ more ∷ [])) (map (entry_after meaning) entries)) (hearing-more party entry.channel said more)
-    ∙ ap (λ rest. listener_after party (reading said) more (listener_of party said entry) ∷ rest) (kept party said more meaning entries)
-
-hearing_anew : (party : Party) (said : List Saying) (more : Saying) (channel : Channel) → list_any (has_own channel) (reading said).entries ≡ false → hearing_of party channel (said ++ more ∷ []) ≡ no_hearing
-hearing_anew party said more channel none =
-    hearing-more party channel said more
-    ∙ (ap (λ h. hearing_with party channel (reading said) h more) (hearing-before party channel said none)
-    ∙ ap (hearing_after party channel (mode_held channel (reading said)) no_hearing) (nothing-carried channel is_heard (reading said).entries more none))
-
-mapped_own : (channel : Channel) (meaning : Meaning) (entries : List Entry) → list_any (has_own channel) (map (entry_after meaning) entries) ≡ list_any (has_own channel) entries
-mapped_own channel meaning [] = refl
-mapped_own channel meaning (entry ∷ entries) = ap (λ b. has_own channel entry || b) (mapped_own channel meaning entries)
-
-begun : (party : Party) (said : List Saying) (more : Saying) (meaning : Meaning) (new : List Entry) → AllByRecursion (λ (y : Entry). list_any (has_own y.channel) (map (entry_after meaning) (reading said).entries) ≡ false) new
-    → map (listener_of party (said ++ more ∷ [])) new ≡ map new_listener new
-begun party said more meaning [] none = refl
-begun party said more meaning (entry ∷ new) (now, none) =
-    ap (λ h. let one : Listener = record { channel = entry.channel; hearing = h } in one ∷ map (listener_of party (said ++ more ∷ [])) new)
-    (hearing_anew party said more entry.channel (sym (mapped_own entry.channel meaning (reading said).entries) ∙ now))
-    ∙ ap (λ rest. new_listener entry ∷ rest) (begun party said more meaning new none)
-
-as_long : {X Y Z : Type 0} (f : X → Y) (g : X → Z) (xs : List X) → length (map f xs) ≡ length (map g xs)
-as_long f g [] = refl
-as_long f g (x ∷ xs) = ap (λ n. suc n) (as_long f g xs)
-
-abbrev listening_to : Reading → List Listener → Listening
-listening_to held listeners = record { held = held; listeners = listeners }
-
-abbrev listening_of : Party → List Saying → Listening
-listening_of party said = listening_to (reading said) (map (listener_of party said) (reading said).entries)
-
-listening_more : (party : Party) (said : List Saying) (more : Saying) → listening_after party (listening_of party said) more ≡ listening_of party (said ++ more ∷ [])
-listening_more party said more =
-    let now = said ++ more ∷ [] in
-    let meaning = meaning_of said more in
-    let old = (reading said).entries in
-    let next = read_on (reading said) more in
-    let grows = entries_grow said more in
-    let entries_are : (reading now).entries ≡ map (entry_after meaning) old ++ grows.behind = ap (λ (r : Reading). r.entries) (reading-more said more) ∙ grows.grown in
-    let kept_ones = map (listener_after party (reading said) more) (map (listener_of party said) old) in
-    let news : drop (length (map (listener_of party said) old)) next.entries ≡ grows.behind =
-        ap (drop (length (map (listener_of party said) old))) grows.grown
-        ∙ (ap (λ n. drop n (map (entry_after meaning) old ++ grows.behind)) (as_long (listener_of party said) (entry_after meaning) old) ∙ drop_front (map (entry_after meaning) old) grows.behind) in
-    ap (λ new. listening_to next (kept_ones ++ map new_listener new)) news
-    ∙ (ap (λ new. listening_to next (kept_ones ++ new)) (sym (begun party said more meaning grows.behind (new_apart (map (entry_after meaning) old) grows.behind (subst Alone entries_are (alone now)))))
-    ∙ (ap (λ first. listening_to next (first ++ map (listener_of party now) grows.behind)) (sym (kept party said more meaning old))
-    ∙ (ap (listening_to next) (sym (map-append (listener_of party now) (map (entry_after meaning) old) grows.behind))
-    ∙ (ap (λ entries. listening_to next (map (listener_of party now) entries)) (sym entries_are) ∙ ap (λ held. listening_to held (map (listener_of party now) (reading now).entries)) (sym (reading-more said more))))))
-
-listening_is : (party : Party) (said : List Saying) → fold (listening_after party) no_listening said ≡ listening_of party said
-listening_is party said = from_end (λ past. fold (listening_after party) no_listening past ≡ listening_of party past) refl step said
-  where
-    step : (past : List Saying) (more : Saying) → fold (listening_after party) no_listening past ≡ listening_of party past → fold (listening_after party) no_listening (past ++ more ∷ []) ≡ listening_of party (past ++ more ∷ [])
-    step past more held =
-        fold-append (listening_after party) no_listening past (more ∷ [])
-        ∙ (ap (λ listening. listening_after party listening more) held ∙ listening_more party past more)
-
-listened : (party : Party) (said : List Saying) (more : Saying) → objects_with party said more ≡ objects_listened party (listening_of party said) more
+listened : (party : Party) (said : List Saying) (more : Saying) → objects_with party said more ≡ objects_heard party (pass_back (hearing_of party) said) more
 listened party said more =
+    let entries = (reading said).entries in
     with_is party said more
-    ∙ sym (flat_mapped (λ (one : Listener). objects_told party one.channel (reading said) one.hearing more) (listener_of party said) (reading said).entries)
+    ∙ (ap (λ held. flat_map (λ (entry : Entry). objects_told party entry.channel held (hearing_of party entry.channel said) more) entries) (sym (held-back (hearing_of party) said))
+    ∙ sym (flat_mapped (λ (one : Kept Hearing). objects_told party one.entry.channel (held_by (pass_back (hearing_of party) said)) one.state more) (kept_of (hearing_of party) said) entries))
 
-along : (party : Party) (past rest : List Saying) → each_after (objects_with party) past rest ≡ objects_along party (listening_of party past) rest
-along party past [] = refl
-along party past (more ∷ rest) =
+pub hearings-follow : (party : Party) → Follows (hears party) no_hearing (hearing_of party)
+hearings-follow party = record { grows = hearing-more party; anew = hearing-anew party }
+
+pub objects-along : (party : Party) (past rest : List Saying) → each_after (objects_with party) past rest ≡ objects_along party (pass_back (hearing_of party) past) rest
+objects-along party past [] = refl
+objects-along party past (more ∷ rest) =
+    let pass = pass_back (hearing_of party) past in
     ap (λ now. now ++ each_after (objects_with party) (past ++ more ∷ []) rest) (listened party past more)
-    ∙ (ap (λ later. objects_listened party (listening_of party past) more ++ later) (along party (past ++ more ∷ []) rest)
-    ∙ ap (λ listening. objects_listened party (listening_of party past) more ++ objects_along party listening rest) (sym (listening_more party past more)))
+    ∙ (ap (λ later. objects_heard party pass more ++ later) (objects-along party (past ++ more ∷ []) rest)
+    ∙ ap (λ next. objects_heard party pass more ++ objects_along party next rest) (sym (pass-more (hears party) no_hearing (hearing_of party) (hearings-follow party) past more)))
 
 pub link-objects_look_back : LinkObjectsLookBack
-link-objects_look_back = record { held = listening_is; objects = λ party said. along party [] said }
+link-objects_look_back = record { held = λ party said. pass-is (hears party) no_hearing (hearing_of party) (hearings-follow party) said; objects = λ party said. objects-along party [] said }
 
 -- ---- by channels
 

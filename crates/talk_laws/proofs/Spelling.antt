@@ -22,7 +22,7 @@ use Rattle.link_talk.proofs.OnePass.{reading-more}
 use Rattle.link_talk.proofs.Growing.{stretch-grows}
 use Rattle.talk_laws.specs.Sdus.{Ears, no_ears, ears_after, ears_so_far}
 use Rattle.talk_laws.specs.Packets.{Line, no_line, line_after, line_so_far, packets_from, sdus_with}
-use Rattle.talk_laws.specs.Spelling.{run_with, Hearing, no_hearing, hearing_with, objects_told, objects_passed, puts_now, hearing_of, ChannelObjectsLookBack, ChannelObjectsGrow}
+use Rattle.talk_laws.specs.Spelling.{run_with, Hearing, no_hearing, hearing_after, hearing_with, objects_told, objects_passed, puts_now, hearing_of, ChannelObjectsLookBack, ChannelObjectsGrow}
 use Rattle.talk_laws.proofs.Passes.{from_end}
 use Rattle.talk_laws.proofs.Owning.{none-before, nothing-carried}
 use Rattle.talk_laws.proofs.Waits.{spoken-more}
@@ -103,6 +103,12 @@ hearing_by party channel mode carriages =
 
 pub hearing-before : (party : Party) (channel : Channel) (said : List Saying) → list_any (has_own channel) (reading said).entries ≡ false → hearing_of party channel said ≡ no_hearing
 hearing-before party channel said none = ap (hearing_by party channel (mode_of channel said)) (stretch_before channel said none)
+
+pub hearing-anew : (party : Party) (channel : Channel) (said : List Saying) (more : Saying) → list_any (has_own channel) (reading said).entries ≡ false → hearing_of party channel (said ++ more ∷ []) ≡ no_hearing
+hearing-anew party channel said more none =
+    hearing-more party channel said more
+    ∙ (ap (λ h. hearing_with party channel (reading said) h more) (hearing-before party channel said none)
+    ∙ ap (hearing_after party channel (mode_of channel said) no_hearing) (nothing-carried channel is_heard (reading said).entries more none))
 
 pub objects-before : (party : Party) (channel : Channel) (said : List Saying) → list_any (has_own channel) (reading said).entries ≡ false → channel_objects party channel said ≡ []
 objects-before party channel said none =

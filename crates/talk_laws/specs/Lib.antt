@@ -9,6 +9,7 @@ pub mod Waits
 pub mod Packets
 pub mod Objects
 pub mod Spelling
+pub mod LinkPass
 pub mod LinkObjects
 pub mod CheckWords
 pub mod Captures

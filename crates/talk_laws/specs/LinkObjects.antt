@@ -1,5 +1,5 @@
 -- The objects of a link in one pass, and by its channels (IrOBEX 1.5, 3.4.3; Core 5.1, Volume 3 Part A, 3.1).
-use Rattle.std.specs.Prelude.{ℕ, ◌≡◌, ◌==◌, Bool, false, List, [], ◌∷◌, ◌++◌, length, map, drop, fold, find, Option, Some, None, if◌then◌else◌}
+use Rattle.std.specs.Prelude.{ℕ, ◌≡◌, ◌==◌, Bool, false, List, [], ◌∷◌, ◌++◌, map, find, Option, Some, None, if◌then◌else◌}
 use Rattle.std.specs.List.{filter_map, flat_map}
 use Rattle.bt_base.specs.Objects.{Object}
 use Rattle.capture.specs.declared.flow.Flow.TheVariants.{Out, Into}
@@ -7,57 +7,32 @@ use Rattle.capture.specs.Histories.{given_by}
 use Rattle.link_talk.specs.declared.channel.Channel.{Channel}
 use Rattle.link_talk.specs.declared.party.Party.{Party}
 use Rattle.link_talk.specs.Sayings.{Saying, Command, Carried, GaveUp}
-use Rattle.link_talk.specs.Channels.{Entry, Reading, nothing_read, read_on, reading}
+use Rattle.link_talk.specs.Channels.{Entry, Reading, reading}
 use Rattle.link_talk.specs.Carriages.{Carriage, is_heard, taker, has_own}
 use Rattle.link_talk.specs.Gains.{beyond}
 use Rattle.link_talk.specs.ObjectsHeard.{channel_objects, objects}
 use Rattle.talk_laws.specs.Waits.{mode_held}
 use Rattle.talk_laws.specs.Spelling.{Hearing, no_hearing, objects_now, hearing_with, objects_told, hearing_of}
+use Rattle.talk_laws.specs.LinkPass.{Kept, Pass, no_pass, held_by, Step, pass_after, pass_of, pass_back}
 
 -- ---- one pass over a link
 
--- a channel, and what is held of it
-pub record Listener : Type 0 where
-  pub channel : Channel
-  pub hearing : Hearing
-
--- what is held of the talk, and of each channel, in the order in which they came to be
-pub record Listening : Type 0 where
-  pub held : Reading
-  pub listeners : List Listener
-
-abbrev pub no_listening : Listening
-no_listening = record { held = nothing_read; listeners = [] }
-
-abbrev pub listener_after : Party → Reading → Saying → Listener → Listener
-listener_after party held saying one = record { channel = one.channel; hearing = hearing_with party one.channel held one.hearing saying }
-
-abbrev pub new_listener : Entry → Listener
-new_listener entry = record { channel = entry.channel; hearing = no_hearing }
-
-abbrev pub listening_after : Party → Listening → Saying → Listening
-listening_after party listening saying =
-    record {
-      held = read_on listening.held saying;
-      listeners = map (listener_after party listening.held saying) listening.listeners ++ map new_listener (drop (length listening.listeners) (read_on listening.held saying).entries);
-    }
+abbrev pub hears : Party → Step Hearing
+hears party channel held hearing saying = hearing_with party channel held hearing saying
 
 -- the objects that are whole with one saying
-abbrev pub objects_listened : Party → Listening → Saying → List Object
-objects_listened party listening saying = flat_map (λ (one : Listener). objects_told party one.channel listening.held one.hearing saying) listening.listeners
+abbrev pub objects_heard : Party → Pass Hearing → Saying → List Object
+objects_heard party pass saying = flat_map (λ (one : Kept Hearing). objects_told party one.entry.channel (held_by pass) one.state saying) pass.kept
 
-abbrev pub objects_along : Party → Listening → List Saying → List Object
-objects_along party listening [] = []
-objects_along party listening (saying ∷ said) = objects_listened party listening saying ++ objects_along party (listening_after party listening saying) said
-
--- ---- the laws
-
-abbrev pub listener_of : Party → List Saying → Entry → Listener
-listener_of party said entry = record { channel = entry.channel; hearing = hearing_of party entry.channel said }
+abbrev pub objects_along : Party → Pass Hearing → List Saying → List Object
+objects_along party pass [] = []
+objects_along party pass (saying ∷ said) = objects_heard party pass saying ++ objects_along party (pass_after (hears party) no_hearing pass saying) said
 
 pub record LinkObjectsLookBack : Type 0 where
-  pub held : (party : Party) (said : List Saying) → fold (listening_after party) no_listening said ≡ record { held = reading said; listeners = map (listener_of party said) (reading said).entries }
-  pub objects : (party : Party) (said : List Saying) → objects party said ≡ objects_along party no_listening said
+  pub held : (party : Party) (said : List Saying) → pass_of (hears party) no_hearing said ≡ pass_back (hearing_of party) said
+  pub objects : (party : Party) (said : List Saying) → objects party said ≡ objects_along party (no_pass Hearing) said
+
+-- ---- one saying more
 
 -- A PDU is heard on one channel alone; nothing else brings an object.
 abbrev pub objects_by : Party → Reading → (Channel → Hearing) → List ℕ → Option Entry → List Object
@@ -70,7 +45,6 @@ objects_on party held hearings (Carried Out pdu) = []
 objects_on party held hearings (Carried Into pdu) = objects_by party held hearings pdu (taker is_heard Into pdu held.entries)
 objects_on party held hearings (GaveUp forgone) = []
 
--- one saying more
 abbrev pub LinkObjectsGrow : Type 0
 LinkObjectsGrow = (party : Party) (said : List Saying) (more : Saying) → objects party (said ++ more ∷ []) ≡ objects party said ++ objects_on party (reading said) (λ channel. hearing_of party channel said) more
 
