@@ -96,7 +96,7 @@ spent_from dlci side c false (f ∷ fs) before spent_ =
 granted_at_first : (n : ℕ) → 0 + n ≡ n
 granted_at_first n = omega arith
 
-credits_are : (dlci : ℕ) (side : Role) (passed : List Passed) → left (credits_of dlci side (frames passed)) ≡ credits_held dlci side passed
+pub credits_are : (dlci : ℕ) (side : Role) (passed : List Passed) → left (credits_of dlci side (frames passed)) ≡ credits_held dlci side passed
 credits_are dlci side passed =
     let fs = frames passed in
     let live = to_closing dlci side no_course fs in

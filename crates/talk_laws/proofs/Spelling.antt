@@ -92,7 +92,7 @@ stretch_more channel past more held none =
     stretch-grows channel past more
     ∙ (ap (λ carriages. carriages ++ carried is_heard channel past more) (held earlier) ∙ nothing-carried channel is_heard (reading past).entries more earlier)
 
-stretch_before : (channel : Channel) (said : List Saying) → list_any (has_own channel) (reading said).entries ≡ false → stretch channel said ≡ []
+pub stretch_before : (channel : Channel) (said : List Saying) → list_any (has_own channel) (reading said).entries ≡ false → stretch channel said ≡ []
 stretch_before channel said = from_end (λ past. list_any (has_own channel) (reading past).entries ≡ false → stretch channel past ≡ []) (λ none. refl) (stretch_more channel) said
 
 -- by what a channel carried

@@ -113,23 +113,30 @@ tracked-is party channel said = from_end (λ past. tracked_of party channel past
 
 -- ---- nothing before a channel comes to be
 
-before_more : (party : Party) (channel : Channel) (said : List Saying) (more : Saying) → (list_any (has_own channel) (reading said).entries ≡ false → counts_of party channel said ≡ no_counts)
-    → list_any (has_own channel) (reading (said ++ more ∷ [])).entries ≡ false → counts_of party channel (said ++ more ∷ []) ≡ no_counts
-before_more party channel said more held none =
-    let earlier = none-before channel said more none in
+counts_anew : (party : Party) (channel : Channel) (said : List Saying) (more : Saying) → counts_of party channel said ≡ no_counts → list_any (has_own channel) (reading said).entries ≡ false → counts_of party channel (said ++ more ∷ []) ≡ no_counts
+counts_anew party channel said more held earlier =
     let entries = (reading said).entries in
     counts-grow party channel said more
-    ∙ (ap (counts_after party channel (reading said) more) (held earlier)
+    ∙ (ap (counts_after party channel (reading said) more) held
     ∙ (ap (λ cs. with_options (counts_with party (mode_held channel (reading said)) cs (carried_by is_heard channel entries more) no_counts) (fold demanded None (demand_by party channel (reading said) more))) (nothing-carried channel is_passed entries more earlier)
     ∙ (ap (λ cs. with_options (counts_with party (mode_held channel (reading said)) [] cs no_counts) (fold demanded None (demand_by party channel (reading said) more))) (nothing-carried channel is_heard entries more earlier)
     ∙ ap (λ found. with_options no_counts (fold demanded None (demand_at party (reading said) more found))) (not-found channel entries earlier))))
 
+before_more : (party : Party) (channel : Channel) (said : List Saying) (more : Saying) → (list_any (has_own channel) (reading said).entries ≡ false → counts_of party channel said ≡ no_counts)
+    → list_any (has_own channel) (reading (said ++ more ∷ [])).entries ≡ false → counts_of party channel (said ++ more ∷ []) ≡ no_counts
+before_more party channel said more held none =
+    let earlier = none-before channel said more none in
+    counts_anew party channel said more (held earlier) earlier
+
 pub counts-before : (party : Party) (channel : Channel) (said : List Saying) → list_any (has_own channel) (reading said).entries ≡ false → counts_of party channel said ≡ no_counts
 counts-before party channel said = from_end (λ past. list_any (has_own channel) (reading past).entries ≡ false → counts_of party channel past ≡ no_counts) (λ none. refl) (before_more party channel) said
 
+pub counts-anew : (party : Party) (channel : Channel) (said : List Saying) (more : Saying) → list_any (has_own channel) (reading said).entries ≡ false → counts_of party channel (said ++ more ∷ []) ≡ no_counts
+counts-anew party channel said more none = counts_anew party channel said more (counts-before party channel said none) none
+
 -- ---- what waits
 
-informed_more : (waiting : Option ℕ) (said : List Saying) → fold noticed waiting (filter_map notice said) ≡ fold noticed_after waiting said
+pub informed_more : (waiting : Option ℕ) (said : List Saying) → fold noticed waiting (filter_map notice said) ≡ fold noticed_after waiting said
 informed_more waiting [] = refl
 informed_more waiting (more ∷ said) = step (notice more) ∙ informed_more (noticed_after waiting more) said
   where
@@ -143,13 +150,13 @@ frames_by Enhanced party said channel is =
     ap (λ m. nat_lt 0 (waiting_frames m (frames_passed party channel said)) || poll_waits false (frames_passed party channel said)) is
     ∙ ap (λ w. nat_lt 0 (used w) || poll_waits false (frames_passed party channel said)) (sym (window-is (frames_passed party channel said)))
 
-entry_same : (party : Party) (said : List Saying) (entry : Entry) → entry_waits party said entry ≡ entry_waits_by (reading said) (λ channel. (tracked_of party channel said).counts) entry
+pub entry_same : (party : Party) (said : List Saying) (entry : Entry) → entry_waits party said entry ≡ entry_waits_by (reading said) (λ channel. (tracked_of party channel said).counts) entry
 entry_same party said entry =
     let channel = entry.channel in
     ap (λ b. waits_for_end entry.life || (is_there entry.life && (options_wait party said channel || (b || query_waits party said channel)))) (frames_by (mode_of channel said) party said channel refl)
     ∙ ap (λ (t : Tracked). waits_for_end entry.life || (is_there entry.life && counts_wait channel (mode_of channel said) t.counts)) (sym (tracked-is party channel said))
 
-any_same : {X : Type 0} (f g : X → Bool) (xs : List X) → ((x : X) → f x ≡ g x) → list_any f xs ≡ list_any g xs
+pub any_same : {X : Type 0} (f g : X → Bool) (xs : List X) → ((x : X) → f x ≡ g x) → list_any f xs ≡ list_any g xs
 any_same f g [] same = refl
 any_same f g (x ∷ xs) same = ap (λ b. b || list_any f xs) (same x) ∙ ap (λ b. g x || b) (any_same f g xs same)
 
@@ -164,7 +171,7 @@ pub waits-look_back : WaitsLookBack
 waits-look_back = record { tracked = tracked-is; waiting = waits_same; before = counts-before }
 
 -- the same counts find the same
-counts_same : (held : Reading) (first second : Channel → Counts) (entry : Entry) → first entry.channel ≡ second entry.channel → entry_waits_by held first entry ≡ entry_waits_by held second entry
+pub counts_same : (held : Reading) (first second : Channel → Counts) (entry : Entry) → first entry.channel ≡ second entry.channel → entry_waits_by held first entry ≡ entry_waits_by held second entry
 counts_same held first second entry same = ap (λ counts. waits_for_end entry.life || (is_there entry.life && counts_wait entry.channel (mode_held entry.channel held) counts)) same
 
 pub waits-grow : WaitsGrow

@@ -11,6 +11,8 @@ pub mod Objects
 pub mod Spelling
 pub mod LinkPass
 pub mod LinkObjects
+pub mod LinkWaits
+pub mod LinkCredits
 pub mod CheckWords
 pub mod Captures
 pub mod Silences

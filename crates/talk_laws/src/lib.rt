@@ -6,7 +6,9 @@ ghost use Rattle.talk_laws.specs.Accounts.{AccountsGrow, AccountsLookBack};
 ghost use Rattle.talk_laws.specs.Captures.{OnlyMovesTell};
 ghost use Rattle.talk_laws.specs.CheckWords.{CheckWordsLookBack};
 ghost use Rattle.talk_laws.specs.Exchanges.{ExchangesGrow, ExchangesLookBack};
+ghost use Rattle.talk_laws.specs.LinkCredits.{LinkCreditsGrow, LinkCreditsLookBack};
 ghost use Rattle.talk_laws.specs.LinkObjects.{LinkObjectsGrow, LinkObjectsLookBack, ObjectsFallToChannels};
+ghost use Rattle.talk_laws.specs.LinkWaits.{LinkWaitsGrow, LinkWaitsLookBack};
 ghost use Rattle.talk_laws.specs.Objects.{ObjectsGrow};
 ghost use Rattle.talk_laws.specs.Packets.{PacketsGrow, PacketsLookBack};
 ghost use Rattle.talk_laws.specs.Peaks.{PeaksGrow};
@@ -96,6 +98,19 @@ pub fn link_objects_look_back()
     ensures back { LinkObjectsLookBack }
     ensures grow { LinkObjectsGrow }
     ensures channels { ObjectsFallToChannels }
+{}
+
+/// What a timer finds on a link, and the most I-frames that are not acknowledged on one channel, are told
+/// by what one pass holds of each channel.
+pub fn link_waits_look_back()
+    ensures back { LinkWaitsLookBack }
+    ensures grow { LinkWaitsGrow }
+{}
+
+/// So are the credits that a host holds on a link.
+pub fn link_credits_look_back()
+    ensures back { LinkCreditsLookBack }
+    ensures grow { LinkCreditsGrow }
 {}
 
 /// A peak of I-frames or of credits with one entry more is the greater of the peak before it and of what
