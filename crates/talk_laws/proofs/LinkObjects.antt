@@ -33,7 +33,7 @@ use Rattle.obex_headers.specs.Runs.{objects_from as spelled_from}
 use Rattle.talk_laws.specs.Packets.{Line, line_after, stream_with, packets_now, packets_from}
 use Rattle.talk_laws.specs.Waits.{mode_held}
 use Rattle.talk_laws.specs.Spelling.{Hearing, no_hearing, hearing_after, hearing_with, objects_now, objects_told, hearing_of}
-use Rattle.talk_laws.specs.LinkPass.{Kept, held_by, kept_of, pass_back, Follows}
+use Rattle.talk_laws.specs.LinkPass.{Kept, held_by, pass_of, kept_of, pass_back, Follows}
 use Rattle.talk_laws.specs.LinkObjects.{hears, objects_heard, objects_along, LinkObjectsLookBack, objects_by, objects_on, LinkObjectsGrow, Spelled, spelled_on, spelled_of, spelled_with, spelled, object_on, ObjectsFallToChannels}
 use Rattle.talk_laws.proofs.Passes.{from_end}
 use Rattle.talk_laws.proofs.Streams.{drop_front}
@@ -206,8 +206,11 @@ objects-along party past (more ∷ rest) =
     ∙ (ap (λ later. objects_heard party pass more ++ later) (objects-along party (past ++ more ∷ []) rest)
     ∙ ap (λ next. objects_heard party pass more ++ objects_along party next rest) (sym (pass-more (hears party) no_hearing (hearing_of party) (hearings-follow party) past more)))
 
+pub hearings-are : (party : Party) (said : List Saying) → pass_of (hears party) no_hearing said ≡ pass_back (hearing_of party) said
+hearings-are party said = pass-is (hears party) no_hearing (hearing_of party) (hearings-follow party) said
+
 pub link-objects_look_back : LinkObjectsLookBack
-link-objects_look_back = record { held = λ party said. pass-is (hears party) no_hearing (hearing_of party) (hearings-follow party) said; objects = λ party said. objects-along party [] said }
+link-objects_look_back = record { held = hearings-are; objects = λ party said. objects-along party [] said }
 
 -- ---- by channels
 

@@ -13,8 +13,9 @@ pub mod LinkPass
 pub mod LinkObjects
 pub mod LinkWaits
 pub mod LinkCredits
-pub mod CheckWords
+pub mod CapturePass
 pub mod Captures
+pub mod CheckWords
 pub mod Silences
 pub mod Peaks
 pub mod Stretches

@@ -3,7 +3,7 @@
 #![tactic(auto)]
 
 ghost use Rattle.talk_laws.specs.Accounts.{AccountsGrow, AccountsLookBack};
-ghost use Rattle.talk_laws.specs.Captures.{OnlyMovesTell};
+ghost use Rattle.talk_laws.specs.Captures.{CapturesGrow, CapturesLookBack, OnlyMovesTell};
 ghost use Rattle.talk_laws.specs.CheckWords.{CheckWordsLookBack};
 ghost use Rattle.talk_laws.specs.Exchanges.{ExchangesGrow, ExchangesLookBack};
 ghost use Rattle.talk_laws.specs.LinkCredits.{LinkCreditsGrow, LinkCreditsLookBack};
@@ -111,6 +111,13 @@ pub fn link_waits_look_back()
 pub fn link_credits_look_back()
     ensures back { LinkCreditsLookBack }
     ensures grow { LinkCreditsGrow }
+{}
+
+/// What a capture says of the talks of a side, its objects, timers, check words, windows and credits are
+/// found entry by entry.
+pub fn captures_look_back()
+    ensures back { CapturesLookBack }
+    ensures grow { CapturesGrow }
 {}
 
 /// A peak of I-frames or of credits with one entry more is the greater of the peak before it and of what
