@@ -18,6 +18,7 @@ pub mod LinkCredits
 pub mod CapturePass
 pub mod Captures
 pub mod CheckWords
+pub mod Courses
 pub mod Silences
 pub mod Peaks
 pub mod Stretches

@@ -1,6 +1,7 @@
 -- What a server passes over, looking back and in one pass.
-use Rattle.std.proofs.Common.{◌≡◌, ℕ, List, [], ◌∷◌, ◌++◌, fold, Bool, true, false, cond, ◌&&◌, eqb, not, refl, sym, ap, subst, ◌∙◌, append_assoc}
+use Rattle.std.proofs.Common.{◌≡◌, ℕ, List, [], ◌∷◌, ◌++◌, fold, Bool, true, false, cond, ◌&&◌, eqb, not, None, refl, sym, ap, subst, ◌∙◌, append_assoc}
 use Rattle.std.specs.List.{AllByRecursion}
+use Rattle.std.proofs.lemmas.List.{map-append}
 use Rattle.std.proofs.lemmas.List.Sums.{fold-append}
 use Rattle.capture.specs.declared.flow.Flow.{Flow}
 use Rattle.capture.specs.Histories.{each_after, given_by}
@@ -15,9 +16,12 @@ use Rattle.link_talk.specs.declared.course.Course.{Course}
 use Rattle.link_talk.specs.declared.course.Course.TheVariants.{Resting, Offered, Singly, Together, Silent}
 use Rattle.link_talk.specs.Silences.{asked_in, answers_single, after_asked, after_answer, course_after, answered_from, answered, channel_exchanges}
 use Rattle.talk_laws.specs.Exchanges.{answered_behind}
-use Rattle.talk_laws.specs.Silences.{Word, Asks, Says, word_of, course_of, heard_behind, begins_with, is_more_put, grants, stays_together, refuses, stays_silent, All, IsOffered, IsTogether, IsSilent, SilencesLookBack, SilencesGrow}
+use Rattle.talk_laws.specs.Words.{Word, Asks, Says, word_of, begins_with, is_more_put, grants, stays_together, refuses, stays_silent}
+use Rattle.talk_laws.specs.Courses.{course_now, begun_after, course_back}
+use Rattle.talk_laws.specs.Silences.{words, course_of, heard_behind, All, IsOffered, IsTogether, IsSilent, SilencesLookBack, SilencesGrow}
 use Rattle.talk_laws.proofs.Passes.{from_end}
 use Rattle.talk_laws.proofs.Exchanges.{exchanges-answered}
+use Rattle.talk_laws.proofs.Courses.{after_word, course-word}
 
 -- ---- one packet more
 
@@ -50,10 +54,6 @@ exchanged-more requests most packets more =
 
 -- ---- a word more
 
-abbrev after_word : Course → Word → Course
-after_word course (Asks asked) = after_asked course asked
-after_word course (Says code single) = after_answer course code single
-
 word-step : (requests : Flow) (most : ℕ) (course : Course) (more : Spoken) → course_after requests most course more ≡ after_word course (word_of requests most more)
 word-step requests most course more = by_way (same_flow requests more.flow)
   where
@@ -61,6 +61,19 @@ word-step requests most course more = by_way (same_flow requests more.flow)
         ≡ after_word course (cond same (Asks (asked_in most more.octets)) (Says (code_of more.octets) (answers_single (packet_in phases.Response 65535 more.octets))))
     by_way true = refl
     by_way false = refl
+
+course-is : (requests : Flow) (most : ℕ) (past : List Spoken) → course_of requests most past ≡ course_back (words requests most past)
+course-is requests most past = from_end (λ before. course_of requests most before ≡ course_back (words requests most before)) refl step past
+  where
+    step : (before : List Spoken) (more : Spoken) → course_of requests most before ≡ course_back (words requests most before) → course_of requests most (before ++ more ∷ []) ≡ course_back (words requests most (before ++ more ∷ []))
+    step before more held =
+        let word = word_of requests most more in
+        let begun = fold begun_after None (words requests most before) in
+        course-more requests most before more
+        ∙ (word-step requests most (course_of requests most before) more
+        ∙ (ap (λ course. after_word course word) held
+        ∙ (sym (course-word begun word)
+        ∙ (ap course_now (sym (fold-append begun_after None (words requests most before) (word ∷ []))) ∙ ap course_back (sym (map-append (word_of requests most) before (more ∷ [])))))))
 
 -- ---- what stands behind
 
@@ -81,7 +94,8 @@ Traces requests most Silent past = IsSilent requests most past
 
 -- an object begins
 begun : (requests : Flow) (most : ℕ) (past : List Spoken) (more : Spoken) → begins_with (course_of requests most past) (word_of requests most more) ≡ true → IsOffered requests most (past ++ more ∷ [])
-begun requests most past more is = record { front = past; first = more; since = []; parts = refl; begins = is; puts = tt }
+begun requests most past more is =
+    record { front = past; first = more; since = []; parts = refl; begins = ap (λ c. begins_with c (word_of requests most more)) (sym (course-is requests most past)) ∙ is; puts = tt }
 
 offered_on : (requests : Flow) (most : ℕ) (past : List Spoken) (more : Spoken) → IsOffered requests most past → is_more_put (word_of requests most more) ≡ true → IsOffered requests most (past ++ more ∷ [])
 offered_on requests most past more held is = record {
@@ -288,7 +302,8 @@ silent_keeps (Says code single) is = refl
 
 offered-is : (requests : Flow) (most : ℕ) (past : List Spoken) → IsOffered requests most past → course_of requests most past ≡ Offered
 offered-is requests most past held =
-    turned requests most past held.front held.since held.first Offered is_more_put held.parts (begins_is (course_of requests most held.front) (word_of requests most held.first) held.begins) puts_keep held.puts
+    let begins = ap (λ c. begins_with c (word_of requests most held.first)) (course-is requests most held.front) ∙ held.begins in
+    turned requests most past held.front held.since held.first Offered is_more_put held.parts (begins_is (course_of requests most held.front) (word_of requests most held.first) begins) puts_keep held.puts
 
 together-is : (requests : Flow) (most : ℕ) (past : List Spoken) → IsTogether requests most past → course_of requests most past ≡ Together
 together-is requests most past held =
@@ -306,6 +321,7 @@ silent-is requests most past held =
 
 pub silences-look_back : SilencesLookBack
 silences-look_back = record {
+  course = course-is;
   heard = answered-back;
   silent = λ requests most past is. subst (λ course. Traces requests most course past) is (traced-all requests most past);
   only = silent-is;

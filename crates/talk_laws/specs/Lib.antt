@@ -16,6 +16,8 @@ pub mod LinkCredits
 pub mod CapturePass
 pub mod Captures
 pub mod CheckWords
+pub mod Words
+pub mod Courses
 pub mod Silences
 pub mod Peaks
 pub mod Stretches

@@ -1,75 +1,27 @@
 -- Which requests a server passes over in silence, looking back (IrOBEX 1.5, 3.1, 3.2 and 3.4.3.7). What a server says there
 -- is this project's own choice.
-use Rattle.std.specs.Prelude.{ℕ, ◌≡◌, ◌==◌, ◌&&◌, not, Bool, true, false, List, [], ◌∷◌, ◌++◌, fold, if◌then◌else◌}
+use Rattle.std.specs.Prelude.{ℕ, ◌≡◌, Bool, true, List, [], ◌∷◌, ◌++◌, map, fold}
 use Rattle.std.specs.List.{AllByRecursion}
 use Rattle.capture.specs.declared.flow.Flow.{Flow}
 use Rattle.capture.specs.Histories.{each_after, given_by}
-use Rattle.capture.specs.Pdus.{same_flow}
-use Rattle.obex_headers.specs.declared.packet.Phase.TheVariants as phases
-use Rattle.obex_headers.specs.Reading.{packet_in}
 use Rattle.link_talk.specs.Sdus.{Spoken}
-use Rattle.link_talk.specs.Exchanges.{code_of}
-use Rattle.link_talk.specs.declared.course.Asked.{Asked}
-use Rattle.link_talk.specs.declared.course.Asked.TheVariants.{Put, Other, Refused}
 use Rattle.link_talk.specs.declared.course.Course.{Course}
 use Rattle.link_talk.specs.declared.course.Course.TheVariants.{Resting, Silent}
-use Rattle.link_talk.specs.Silences.{asked_in, answers_single, course_after, heard_at, answered, channel_exchanges}
+use Rattle.link_talk.specs.Silences.{course_after, heard_at, answered, channel_exchanges}
 use Rattle.talk_laws.specs.Exchanges.{answered_behind}
-
--- ---- what a packet says
-
--- a request, as the server hears it, or a response: its code, and whether it grants single response mode
-pub data Word : Type 0 where
-  Asks : (asked : Asked) → Word
-  Says : (code : ℕ) (single : Bool) → Word
-
-abbrev pub word_of : Flow → ℕ → Spoken → Word
-word_of requests most one =
-    if same_flow requests one.flow then Asks (asked_in most one.octets) else Says (code_of one.octets) (answers_single (packet_in phases.Response 65535 one.octets))
+use Rattle.talk_laws.specs.Words.{Word, word_of, begins_with, is_more_put, grants, stays_together, refuses, stays_silent}
+use Rattle.talk_laws.specs.Courses.{course_back}
 
 -- ---- how far an object is, behind packets
+
+abbrev pub words : Flow → ℕ → List Spoken → List Word
+words requests most packets = map (word_of requests most) packets
 
 abbrev pub course_of : Flow → ℕ → List Spoken → Course
 course_of requests most packets = fold (course_after requests most) Resting packets
 
 abbrev pub heard_behind : Flow → ℕ → List Spoken → Spoken → List Spoken
 heard_behind requests most past more = heard_at requests most (course_of requests most past) more
-
--- a PUT that is not final and asks for the mode
-abbrev pub asks_for_mode : (final single : Bool) → Bool
-asks_for_mode final single = not final && single
-
--- an object begins with such a PUT where none is under way; where PUTs are passed over it has a Name
-abbrev pub begins_with : Course → Word → Bool
-begins_with Resting (Asks (Put final named single)) = asks_for_mode final single
-begins_with Silent (Asks (Put final named single)) = named && asks_for_mode final single
-begins_with course word = false
-
-abbrev pub is_more_put : Word → Bool
-is_more_put (Asks (Put final named single)) = not final
-is_more_put word = false
-
-abbrev pub grants : Word → Bool
-grants (Asks asked) = false
-grants (Says code single) = (code == 0x90) && single
-
--- PUTs that are not final, packets that are refused, and answers 90
-abbrev pub stays_together : Word → Bool
-stays_together (Asks (Put final named single)) = not final
-stays_together (Asks Other) = false
-stays_together (Asks Refused) = true
-stays_together (Says code single) = code == 0x90
-
-abbrev pub refuses : Word → Bool
-refuses (Asks asked) = false
-refuses (Says code single) = not (code == 0x90)
-
--- PUTs that are neither final nor named, packets that are refused, and answers
-abbrev pub stays_silent : Word → Bool
-stays_silent (Asks (Put final named single)) = not named && not final
-stays_silent (Asks Other) = false
-stays_silent (Asks Refused) = true
-stays_silent (Says code single) = true
 
 -- ---- looking back
 
@@ -82,7 +34,7 @@ pub record IsOffered (requests : Flow) (most : ℕ) (past : List Spoken) : Type 
   pub first : Spoken
   pub since : List Spoken
   pub parts : past ≡ front ++ first ∷ since
-  pub begins : begins_with (course_of requests most front) (word_of requests most first) ≡ true
+  pub begins : begins_with (course_back (words requests most front)) (word_of requests most first) ≡ true
   pub puts : All requests most is_more_put since
 
 -- it was granted, and since then neither ended nor refused
@@ -108,6 +60,8 @@ pub record IsSilent (requests : Flow) (most : ℕ) (past : List Spoken) : Type 0
 -- ---- the laws
 
 pub record SilencesLookBack : Type 0 where
+  -- how far an object is in one pass is how far it is by all that was said since it began
+  pub course : (requests : Flow) (most : ℕ) (past : List Spoken) → course_of requests most past ≡ course_back (words requests most past)
   pub heard : (requests : Flow) (most : ℕ) (packets : List Spoken) → answered requests most packets ≡ given_by (heard_behind requests most) packets
   -- PUTs without a Name are passed over exactly there
   pub silent : (requests : Flow) (most : ℕ) (past : List Spoken) → course_of requests most past ≡ Silent → IsSilent requests most past
