@@ -1,7 +1,7 @@
 -- One pass over a capture.
 use Rattle.std.proofs.Common.{◌≡◌, ℕ, List, [], ◌∷◌, ◌++◌, map, fold, Bool, true, false, cond, ◌&&◌, eqb, Option, Some, None, refl, sym, ap, ◌∙◌, append-nil}
 use Rattle.std.specs.Prelude.{is_none, option_to_list}
-use Rattle.std.specs.List.{filter_map, flat_map, cons_option}
+use Rattle.std.specs.List.{flat_map, cons_option}
 use Rattle.std.specs.Option.{option_map, option_or}
 use Rattle.std.proofs.lemmas.List.{map-append}
 use Rattle.std.proofs.lemmas.List.Elements.{filter_map-append}
@@ -15,11 +15,11 @@ use Rattle.capture.specs.declared.flow.Flow.{Flow}
 use Rattle.capture.specs.declared.flow.Flow.TheVariants.{Out, Into}
 use Rattle.capture.specs.Entries.{Entry}
 use Rattle.capture.specs.Moves.{Move, move_of, moves}
-use Rattle.capture.specs.Links.{Link, Linking, LinkNews, Asked, Answered, LinkEnded, NoNews, longer, made, ends_with, after_news, after_move, no_links, link_news, linking}
-use Rattle.capture.specs.Pdus.{Pdu, pdu_limit, piece_of, piece_in, pieces, completed_by, completed, pdus}
+use Rattle.capture.specs.Links.{Link, Linking, LinkNews, Asked, Answered, LinkEnded, NoNews, longer, after_news, after_move, no_links, link_news, linking}
+use Rattle.capture.specs.Pdus.{pdu_limit, piece_of, piece_in, pieces, completed_by, completed, pdus}
 use Rattle.capture.proofs.HistoryLaws.{given_by-more}
 use Rattle.link_talk.specs.Sayings.{Saying, said_by, talk}
-use Rattle.talk_laws.specs.CapturePass.{HeldLink, HeldLinks, no_held_links, unfinished, completed_with, octets_with, sayings_with, link_after, new_link, made_with, ended_with, links_by, links_after, links_with, held_links, link_back, links_back, held_back}
+use Rattle.talk_laws.specs.CapturePass.{HeldLink, HeldLinks, no_held_links, unfinished, completed_with, octets_with, sayings_with, link_after, new_link, made_with, links_by, links_after, links_with, held_links, link_back, links_back, held_back}
 use Rattle.talk_laws.proofs.Passes.{from_end}
 
 -- ---- a link

@@ -14,21 +14,20 @@ use Rattle.capture.specs.declared.flow.Flow.TheVariants.{Out, Into}
 use Rattle.capture.specs.Entries.{Entry}
 use Rattle.capture.specs.Histories.{each_after}
 use Rattle.capture.specs.Moves.{Move, move_of, moves}
-use Rattle.capture.specs.Links.{Link, Linking, LinkNews, Asked, Answered, LinkEnded, NoNews, news, longer, made, after_news, after_move, link_news, linking}
+use Rattle.capture.specs.Links.{Link, Linking, LinkNews, Asked, Answered, LinkEnded, NoNews, news, longer, after_news, after_move, link_news, linking}
 use Rattle.capture.specs.Pdus.{piece_of, pieces, completed_by, completed}
 use Rattle.capture.proofs.HistoryLaws.{each_after-append}
 use Rattle.link_talk.specs.declared.party.Party.{Party}
 use Rattle.link_talk.specs.Sayings.{Saying, said_by, talk}
 use Rattle.link_talk.specs.ObjectsHeard.{objects, objects_with}
-use Rattle.link_talk.specs.Accounts.{widest, credits}
-use Rattle.link_talk.specs.Waits.{waits, is_checked, has_check_word}
+use Rattle.link_talk.specs.Waits.{waits, has_check_word}
 use Rattle.link_talk.specs.Captures.{talks, last_talk, talk_on, objects_heard}
-use Rattle.talk_laws.specs.LinkPass.{Pass, no_pass, held_by, pass_back}
-use Rattle.talk_laws.specs.Spelling.{Hearing, hearing_of}
+use Rattle.talk_laws.specs.LinkPass.{Pass, no_pass}
+use Rattle.talk_laws.specs.Spelling.{Hearing}
 use Rattle.talk_laws.specs.LinkObjects.{objects_along}
-use Rattle.talk_laws.specs.LinkWaits.{no_watch, watch_after, watch_of, waits_in, widest_in}
+use Rattle.talk_laws.specs.LinkWaits.{no_watch, watch_after, watch_of, widest_in}
 use Rattle.talk_laws.specs.LinkCredits.{Purse, credits_in}
-use Rattle.talk_laws.specs.CapturePass.{HeldLink, HeldLinks, sayings_with, links_with, held_links, states, link_back, links_back, held_back}
+use Rattle.talk_laws.specs.CapturePass.{HeldLink, HeldLinks, held_links, states, link_back, links_back, held_back}
 use Rattle.talk_laws.specs.Captures.{OnlyMovesTell, said_so_far, listens, pays, objects_up, objects_moved, said_up, armed_up, checked_up, last_else, CapturesLookBack, CapturesGrow}
 use Rattle.talk_laws.proofs.LinkObjects.{hearings-are, objects-along}
 use Rattle.talk_laws.proofs.LinkWaits.{link-waits_look_back}

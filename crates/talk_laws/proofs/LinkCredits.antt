@@ -1,6 +1,6 @@
 -- The credits that a host holds on a link, in one pass.
-use Rattle.std.proofs.Common.{◌≡◌, ℕ, List, [], ◌∷◌, ◌++◌, map, fold, Bool, true, false, cond, ◌&&◌, eqb, Option, Some, None, refl, sym, ap, ◌∙◌}
-use Rattle.std.specs.Prelude.{ℤ, option_map}
+use Rattle.std.proofs.Common.{◌≡◌, List, [], ◌∷◌, ◌++◌, map, fold, Bool, true, false, cond, ◌&&◌, eqb, Option, Some, None, refl, sym, ap, ◌∙◌}
+use Rattle.std.specs.Prelude.{option_map}
 use Rattle.std.specs.List.{filter_map, list_any, cons_option}
 use Rattle.std.specs.Option.{option_or}
 use Rattle.std.proofs.lemmas.List.{map-append}
@@ -9,7 +9,7 @@ use Rattle.std.proofs.lemmas.List.Sums.{fold-append}
 use Rattle.capture.specs.Channels.{last_of}
 use Rattle.capture.specs.Histories.{given_by}
 use Rattle.l2cap_config.specs.declared.wish.Mode.{Mode}
-use Rattle.rfcomm_frames.specs.Multiplexing.{Passed, Framed, framed}
+use Rattle.rfcomm_frames.specs.Multiplexing.{Passed, framed}
 use Rattle.rfcomm_frames.specs.FrameReading.{frame_answer}
 use Rattle.link_talk.specs.declared.channel.Channel.{Channel}
 use Rattle.link_talk.specs.declared.party.Party.{Party}
@@ -23,7 +23,7 @@ use Rattle.link_talk.proofs.Growing.{stretch-grows}
 use Rattle.talk_laws.specs.Sdus.{Ears, no_ears, ears_after, ears_so_far}
 use Rattle.talk_laws.specs.Packets.{sdus_with}
 use Rattle.talk_laws.specs.Accounts.{Credits, no_credits, credits_after, credits_of}
-use Rattle.talk_laws.specs.LinkPass.{Kept, Pass, pass_of, kept_of, pass_back, Follows}
+use Rattle.talk_laws.specs.LinkPass.{pass_of, kept_of, pass_back, Follows}
 use Rattle.talk_laws.specs.LinkCredits.{Purse, no_purse, frames_of, purse_with, paying, purse_on, held_in, credits_in, purse_of, LinkCreditsLookBack, LinkCreditsGrow}
 use Rattle.talk_laws.proofs.Owning.{nothing-carried}
 use Rattle.talk_laws.proofs.Accounts.{credits_are}

@@ -1,38 +1,35 @@
 -- The objects of a link in one pass, and by its channels.
-use Rattle.std.proofs.Common.{◌≡◌, ℕ, suc, List, [], ◌∷◌, ◌++◌, length, drop, map, fold, Bool, true, false, cond, ◌||◌, eqb, Option, Some, None, refl, sym, ap, subst, ◌∙◌, append_assoc, append-nil}
-use Rattle.std.specs.Prelude.{find, option_to_list}
-use Rattle.std.specs.List.{filter_map, flat_map, list_any, cons_option, AllByRecursion}
+use Rattle.std.proofs.Common.{◌≡◌, ℕ, List, [], ◌∷◌, ◌++◌, map, Bool, true, false, cond, ◌||◌, eqb, Option, Some, None, refl, sym, ap, ◌∙◌, append-nil}
+use Rattle.std.specs.Prelude.{find}
+use Rattle.std.specs.List.{filter_map, flat_map, list_any, cons_option}
 use Rattle.std.proofs.lemmas.Bool.{eqb-true, eq-eqb}
 use Rattle.std.proofs.lemmas.List.{map-append}
 use Rattle.std.proofs.lemmas.List.Elements.{filter_map-append}
-use Rattle.std.proofs.lemmas.List.Folds.{list_any-append}
-use Rattle.std.proofs.lemmas.List.Sums.{fold-append}
 use Rattle.bt_base.specs.Objects.{Object}
 use Rattle.capture.specs.declared.flow.Flow.{Flow}
 use Rattle.capture.specs.declared.flow.Flow.TheVariants.{Out, Into}
-use Rattle.capture.specs.Histories.{each_after, given_by}
+use Rattle.capture.specs.Histories.{each_after}
 use Rattle.capture.proofs.HistoryLaws.{given_by-more}
 use Rattle.acl_fragments.specs.Pieces.{channel_of}
 use Rattle.l2cap_config.specs.declared.wish.Mode.{Mode}
 use Rattle.link_talk.specs.declared.channel.Channel.{Channel}
 use Rattle.link_talk.specs.declared.party.Party.{Party}
 use Rattle.link_talk.specs.Sayings.{Saying, Command, Carried, GaveUp}
-use Rattle.link_talk.specs.Senses.{sense}
-use Rattle.link_talk.specs.Meanings.{Meaning, meant}
-use Rattle.link_talk.specs.Channels.{Entry, fresh, entry_after, is_owner, with_fresh, made_by, Reading, read_on, reading}
+use Rattle.link_talk.specs.Meanings.{Meaning}
+use Rattle.link_talk.specs.Channels.{Entry, entry_after, Reading, reading}
 use Rattle.link_talk.specs.Carriages.{Carriage, is_heard, takes, taker, is_on, has_own}
 use Rattle.link_talk.specs.Gains.{beyond}
-use Rattle.link_talk.specs.Sdus.{Spoken, spoken_as, spoken_way, spoken_one_way}
+use Rattle.link_talk.specs.Sdus.{spoken_as, spoken_way, spoken_one_way}
 use Rattle.link_talk.specs.Packets.{Carrier, OverL2cap, OverRfcomm, OverNothing, carrier}
 use Rattle.link_talk.specs.ObjectsHeard.{put_within, channel_objects, objects, objects_with}
 use Rattle.link_talk.proofs.OnePass.{reading-more}
-use Rattle.talk_laws.specs.Sdus.{Ears, sdus_with, ear_of}
+use Rattle.talk_laws.specs.Sdus.{sdus_with, ear_of}
 use Rattle.link_talk.specs.Sdus.{longest}
 use Rattle.rfcomm_frames.specs.ObexPackets.{obex_packets}
 use Rattle.obex_headers.specs.Runs.{objects_from as spelled_from}
 use Rattle.talk_laws.specs.Packets.{Line, line_after, stream_with, packets_now, packets_from}
 use Rattle.talk_laws.specs.Waits.{mode_held}
-use Rattle.talk_laws.specs.Spelling.{Hearing, no_hearing, hearing_after, hearing_with, objects_now, objects_told, hearing_of}
+use Rattle.talk_laws.specs.Spelling.{Hearing, no_hearing, objects_now, objects_told, hearing_of}
 use Rattle.talk_laws.specs.LinkPass.{Kept, held_by, pass_of, kept_of, pass_back, Follows}
 use Rattle.talk_laws.specs.LinkObjects.{hears, objects_heard, objects_along, LinkObjectsLookBack, objects_by, objects_on, LinkObjectsGrow, Spelled, spelled_on, spelled_of, spelled_with, spelled, object_on, ObjectsFallToChannels}
 use Rattle.talk_laws.proofs.Passes.{from_end}
@@ -367,7 +364,7 @@ objects-fall_to_channels = record {
   each = λ party said channel entry is. each_is party said channel ∙ ap (from_found (objects_at party said)) is;
   none = λ party said channel is. each_is party said channel ∙ ap (from_found (objects_at party said)) is;
   alone = λ party said entry is none.
-    sym (all_is party said)
-    ∙ (sole entry.channel (spelled party said) (λ other apart. each_is party said other ∙ other_none party said entry other (find (has_own other) (reading said).entries) none apart refl)
-    ∙ (each_is party said entry.channel ∙ ap (from_found (objects_at party said)) is));
+      sym (all_is party said)
+      ∙ (sole entry.channel (spelled party said) (λ other apart. each_is party said other ∙ other_none party said entry other (find (has_own other) (reading said).entries) none apart refl)
+      ∙ (each_is party said entry.channel ∙ ap (from_found (objects_at party said)) is));
 }

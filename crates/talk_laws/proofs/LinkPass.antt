@@ -110,8 +110,8 @@ pass-more step none of follows said more =
     let kept = map (kept_of of said) old in
     let entries_are : (reading now).entries ≡ map (entry_after meaning) old ++ grows.behind = ap (λ (r : Reading). r.entries) (reading-more said more) ∙ grows.grown in
     let news : drop (length kept) next.entries ≡ grows.behind =
-        ap (drop (length kept)) grows.grown
-        ∙ (ap (λ n. drop n (map (entry_after meaning) old ++ grows.behind)) (as_long (kept_of of said) (entry_after meaning) old) ∙ drop_front (map (entry_after meaning) old) grows.behind) in
+    ap (drop (length kept)) grows.grown
+    ∙ (ap (λ n. drop n (map (entry_after meaning) old ++ grows.behind)) (as_long (kept_of of said) (entry_after meaning) old) ∙ drop_front (map (entry_after meaning) old) grows.behind) in
     ap (with_held step none kept more) (held-back of said)
     ∙ (ap (λ new. pass_to next.requests (map (kept_after step (reading said) more) kept ++ map (kept_with none) new)) news
     ∙ (ap (λ new. pass_to next.requests (map (kept_after step (reading said) more) kept ++ new)) (kept_anew step none of follows said more grows.behind (new_apart (map (entry_after meaning) old) grows.behind (subst Alone entries_are (alone now))))

@@ -11,10 +11,10 @@ use Rattle.link_talk.specs.Sayings.{Saying}
 use Rattle.link_talk.specs.Channels.{Entry, Reading, reading}
 use Rattle.link_talk.specs.Carriages.{mode_of}
 use Rattle.link_talk.specs.Accounts.{frames_passed, waiting_frames, window_used, widest}
-use Rattle.link_talk.specs.Waits.{call_waits, entry_waits, waits, is_checked, has_check_word}
+use Rattle.link_talk.specs.Waits.{call_waits, entry_waits, waits, is_checked}
 use Rattle.talk_laws.specs.Accounts.{used}
-use Rattle.talk_laws.specs.Waits.{Counts, no_counts, Tracked, tracked_of, noticed_after, entry_waits_by, counts_of}
-use Rattle.talk_laws.specs.LinkPass.{Kept, Pass, held_by, pass_after, pass_of, kept_of, pass_back, Follows}
+use Rattle.talk_laws.specs.Waits.{Counts, no_counts, Tracked, tracked_of, noticed_after, counts_of}
+use Rattle.talk_laws.specs.LinkPass.{Pass, held_by, pass_after, kept_of, pass_back, Follows}
 use Rattle.talk_laws.specs.LinkWaits.{counting, Watch, no_watch, watch_after, watch_of, kept_waits, waits_in, window_in, kept_window, widest_in, watch_back, LinkWaitsLookBack, LinkWaitsGrow}
 use Rattle.talk_laws.proofs.Passes.{from_end}
 use Rattle.talk_laws.proofs.Accounts.{window-is}
@@ -94,7 +94,7 @@ link-waits_look_back = record {
   waits = λ party said. waits_back party said ∙ ap waits_in (sym (watch-is party said));
   widest = λ party said. widest_back party said ∙ ap (λ (watch : Watch). widest_in watch.pass) (sym (watch-is party said));
   checked = λ party said own.
-    ap (λ (held : Reading). list_any (is_checked own) held.entries) (sym (held-back (counts_of party) said) ∙ ap (λ (watch : Watch). held_by watch.pass) (sym (watch-is party said)));
+      ap (λ (held : Reading). list_any (is_checked own) held.entries) (sym (held-back (counts_of party) said) ∙ ap (λ (watch : Watch). held_by watch.pass) (sym (watch-is party said)));
 }
 
 pub link-waits_grow : LinkWaitsGrow

@@ -4,7 +4,6 @@ use Rattle.std.specs.List.{list_any}
 use Rattle.std.proofs.lemmas.List.{map-append}
 use Rattle.std.proofs.lemmas.List.Elements.{filter_map-append}
 use Rattle.std.proofs.lemmas.List.Sums.{fold-append}
-use Rattle.bt_base.specs.Objects.{Object}
 use Rattle.capture.specs.declared.flow.Flow.TheVariants.{Into}
 use Rattle.capture.specs.Histories.{given_by}
 use Rattle.l2cap_config.specs.declared.wish.Mode.{Mode}
@@ -13,10 +12,10 @@ use Rattle.obex_headers.specs.Runs.{objects_from}
 use Rattle.link_talk.specs.declared.channel.Channel.{Channel}
 use Rattle.link_talk.specs.declared.party.Party.{Party}
 use Rattle.link_talk.specs.Sayings.{Saying}
-use Rattle.link_talk.specs.Channels.{Reading, nothing_read, read_on, reading}
+use Rattle.link_talk.specs.Channels.{read_on, reading}
 use Rattle.link_talk.specs.Carriages.{Carriage, is_heard, carried, stretch, has_own, mode_of}
 use Rattle.link_talk.specs.Sdus.{Spoken, spoken, spoken_with, spoken_way, spoken_one_way}
-use Rattle.link_talk.specs.Packets.{packets, packets_spoken, packets_heard, carrier}
+use Rattle.link_talk.specs.Packets.{packets, packets_spoken, carrier}
 use Rattle.link_talk.specs.ObjectsHeard.{put_within, channel_objects}
 use Rattle.link_talk.proofs.OnePass.{reading-more}
 use Rattle.link_talk.proofs.Growing.{stretch-grows}

@@ -39,10 +39,10 @@ split_by xs ys rest whole =
     let old = obex_packets xs in
     let new = obex_packets (rest ++ ys) in
     let all : xs ++ ys ≡ joined (old ++ new) ++ later.rest =
-        ap (λ zs. zs ++ ys) whole
-        ∙ (append_assoc (joined old) rest ys
-        ∙ (ap (λ zs. joined old ++ zs) later.whole
-        ∙ (sym (append_assoc (joined old) (joined new) later.rest) ∙ ap (λ zs. zs ++ later.rest) (sym (flat_map-append (λ (packet : List ℕ). packet) old new))))) in
+    ap (λ zs. zs ++ ys) whole
+    ∙ (append_assoc (joined old) rest ys
+    ∙ (ap (λ zs. joined old ++ zs) later.whole
+    ∙ (sym (append_assoc (joined old) (joined new) later.rest) ∙ ap (λ zs. zs ++ later.rest) (sym (flat_map-append (λ (packet : List ℕ). packet) old new))))) in
     let found = parts_of (xs ++ ys) later.rest (old ++ new) all (all_both IsPacket old new (obex_packets-right xs).each later.each) later.no_more in
     (found.0, found.1 ∙ sym (rest_held (rest ++ ys)))
 

@@ -1,5 +1,5 @@
 -- What a capture says of the talks of a side, in one pass and with one entry more.
-use Rattle.std.specs.Prelude.{ℕ, ℤ, ◌≡◌, false, Bool, List, [], ◌∷◌, ◌++◌, fold, Option, Some, None}
+use Rattle.std.specs.Prelude.{ℕ, ◌≡◌, false, Bool, List, [], ◌∷◌, ◌++◌, fold, Option, Some, None}
 use Rattle.std.specs.List.{list_any}
 use Rattle.bt_base.specs.Objects.{Object}
 use Rattle.push_terms.specs.declared.word.Side.{Side}

@@ -1,5 +1,5 @@
 -- The credits that a host holds on a link, in one pass (RFCOMM 1.2, 6.5).
-use Rattle.std.specs.Prelude.{ℕ, ℤ, pos, ◌≡◌, ◌==◌, ◌&&◌, List, [], ◌∷◌, ◌++◌, map, fold, Option, Some, None, if◌then◌else◌}
+use Rattle.std.specs.Prelude.{ℤ, pos, ◌≡◌, ◌==◌, ◌&&◌, List, [], ◌∷◌, ◌++◌, map, fold, Option, Some, None, if◌then◌else◌}
 use Rattle.std.specs.List.{filter_map}
 use Rattle.capture.specs.Channels.{last_of}
 use Rattle.l2cap_config.specs.declared.wish.Mode.{Mode}

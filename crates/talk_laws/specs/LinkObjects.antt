@@ -1,5 +1,5 @@
 -- The objects of a link in one pass, and by its channels (IrOBEX 1.5, 3.4.3; Core 5.1, Volume 3 Part A, 3.1).
-use Rattle.std.specs.Prelude.{ℕ, ◌≡◌, ◌==◌, Bool, false, List, [], ◌∷◌, ◌++◌, map, find, Option, Some, None, if◌then◌else◌}
+use Rattle.std.specs.Prelude.{ℕ, ◌≡◌, ◌==◌, false, List, [], ◌∷◌, ◌++◌, map, find, Option, Some, None, if◌then◌else◌}
 use Rattle.std.specs.List.{filter_map, flat_map}
 use Rattle.bt_base.specs.Objects.{Object}
 use Rattle.capture.specs.declared.flow.Flow.TheVariants.{Out, Into}
@@ -8,7 +8,7 @@ use Rattle.link_talk.specs.declared.channel.Channel.{Channel}
 use Rattle.link_talk.specs.declared.party.Party.{Party}
 use Rattle.link_talk.specs.Sayings.{Saying, Command, Carried, GaveUp}
 use Rattle.link_talk.specs.Channels.{Entry, Reading, reading}
-use Rattle.link_talk.specs.Carriages.{Carriage, is_heard, taker, has_own}
+use Rattle.link_talk.specs.Carriages.{is_heard, taker, has_own}
 use Rattle.link_talk.specs.Gains.{beyond}
 use Rattle.link_talk.specs.ObjectsHeard.{channel_objects, objects}
 use Rattle.talk_laws.specs.Waits.{mode_held}
