@@ -15,6 +15,8 @@ pub mod LinkPass
 pub mod LinkObjects
 pub mod LinkWaits
 pub mod LinkCredits
+pub mod LinkAnswers
+pub mod Carrying
 pub mod CapturePass
 pub mod Captures
 pub mod CheckWords

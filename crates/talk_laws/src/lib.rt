@@ -4,8 +4,10 @@
 
 ghost use Rattle.talk_laws.specs.Accounts.{AccountsGrow, AccountsLookBack};
 ghost use Rattle.talk_laws.specs.Captures.{CapturesGrow, CapturesLookBack, OnlyMovesTell};
+ghost use Rattle.talk_laws.specs.Carrying.{CarriagesLookBack};
 ghost use Rattle.talk_laws.specs.CheckWords.{CheckWordsLookBack};
 ghost use Rattle.talk_laws.specs.Exchanges.{ExchangesGrow, ExchangesLookBack};
+ghost use Rattle.talk_laws.specs.LinkAnswers.{LinkAnswersGrow, LinkAnswersLookBack};
 ghost use Rattle.talk_laws.specs.LinkCredits.{LinkCreditsGrow, LinkCreditsLookBack};
 ghost use Rattle.talk_laws.specs.LinkObjects.{LinkObjectsGrow, LinkObjectsLookBack, ObjectsFallToChannels};
 ghost use Rattle.talk_laws.specs.LinkWaits.{LinkWaitsGrow, LinkWaitsLookBack};
@@ -43,6 +45,18 @@ pub fn silences_look_back()
 /// The answers of service discovery are those of the first replies to the requests before them.
 pub fn service_answers_look_back()
     ensures { ServiceAnswersLookBack }
+{}
+
+/// The answers of service discovery on a link are told by what one pass holds of each channel.
+pub fn link_answers_look_back()
+    ensures back { LinkAnswersLookBack }
+    ensures grow { LinkAnswersGrow }
+{}
+
+/// What a channel carries, and its mode, are told by the channels that came to be, and by all that was
+/// said of each since.
+pub fn carriages_look_back()
+    ensures { CarriagesLookBack }
 {}
 
 /// The SDUs on a channel are found PDU by PDU.
