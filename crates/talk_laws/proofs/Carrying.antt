@@ -4,13 +4,13 @@ use Rattle.std.specs.Prelude.{find}
 use Rattle.acl_fragments.specs.Pieces.{channel_of}
 use Rattle.capture.specs.declared.flow.Flow.{Flow}
 use Rattle.capture.specs.declared.flow.Flow.TheVariants.{Out, Into}
-use Rattle.capture.specs.Histories.{each_after, given_by}
+use Rattle.capture.specs.Histories.{each_after}
 use Rattle.link_talk.specs.declared.channel.Channel.{Channel}
 use Rattle.link_talk.specs.Sayings.{Saying, Command, Carried, GaveUp}
 use Rattle.link_talk.specs.Meanings.{Meaning, meanings}
 use Rattle.link_talk.specs.Setups.{is_set, agreed_mode}
-use Rattle.link_talk.specs.Channels.{Birth, births, words, is_closed, is_gone, Entry, is_alive, is_there, Reading, read_on, reading}
-use Rattle.link_talk.specs.Carriages.{Carriage, endpoint, is_heard, is_passed, takes, is_on, carried_by, carried, has_own, entry_mode}
+use Rattle.link_talk.specs.Channels.{Birth, births, words, is_closed, is_gone, Entry, is_alive, is_there, reading}
+use Rattle.link_talk.specs.Carriages.{Carriage, endpoint, is_heard, is_passed, takes, is_on, carried, has_own, entry_mode}
 use Rattle.link_talk.specs.ReadingLaws.{IsRead, AreRead}
 use Rattle.link_talk.proofs.OnePass.{reading-more, reading-is_right}
 use Rattle.talk_laws.specs.Carrying.{agreed, is_heard_back, is_passed_back, takes_back, is_of, carried_back, has_endpoint, birth_mode, carried_along, CarriagesLookBack}
@@ -112,8 +112,8 @@ carriages-look_back = record {
   stretch_is = λ channel said. each_same (carried is_heard channel) (carried_back is_heard_back channel) [] said (carried_same is_heard is_heard_back heard_same channel);
   passages_are = λ channel said. each_same (carried is_passed channel) (carried_back is_passed_back channel) [] said (carried_same is_passed is_passed_back passed_same channel);
   mode_is = λ channel said.
-    mode_same (meanings said) (find (has_own channel) (reading said).entries) (find (has_endpoint channel) (births (meanings said)))
-    (found (meanings said) (has_own channel) (has_endpoint channel) (births (meanings said)) (reading said).entries (own_same (meanings said) channel) (reading-is_right said).entries_are);
+      mode_same (meanings said) (find (has_own channel) (reading said).entries) (find (has_endpoint channel) (births (meanings said)))
+      (found (meanings said) (has_own channel) (has_endpoint channel) (births (meanings said)) (reading said).entries (own_same (meanings said) channel) (reading-is_right said).entries_are);
   stretch_along = λ channel said. along is_heard channel [] said;
   passages_along = λ channel said. along is_passed channel [] said;
 }

@@ -1,5 +1,5 @@
 -- The answers of service discovery on a link, in one pass.
-use Rattle.std.proofs.Common.{◌≡◌, ℕ, List, [], ◌∷◌, ◌++◌, map, fold, Bool, true, false, cond, eqb, Option, None, refl, sym, ap, ◌∙◌, append_assoc}
+use Rattle.std.proofs.Common.{◌≡◌, ℕ, List, [], ◌∷◌, ◌++◌, map, fold, Bool, true, false, cond, Option, None, refl, sym, ap, ◌∙◌, append_assoc}
 use Rattle.std.specs.List.{flat_map, list_any}
 use Rattle.std.proofs.lemmas.List.Sums.{fold-append}
 use Rattle.capture.specs.Histories.{given_by}
@@ -11,11 +11,11 @@ use Rattle.link_talk.specs.Sayings.{Saying}
 use Rattle.link_talk.specs.Channels.{Entry, reading}
 use Rattle.link_talk.specs.Carriages.{Carriage, is_heard, carried, stretch, has_own, mode_of}
 use Rattle.link_talk.specs.Sdus.{Spoken, spoken, spoken_with}
-use Rattle.link_talk.specs.ServiceAnswers.{waiting_after, part_with, parts_from, is_last, joined_from, answers_in, channel_answers, service_answers}
+use Rattle.link_talk.specs.ServiceAnswers.{waiting_after, part_with, parts_from, is_last, joined_from, answers_in, channel_answers}
 use Rattle.link_talk.proofs.Growing.{stretch-grows}
 use Rattle.talk_laws.specs.Sdus.{Ears, no_ears, ears_after, ears_so_far}
 use Rattle.talk_laws.specs.Packets.{sdus_with}
-use Rattle.talk_laws.specs.LinkPass.{Kept, pass_of, kept_of, pass_back, Follows}
+use Rattle.talk_laws.specs.LinkPass.{pass_of, kept_of, pass_back, Follows}
 use Rattle.talk_laws.specs.LinkAnswers.{unfinished_after, Asking, no_asking, answers_now, asking_by, asking_with, asks, answers_on, answers_of, unfinished_of, asking_of, LinkAnswersLookBack, LinkAnswersGrow}
 use Rattle.talk_laws.proofs.Owning.{nothing-carried}
 use Rattle.talk_laws.proofs.Waits.{spoken-more}
@@ -110,6 +110,6 @@ pub link-answers_grow : LinkAnswersGrow
 link-answers_grow = record {
   sdus = answers_more;
   answers = λ party said more.
-    each_on party (said ++ more ∷ []) (reading (said ++ more ∷ [])).entries
-    ∙ ap answers_of (sym (pass-more (asks party) no_asking (asking_of party) (askings_follow party) said more));
+      each_on party (said ++ more ∷ []) (reading (said ++ more ∷ [])).entries
+      ∙ ap answers_of (sym (pass-more (asks party) no_asking (asking_of party) (askings_follow party) said more));
 }
