@@ -25,3 +25,4 @@ pub mod Silences
 pub mod Peaks
 pub mod Stretches
 pub mod Requests
+pub mod Differences

@@ -24,3 +24,4 @@ pub mod Silences
 pub mod Peaks
 pub mod Stretches
 pub mod Requests
+pub mod Differences

@@ -6,6 +6,7 @@ ghost use Rattle.talk_laws.specs.Accounts.{AccountsGrow, AccountsLookBack};
 ghost use Rattle.talk_laws.specs.Captures.{CapturesGrow, CapturesLookBack, OnlyMovesTell};
 ghost use Rattle.talk_laws.specs.Carrying.{CarriagesLookBack};
 ghost use Rattle.talk_laws.specs.CheckWords.{CheckWordsLookBack};
+ghost use Rattle.talk_laws.specs.Differences.{ChannelsDiffer, SilencesDiffer};
 ghost use Rattle.talk_laws.specs.Exchanges.{ExchangesGrow, ExchangesLookBack};
 ghost use Rattle.talk_laws.specs.LinkAnswers.{LinkAnswersGrow, LinkAnswersLookBack};
 ghost use Rattle.talk_laws.specs.LinkCredits.{LinkCreditsGrow, LinkCreditsLookBack};
@@ -149,4 +150,10 @@ pub fn objects_fall_into_stretches()
 /// last of its kind.
 pub fn requests_look_back()
     ensures { RequestsLookBack }
+{}
+
+/// Small talks on which another reading might be expected are read as is said.
+pub fn small_talks_differ()
+    ensures channels { ChannelsDiffer }
+    ensures silences { SilencesDiffer }
 {}
