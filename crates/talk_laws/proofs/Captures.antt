@@ -22,13 +22,13 @@ use Rattle.link_talk.specs.Sayings.{Saying, said_by, talk}
 use Rattle.link_talk.specs.ObjectsHeard.{objects, objects_with}
 use Rattle.link_talk.specs.Waits.{waits, has_check_word}
 use Rattle.link_talk.specs.Captures.{talks, last_talk, talk_on, objects_heard}
-use Rattle.talk_laws.specs.LinkPass.{Pass, no_pass}
+use Rattle.talk_laws.specs.LinkPass.{LinkPass, no_pass}
 use Rattle.talk_laws.specs.Spelling.{Hearing}
 use Rattle.talk_laws.specs.LinkObjects.{objects_along}
 use Rattle.talk_laws.specs.LinkWaits.{no_watch, watch_after, watch_of, widest_in}
 use Rattle.talk_laws.specs.LinkCredits.{Purse, credits_in}
 use Rattle.talk_laws.specs.CapturePass.{HeldLink, HeldLinks, held_links, states, link_back, links_back, held_back}
-use Rattle.talk_laws.specs.Captures.{OnlyMovesTell, said_so_far, listens, pays, objects_up, objects_moved, said_up, armed_up, checked_up, last_else, CapturesLookBack, CapturesGrow}
+use Rattle.talk_laws.specs.Captures.{OnlyMovesTell, said_so_far, hearing_pass, purse_pass, objects_up, objects_moved, said_up, armed_up, checked_up, last_else, CapturesLookBack, CapturesGrow}
 use Rattle.talk_laws.proofs.LinkObjects.{hearings-are, objects-along}
 use Rattle.talk_laws.proofs.LinkWaits.{link-waits_look_back}
 use Rattle.talk_laws.proofs.LinkCredits.{link-credits_look_back}
@@ -104,13 +104,13 @@ watched party side entries = held-is (watch_after party) no_watch (watch_of part
 pub captures-look_back : CapturesLookBack
 captures-look_back = record {
   saying = said_is;
-  hearing = λ party side entries. held-is (listens party) (no_pass Hearing) (fold (listens party) (no_pass Hearing)) (folds-lead (listens party) (no_pass Hearing)) side entries;
+  hearing = λ party side entries. held-is (hearing_pass party) (no_pass Hearing) (fold (hearing_pass party) (no_pass Hearing)) (folds-lead (hearing_pass party) (no_pass Hearing)) side entries;
   talks = λ side entries. talks_back side entries ∙ ap states (sym (said_is side entries));
   now = λ side entries. said_on (linking (moves side entries)).up ∙ ap (λ (links : HeldLinks (List Saying)). said_up links.up) (sym (said_is side entries));
   armed = λ party side entries. armed_on party (linking (moves side entries)).up ∙ ap (λ links. armed_up links.up) (sym (watched party side entries));
   checked = λ party side entries own. checked_on party own (linking (moves side entries)).up ∙ ap (λ links. checked_up own links.up) (sym (watched party side entries));
   window = λ party side entries. link-waits_look_back.widest party (last_talk (talks side entries)) ∙ ap (λ watch. widest_in watch.pass) (last_is (watch_after party) no_watch side entries);
-  credits = λ party side entries. link-credits_look_back.credits party (last_talk (talks side entries)) ∙ ap credits_in (last_is (pays party) (no_pass Purse) side entries);
+  credits = λ party side entries. link-credits_look_back.credits party (last_talk (talks side entries)) ∙ ap credits_in (last_is (purse_pass party) (no_pass Purse) side entries);
 }
 
 -- ---- objects with one entry more
@@ -200,23 +200,23 @@ by_news party move asked past (Some link) (LinkEnded handle) quiet = ended_gains
 by_news party move asked past up NoNews quiet = goes_on party move past up
 
 -- as the pass finds them
-gained_same : (party : Party) (move : Move) (up : Option Link) → gained_up party move up ≡ objects_up party move (option_map (link_back (fold (listens party) (no_pass Hearing))) up)
+gained_same : (party : Party) (move : Move) (up : Option Link) → gained_up party move up ≡ objects_up party move (option_map (link_back (fold (hearing_pass party) (no_pass Hearing))) up)
 gained_same party move None = refl
 gained_same party move (Some link) =
-    let of : List Saying → Pass Hearing = fold (listens party) (no_pass Hearing) in
+    let of : List Saying → LinkPass Hearing = fold (hearing_pass party) (no_pass Hearing) in
     objects-along party (talk link) (flat_map said_by (completed link.handle link.moves move))
     ∙ (ap (λ pass. objects_along party pass (flat_map said_by (completed link.handle link.moves move))) (sym (hearings-are party (talk link)))
     ∙ ap (objects_along party (of (talk link))) (sayings-are of link move))
 
 entry_gains : (party : Party) (now : Linking) (move : Option Move)
-    → objects_in party (fold after_move now (cons_option move [])) ≡ objects_in party now ++ objects_moved party (links_back (fold (listens party) (no_pass Hearing)) now) move
+    → objects_in party (fold after_move now (cons_option move [])) ≡ objects_in party now ++ objects_moved party (links_back (fold (hearing_pass party) (no_pass Hearing)) now) move
 entry_gains party now None = sym (append-nil (objects_in party now))
 entry_gains party now (Some move) =
     by_news party move now.asked now.past now.up (link_news move) (quiet move.flow move.packet)
     ∙ ap (λ xs. objects_in party now ++ xs) (gained_same party move now.up)
 
 objects_more : (party : Party) (side : Side) (past : List Entry) (more : Entry)
-    → objects_heard party side (past ++ more ∷ []) ≡ objects_heard party side past ++ objects_moved party (held_links (listens party) (no_pass Hearing) side past) (move_of side more)
+    → objects_heard party side (past ++ more ∷ []) ≡ objects_heard party side past ++ objects_moved party (held_links (hearing_pass party) (no_pass Hearing) side past) (move_of side more)
 objects_more party side past more =
     ap (objects_in party) (moves-more side past more)
     ∙ (entry_gains party (linking (moves side past)) (move_of side more)

@@ -14,9 +14,9 @@ use Rattle.link_talk.specs.Sdus.{Spoken, spoken, spoken_with}
 use Rattle.link_talk.specs.ServiceAnswers.{waiting_after, part_with, parts_from, is_last, joined_from, answers_in, channel_answers}
 use Rattle.link_talk.proofs.Growing.{stretch-grows}
 use Rattle.talk_laws.specs.Sdus.{Ears, no_ears, ears_after, ears_so_far}
-use Rattle.talk_laws.specs.Packets.{sdus_with}
+use Rattle.talk_laws.specs.Packets.{sdus_said}
 use Rattle.talk_laws.specs.LinkPass.{pass_of, kept_of, pass_back, Follows}
-use Rattle.talk_laws.specs.LinkAnswers.{unfinished_after, Asking, no_asking, answers_now, asking_by, asking_with, asks, answers_on, answers_of, unfinished_of, asking_of, LinkAnswersLookBack, LinkAnswersGrow}
+use Rattle.talk_laws.specs.LinkAnswers.{unfinished_after, Asking, no_asking, answers_now, asking_by, asking_with, asking_step, answers_on, answers_of, unfinished_of, asking_of, LinkAnswersLookBack, LinkAnswersGrow}
 use Rattle.talk_laws.proofs.Owning.{nothing-carried}
 use Rattle.talk_laws.proofs.Waits.{spoken-more}
 use Rattle.talk_laws.proofs.Spelling.{stretch_before}
@@ -74,13 +74,13 @@ sdus_more ears ears' sdus more =
     ∙ (ap (λ octets. made ears' waiting octets (answers_in (sdus ++ more))) (unfinished_more sdus more)
     ∙ ap (made ears' waiting (unfinished_after (unfinished_of sdus) (parts_from (fold waiting_after None sdus) more))) (answers_more sdus more))
 
-asking_more : (party : Party) (channel : Channel) (said : List Saying) (more : Saying) → asking_of party channel (said ++ more ∷ []) ≡ asks party channel (reading said) (asking_of party channel said) more
+asking_more : (party : Party) (channel : Channel) (said : List Saying) (more : Saying) → asking_of party channel (said ++ more ∷ []) ≡ asking_step party channel (reading said) (asking_of party channel said) more
 asking_more party channel said more =
     let heard = carried is_heard channel said more in
     let old = ears_so_far party (stretch channel said) in
     let new = fold (ears_after party) old heard in
     ap (λ ears. by_sdus ears (spoken party channel (said ++ more ∷ []))) (ap (ears_so_far party) (stretch-grows channel said more) ∙ fold-append (ears_after party) no_ears (stretch channel said) heard)
-    ∙ (ap (by_sdus new) (spoken-more party channel said more) ∙ sdus_more old new (spoken party channel said) (sdus_with party channel said more))
+    ∙ (ap (by_sdus new) (spoken-more party channel said more) ∙ sdus_more old new (spoken party channel said) (sdus_said party channel said more))
 
 abbrev asking_before : Party → Mode → List Carriage → Asking
 asking_before party mode carriages = by_sdus (ears_so_far party carriages) (given_by (spoken_with party mode) carriages)
@@ -88,14 +88,14 @@ asking_before party mode carriages = by_sdus (ears_so_far party carriages) (give
 asking_anew : (party : Party) (channel : Channel) (said : List Saying) (more : Saying) → list_any (has_own channel) (reading said).entries ≡ false → asking_of party channel (said ++ more ∷ []) ≡ no_asking
 asking_anew party channel said more none =
     asking_more party channel said more
-    ∙ (ap (λ asking. asks party channel (reading said) asking more) (ap (asking_before party (mode_of channel said)) (stretch_before channel said none))
+    ∙ (ap (λ asking. asking_step party channel (reading said) asking more) (ap (asking_before party (mode_of channel said)) (stretch_before channel said none))
     ∙ ap (asking_with party (mode_of channel said) no_asking) (nothing-carried channel is_heard (reading said).entries more none))
 
-askings_follow : (party : Party) → Follows (asks party) no_asking (asking_of party)
+askings_follow : (party : Party) → Follows (asking_step party) no_asking (asking_of party)
 askings_follow party = record { grows = asking_more party; anew = asking_anew party }
 
-askings_are : (party : Party) (said : List Saying) → pass_of (asks party) no_asking said ≡ pass_back (asking_of party) said
-askings_are party said = pass-is (asks party) no_asking (asking_of party) (askings_follow party) said
+askings_are : (party : Party) (said : List Saying) → pass_of (asking_step party) no_asking said ≡ pass_back (asking_of party) said
+askings_are party said = pass-is (asking_step party) no_asking (asking_of party) (askings_follow party) said
 
 -- ---- the answers of a link
 
@@ -111,5 +111,5 @@ link-answers_grow = record {
   sdus = answers_more;
   answers = λ party said more.
       each_on party (said ++ more ∷ []) (reading (said ++ more ∷ [])).entries
-      ∙ ap answers_of (sym (pass-more (asks party) no_asking (asking_of party) (askings_follow party) said more));
+      ∙ ap answers_of (sym (pass-more (asking_step party) no_asking (asking_of party) (askings_follow party) said more));
 }

@@ -21,10 +21,10 @@ use Rattle.link_talk.specs.Packets.{passed}
 use Rattle.link_talk.specs.Accounts.{carries_rfcomm, multiplexed, credits_on, credits}
 use Rattle.link_talk.proofs.Growing.{stretch-grows}
 use Rattle.talk_laws.specs.Sdus.{Ears, no_ears, ears_after, ears_so_far}
-use Rattle.talk_laws.specs.Packets.{sdus_with}
+use Rattle.talk_laws.specs.Packets.{sdus_said}
 use Rattle.talk_laws.specs.Accounts.{Credits, no_credits, credits_after, credits_of}
 use Rattle.talk_laws.specs.LinkPass.{pass_of, kept_of, pass_back, Follows}
-use Rattle.talk_laws.specs.LinkCredits.{Purse, no_purse, frames_of, purse_with, paying, purse_on, held_in, credits_in, purse_of, LinkCreditsLookBack, LinkCreditsGrow}
+use Rattle.talk_laws.specs.LinkCredits.{Purse, no_purse, frames_of, purse_with, purse_step, purse_on, held_in, credits_in, purse_of, LinkCreditsLookBack, LinkCreditsGrow}
 use Rattle.talk_laws.proofs.Owning.{nothing-carried}
 use Rattle.talk_laws.proofs.Accounts.{credits_are}
 use Rattle.talk_laws.proofs.Waits.{spoken-more}
@@ -41,10 +41,10 @@ frames_append party old new =
 abbrev purse : Ears → Credits → Purse
 purse ears credits_ = record { ears = ears; credits = credits_ }
 
-purse_more : (party : Party) (channel : Channel) (said : List Saying) (more : Saying) → purse_of party channel (said ++ more ∷ []) ≡ paying party channel (reading said) (purse_of party channel said) more
+purse_more : (party : Party) (channel : Channel) (said : List Saying) (more : Saying) → purse_of party channel (said ++ more ∷ []) ≡ purse_step party channel (reading said) (purse_of party channel said) more
 purse_more party channel said more =
     let heard = carried is_heard channel said more in
-    let now = sdus_with party channel said more in
+    let now = sdus_said party channel said more in
     let count = credits_of party.dlci party.role in
     ap (λ ears. purse ears (count (frames_of party (spoken party channel (said ++ more ∷ []))))) (ap (ears_so_far party) (stretch-grows channel said more) ∙ fold-append (ears_after party) no_ears (stretch channel said) heard)
     ∙ ap (purse (fold (ears_after party) (ears_so_far party (stretch channel said)) heard))
@@ -57,14 +57,14 @@ purse_by party mode carriages = purse (ears_so_far party carriages) (credits_of 
 purse_anew : (party : Party) (channel : Channel) (said : List Saying) (more : Saying) → list_any (has_own channel) (reading said).entries ≡ false → purse_of party channel (said ++ more ∷ []) ≡ no_purse
 purse_anew party channel said more none =
     purse_more party channel said more
-    ∙ (ap (λ now. paying party channel (reading said) now more) (ap (purse_by party (mode_of channel said)) (stretch_before channel said none))
+    ∙ (ap (λ now. purse_step party channel (reading said) now more) (ap (purse_by party (mode_of channel said)) (stretch_before channel said none))
     ∙ ap (purse_with party (mode_of channel said) no_purse) (nothing-carried channel is_heard (reading said).entries more none))
 
-purses_follow : (party : Party) → Follows (paying party) no_purse (purse_of party)
+purses_follow : (party : Party) → Follows (purse_step party) no_purse (purse_of party)
 purses_follow party = record { grows = purse_more party; anew = purse_anew party }
 
-purses_are : (party : Party) (said : List Saying) → pass_of (paying party) no_purse said ≡ pass_back (purse_of party) said
-purses_are party said = pass-is (paying party) no_purse (purse_of party) (purses_follow party) said
+purses_are : (party : Party) (said : List Saying) → pass_of (purse_step party) no_purse said ≡ pass_back (purse_of party) said
+purses_are party said = pass-is (purse_step party) no_purse (purse_of party) (purses_follow party) said
 
 -- ---- what it finds
 
@@ -102,6 +102,6 @@ link-credits_look_back = record { held = purses_are; credits = λ party said. cr
 
 pub link-credits_grow : LinkCreditsGrow
 link-credits_grow = record {
-  held = λ party said more. sym (pass-more (paying party) no_purse (purse_of party) (purses_follow party) said more);
-  credits = λ party said more. credits_back party (said ++ more ∷ []) ∙ ap credits_in (sym (pass-more (paying party) no_purse (purse_of party) (purses_follow party) said more));
+  held = λ party said more. sym (pass-more (purse_step party) no_purse (purse_of party) (purses_follow party) said more);
+  credits = λ party said more. credits_back party (said ++ more ∷ []) ∙ ap credits_in (sym (pass-more (purse_step party) no_purse (purse_of party) (purses_follow party) said more));
 }

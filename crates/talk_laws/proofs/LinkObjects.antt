@@ -27,11 +27,11 @@ use Rattle.talk_laws.specs.Sdus.{sdus_with, ear_of}
 use Rattle.link_talk.specs.Sdus.{longest}
 use Rattle.rfcomm_frames.specs.ObexPackets.{obex_packets}
 use Rattle.obex_headers.specs.Runs.{objects_from as spelled_from}
-use Rattle.talk_laws.specs.Packets.{Line, line_after, stream_with, packets_now, packets_from}
+use Rattle.talk_laws.specs.Packets.{Streams, streams_after, stream_with, packets_now, packets_from}
 use Rattle.talk_laws.specs.Waits.{mode_held}
 use Rattle.talk_laws.specs.Spelling.{Hearing, no_hearing, objects_now, objects_told, hearing_of}
-use Rattle.talk_laws.specs.LinkPass.{Kept, held_by, pass_of, kept_of, pass_back, Follows}
-use Rattle.talk_laws.specs.LinkObjects.{hears, objects_heard, objects_along, LinkObjectsLookBack, objects_by, objects_on, LinkObjectsGrow, Spelled, spelled_on, spelled_of, spelled_with, spelled, object_on, ObjectsFallToChannels}
+use Rattle.talk_laws.specs.LinkPass.{KeptChannel, held_by, pass_of, kept_of, pass_back, Follows}
+use Rattle.talk_laws.specs.LinkObjects.{hearing_step, objects_said, objects_along, LinkObjectsLookBack, objects_by, objects_on, LinkObjectsGrow, PlacedObject, placed_on, placed_of, placed_with, placed_objects, object_on, ObjectsFallToChannels}
 use Rattle.talk_laws.proofs.Passes.{from_end}
 use Rattle.talk_laws.proofs.Streams.{drop_front}
 use Rattle.talk_laws.proofs.LinkPass.{meaning_of, entries_grow, held-back, pass-more, pass-is}
@@ -118,24 +118,24 @@ into_out : (list : List (List ℕ)) → spoken_one_way Into (map (spoken_as Out)
 into_out [] = refl
 into_out (octets ∷ list) = into_out list
 
-one_out : (party : Party) (over : Carrier) (line : Line) (octets : List ℕ) → spoken_one_way Into (packets_now party over line (spoken_as Out octets)) ≡ []
-one_out party OverL2cap line octets = refl
-one_out party OverRfcomm line octets = into_out (obex_packets (stream_with party Out line (spoken_as Out octets)))
-one_out party OverNothing line octets = refl
+one_out : (party : Party) (over : Carrier) (streams : Streams) (octets : List ℕ) → spoken_one_way Into (packets_now party over streams (spoken_as Out octets)) ≡ []
+one_out party OverL2cap streams octets = refl
+one_out party OverRfcomm streams octets = into_out (obex_packets (stream_with party Out streams (spoken_as Out octets)))
+one_out party OverNothing streams octets = refl
 
-all_out : (party : Party) (over : Carrier) (line : Line) (list : List (List ℕ)) → spoken_one_way Into (packets_from party over line (map (spoken_as Out) list)) ≡ []
-all_out party over line [] = refl
-all_out party over line (octets ∷ list) =
+all_out : (party : Party) (over : Carrier) (streams : Streams) (list : List (List ℕ)) → spoken_one_way Into (packets_from party over streams (map (spoken_as Out) list)) ≡ []
+all_out party over streams [] = refl
+all_out party over streams (octets ∷ list) =
     let sdu = spoken_as Out octets in
-    filter_map-append (spoken_way Into) (packets_now party over line sdu) (packets_from party over (line_after party line sdu) (map (spoken_as Out) list))
-    ∙ (ap (λ xs. xs ++ spoken_one_way Into (packets_from party over (line_after party line sdu) (map (spoken_as Out) list))) (one_out party over line octets)
-    ∙ all_out party over (line_after party line sdu) list)
+    filter_map-append (spoken_way Into) (packets_now party over streams sdu) (packets_from party over (streams_after party streams sdu) (map (spoken_as Out) list))
+    ∙ (ap (λ xs. xs ++ spoken_one_way Into (packets_from party over (streams_after party streams sdu) (map (spoken_as Out) list))) (one_out party over streams octets)
+    ∙ all_out party over (streams_after party streams sdu) list)
 
 none_out : (party : Party) (channel : Channel) (mode : Mode) (hearing : Hearing) (pdu : List ℕ) → objects_now party channel mode hearing (record { flow = Out; pdu = pdu } ∷ []) ≡ []
 none_out party channel mode hearing pdu =
     let sdus = map (spoken_as Out) (sdus_with (longest party Out) mode (ear_of Out hearing.ears) pdu) in
-    ap (λ xs. spelled_from hearing.run (map (put_within party.packet) (spoken_one_way Into (packets_from party (carrier channel.psm) hearing.line xs)))) (append-nil sdus)
-    ∙ ap (λ xs. spelled_from hearing.run (map (put_within party.packet) xs)) (all_out party (carrier channel.psm) hearing.line (sdus_with (longest party Out) mode (ear_of Out hearing.ears) pdu))
+    ap (λ xs. spelled_from hearing.run (map (put_within party.packet) (spoken_one_way Into (packets_from party (carrier channel.psm) hearing.streams xs)))) (append-nil sdus)
+    ∙ ap (λ xs. spelled_from hearing.run (map (put_within party.packet) xs)) (all_out party (carrier channel.psm) hearing.streams (sdus_with (longest party Out) mode (ear_of Out hearing.ears) pdu))
 
 -- of a PDU, on the channel that takes it
 abbrev by_carriage : Party → Reading → (Channel → Hearing) → Carriage → Entry → List Object
@@ -185,14 +185,14 @@ link-objects_grow party said more =
 
 -- ---- one pass
 
-listened : (party : Party) (said : List Saying) (more : Saying) → objects_with party said more ≡ objects_heard party (pass_back (hearing_of party) said) more
+listened : (party : Party) (said : List Saying) (more : Saying) → objects_with party said more ≡ objects_said party (pass_back (hearing_of party) said) more
 listened party said more =
     let entries = (reading said).entries in
     with_is party said more
     ∙ (ap (λ held. flat_map (λ (entry : Entry). objects_told party entry.channel held (hearing_of party entry.channel said) more) entries) (sym (held-back (hearing_of party) said))
-    ∙ sym (flat_mapped (λ (one : Kept Hearing). objects_told party one.entry.channel (held_by (pass_back (hearing_of party) said)) one.state more) (kept_of (hearing_of party) said) entries))
+    ∙ sym (flat_mapped (λ (one : KeptChannel Hearing). objects_told party one.entry.channel (held_by (pass_back (hearing_of party) said)) one.state more) (kept_of (hearing_of party) said) entries))
 
-pub hearings-follow : (party : Party) → Follows (hears party) no_hearing (hearing_of party)
+pub hearings-follow : (party : Party) → Follows (hearing_step party) no_hearing (hearing_of party)
 hearings-follow party = record { grows = hearing-more party; anew = hearing-anew party }
 
 pub objects-along : (party : Party) (past rest : List Saying) → each_after (objects_with party) past rest ≡ objects_along party (pass_back (hearing_of party) past) rest
@@ -200,58 +200,58 @@ objects-along party past [] = refl
 objects-along party past (more ∷ rest) =
     let pass = pass_back (hearing_of party) past in
     ap (λ now. now ++ each_after (objects_with party) (past ++ more ∷ []) rest) (listened party past more)
-    ∙ (ap (λ later. objects_heard party pass more ++ later) (objects-along party (past ++ more ∷ []) rest)
-    ∙ ap (λ next. objects_heard party pass more ++ objects_along party next rest) (sym (pass-more (hears party) no_hearing (hearing_of party) (hearings-follow party) past more)))
+    ∙ (ap (λ later. objects_said party pass more ++ later) (objects-along party (past ++ more ∷ []) rest)
+    ∙ ap (λ next. objects_said party pass more ++ objects_along party next rest) (sym (pass-more (hearing_step party) no_hearing (hearing_of party) (hearings-follow party) past more)))
 
-pub hearings-are : (party : Party) (said : List Saying) → pass_of (hears party) no_hearing said ≡ pass_back (hearing_of party) said
-hearings-are party said = pass-is (hears party) no_hearing (hearing_of party) (hearings-follow party) said
+pub hearings-are : (party : Party) (said : List Saying) → pass_of (hearing_step party) no_hearing said ≡ pass_back (hearing_of party) said
+hearings-are party said = pass-is (hearing_step party) no_hearing (hearing_of party) (hearings-follow party) said
 
 pub link-objects_look_back : LinkObjectsLookBack
 link-objects_look_back = record { held = hearings-are; objects = λ party said. objects-along party [] said }
 
 -- ---- by channels
 
-abbrev object_of : Spelled → Object
+abbrev object_of : PlacedObject → Object
 object_of one = one.object
 
 filter_flat : {X Y Z : Type 0} (p : Y → Option Z) (f : X → List Y) (xs : List X) → filter_map p (flat_map f xs) ≡ flat_map (λ x. filter_map p (f x)) xs
 filter_flat p f [] = refl
 filter_flat p f (x ∷ xs) = filter_map-append p (f x) (flat_map f xs) ∙ ap (λ zs. filter_map p (f x) ++ zs) (filter_flat p f xs)
 
-objects_same : (channel : Channel) (list : List Object) → map object_of (map (spelled_on channel) list) ≡ list
+objects_same : (channel : Channel) (list : List Object) → map object_of (map (placed_on channel) list) ≡ list
 objects_same channel [] = refl
 objects_same channel (object ∷ list) = ap (λ xs. object ∷ xs) (objects_same channel list)
 
 abbrev gain : Party → List Saying → Saying → Entry → List Object
 gain party past more entry = beyond (channel_objects party entry.channel past) (channel_objects party entry.channel (past ++ more ∷ []))
 
-all_is : (party : Party) (said : List Saying) → map object_of (spelled party said) ≡ objects party said
-all_is party said = from_end (λ past. map object_of (spelled party past) ≡ objects party past) refl step said
+all_is : (party : Party) (said : List Saying) → map object_of (placed_objects party said) ≡ objects party said
+all_is party said = from_end (λ past. map object_of (placed_objects party past) ≡ objects party past) refl step said
   where
-    step : (past : List Saying) (more : Saying) → map object_of (spelled party past) ≡ objects party past → map object_of (spelled party (past ++ more ∷ [])) ≡ objects party (past ++ more ∷ [])
+    step : (past : List Saying) (more : Saying) → map object_of (placed_objects party past) ≡ objects party past → map object_of (placed_objects party (past ++ more ∷ [])) ≡ objects party (past ++ more ∷ [])
     step past more held =
         let entries = (reading past).entries in
-        ap (map object_of) (given_by-more (spelled_with party) past more)
-        ∙ (map-append object_of (spelled party past) (spelled_with party past more)
-        ∙ (ap (λ xs. xs ++ map object_of (spelled_with party past more)) held
+        ap (map object_of) (given_by-more (placed_with party) past more)
+        ∙ (map-append object_of (placed_objects party past) (placed_with party past more)
+        ∙ (ap (λ xs. xs ++ map object_of (placed_with party past more)) held
         ∙ (ap (λ xs. objects party past ++ xs)
-        (map_flat object_of (spelled_of party past (past ++ more ∷ [])) entries
-        ∙ flat_same (λ (entry : Entry). map object_of (spelled_of party past (past ++ more ∷ []) entry)) (gain party past more) entries (λ entry. objects_same entry.channel (gain party past more entry)))
+        (map_flat object_of (placed_of party past (past ++ more ∷ [])) entries
+        ∙ flat_same (λ (entry : Entry). map object_of (placed_of party past (past ++ more ∷ []) entry)) (gain party past more) entries (λ entry. objects_same entry.channel (gain party past more entry)))
         ∙ sym (given_by-more (objects_with party) past more))))
 
-on_same : (channel other : Channel) (list : List Object) (own : Bool) → eqb other.own channel.own ≡ own → filter_map (object_on channel) (map (spelled_on other) list) ≡ cond own list []
+on_same : (channel other : Channel) (list : List Object) (own : Bool) → eqb other.own channel.own ≡ own → filter_map (object_on channel) (map (placed_on other) list) ≡ cond own list []
 on_same channel other [] true is = refl
 on_same channel other [] false is = refl
 on_same channel other (object ∷ list) true is =
-    ap (λ b. cons_option (cond b (Some object) None) (filter_map (object_on channel) (map (spelled_on other) list))) is ∙ ap (λ xs. object ∷ xs) (on_same channel other list true is)
+    ap (λ b. cons_option (cond b (Some object) None) (filter_map (object_on channel) (map (placed_on other) list))) is ∙ ap (λ xs. object ∷ xs) (on_same channel other list true is)
 on_same channel other (object ∷ list) false is =
-    ap (λ b. cons_option (cond b (Some object) None) (filter_map (object_on channel) (map (spelled_on other) list))) is ∙ on_same channel other list false is
+    ap (λ b. cons_option (cond b (Some object) None) (filter_map (object_on channel) (map (placed_on other) list))) is ∙ on_same channel other list false is
 
-found_now : (party : Party) (past : List Saying) (more : Saying) (channel : Channel) → filter_map (object_on channel) (spelled_with party past more) ≡ from_found (gain party past more) (find (has_own channel) (reading past).entries)
+found_now : (party : Party) (past : List Saying) (more : Saying) (channel : Channel) → filter_map (object_on channel) (placed_with party past more) ≡ from_found (gain party past more) (find (has_own channel) (reading past).entries)
 found_now party past more channel =
     let entries = (reading past).entries in
-    filter_flat (object_on channel) (spelled_of party past (past ++ more ∷ [])) entries
-    ∙ (flat_same (λ (entry : Entry). filter_map (object_on channel) (spelled_of party past (past ++ more ∷ []) entry)) (if_own channel (gain party past more)) entries
+    filter_flat (object_on channel) (placed_of party past (past ++ more ∷ [])) entries
+    ∙ (flat_same (λ (entry : Entry). filter_map (object_on channel) (placed_of party past (past ++ more ∷ []) entry)) (if_own channel (gain party past more)) entries
     (λ entry. on_same channel entry.channel (gain party past more entry) (has_own channel entry) refl)
     ∙ own_one channel (gain party past more) entries (alone past))
 
@@ -307,16 +307,16 @@ each_step party past more channel None (Some entry) is later =
 each_step party past more channel (Some entry) next is later =
     gained_all party past more entry ∙ ap (from_found (objects_at party (past ++ more ∷ []))) (sym (find_more past more channel entry is) ∙ later)
 
-each_is : (party : Party) (said : List Saying) (channel : Channel) → filter_map (object_on channel) (spelled party said) ≡ from_found (objects_at party said) (find (has_own channel) (reading said).entries)
-each_is party said channel = from_end (λ past. filter_map (object_on channel) (spelled party past) ≡ from_found (objects_at party past) (find (has_own channel) (reading past).entries)) refl step said
+each_is : (party : Party) (said : List Saying) (channel : Channel) → filter_map (object_on channel) (placed_objects party said) ≡ from_found (objects_at party said) (find (has_own channel) (reading said).entries)
+each_is party said channel = from_end (λ past. filter_map (object_on channel) (placed_objects party past) ≡ from_found (objects_at party past) (find (has_own channel) (reading past).entries)) refl step said
   where
-    step : (past : List Saying) (more : Saying) → filter_map (object_on channel) (spelled party past) ≡ from_found (objects_at party past) (find (has_own channel) (reading past).entries)
-        → filter_map (object_on channel) (spelled party (past ++ more ∷ [])) ≡ from_found (objects_at party (past ++ more ∷ [])) (find (has_own channel) (reading (past ++ more ∷ [])).entries)
+    step : (past : List Saying) (more : Saying) → filter_map (object_on channel) (placed_objects party past) ≡ from_found (objects_at party past) (find (has_own channel) (reading past).entries)
+        → filter_map (object_on channel) (placed_objects party (past ++ more ∷ [])) ≡ from_found (objects_at party (past ++ more ∷ [])) (find (has_own channel) (reading (past ++ more ∷ [])).entries)
     step past more held =
         let found = find (has_own channel) (reading past).entries in
-        ap (filter_map (object_on channel)) (given_by-more (spelled_with party) past more)
-        ∙ (filter_map-append (object_on channel) (spelled party past) (spelled_with party past more)
-        ∙ (ap (λ xs. xs ++ filter_map (object_on channel) (spelled_with party past more)) held
+        ap (filter_map (object_on channel)) (given_by-more (placed_with party) past more)
+        ∙ (filter_map-append (object_on channel) (placed_objects party past) (placed_with party past more)
+        ∙ (ap (λ xs. xs ++ filter_map (object_on channel) (placed_with party past more)) held
         ∙ (ap (λ xs. from_found (objects_at party past) found ++ xs) (found_now party past more channel)
         ∙ each_step party past more channel found (find (has_own channel) (reading (past ++ more ∷ [])).entries) refl refl)))
 
@@ -326,7 +326,7 @@ no_tail : {X : Type 0} (first : Option X) (rest : List X) → cons_option first 
 no_tail None rest none = none
 no_tail (Some x) rest none = cc
 
-abbrev NoOthers : Channel → List Spelled → Type 0
+abbrev NoOthers : Channel → List PlacedObject → Type 0
 NoOthers channel list = (other : Channel) → eqb other.own channel.own ≡ false → filter_map (object_on other) list ≡ []
 
 -- an object on another channel would be one of that channel's
@@ -334,7 +334,7 @@ no_first : (first : Option Object) (object : Object) (rest : List Object) (all f
 no_first None object rest all found is none = cc
 no_first (Some one) object rest all found is none = cc
 
-sole_by : (channel : Channel) (one : Spelled) (list : List Spelled) (own : Bool) → eqb one.channel.own channel.own ≡ own → NoOthers channel (one ∷ list) → map object_of list ≡ filter_map (object_on channel) list
+sole_by : (channel : Channel) (one : PlacedObject) (list : List PlacedObject) (own : Bool) → eqb one.channel.own channel.own ≡ own → NoOthers channel (one ∷ list) → map object_of list ≡ filter_map (object_on channel) list
     → one.object ∷ map object_of list ≡ filter_map (object_on channel) (one ∷ list)
 sole_by channel one list true is others rest =
     ap (λ xs. one.object ∷ xs) rest ∙ sym (ap (λ b. cons_option (cond b (Some one.object) None) (filter_map (object_on channel) list)) is)
@@ -342,7 +342,7 @@ sole_by channel one list false is others rest =
     no_first (object_on one.channel one) one.object (filter_map (object_on one.channel) list) (one.object ∷ map object_of list) (filter_map (object_on channel) (one ∷ list))
     (ap (λ b. let first : Option Object = cond b (Some one.object) None in first) (eq-eqb one.channel.own one.channel.own refl)) (others one.channel is)
 
-sole : (channel : Channel) (list : List Spelled) → NoOthers channel list → map object_of list ≡ filter_map (object_on channel) list
+sole : (channel : Channel) (list : List PlacedObject) → NoOthers channel list → map object_of list ≡ filter_map (object_on channel) list
 sole channel [] others = refl
 sole channel (one ∷ list) others =
     sole_by channel one list (eqb one.channel.own channel.own) refl others
@@ -365,6 +365,6 @@ objects-fall_to_channels = record {
   none = λ party said channel is. each_is party said channel ∙ ap (from_found (objects_at party said)) is;
   alone = λ party said entry is none.
       sym (all_is party said)
-      ∙ (sole entry.channel (spelled party said) (λ other apart. each_is party said other ∙ other_none party said entry other (find (has_own other) (reading said).entries) none apart refl)
+      ∙ (sole entry.channel (placed_objects party said) (λ other apart. each_is party said other ∙ other_none party said entry other (find (has_own other) (reading said).entries) none apart refl)
       ∙ (each_is party said entry.channel ∙ ap (from_found (objects_at party said)) is));
 }

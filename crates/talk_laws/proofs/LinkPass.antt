@@ -13,7 +13,7 @@ use Rattle.link_talk.specs.Meanings.{Meaning, meant}
 use Rattle.link_talk.specs.Channels.{Entry, fresh, entry_after, is_owner, with_fresh, made_by, Reading, read_on, reading}
 use Rattle.link_talk.specs.Carriages.{has_own}
 use Rattle.link_talk.proofs.OnePass.{reading-more}
-use Rattle.talk_laws.specs.LinkPass.{Kept, Pass, no_pass, entry_of, held_by, Step, kept_after, kept_with, pass_after, pass_of, kept_of, pass_back, Follows}
+use Rattle.talk_laws.specs.LinkPass.{KeptChannel, LinkPass, no_pass, entry_of, held_by, ChannelStep, kept_after, kept_with, pass_after, pass_of, kept_of, pass_back, Follows}
 use Rattle.talk_laws.proofs.Passes.{from_end}
 use Rattle.talk_laws.proofs.Streams.{drop_front}
 use Rattle.talk_laws.proofs.Owning.{Alone, either_false, eqb_other, alone, owns_stay}
@@ -67,14 +67,14 @@ new_apart (x ∷ xs) ys (now, all) =
 
 -- ---- what is held of each
 
-kept_on : {H : Type 0} (step : Step H) (none : H) (of : Channel → List Saying → H) → Follows step none of → (said : List Saying) (more : Saying) (entries : List Entry)
+kept_on : {H : Type 0} (step : ChannelStep H) (none : H) (of : Channel → List Saying → H) → Follows step none of → (said : List Saying) (more : Saying) (entries : List Entry)
     → map (kept_after step (reading said) more) (map (kept_of of said) entries) ≡ map (kept_of of (said ++ more ∷ [])) (map (entry_after (meaning_of said more)) entries)
 kept_on step none of follows said more [] = refl
 kept_on step none of follows said more (entry ∷ entries) =
     ap (λ state. kept_with state (entry_after (meaning_of said more) entry) ∷ map (kept_after step (reading said) more) (map (kept_of of said) entries)) (sym (follows.grows entry.channel said more))
     ∙ ap (λ rest. kept_of of (said ++ more ∷ []) (entry_after (meaning_of said more) entry) ∷ rest) (kept_on step none of follows said more entries)
 
-kept_anew : {H : Type 0} (step : Step H) (none : H) (of : Channel → List Saying → H) → Follows step none of → (said : List Saying) (more : Saying) (new : List Entry)
+kept_anew : {H : Type 0} (step : ChannelStep H) (none : H) (of : Channel → List Saying → H) → Follows step none of → (said : List Saying) (more : Saying) (new : List Entry)
     → AllByRecursion (NotAmong (map (entry_after (meaning_of said more)) (reading said).entries)) new → map (kept_with none) new ≡ map (kept_of of (said ++ more ∷ [])) new
 kept_anew step none of follows said more [] apart = refl
 kept_anew step none of follows said more (entry ∷ new) (now, apart) =
@@ -92,14 +92,14 @@ entries_back of said (entry ∷ entries) = ap (λ rest. entry ∷ rest) (entries
 pub held-back : {H : Type 0} (of : Channel → List Saying → H) (said : List Saying) → held_by (pass_back of said) ≡ reading said
 held-back of said = ap (λ entries. let held : Reading = record { requests = (reading said).requests; entries = entries } in held) (entries_back of said (reading said).entries)
 
-abbrev pass_to : {H : Type 0} → Requests → List (Kept H) → Pass H
+abbrev pass_to : {H : Type 0} → Requests → List (KeptChannel H) → LinkPass H
 pass_to requests kept = record { requests = requests; kept = kept }
 
 -- with what is held of the talk
-abbrev with_held : {H : Type 0} → Step H → H → List (Kept H) → Saying → Reading → Pass H
+abbrev with_held : {H : Type 0} → ChannelStep H → H → List (KeptChannel H) → Saying → Reading → LinkPass H
 with_held step none kept saying held = pass_to (read_on held saying).requests (map (kept_after step held saying) kept ++ map (kept_with none) (drop (length kept) (read_on held saying).entries))
 
-pub pass-more : {H : Type 0} (step : Step H) (none : H) (of : Channel → List Saying → H) → Follows step none of → (said : List Saying) (more : Saying)
+pub pass-more : {H : Type 0} (step : ChannelStep H) (none : H) (of : Channel → List Saying → H) → Follows step none of → (said : List Saying) (more : Saying)
     → pass_after step none (pass_back of said) more ≡ pass_back of (said ++ more ∷ [])
 pass-more step none of follows said more =
     let now = said ++ more ∷ [] in
@@ -120,7 +120,7 @@ pass-more step none of follows said more =
     ∙ (ap (λ entries. pass_to next.requests (map (kept_of of now) entries)) (sym entries_are)
     ∙ ap (λ (held : Reading). pass_to held.requests (map (kept_of of now) (reading now).entries)) (sym (reading-more said more)))))))
 
-pub pass-is : {H : Type 0} (step : Step H) (none : H) (of : Channel → List Saying → H) → Follows step none of → (said : List Saying) → pass_of step none said ≡ pass_back of said
+pub pass-is : {H : Type 0} (step : ChannelStep H) (none : H) (of : Channel → List Saying → H) → Follows step none of → (said : List Saying) → pass_of step none said ≡ pass_back of said
 pass-is {H} step none of follows said = from_end (λ past. pass_of step none past ≡ pass_back of past) refl step_on said
   where
     step_on : (past : List Saying) (more : Saying) → pass_of step none past ≡ pass_back of past → pass_of step none (past ++ more ∷ []) ≡ pass_back of (past ++ more ∷ [])

@@ -14,8 +14,8 @@ use Rattle.link_talk.specs.Accounts.{frames_passed, waiting_frames, window_used,
 use Rattle.link_talk.specs.Waits.{call_waits, entry_waits, waits, is_checked}
 use Rattle.talk_laws.specs.Accounts.{used}
 use Rattle.talk_laws.specs.Waits.{Counts, no_counts, Tracked, tracked_of, noticed_after, counts_of}
-use Rattle.talk_laws.specs.LinkPass.{Pass, held_by, pass_after, kept_of, pass_back, Follows}
-use Rattle.talk_laws.specs.LinkWaits.{counting, Watch, no_watch, watch_after, watch_of, kept_waits, waits_in, window_in, kept_window, widest_in, watch_back, LinkWaitsLookBack, LinkWaitsGrow}
+use Rattle.talk_laws.specs.LinkPass.{LinkPass, held_by, pass_after, kept_of, pass_back, Follows}
+use Rattle.talk_laws.specs.LinkWaits.{counts_step, Watch, no_watch, watch_after, watch_of, kept_waits, waits_in, window_in, kept_window, widest_in, watch_back, LinkWaitsLookBack, LinkWaitsGrow}
 use Rattle.talk_laws.proofs.Passes.{from_end}
 use Rattle.talk_laws.proofs.Accounts.{window-is}
 use Rattle.talk_laws.proofs.Waits.{counts-grow, counts-anew, tracked-is, any_same, informed_more, entry_same, counts_same}
@@ -37,16 +37,16 @@ map_mapped f g (x ∷ xs) = ap (λ zs. f (g x) ∷ zs) (map_mapped f g xs)
 
 -- ---- what is held
 
-counts-follow : (party : Party) → Follows (counting party) no_counts (counts_of party)
+counts-follow : (party : Party) → Follows (counts_step party) no_counts (counts_of party)
 counts-follow party = record { grows = counts-grow party; anew = counts-anew party }
 
-abbrev watched : Pass Counts → Option ℕ → Watch
+abbrev watched : LinkPass Counts → Option ℕ → Watch
 watched pass information = record { pass = pass; information = information }
 
 watch_more : (party : Party) (said : List Saying) (more : Saying) → watch_back party (said ++ more ∷ []) ≡ watch_after party (watch_back party said) more
 watch_more party said more =
-    ap (λ pass. watched pass (fold noticed_after None (said ++ more ∷ []))) (sym (pass-more (counting party) no_counts (counts_of party) (counts-follow party) said more))
-    ∙ ap (watched (pass_after (counting party) no_counts (pass_back (counts_of party) said) more)) (fold-append noticed_after None said (more ∷ []))
+    ap (λ pass. watched pass (fold noticed_after None (said ++ more ∷ []))) (sym (pass-more (counts_step party) no_counts (counts_of party) (counts-follow party) said more))
+    ∙ ap (watched (pass_after (counts_step party) no_counts (pass_back (counts_of party) said) more)) (fold-append noticed_after None said (more ∷ []))
 
 pub watch-is : (party : Party) (said : List Saying) → watch_of party said ≡ watch_back party said
 watch-is party said = from_end (λ past. watch_of party past ≡ watch_back party past) refl step said

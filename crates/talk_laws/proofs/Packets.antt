@@ -20,7 +20,7 @@ use Rattle.link_talk.specs.Gains.{beyond}
 use Rattle.link_talk.specs.Sdus.{Spoken, spoken_as, spoken}
 use Rattle.link_talk.specs.Frames.{octets_heard}
 use Rattle.link_talk.specs.Packets.{Carrier, OverL2cap, OverRfcomm, OverNothing, carrier, role_of, packets_over_rfcomm, packet_with, packets_spoken, packets}
-use Rattle.talk_laws.specs.Packets.{rest_of, Line, no_line, begun, frame_of, course_by, closed_by, stream_with, line_after, line_so_far, packets_now, packets_from, PacketsLookBack, sdus_with, PacketsGrow}
+use Rattle.talk_laws.specs.Packets.{rest_of, Streams, no_streams, begun, frame_of, course_by, closed_by, stream_with, streams_after, streams_so_far, packets_now, packets_from, PacketsLookBack, sdus_said, PacketsGrow}
 use Rattle.talk_laws.proofs.Passes.{from_end}
 use Rattle.talk_laws.proofs.Streams.{drop_front, stream-splits, no_stream}
 use Rattle.talk_laws.proofs.Waits.{spoken-more}
@@ -74,16 +74,16 @@ goes_by party c false None = refl
 goes_by party c false (Some f) = refl
 
 abbrev Goes : Party → List Spoken → Type 0
-Goes party past = at (line_so_far party past).course (line_so_far party past).closed ≡ going_of party past
+Goes party past = at (streams_so_far party past).course (streams_so_far party past).closed ≡ going_of party past
 
-line_more : (party : Party) (past : List Spoken) (more : Spoken) → line_so_far party (past ++ more ∷ []) ≡ line_after party (line_so_far party past) more
-line_more party past more = fold-append (line_after party) no_line past (more ∷ [])
+streams_more : (party : Party) (past : List Spoken) (more : Spoken) → streams_so_far party (past ++ more ∷ []) ≡ streams_after party (streams_so_far party past) more
+streams_more party past more = fold-append (streams_after party) no_streams past (more ∷ [])
 
 goes_more : (party : Party) (past : List Spoken) (more : Spoken) → Goes party past → Goes party (past ++ more ∷ [])
 goes_more party past more held =
-    let line = line_so_far party past in
-    ap (λ (l : Line). at l.course l.closed) (line_more party past more)
-    ∙ (goes_by party line.course line.closed (framed_by party more)
+    let streams = streams_so_far party past in
+    ap (λ (l : Streams). at l.course l.closed) (streams_more party past more)
+    ∙ (goes_by party streams.course streams.closed (framed_by party more)
     ∙ (ap (λ going. fold (going_after party) going (cons_option (framed_by party more) [])) held
     ∙ (sym (fold-append (going_after party) (at no_course false) (all_frames party past) (cons_option (framed_by party more) []))
     ∙ ap (fold (going_after party) (at no_course false)) (sym (frames_more party past more)))))
@@ -91,10 +91,10 @@ goes_more party past more held =
 goes : (party : Party) (past : List Spoken) → Goes party past
 goes party past = from_end (Goes party) refl (goes_more party) past
 
-closed_is : (party : Party) (past : List Spoken) → (line_so_far party past).closed ≡ has_last party.dlci party.role no_course (all_frames party past)
+closed_is : (party : Party) (past : List Spoken) → (streams_so_far party past).closed ≡ has_last party.dlci party.role no_course (all_frames party past)
 closed_is party past = ap (λ (going : Going). going.closed) (goes party past) ∙ closed_going party no_course false (all_frames party past)
 
-lines_is : (party : Party) (past : List Spoken) → (line_so_far party past).course.lines ≡ connections party.dlci (live party (all_frames party past))
+lines_is : (party : Party) (past : List Spoken) → (streams_so_far party past).course.lines ≡ connections party.dlci (live party (all_frames party past))
 lines_is party past =
     ap (λ (going : Going). going.course.lines) (goes party past)
     ∙ (lines_going party no_course false (all_frames party past) ∙ lines_are party.dlci no_connections.control no_connections.user (live party (all_frames party past)))
@@ -112,33 +112,33 @@ counting_is true (Some f) = refl
 counting_is false (Some f) = refl
 
 brings : (party : Party) (way : Role) (past : List Spoken) (more : Spoken)
-    → brought party way (all_frames party past) (framed_by party more) ≡ octets_heard party.dlci way (line_so_far party past).course.lines (frame_of party (line_so_far party past) more)
+    → brought party way (all_frames party past) (framed_by party more) ≡ octets_heard party.dlci way (streams_so_far party past).course.lines (frame_of party (streams_so_far party past) more)
 brings party way past more =
     let fs = all_frames party past in
     let frame = framed_by party more in
     brings_live party.dlci way (live party fs) (counting (has_last party.dlci party.role no_course fs) frame)
     ∙ (ap (octets_heard party.dlci way (connections party.dlci (live party fs))) (counting_is (has_last party.dlci party.role no_course fs) frame)
     ∙ (ap (λ closed. octets_heard party.dlci way (connections party.dlci (live party fs)) (counted closed frame)) (sym (closed_is party past))
-    ∙ ap (λ lines. octets_heard party.dlci way lines (counted (line_so_far party past).closed frame)) (sym (lines_is party past))))
+    ∙ ap (λ lines. octets_heard party.dlci way lines (counted (streams_so_far party past).closed frame)) (sym (lines_is party past))))
 
 abbrev Begun : Party → Flow → List Spoken → Type 0
-Begun party flow past = begun flow (line_so_far party past) ≡ rest_of (stream party flow past)
+Begun party flow past = begun flow (streams_so_far party past) ≡ rest_of (stream party flow past)
 
-begun_after : (party : Party) (flow : Flow) (line : Line) (sdu : Spoken) → begun flow (line_after party line sdu) ≡ rest_of (stream_with party flow line sdu)
-begun_after party Out line sdu = refl
-begun_after party Into line sdu = refl
+begun_after : (party : Party) (flow : Flow) (streams : Streams) (sdu : Spoken) → begun flow (streams_after party streams sdu) ≡ rest_of (stream_with party flow streams sdu)
+begun_after party Out streams sdu = refl
+begun_after party Into streams sdu = refl
 
 -- with the octets that an SDU brings
 with_octets : (party : Party) (flow : Flow) (past : List Spoken) (more : Spoken) → Begun party flow past
-    → stream_with party flow (line_so_far party past) more ≡ rest_of (stream party flow past) ++ brought party (role_of party flow) (all_frames party past) (framed_by party more)
+    → stream_with party flow (streams_so_far party past) more ≡ rest_of (stream party flow past) ++ brought party (role_of party flow) (all_frames party past) (framed_by party more)
 with_octets party flow past more held =
-    ap (λ xs. xs ++ octets_heard party.dlci (role_of party flow) (line_so_far party past).course.lines (frame_of party (line_so_far party past) more)) held
+    ap (λ xs. xs ++ octets_heard party.dlci (role_of party flow) (streams_so_far party past).course.lines (frame_of party (streams_so_far party past) more)) held
     ∙ ap (λ xs. rest_of (stream party flow past) ++ xs) (sym (brings party (role_of party flow) past more))
 
 begun_more : (party : Party) (flow : Flow) (past : List Spoken) (more : Spoken) → Begun party flow past → Begun party flow (past ++ more ∷ [])
 begun_more party flow past more held =
-    ap (begun flow) (line_more party past more)
-    ∙ (begun_after party flow (line_so_far party past) more
+    ap (begun flow) (streams_more party past more)
+    ∙ (begun_after party flow (streams_so_far party past) more
     ∙ (ap rest_of (with_octets party flow past more held)
     ∙ (sym (stream-splits (stream party flow past) (brought party (role_of party flow) (all_frames party past) (framed_by party more))).1
     ∙ ap rest_of (sym (stream_more party flow past more)))))
@@ -152,7 +152,7 @@ begun-is party flow past = from_end (Begun party flow) (none_begun party flow) (
 
 -- ---- the packets
 
-rfcomm_now : (party : Party) (past : List Spoken) (more : Spoken) → packet_with party OverRfcomm past more ≡ packets_now party OverRfcomm (line_so_far party past) more
+rfcomm_now : (party : Party) (past : List Spoken) (more : Spoken) → packet_with party OverRfcomm past more ≡ packets_now party OverRfcomm (streams_so_far party past) more
 rfcomm_now party past more =
     let flow = more.flow in
     let old = packets_over_rfcomm party flow past in
@@ -163,30 +163,30 @@ rfcomm_now party past more =
     ∙ (ap (map (spoken_as flow)) (drop_front old now)
     ∙ ap (λ xs. map (spoken_as flow) (obex_packets xs)) (sym (with_octets party flow past more (begun-is party flow past)))))
 
-pub packets-now : (party : Party) (over : Carrier) (past : List Spoken) (more : Spoken) → packet_with party over past more ≡ packets_now party over (line_so_far party past) more
+pub packets-now : (party : Party) (over : Carrier) (past : List Spoken) (more : Spoken) → packet_with party over past more ≡ packets_now party over (streams_so_far party past) more
 packets-now party OverL2cap past more = refl
 packets-now party OverRfcomm past more = rfcomm_now party past more
 packets-now party OverNothing past more = refl
 
-pub packets-behind : (party : Party) (over : Carrier) (past rest : List Spoken) → each_after (packet_with party over) past rest ≡ packets_from party over (line_so_far party past) rest
+pub packets-behind : (party : Party) (over : Carrier) (past rest : List Spoken) → each_after (packet_with party over) past rest ≡ packets_from party over (streams_so_far party past) rest
 packets-behind party over past [] = refl
 packets-behind party over past (more ∷ rest) =
     ap (λ now. now ++ each_after (packet_with party over) (past ++ more ∷ []) rest) (packets-now party over past more)
-    ∙ (ap (λ later. packets_now party over (line_so_far party past) more ++ later) (packets-behind party over (past ++ more ∷ []) rest)
-    ∙ ap (λ line. packets_now party over (line_so_far party past) more ++ packets_from party over line rest) (line_more party past more))
+    ∙ (ap (λ later. packets_now party over (streams_so_far party past) more ++ later) (packets-behind party over (past ++ more ∷ []) rest)
+    ∙ ap (λ streams. packets_now party over (streams_so_far party past) more ++ packets_from party over streams rest) (streams_more party past more))
 
 pub packets-look_back : PacketsLookBack
 packets-look_back = record { held = begun-is; spoken = λ party psm sdus. packets-behind party (carrier psm) [] sdus }
 
-sdu_more : (party : Party) (psm : ℕ) (sdus : List Spoken) (more : Spoken) → packets_spoken party psm (sdus ++ more ∷ []) ≡ packets_spoken party psm sdus ++ packets_now party (carrier psm) (line_so_far party sdus) more
+sdu_more : (party : Party) (psm : ℕ) (sdus : List Spoken) (more : Spoken) → packets_spoken party psm (sdus ++ more ∷ []) ≡ packets_spoken party psm sdus ++ packets_now party (carrier psm) (streams_so_far party sdus) more
 sdu_more party psm sdus more =
     given_by-more (packet_with party (carrier psm)) sdus more
     ∙ ap (λ now. packets_spoken party psm sdus ++ now) (packets-now party (carrier psm) sdus more)
 
 pub packets-more : (party : Party) (channel : Channel) (said : List Saying) (more : Saying)
-    → packets party channel (said ++ more ∷ []) ≡ packets party channel said ++ packets_from party (carrier channel.psm) (line_so_far party (spoken party channel said)) (sdus_with party channel said more)
+    → packets party channel (said ++ more ∷ []) ≡ packets party channel said ++ packets_from party (carrier channel.psm) (streams_so_far party (spoken party channel said)) (sdus_said party channel said more)
 packets-more party channel said more =
-    let now = sdus_with party channel said more in
+    let now = sdus_said party channel said more in
     ap (packets_spoken party channel.psm) (spoken-more party channel said more)
     ∙ (each_after-append (packet_with party (carrier channel.psm)) [] (spoken party channel said) now
     ∙ ap (λ gained. packets party channel said ++ gained) (packets-behind party (carrier channel.psm) (spoken party channel said) now))

@@ -1,5 +1,5 @@
 -- The objects on a channel in one pass.
-use Rattle.std.proofs.Common.{◌≡◌, List, [], ◌∷◌, ◌++◌, map, fold, false, Option, refl, sym, ap, ◌∙◌, append_assoc, append-nil}
+use Rattle.std.proofs.Common.{◌≡◌, ℕ, List, [], ◌∷◌, ◌++◌, map, fold, false, Option, refl, sym, ap, ◌∙◌, append_assoc, append-nil}
 use Rattle.std.specs.List.{list_any}
 use Rattle.std.proofs.lemmas.List.{map-append}
 use Rattle.std.proofs.lemmas.List.Elements.{filter_map-append}
@@ -16,12 +16,12 @@ use Rattle.link_talk.specs.Channels.{read_on, reading}
 use Rattle.link_talk.specs.Carriages.{Carriage, is_heard, carried, stretch, has_own, mode_of}
 use Rattle.link_talk.specs.Sdus.{Spoken, spoken, spoken_with, spoken_way, spoken_one_way}
 use Rattle.link_talk.specs.Packets.{packets, packets_spoken, carrier}
-use Rattle.link_talk.specs.ObjectsHeard.{put_within, channel_objects}
+use Rattle.link_talk.specs.ObjectsHeard.{put_within, spelled_within, channel_objects}
 use Rattle.link_talk.proofs.OnePass.{reading-more}
 use Rattle.link_talk.proofs.Growing.{stretch-grows}
 use Rattle.talk_laws.specs.Sdus.{Ears, no_ears, ears_after, ears_so_far}
-use Rattle.talk_laws.specs.Packets.{Line, no_line, line_after, line_so_far, packets_from, sdus_with}
-use Rattle.talk_laws.specs.Spelling.{run_with, Hearing, no_hearing, hearing_after, hearing_with, objects_told, objects_passed, puts_now, hearing_of, ChannelObjectsLookBack, ChannelObjectsGrow}
+use Rattle.talk_laws.specs.Packets.{Streams, no_streams, streams_after, streams_so_far, packets_from, sdus_said}
+use Rattle.talk_laws.specs.Spelling.{run_with, run_of, Hearing, no_hearing, hearing_after, hearing_with, objects_told, objects_passed, puts_now, hearing_of, ChannelObjectsLookBack, ChannelObjectsGrow}
 use Rattle.talk_laws.proofs.Passes.{from_end}
 use Rattle.talk_laws.proofs.Owning.{none-before, nothing-carried}
 use Rattle.talk_laws.proofs.Waits.{spoken-more}
@@ -37,15 +37,15 @@ puts_more : (party : Party) (channel : Channel) (said : List Saying) (more : Say
     → puts party (packets party channel (said ++ more ∷ [])) ≡ puts party (packets party channel said) ++ puts_now party channel (mode_of channel said) (hearing_of party channel said) (carried is_heard channel said more)
 puts_more party channel said more =
     let old = packets party channel said in
-    let new = packets_from party (carrier channel.psm) (line_so_far party (spoken party channel said)) (sdus_with party channel said more) in
+    let new = packets_from party (carrier channel.psm) (streams_so_far party (spoken party channel said)) (sdus_said party channel said more) in
     ap (puts party) (packets-more party channel said more)
     ∙ (ap (map (put_within party.packet)) (filter_map-append (spoken_way Into) old new)
     ∙ map-append (put_within party.packet) (spoken_one_way Into old) (spoken_one_way Into new))
 
-abbrev made : Ears → Line → List PlainPacket → Hearing
-made ears line run = record { ears = ears; line = line; run = run }
+abbrev made : Ears → Streams → List PlainPacket → Hearing
+made ears streams run = record { ears = ears; streams = streams; run = run }
 
-made_same : (e e' : Ears) (l l' : Line) (r r' : List PlainPacket) → e ≡ e' → l ≡ l' → r ≡ r' → made e l r ≡ made e' l' r'
+made_same : (e e' : Ears) (l l' : Streams) (r r' : List PlainPacket) → e ≡ e' → l ≡ l' → r ≡ r' → made e l r ≡ made e' l' r'
 made_same e e' l l' r r' es ls rs = ap (λ x. made x l r) es ∙ (ap (λ x. made e' x r) ls ∙ ap (made e' l') rs)
 
 pub hearing-more : (party : Party) (channel : Channel) (said : List Saying) (more : Saying) → hearing_of party channel (said ++ more ∷ []) ≡ hearing_with party channel (reading said) (hearing_of party channel said) more
@@ -53,7 +53,7 @@ hearing-more party channel said more =
     let heard = carried is_heard channel said more in
     made_same _ _ _ _ _ _
     (ap (ears_so_far party) (stretch-grows channel said more) ∙ fold-append (ears_after party) no_ears (stretch channel said) heard)
-    (ap (line_so_far party) (spoken-more party channel said more) ∙ fold-append (line_after party) no_line (spoken party channel said) (sdus_with party channel said more))
+    (ap (streams_so_far party) (spoken-more party channel said more) ∙ fold-append (streams_after party) no_streams (spoken party channel said) (sdus_said party channel said more))
     (ap (fold run_with []) (puts_more party channel said more)
     ∙ fold-append run_with [] (puts party (packets party channel said)) (puts_now party channel (mode_of channel said) (hearing_of party channel said) heard))
 
@@ -63,8 +63,18 @@ objects-more party channel said more =
     ap (objects_from []) (puts_more party channel said more)
     ∙ objects-append [] (puts party (packets party channel said)) (puts_now party channel (mode_of channel said) (hearing_of party channel said) (carried is_heard channel said more))
 
+run_more : (most : ℕ) (packets more : List (List ℕ)) → run_of most (packets ++ more) ≡ fold run_with (run_of most packets) (map (put_within most) more)
+run_more most packets more =
+    ap (fold run_with []) (map-append (put_within most) packets more)
+    ∙ fold-append run_with [] (map (put_within most) packets) (map (put_within most) more)
+
+spelled_more : (most : ℕ) (packets more : List (List ℕ)) → spelled_within most (packets ++ more) ≡ spelled_within most packets ++ objects_from (run_of most packets) (map (put_within most) more)
+spelled_more most packets more =
+    ap (objects_from []) (map-append (put_within most) packets more)
+    ∙ objects-append [] (map (put_within most) packets) (map (put_within most) more)
+
 pub channel-objects_grow : ChannelObjectsGrow
-channel-objects_grow = record { hearing = hearing-more; objects = objects-more }
+channel-objects_grow = record { run = run_more; packets = spelled_more; hearing = hearing-more; objects = objects-more }
 
 -- ---- in one pass
 
@@ -98,7 +108,7 @@ stretch_before channel said = from_end (λ past. list_any (has_own channel) (rea
 abbrev hearing_by : Party → Channel → Mode → List Carriage → Hearing
 hearing_by party channel mode carriages =
     let sdus = given_by (spoken_with party mode) carriages in
-    made (ears_so_far party carriages) (line_so_far party sdus) (fold run_with [] (puts party (packets_spoken party channel.psm sdus)))
+    made (ears_so_far party carriages) (streams_so_far party sdus) (fold run_with [] (puts party (packets_spoken party channel.psm sdus)))
 
 pub hearing-before : (party : Party) (channel : Channel) (said : List Saying) → list_any (has_own channel) (reading said).entries ≡ false → hearing_of party channel said ≡ no_hearing
 hearing-before party channel said none = ap (hearing_by party channel (mode_of channel said)) (stretch_before channel said none)

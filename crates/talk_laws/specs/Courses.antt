@@ -10,21 +10,21 @@ use Rattle.talk_laws.specs.Words.{Word, Asks, Says, is_more_put, refuses}
 -- ---- by what was said since its first PUT
 
 -- a final PUT ends an object, and so does a packet of another kind
-abbrev pub ends : Word → Bool
-ends (Asks (Put final named single)) = final
-ends (Asks Other) = true
-ends (Asks Refused) = false
-ends (Says code single) = false
+abbrev pub ends_object : Word → Bool
+ends_object (Asks (Put final named single)) = final
+ends_object (Asks Other) = true
+ends_object (Asks Refused) = false
+ends_object (Says code single) = false
 
 -- outside single response mode so does a packet that is refused, and any answer but 90
-abbrev pub breaks : Word → Bool
-breaks (Asks (Put final named single)) = false
-breaks (Asks Other) = false
-breaks (Asks Refused) = true
-breaks (Says code single) = not (code == 0x90)
+abbrev pub ends_singly : Word → Bool
+ends_singly (Asks (Put final named single)) = false
+ends_singly (Asks Other) = false
+ends_singly (Asks Refused) = true
+ends_singly (Says code single) = not (code == 0x90)
 
 abbrev pub singly_since : List Word → Course
-singly_since since = if list_any breaks since then Resting else Singly
+singly_since since = if list_any ends_singly since then Resting else Singly
 
 -- in the mode any answer but 90 says that a PUT was refused
 abbrev pub together_since : List Word → Course
@@ -41,16 +41,16 @@ offered_since (word ∷ since) = if is_more_put word then offered_since since el
 
 -- by whether its first PUT asked for the mode
 abbrev pub course_since : Bool → List Word → Course
-course_since single since = if list_any ends since then Resting else (if single then offered_since since else singly_since since)
+course_since single since = if list_any ends_object since then Resting else (if single then offered_since since else singly_since since)
 
 -- ---- where objects begin
 
 -- the object that began last: whether its first PUT asked for the mode, and all that was said since
-pub record Begun : Type 0 where
+pub record ObjectBegun : Type 0 where
   pub single : Bool
   pub since : List Word
 
-abbrev pub course_now : Option Begun → Course
+abbrev pub course_now : Option ObjectBegun → Course
 course_now None = Resting
 course_now (Some begun) = course_since begun.single begun.since
 
@@ -64,11 +64,11 @@ abbrev pub asks_single : Word → Bool
 asks_single (Asks (Put final named single)) = single
 asks_single word = false
 
-abbrev pub longer : Word → Begun → Begun
-longer word begun = record begun { since = begun.since ++ word ∷ [] }
+abbrev pub with_word : Word → ObjectBegun → ObjectBegun
+with_word word begun = record begun { since = begun.since ++ word ∷ [] }
 
-abbrev pub begun_after : Option Begun → Word → Option Begun
-begun_after last word = if begins_one (course_now last) word then Some (record { single = asks_single word; since = [] }) else option_map (longer word) last
+abbrev pub begun_after : Option ObjectBegun → Word → Option ObjectBegun
+begun_after last word = if begins_one (course_now last) word then Some (record { single = asks_single word; since = [] }) else option_map (with_word word) last
 
 abbrev pub course_back : List Word → Course
 course_back words = course_now (fold begun_after None words)

@@ -11,7 +11,7 @@ use Rattle.link_talk.specs.Sdus.{Spoken, spoken}
 use Rattle.link_talk.specs.ServiceAnswers.{waiting_after, parts_from, is_last, joined_from, answers_in, service_answers}
 use Rattle.talk_laws.specs.Sdus.{Ears, no_ears, ears_after, ears_so_far, spoken_from}
 use Rattle.talk_laws.specs.Waits.{mode_held}
-use Rattle.talk_laws.specs.LinkPass.{Kept, Pass, Step, pass_after, pass_of, pass_back}
+use Rattle.talk_laws.specs.LinkPass.{KeptChannel, LinkPass, ChannelStep, pass_after, pass_of, pass_back}
 
 -- ---- a channel
 
@@ -46,15 +46,15 @@ asking_by asking ears sdus =
 abbrev pub asking_with : Party → Mode → Asking → List Carriage → Asking
 asking_with party mode asking carried = asking_by asking (fold (ears_after party) asking.ears carried) (spoken_from party mode asking.ears carried)
 
-abbrev pub asks : Party → Step Asking
-asks party channel held asking saying = asking_with party (mode_held channel held) asking (carried_by is_heard channel held.entries saying)
+abbrev pub asking_step : Party → ChannelStep Asking
+asking_step party channel held asking saying = asking_with party (mode_held channel held) asking (carried_by is_heard channel held.entries saying)
 
 -- ---- a link
 
-abbrev pub answers_on : Kept Asking → List (List ℕ)
+abbrev pub answers_on : KeptChannel Asking → List (List ℕ)
 answers_on one = if one.entry.channel.psm == 0x0001 then one.state.answers else []
 
-abbrev pub answers_of : Pass Asking → List (List ℕ)
+abbrev pub answers_of : LinkPass Asking → List (List ℕ)
 answers_of pass = flat_map answers_on pass.kept
 
 -- ---- the laws
@@ -72,10 +72,10 @@ asking_of party channel said =
     }
 
 pub record LinkAnswersLookBack : Type 0 where
-  pub held : (party : Party) (said : List Saying) → pass_of (asks party) no_asking said ≡ pass_back (asking_of party) said
-  pub answers : (party : Party) (said : List Saying) → service_answers party said ≡ answers_of (pass_of (asks party) no_asking said)
+  pub held : (party : Party) (said : List Saying) → pass_of (asking_step party) no_asking said ≡ pass_back (asking_of party) said
+  pub answers : (party : Party) (said : List Saying) → service_answers party said ≡ answers_of (pass_of (asking_step party) no_asking said)
 
 -- some SDUs more on a channel, and one saying more on a link
 pub record LinkAnswersGrow : Type 0 where
   pub sdus : (sdus more : List Spoken) → answers_in (sdus ++ more) ≡ answers_in sdus ++ answers_now (fold waiting_after None sdus) (unfinished_of sdus) more
-  pub answers : (party : Party) (said : List Saying) (more : Saying) → service_answers party (said ++ more ∷ []) ≡ answers_of (pass_after (asks party) no_asking (pass_back (asking_of party) said) more)
+  pub answers : (party : Party) (said : List Saying) (more : Saying) → service_answers party (said ++ more ∷ []) ≡ answers_of (pass_after (asking_step party) no_asking (pass_back (asking_of party) said) more)

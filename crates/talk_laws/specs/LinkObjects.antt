@@ -13,23 +13,23 @@ use Rattle.link_talk.specs.Gains.{beyond}
 use Rattle.link_talk.specs.ObjectsHeard.{channel_objects, objects}
 use Rattle.talk_laws.specs.Waits.{mode_held}
 use Rattle.talk_laws.specs.Spelling.{Hearing, no_hearing, objects_now, hearing_with, objects_told, hearing_of}
-use Rattle.talk_laws.specs.LinkPass.{Kept, Pass, no_pass, held_by, Step, pass_after, pass_of, pass_back}
+use Rattle.talk_laws.specs.LinkPass.{KeptChannel, LinkPass, no_pass, held_by, ChannelStep, pass_after, pass_of, pass_back}
 
 -- ---- one pass over a link
 
-abbrev pub hears : Party → Step Hearing
-hears party channel held hearing saying = hearing_with party channel held hearing saying
+abbrev pub hearing_step : Party → ChannelStep Hearing
+hearing_step party channel held hearing saying = hearing_with party channel held hearing saying
 
 -- the objects that are whole with one saying
-abbrev pub objects_heard : Party → Pass Hearing → Saying → List Object
-objects_heard party pass saying = flat_map (λ (one : Kept Hearing). objects_told party one.entry.channel (held_by pass) one.state saying) pass.kept
+abbrev pub objects_said : Party → LinkPass Hearing → Saying → List Object
+objects_said party pass saying = flat_map (λ (one : KeptChannel Hearing). objects_told party one.entry.channel (held_by pass) one.state saying) pass.kept
 
-abbrev pub objects_along : Party → Pass Hearing → List Saying → List Object
+abbrev pub objects_along : Party → LinkPass Hearing → List Saying → List Object
 objects_along party pass [] = []
-objects_along party pass (saying ∷ said) = objects_heard party pass saying ++ objects_along party (pass_after (hears party) no_hearing pass saying) said
+objects_along party pass (saying ∷ said) = objects_said party pass saying ++ objects_along party (pass_after (hearing_step party) no_hearing pass saying) said
 
 pub record LinkObjectsLookBack : Type 0 where
-  pub held : (party : Party) (said : List Saying) → pass_of (hears party) no_hearing said ≡ pass_back (hearing_of party) said
+  pub held : (party : Party) (said : List Saying) → pass_of (hearing_step party) no_hearing said ≡ pass_back (hearing_of party) said
   pub objects : (party : Party) (said : List Saying) → objects party said ≡ objects_along party (no_pass Hearing) said
 
 -- ---- one saying more
@@ -51,33 +51,33 @@ LinkObjectsGrow = (party : Party) (said : List Saying) (more : Saying) → objec
 -- ---- by channels
 
 -- an object, and the channel on which its last packet came
-pub record Spelled : Type 0 where
+pub record PlacedObject : Type 0 where
   pub channel : Channel
   pub object : Object
 
-abbrev pub spelled_on : Channel → Object → Spelled
-spelled_on channel object = record { channel = channel; object = object }
+abbrev pub placed_on : Channel → Object → PlacedObject
+placed_on channel object = record { channel = channel; object = object }
 
-abbrev pub spelled_of : Party → (past now : List Saying) → Entry → List Spelled
-spelled_of party past now entry = map (spelled_on entry.channel) (beyond (channel_objects party entry.channel past) (channel_objects party entry.channel now))
+abbrev pub placed_of : Party → (past now : List Saying) → Entry → List PlacedObject
+placed_of party past now entry = map (placed_on entry.channel) (beyond (channel_objects party entry.channel past) (channel_objects party entry.channel now))
 
-abbrev pub spelled_with : Party → List Saying → Saying → List Spelled
-spelled_with party past more = flat_map (spelled_of party past (past ++ more ∷ [])) (reading past).entries
+abbrev pub placed_with : Party → List Saying → Saying → List PlacedObject
+placed_with party past more = flat_map (placed_of party past (past ++ more ∷ [])) (reading past).entries
 
 -- the objects of a link with their channels, in the order of their last packets
-abbrev pub spelled : Party → List Saying → List Spelled
-spelled party said = given_by (spelled_with party) said
+abbrev pub placed_objects : Party → List Saying → List PlacedObject
+placed_objects party said = given_by (placed_with party) said
 
-abbrev pub object_on : Channel → Spelled → Option Object
+abbrev pub object_on : Channel → PlacedObject → Option Object
 object_on channel one = if one.channel.own == channel.own then Some one.object else None
 
 pub record ObjectsFallToChannels : Type 0 where
   -- they are the objects of the link
-  pub all : (party : Party) (said : List Saying) → map (λ (one : Spelled). one.object) (spelled party said) ≡ objects party said
+  pub all : (party : Party) (said : List Saying) → map (λ (one : PlacedObject). one.object) (placed_objects party said) ≡ objects party said
   -- those of one channel are its objects, in their order
-  pub each : (party : Party) (said : List Saying) (channel : Channel) (entry : Entry) → find (has_own channel) (reading said).entries ≡ Some entry → filter_map (object_on channel) (spelled party said) ≡ channel_objects party entry.channel said
+  pub each : (party : Party) (said : List Saying) (channel : Channel) (entry : Entry) → find (has_own channel) (reading said).entries ≡ Some entry → filter_map (object_on channel) (placed_objects party said) ≡ channel_objects party entry.channel said
   -- and there are no others
-  pub none : (party : Party) (said : List Saying) (channel : Channel) → find (has_own channel) (reading said).entries ≡ None → filter_map (object_on channel) (spelled party said) ≡ []
+  pub none : (party : Party) (said : List Saying) (channel : Channel) → find (has_own channel) (reading said).entries ≡ None → filter_map (object_on channel) (placed_objects party said) ≡ []
   -- where one channel alone has objects they are those of the link
   pub alone : (party : Party) (said : List Saying) (entry : Entry) → find (has_own entry.channel) (reading said).entries ≡ Some entry
       → ((other : Entry) → find (has_own other.channel) (reading said).entries ≡ Some other → (other.channel.own == entry.channel.own) ≡ false → channel_objects party other.channel said ≡ [])

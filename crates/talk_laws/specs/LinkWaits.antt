@@ -10,28 +10,28 @@ use Rattle.link_talk.specs.Accounts.{widest}
 use Rattle.link_talk.specs.Waits.{call_waits, waits, is_checked, has_check_word}
 use Rattle.talk_laws.specs.Accounts.{used}
 use Rattle.talk_laws.specs.Waits.{Counts, no_counts, mode_held, counts_after, noticed_after, entry_waits_by, counts_of}
-use Rattle.talk_laws.specs.LinkPass.{Kept, Pass, no_pass, held_by, Step, pass_after, pass_back}
+use Rattle.talk_laws.specs.LinkPass.{KeptChannel, LinkPass, no_pass, held_by, ChannelStep, pass_after, pass_back}
 
-abbrev pub counting : Party → Step Counts
-counting party channel held counts saying = counts_after party channel held saying counts
+abbrev pub counts_step : Party → ChannelStep Counts
+counts_step party channel held counts saying = counts_after party channel held saying counts
 
 -- the channels, and the request for information that waits
 pub record Watch : Type 0 where
-  pub pass : Pass Counts
+  pub pass : LinkPass Counts
   pub information : Option ℕ
 
 abbrev pub no_watch : Watch
 no_watch = record { pass = no_pass Counts; information = None }
 
 abbrev pub watch_after : Party → Watch → Saying → Watch
-watch_after party watch saying = record { pass = pass_after (counting party) no_counts watch.pass saying; information = noticed_after watch.information saying }
+watch_after party watch saying = record { pass = pass_after (counts_step party) no_counts watch.pass saying; information = noticed_after watch.information saying }
 
 abbrev pub watch_of : Party → List Saying → Watch
 watch_of party said = fold (watch_after party) no_watch said
 
 -- ---- what it finds
 
-abbrev pub kept_waits : Reading → Kept Counts → Bool
+abbrev pub kept_waits : Reading → KeptChannel Counts → Bool
 kept_waits held one = entry_waits_by held (λ channel. one.state) one.entry
 
 abbrev pub waits_in : Watch → Bool
@@ -43,10 +43,10 @@ abbrev pub window_in : Mode → Counts → ℕ
 window_in Basic counts = 0
 window_in Enhanced counts = used counts.window
 
-abbrev pub kept_window : Reading → Kept Counts → ℕ
+abbrev pub kept_window : Reading → KeptChannel Counts → ℕ
 kept_window held one = window_in (mode_held one.entry.channel held) one.state
 
-abbrev pub widest_in : Pass Counts → ℕ
+abbrev pub widest_in : LinkPass Counts → ℕ
 widest_in pass = fold max 0 (map (kept_window (held_by pass)) pass.kept)
 
 -- ---- the laws
