@@ -19,6 +19,7 @@ pub mod LinkAnswers
 pub mod Carrying
 pub mod CapturePass
 pub mod Captures
+pub mod PeakPass
 pub mod CheckWords
 pub mod Courses
 pub mod Silences

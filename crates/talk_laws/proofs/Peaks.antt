@@ -9,10 +9,10 @@ use Rattle.link_talk.specs.Captures.{window_held, natural, credits_of}
 use Rattle.talk_laws.specs.Peaks.{PeaksGrow}
 
 -- what is so behind an entry
-abbrev behind : (List Entry → ℕ) → List Entry → Entry → List ℕ
+abbrev pub behind : (List Entry → ℕ) → List Entry → Entry → List ℕ
 behind of past entry = of (past ++ entry ∷ []) ∷ []
 
-peak_more : (of : List Entry → ℕ) (past : List Entry) (more : Entry) → greatest (given_by (behind of) (past ++ more ∷ [])) ≡ max (greatest (given_by (behind of) past)) (of (past ++ more ∷ []))
+pub peak_more : (of : List Entry → ℕ) (past : List Entry) (more : Entry) → greatest (given_by (behind of) (past ++ more ∷ [])) ≡ max (greatest (given_by (behind of) past)) (of (past ++ more ∷ []))
 peak_more of past more = ap greatest (given_by-more (behind of) past more) ∙ fold-append max 0 (given_by (behind of) past) (behind of past more)
 
 pub peaks-grow : PeaksGrow

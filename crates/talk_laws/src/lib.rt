@@ -14,6 +14,7 @@ ghost use Rattle.talk_laws.specs.LinkObjects.{LinkObjectsGrow, LinkObjectsLookBa
 ghost use Rattle.talk_laws.specs.LinkWaits.{LinkWaitsGrow, LinkWaitsLookBack};
 ghost use Rattle.talk_laws.specs.Objects.{ObjectsGrow};
 ghost use Rattle.talk_laws.specs.Packets.{PacketsGrow, PacketsLookBack};
+ghost use Rattle.talk_laws.specs.PeakPass.{PeaksLookBack};
 ghost use Rattle.talk_laws.specs.Peaks.{PeaksGrow};
 ghost use Rattle.talk_laws.specs.Requests.{RequestsLookBack};
 ghost use Rattle.talk_laws.specs.Sdus.{SdusGrow, SdusLookBack};
@@ -136,9 +137,10 @@ pub fn captures_look_back()
 {}
 
 /// A peak of I-frames or of credits with one entry more is the greater of the peak before it and of what
-/// is held behind it.
+/// is held behind it; and one pass finds it.
 pub fn peaks_grow()
-    ensures { PeaksGrow }
+    ensures grow { PeaksGrow }
+    ensures back { PeaksLookBack }
 {}
 
 /// Within any longest packet the objects are those of the stretches into which the packets fall.
