@@ -42,6 +42,6 @@ pub peaks-look_back : PeaksLookBack
 peaks-look_back = record {
   window = λ party side entries. ap (λ (peak : Peak _). peak.greatest) (sym (peak_is (watch_after party) no_watch side window_now (window_held party side) (captures-look_back.window party side) entries));
   credits = λ party side entries.
-    ap (λ (peak : Peak _). peak.greatest)
-    (sym (peak_is (purse_pass party) (no_pass Purse) side credits_now (λ past. natural (credits_of party side past)) (λ past. ap natural (captures-look_back.credits party side past)) entries));
+      ap (λ (peak : Peak _). peak.greatest)
+      (sym (peak_is (purse_pass party) (no_pass Purse) side credits_now (λ past. natural (credits_of party side past)) (λ past. ap natural (captures-look_back.credits party side past)) entries));
 }

@@ -1,6 +1,7 @@
 pub mod Lists
 pub mod Setups
 pub mod Exchanges
+pub mod Queues
 pub mod Unanswered
 pub mod ServiceAnswers
 pub mod Sdus

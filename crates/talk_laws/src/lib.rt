@@ -16,6 +16,7 @@ ghost use Rattle.talk_laws.specs.Objects.{ObjectsGrow};
 ghost use Rattle.talk_laws.specs.Packets.{PacketsGrow, PacketsLookBack};
 ghost use Rattle.talk_laws.specs.PeakPass.{PeaksLookBack};
 ghost use Rattle.talk_laws.specs.Peaks.{PeaksGrow};
+ghost use Rattle.talk_laws.specs.Queues.{QueuesLookBack};
 ghost use Rattle.talk_laws.specs.Requests.{RequestsLookBack};
 ghost use Rattle.talk_laws.specs.Sdus.{SdusGrow, SdusLookBack};
 ghost use Rattle.talk_laws.specs.ServiceAnswers.{ServiceAnswersLookBack};
@@ -30,10 +31,12 @@ pub fn setups_look_back()
     ensures { SetupsLookBack }
 {}
 
-/// A response answers the first request that waits behind the packets before it; and each packet of a
-/// request stands in one request, which was answered, waits, or gave its place to an ABORT.
+/// A response answers the first request that waits behind the packets before it, of those since none
+/// waited last; and each packet of a request stands in one request, which was answered, waits, or gave its
+/// place to an ABORT.
 pub fn exchanges_look_back()
     ensures back { ExchangesLookBack }
+    ensures queues { QueuesLookBack }
     ensures grow { ExchangesGrow }
 {}
 
