@@ -28,7 +28,7 @@ use Rattle.talk_laws.specs.LinkObjects.{objects_along}
 use Rattle.talk_laws.specs.LinkWaits.{no_watch, watch_after, watch_of, widest_in}
 use Rattle.talk_laws.specs.LinkCredits.{Purse, credits_in}
 use Rattle.talk_laws.specs.CapturePass.{HeldLink, HeldLinks, held_links, states, link_back, links_back, held_back}
-use Rattle.talk_laws.specs.Captures.{OnlyMovesTell, said_so_far, hearing_pass, purse_pass, objects_up, objects_moved, said_up, armed_up, checked_up, last_else, CapturesLookBack, CapturesGrow}
+use Rattle.talk_laws.specs.Captures.{OnlyMovesTell, said_so_far, hearing_pass, purse_pass, objects_up, objects_moved, objects_found, said_up, armed_up, checked_up, last_else, CapturesLookBack, CapturesGrow}
 use Rattle.talk_laws.proofs.LinkObjects.{hearings-are, objects-along}
 use Rattle.talk_laws.proofs.LinkWaits.{link-waits_look_back}
 use Rattle.talk_laws.proofs.LinkCredits.{link-credits_look_back}
@@ -101,17 +101,8 @@ checked_on party own (Some link) = link-waits_look_back.checked party (talk link
 watched : (party : Party) (side : Side) (entries : List Entry) → held_links (watch_after party) no_watch side entries ≡ held_back (watch_of party) side entries
 watched party side entries = held-is (watch_after party) no_watch (watch_of party) (folds-lead (watch_after party) no_watch) side entries
 
-pub captures-look_back : CapturesLookBack
-captures-look_back = record {
-  saying = said_is;
-  hearing = λ party side entries. held-is (hearing_pass party) (no_pass Hearing) (fold (hearing_pass party) (no_pass Hearing)) (folds-lead (hearing_pass party) (no_pass Hearing)) side entries;
-  talks = λ side entries. talks_back side entries ∙ ap states (sym (said_is side entries));
-  now = λ side entries. said_on (linking (moves side entries)).up ∙ ap (λ (links : HeldLinks (List Saying)). said_up links.up) (sym (said_is side entries));
-  armed = λ party side entries. armed_on party (linking (moves side entries)).up ∙ ap (λ links. armed_up links.up) (sym (watched party side entries));
-  checked = λ party side entries own. checked_on party own (linking (moves side entries)).up ∙ ap (λ links. checked_up own links.up) (sym (watched party side entries));
-  window = λ party side entries. link-waits_look_back.widest party (last_talk (talks side entries)) ∙ ap (λ watch. widest_in watch.pass) (last_is (watch_after party) no_watch side entries);
-  credits = λ party side entries. link-credits_look_back.credits party (last_talk (talks side entries)) ∙ ap credits_in (last_is (purse_pass party) (no_pass Purse) side entries);
-}
+heard_is : (party : Party) (side : Side) (entries : List Entry) → held_links (hearing_pass party) (no_pass Hearing) side entries ≡ held_back (fold (hearing_pass party) (no_pass Hearing)) side entries
+heard_is party side entries = held-is (hearing_pass party) (no_pass Hearing) (fold (hearing_pass party) (no_pass Hearing)) (folds-lead (hearing_pass party) (no_pass Hearing)) side entries
 
 -- ---- objects with one entry more
 
@@ -220,11 +211,39 @@ objects_more : (party : Party) (side : Side) (past : List Entry) (more : Entry)
 objects_more party side past more =
     ap (objects_in party) (moves-more side past more)
     ∙ (entry_gains party (linking (moves side past)) (move_of side more)
-    ∙ ap (λ links. objects_heard party side past ++ objects_moved party links (move_of side more)) (sym (captures-look_back.hearing party side past)))
+    ∙ ap (λ links. objects_heard party side past ++ objects_moved party links (move_of side more)) (sym (heard_is party side past)))
+
+objects_along_entries : (party : Party) (side : Side) (past rest : List Entry)
+    → objects_heard party side (past ++ rest) ≡ objects_heard party side past ++ objects_found party side (held_links (hearing_pass party) (no_pass Hearing) side past) rest
+objects_along_entries party side past [] = ap (objects_heard party side) (append-nil past) ∙ sym (append-nil (objects_heard party side past))
+objects_along_entries party side past (more ∷ rest) =
+    let now = past ++ more ∷ [] in
+    let links = held_links (hearing_pass party) (no_pass Hearing) side past in
+    let gained = objects_moved party links (move_of side more) in
+    ap (objects_heard party side) (sym (append_assoc past (more ∷ []) rest))
+    ∙ (objects_along_entries party side now rest
+    ∙ (ap (λ xs. xs ++ objects_found party side (held_links (hearing_pass party) (no_pass Hearing) side now) rest) (objects_more party side past more)
+    ∙ (append_assoc (objects_heard party side past) gained (objects_found party side (held_links (hearing_pass party) (no_pass Hearing) side now) rest)
+    ∙ ap (λ next. objects_heard party side past ++ (gained ++ objects_found party side next rest)) (held-more (hearing_pass party) (no_pass Hearing) side past more))))
+
+pub captures-look_back : CapturesLookBack
+captures-look_back = record {
+  saying = said_is;
+  hearing = heard_is;
+  objects = λ party side entries. objects_along_entries party side [] entries;
+  talks = λ side entries. talks_back side entries ∙ ap states (sym (said_is side entries));
+  now = λ side entries. said_on (linking (moves side entries)).up ∙ ap (λ (links : HeldLinks (List Saying)). said_up links.up) (sym (said_is side entries));
+  armed = λ party side entries. armed_on party (linking (moves side entries)).up ∙ ap (λ links. armed_up links.up) (sym (watched party side entries));
+  checked = λ party side entries own. checked_on party own (linking (moves side entries)).up ∙ ap (λ links. checked_up own links.up) (sym (watched party side entries));
+  window = λ party side entries. link-waits_look_back.widest party (last_talk (talks side entries)) ∙ ap (λ watch. widest_in watch.pass) (last_is (watch_after party) no_watch side entries);
+  credits = λ party side entries. link-credits_look_back.credits party (last_talk (talks side entries)) ∙ ap credits_in (last_is (purse_pass party) (no_pass Purse) side entries);
+}
 
 pub captures-grow : CapturesGrow
 captures-grow = record {
-  held = λ party side past more. held-more (watch_after party) no_watch side past more;
+  hearing = λ party side past more. held-more (hearing_pass party) (no_pass Hearing) side past more;
+  purses = λ party side past more. held-more (purse_pass party) (no_pass Purse) side past more;
+  watches = λ party side past more. held-more (watch_after party) no_watch side past more;
   talks = λ side past more. captures-look_back.talks side (past ++ more ∷ []) ∙ ap states (held-more said_so_far [] side past more);
   objects = objects_more;
   armed = λ party side past more. captures-look_back.armed party side (past ++ more ∷ []) ∙ ap (λ links. armed_up links.up) (held-more (watch_after party) no_watch side past more);

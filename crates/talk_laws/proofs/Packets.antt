@@ -176,7 +176,7 @@ packets-behind party over past (more ∷ rest) =
     ∙ ap (λ streams. packets_now party over (streams_so_far party past) more ++ packets_from party over streams rest) (streams_more party past more))
 
 pub packets-look_back : PacketsLookBack
-packets-look_back = record { held = begun-is; spoken = λ party psm sdus. packets-behind party (carrier psm) [] sdus }
+packets-look_back = record { closed = closed_is; lines = lines_is; held = begun-is; spoken = λ party psm sdus. packets-behind party (carrier psm) [] sdus }
 
 sdu_more : (party : Party) (psm : ℕ) (sdus : List Spoken) (more : Spoken) → packets_spoken party psm (sdus ++ more ∷ []) ≡ packets_spoken party psm sdus ++ packets_now party (carrier psm) (streams_so_far party sdus) more
 sdu_more party psm sdus more =

@@ -3,9 +3,10 @@ use Rattle.std.specs.Prelude.{ℕ, ◌≡◌, Bool, false, List, [], ◌∷◌, 
 use Rattle.std.specs.List.{flat_map}
 use Rattle.capture.specs.declared.flow.Flow.{Flow}
 use Rattle.capture.specs.declared.flow.Flow.TheVariants.{Out, Into}
-use Rattle.rfcomm_frames.specs.Multiplexing.{Framed}
-use Rattle.rfcomm_frames.specs.Ending.{Course, no_course, course_after, is_last}
-use Rattle.rfcomm_frames.specs.UserChannel.{user_octets}
+use Rattle.rfcomm_frames.specs.Multiplexing.{Framed, frames}
+use Rattle.rfcomm_frames.specs.Ending.{Course, no_course, course_after, is_last, has_last}
+use Rattle.rfcomm_frames.specs.UserChannel.{live_frames, user_octets}
+use Rattle.rfcomm_frames.specs.LookingBack.{connections}
 use Rattle.rfcomm_frames.specs.ObexPackets.{obex_packets}
 use Rattle.link_talk.specs.declared.channel.Channel.{Channel}
 use Rattle.link_talk.specs.declared.party.Party.{Party}
@@ -83,6 +84,9 @@ packets_from party over streams (sdu ∷ sdus) = packets_now party over streams 
 
 -- what one pass holds is what stands behind the packets of the whole stream, and what it hands up are the packets
 pub record PacketsLookBack : Type 0 where
+  -- the multiplexer is closed where one of all frames closes it, and the connections are those of the frames up to that one
+  pub closed : (party : Party) (sdus : List Spoken) → (streams_so_far party sdus).closed ≡ has_last party.dlci party.role no_course (frames (map (passed party) sdus))
+  pub lines : (party : Party) (sdus : List Spoken) → (streams_so_far party sdus).course.lines ≡ connections party.dlci (live_frames party.dlci party.role (map (passed party) sdus))
   pub held : (party : Party) (flow : Flow) (sdus : List Spoken) → begun flow (streams_so_far party sdus) ≡ rest_of (user_octets party.dlci party.role (role_of party flow) (map (passed party) sdus))
   pub spoken : (party : Party) (psm : ℕ) (sdus : List Spoken) → packets_spoken party psm sdus ≡ packets_from party (carrier psm) no_streams sdus
 
