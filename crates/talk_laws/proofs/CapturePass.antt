@@ -119,14 +119,14 @@ by_entry : {X : Type 0} (step : X → Saying → X) (start : X) (of : List Sayin
 by_entry step start of leads now None = refl
 by_entry step start of leads now (Some move) = links_more step start of leads now move
 
-moves_more : (side : Side) (past : List Entry) (more : Entry) → linking (moves side (past ++ more ∷ [])) ≡ fold after_move (linking (moves side past)) (cons_option (move_of side more) [])
-moves_more side past more =
+pub moves-more : (side : Side) (past : List Entry) (more : Entry) → linking (moves side (past ++ more ∷ [])) ≡ fold after_move (linking (moves side past)) (cons_option (move_of side more) [])
+moves-more side past more =
     ap linking (filter_map-append (move_of side) past (more ∷ []))
     ∙ fold-append after_move no_links (moves side past) (cons_option (move_of side more) [])
 
 back_more : {X : Type 0} (step : X → Saying → X) (start : X) (of : List Saying → X) → Leads step start of → (side : Side) (past : List Entry) (more : Entry)
     → held_back of side (past ++ more ∷ []) ≡ links_with step start side (held_back of side past) more
-back_more step start of leads side past more = ap (links_back of) (moves_more side past more) ∙ by_entry step start of leads (linking (moves side past)) (move_of side more)
+back_more step start of leads side past more = ap (links_back of) (moves-more side past more) ∙ by_entry step start of leads (linking (moves side past)) (move_of side more)
 
 pub held-more : {X : Type 0} (step : X → Saying → X) (start : X) (side : Side) (past : List Entry) (more : Entry) → held_links step start side (past ++ more ∷ []) ≡ links_with step start side (held_links step start side past) more
 held-more {X} step start side past more = fold-append (links_with step start side) (no_held_links X) past (more ∷ [])
@@ -138,9 +138,6 @@ held-is step start of leads side entries = from_end (λ past. held_links step st
     step_on past more so_far =
         held-more step start side past more
         ∙ (ap (λ links. links_with step start side links more) so_far ∙ sym (back_more step start of leads side past more))
-
-pub moves-more : (side : Side) (past : List Entry) (more : Entry) → linking (moves side (past ++ more ∷ [])) ≡ fold after_move (linking (moves side past)) (cons_option (move_of side more) [])
-moves-more side past more = moves_more side past more
 
 -- a fold leads on
 pub folds-lead : {X : Type 0} (step : X → Saying → X) (start : X) → Leads step start (fold step start)

@@ -32,8 +32,7 @@ use Rattle.talk_laws.specs.Waits.{mode_held}
 use Rattle.talk_laws.specs.Spelling.{Hearing, no_hearing, objects_now, objects_told, hearing_of}
 use Rattle.talk_laws.specs.LinkPass.{KeptChannel, held_by, pass_of, kept_of, pass_back, Follows}
 use Rattle.talk_laws.specs.LinkObjects.{hearing_step, objects_said, objects_along, LinkObjectsLookBack, objects_by, objects_on, LinkObjectsGrow, PlacedObject, placed_on, placed_of, placed_with, placed_objects, object_on, ObjectsFallToChannels}
-use Rattle.talk_laws.proofs.Passes.{from_end}
-use Rattle.talk_laws.proofs.Streams.{drop_front}
+use Rattle.talk_laws.proofs.Passes.{from_end, drop_front}
 use Rattle.talk_laws.proofs.LinkPass.{meaning_of, entries_grow, held-back, pass-more, pass-is}
 use Rattle.talk_laws.proofs.Owning.{Alone, either_false, eqb_other, some_is, alone, found_passes, found_one, nothing-carried}
 use Rattle.talk_laws.proofs.Spelling.{hearing-more, hearing-anew, objects-more, objects-before}

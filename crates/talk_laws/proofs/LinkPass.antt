@@ -14,8 +14,7 @@ use Rattle.link_talk.specs.Channels.{Entry, fresh, entry_after, is_owner, with_f
 use Rattle.link_talk.specs.Carriages.{has_own}
 use Rattle.link_talk.proofs.OnePass.{reading-more}
 use Rattle.talk_laws.specs.LinkPass.{KeptChannel, LinkPass, no_pass, entry_of, held_by, ChannelStep, kept_after, kept_with, pass_after, pass_of, kept_of, pass_back, Follows}
-use Rattle.talk_laws.proofs.Passes.{from_end}
-use Rattle.talk_laws.proofs.Streams.{drop_front}
+use Rattle.talk_laws.proofs.Passes.{from_end, drop_front}
 use Rattle.talk_laws.proofs.Owning.{Alone, either_false, eqb_other, alone, owns_stay}
 
 -- ---- entries stay in their places, and new ones come behind them

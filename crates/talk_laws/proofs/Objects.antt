@@ -32,11 +32,11 @@ use Rattle.link_talk.specs.ObjectsHeard.{put_within, channel_objects}
 use Rattle.link_talk.specs.Carriages.{is_heard, carried as heard, stretch, mode_of}
 use Rattle.talk_laws.specs.Sdus.{ears_so_far, spoken_from}
 use Rattle.talk_laws.specs.Objects.{GrowsTo, ObjectsGrow}
-use Rattle.talk_laws.proofs.Passes.{from_end}
+use Rattle.talk_laws.proofs.Passes.{from_end, drop_front}
 use Rattle.talk_laws.specs.Packets.{rest_of}
 use Rattle.talk_laws.specs.Spelling.{is_refused, run_with}
 use Rattle.talk_laws.proofs.Waits.{spoken-more}
-use Rattle.talk_laws.proofs.Streams.{drop_front, stream-splits, no_stream}
+use Rattle.talk_laws.proofs.Streams.{stream-splits, no_stream}
 
 -- ---- streams
 

@@ -21,8 +21,8 @@ use Rattle.link_talk.specs.Sdus.{Spoken, spoken_as, spoken}
 use Rattle.link_talk.specs.Frames.{octets_heard}
 use Rattle.link_talk.specs.Packets.{Carrier, OverL2cap, OverRfcomm, OverNothing, carrier, role_of, packets_over_rfcomm, packet_with, packets_spoken, packets}
 use Rattle.talk_laws.specs.Packets.{rest_of, Streams, no_streams, begun, frame_of, course_by, closed_by, stream_with, streams_after, streams_so_far, packets_now, packets_from, PacketsLookBack, sdus_said, PacketsGrow}
-use Rattle.talk_laws.proofs.Passes.{from_end}
-use Rattle.talk_laws.proofs.Streams.{drop_front, stream-splits, no_stream}
+use Rattle.talk_laws.proofs.Passes.{from_end, drop_front}
+use Rattle.talk_laws.proofs.Streams.{stream-splits, no_stream}
 use Rattle.talk_laws.proofs.Waits.{spoken-more}
 use Rattle.talk_laws.proofs.Objects.{brought_live, brought, live, framed_by, all_frames, frames_more, stream, stream_more}
 

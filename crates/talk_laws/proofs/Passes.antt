@@ -1,5 +1,5 @@
 -- Lists from their end, and what stands there.
-use Rattle.std.proofs.Common.{◌≡◌, List, [], ◌∷◌, ◌++◌, Bool, true, false, cond, ◌||◌, Option, Some, None, refl, ap, subst, ◌∙◌, append_assoc, append-nil, sym}
+use Rattle.std.proofs.Common.{◌≡◌, List, [], ◌∷◌, ◌++◌, length, drop, Bool, true, false, cond, ◌||◌, Option, Some, None, refl, ap, subst, ◌∙◌, append_assoc, append-nil, sym}
 use Rattle.std.specs.List.{filter_map, list_any, cons_option}
 use Rattle.std.specs.Option.{option_or}
 use Rattle.std.proofs.lemmas.List.Elements.{filter_map-append}
@@ -14,6 +14,11 @@ from_end_by P more past (x ∷ xs) holds = subst P (append_assoc past (x ∷ [])
 -- what holds of no members, and with one member more, holds of all lists
 pub from_end : {X : Type 0} (P : List X → Type 0) → P [] → ((xs : List X) (x : X) → P xs → P (xs ++ x ∷ [])) → (xs : List X) → P xs
 from_end P none more xs = from_end_by P more [] xs none
+
+-- what stands behind a front
+pub drop_front : {X : Type 0} (xs ys : List X) → drop (length xs) (xs ++ ys) ≡ ys
+drop_front [] ys = refl
+drop_front (x ∷ xs) ys = drop_front xs ys
 
 -- ---- the last of a list
 

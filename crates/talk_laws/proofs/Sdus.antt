@@ -23,7 +23,7 @@ use Rattle.link_talk.specs.Gains.{beyond}
 use Rattle.link_talk.specs.Picks.{pick, pick_in}
 use Rattle.link_talk.specs.Sdus.{longest, sdus_by, spoken_as, spoken_with}
 use Rattle.talk_laws.specs.Sdus.{Ear, nothing_heard, ear_after, heard_so_far, sdus_with, Ears, no_ears, ear_of, ears_after, ears_so_far, spoken_now, spoken_from, SdusLookBack, SdusGrow}
-use Rattle.talk_laws.proofs.Passes.{from_end}
+use Rattle.talk_laws.proofs.Passes.{from_end, drop_front}
 
 -- ---- one way
 
@@ -97,10 +97,6 @@ ways-are party flow carriages = from_end (Ways party flow) (none flow) (ways_mor
     none : (way : Flow) → ear_of way no_ears ≡ nothing_heard
     none Out = refl
     none Into = refl
-
-drop_front : {X : Type 0} (xs ys : List X) → drop (length xs) (xs ++ ys) ≡ ys
-drop_front [] ys = refl
-drop_front (x ∷ xs) ys = drop_front xs ys
 
 same_way : (flow : Flow) (pdu : List ℕ) → one_way flow (carriage flow pdu) ≡ Some pdu
 same_way Out pdu = refl

@@ -5,14 +5,11 @@ use Rattle.std.proofs.lemmas.Grind.{flat_map-append}
 use Rattle.rfcomm_frames.specs.ObexPackets.{IsPacket, HasNoPacket, obex_packets}
 use Rattle.rfcomm_frames.proofs.ObexSplits.{obex_packets-right, obex_packets-one}
 use Rattle.talk_laws.specs.Packets.{rest_of}
+use Rattle.talk_laws.proofs.Passes.{drop_front}
 
 all_both : {X : Type 0} (P : X → Type 0) (xs ys : List X) → AllByRecursion P xs → AllByRecursion P ys → AllByRecursion P (xs ++ ys)
 all_both P [] ys first second = second
 all_both P (x ∷ xs) ys (now, first) second = (now, all_both P xs ys first second)
-
-pub drop_front : {X : Type 0} (xs ys : List X) → drop (length xs) (xs ++ ys) ≡ ys
-drop_front [] ys = refl
-drop_front (x ∷ xs) ys = drop_front xs ys
 
 abbrev joined : List (List ℕ) → List ℕ
 joined packets = flat_map (λ (packet : List ℕ). packet) packets
