@@ -20,7 +20,7 @@ use Rattle.link_talk.specs.Gains.{beyond}
 use Rattle.link_talk.specs.Sdus.{Spoken, spoken_as, spoken}
 use Rattle.link_talk.specs.Frames.{octets_heard}
 use Rattle.link_talk.specs.Packets.{Carrier, OverL2cap, OverRfcomm, OverNothing, carrier, role_of, packets_over_rfcomm, packet_with, packets_spoken, packets}
-use Rattle.talk_laws.specs.Packets.{rest_of, Streams, no_streams, begun, frame_of, course_by, closed_by, stream_with, streams_after, streams_so_far, packets_now, packets_from, PacketsLookBack, sdus_said, PacketsGrow}
+use Rattle.talk_laws.specs.Packets.{rest_of, Streams, no_streams, begun, frame_of, course_by, closed_by, stream_with, streams_after, streams_so_far, packets_now, packets_from, PacketsLookBack, sdus_said, PacketsAlwaysGrow}
 use Rattle.talk_laws.proofs.Passes.{from_end, drop_front}
 use Rattle.talk_laws.proofs.Streams.{stream-splits, no_stream}
 use Rattle.talk_laws.proofs.Waits.{spoken-more}
@@ -191,5 +191,5 @@ packets-more party channel said more =
     ∙ (each_after-append (packet_with party (carrier channel.psm)) [] (spoken party channel said) now
     ∙ ap (λ gained. packets party channel said ++ gained) (packets-behind party (carrier channel.psm) (spoken party channel said) now))
 
-pub packets-grow : PacketsGrow
+pub packets-grow : PacketsAlwaysGrow
 packets-grow = record { sdu = sdu_more; sdus = spoken-more; said = packets-more }

@@ -95,7 +95,7 @@ abbrev pub sdus_said : Party → Channel → List Saying → Saying → List Spo
 sdus_said party channel said more = spoken_from party (mode_of channel said) (ears_so_far party (stretch channel said)) (carried is_heard channel said more)
 
 -- one SDU more, and one saying more, on whatever channel
-pub record PacketsGrow : Type 0 where
+pub record PacketsAlwaysGrow : Type 0 where
   pub sdu : (party : Party) (psm : ℕ) (sdus : List Spoken) (more : Spoken) → packets_spoken party psm (sdus ++ more ∷ []) ≡ packets_spoken party psm sdus ++ packets_now party (carrier psm) (streams_so_far party sdus) more
   pub sdus : (party : Party) (channel : Channel) (said : List Saying) (more : Saying) → spoken party channel (said ++ more ∷ []) ≡ spoken party channel said ++ sdus_said party channel said more
   pub said : (party : Party) (channel : Channel) (said : List Saying) (more : Saying)

@@ -13,7 +13,7 @@ ghost use Rattle.talk_laws.specs.LinkCredits.{LinkCreditsGrow, LinkCreditsLookBa
 ghost use Rattle.talk_laws.specs.LinkObjects.{LinkObjectsGrow, LinkObjectsLookBack, ObjectsFallToChannels};
 ghost use Rattle.talk_laws.specs.LinkWaits.{LinkWaitsGrow, LinkWaitsLookBack};
 ghost use Rattle.talk_laws.specs.Objects.{ObjectsGrow};
-ghost use Rattle.talk_laws.specs.Packets.{PacketsGrow, PacketsLookBack};
+ghost use Rattle.talk_laws.specs.Packets.{PacketsAlwaysGrow, PacketsLookBack};
 ghost use Rattle.talk_laws.specs.PeakPass.{PeaksLookBack};
 ghost use Rattle.talk_laws.specs.Peaks.{PeaksGrow};
 ghost use Rattle.talk_laws.specs.Queues.{QueuesLookBack};
@@ -97,7 +97,7 @@ pub fn only_moves_tell()
 /// The packets on a channel are found SDU by SDU, over RFCOMM too, on whatever channel.
 pub fn packets_look_back()
     ensures back { PacketsLookBack }
-    ensures grow { PacketsGrow }
+    ensures grow { PacketsAlwaysGrow }
 {}
 
 /// The packets and objects on a channel only gain, over RFCOMM too.
