@@ -1,0 +1,5 @@
+pub mod Sessions
+pub mod Services
+pub mod Readings
+pub mod Streams
+pub mod Listening

@@ -1,6 +1,6 @@
 -- When a server makes of what it hears all that it spells: nothing fails, nothing is ignored, and one object is pushed at a
 -- time (this project's own).
-use Rattle.std.specs.Prelude.{ℕ, ◌≡◌, ◌≤◌, not, Bool, true, false, List, [], ◌∷◌, ◌++◌, length, Option, Some, None, Ok}
+use Rattle.std.specs.Prelude.{ℕ, ◌≡◌, ◌≤◌, nat_lt, Bool, true, false, List, [], ◌∷◌, ◌++◌, length, Option, Some, None, Ok}
 use Rattle.std.specs.List.{AllByRecursion}
 use Rattle.bt_base.specs.declared.settings.Settings.{Settings}
 use Rattle.bt_base.specs.declared.settings.Transport.{Transport}
@@ -9,7 +9,7 @@ use Rattle.obex_headers.specs.declared.packet.Phase.TheVariants.{Request}
 use Rattle.obex_headers.specs.Reading.{packet_in}
 use Rattle.obex_headers.specs.Runs.{names}
 use Rattle.rfcomm_frames.specs.Frames.{PlainFrame, carries}
-use Rattle.rfcomm_frames.specs.FrameReading.{frame_answer, is_empty}
+use Rattle.rfcomm_frames.specs.FrameReading.{frame_answer}
 use Rattle.rfcomm_model.specs.Sides.{AnswerFindsRoom}
 use Rattle.rfcomm_model.specs.ClosedSides.{IsOrderly}
 use Rattle.obex_session.specs.Laws.{without_fault}
@@ -29,7 +29,7 @@ use Rattle.push_laws.specs.Readings.{packets_over}
 
 -- an object is under way over a transport: its Name came, and its run of packets goes on
 abbrev pub is_under_way : Settings → Transport → List Occurrence → Bool
-is_under_way settings transport past = not (is_empty (names (open_headers (own_maximum transport settings) (without_fault (packets_over transport past)))))
+is_under_way settings transport past = nat_lt 0 (length (names (open_headers (own_maximum transport settings) (without_fault (packets_over transport past)))))
 
 -- a PUT with a Name
 abbrev pub is_named : Settings → Transport → List ℕ → Bool
