@@ -5,3 +5,5 @@ pub mod Streams
 pub mod Listening
 pub mod Frames
 pub mod Servers
+pub mod Running
+pub mod Gaining
