@@ -2,8 +2,8 @@ pub mod Sessions
 pub mod Services
 pub mod Readings
 pub mod Streams
-pub mod Listening
 pub mod Frames
+pub mod Listening
 pub mod Servers
 pub mod Running
 pub mod Gaining

@@ -1,5 +1,6 @@
 pub mod Occurrences
 pub mod Readings
 pub mod Gains
+pub mod Faults
 pub mod Premises
 pub mod Laws

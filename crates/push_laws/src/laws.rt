@@ -1,10 +1,16 @@
 //! Laws of a server of Object Push, for every list of what may happen to it.
 
-ghost use Rattle.push_laws.specs.Laws.{GainsWhatIsHeard};
+ghost use Rattle.push_laws.specs.Laws.{GainsAllButFaults, GainsWhatIsHeard};
 
 /// From a new server on the inbox gains exactly the objects that the heard packets spell, over both transports and through
 /// every closing, in the order of their last packets. That is so where no call of the inbox fails, no request is ignored,
 /// and at most one transport has an object under way.
 pub fn gains_what_is_heard()
     ensures { GainsWhatIsHeard }
+{}
+
+/// Where calls of the inbox fail, it gains what the packets spell if those at which one failed count as refused. Each of
+/// them takes a fault of its own, and want of memory is not among the faults.
+pub fn gains_all_but_faults()
+    ensures { GainsAllButFaults }
 {}
