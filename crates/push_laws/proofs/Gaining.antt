@@ -18,7 +18,11 @@ use Rattle.obex_session.specs.Laws.{without_fault}
 use Rattle.obex_session.specs.Past.{Heard, stored_by, open_headers, progress_from, progress_of, pending_of}
 use Rattle.obex_session.specs.Rules as rules
 use Rattle.obex_session.proofs.GrantedLaws.{idle_progress}
+use Rattle.rfcomm_frames.specs.declared.connection.Role.TheVariants.{Responder}
+use Rattle.rfcomm_frames.specs.Frames.{PlainFrame}
 use Rattle.rfcomm_frames.specs.ObexPackets.{obex_packets}
+use Rattle.rfcomm_frames.specs.UserChannel.{credits_held}
+use Rattle.rfcomm_model.specs.ClosedSides.{IsOrderly}
 use Rattle.link_talk.specs.Gains.{beyond, gained}
 use Rattle.link_talk.specs.ObjectsHeard.{spelled_within}
 use Rattle.push_model.specs.Client.{own_maximum}
@@ -36,14 +40,14 @@ use Rattle.obex_session.specs.Marks as marks
 use Rattle.obex_headers.specs.Reading as reading
 use Rattle.obex_headers.specs.declared.packet.Phase.TheVariants as phase
 use Rattle.push_laws.specs.Premises.{is_under_way, IsHeard, IsTaken, AllGranted, NoneShort, AnswersAre, MayCome, AllMayCome, new_packets}
-use Rattle.push_laws.specs.Laws.{stored_in, new_over, GainsWhatIsHeard, GainsBut, GainsAllButFaults}
+use Rattle.push_laws.specs.Laws.{stored_in, new_over, paid_for, GainsWhatIsHeard, GainsBut, GainsAllButFaults, CreditsAreRead}
 use Rattle.push_laws.proofs.Sessions as opened
 use Rattle.push_model.specs.Sessions as sessions
 use Rattle.push_laws.proofs.Readings.{read_more, read_closed, drop_front, unmarked_more, heard_more, spelled_stored}
 use Rattle.push_laws.proofs.Streams.{no_packets}
 use Rattle.push_laws.proofs.Listening.{pasts, octets_of, IsCut}
 use Rattle.push_laws.proofs.Services.{Serves}
-use Rattle.push_laws.proofs.Frames.{carries_read, carries_new}
+use Rattle.push_laws.proofs.Frames.{carries_read, carries_new, waiting_cost, carries_credits}
 use Rattle.push_laws.proofs.Servers.{asked_upholds, answers_uphold}
 use Rattle.push_laws.proofs.Running.{most, passed, Now, Next, direct_after, carried_after, same_next, came_next, went_next, closed_next, down_next}
 
@@ -341,4 +345,26 @@ gains-all_but_faults settings before occurrences all =
       same = w.same;
       few = (let paid = w.paid in omega (arith, paid));
       gains = ap stored_in w.holds.upholds.listens.serves.stands.holds;
+    }
+
+-- ---- credits
+
+-- the multiplexer refused nothing to the end
+still_orderly : (settings : Settings) (occurrences : List Occurrence) (past : List Occurrence) (at : Reacted) → IsOrderly at.server.mux.closed → AllMayCome NoneShort (IsTaken settings) settings past at occurrences → IsOrderly (all_done occurrences at).server.mux.closed
+still_orderly settings [] past at orderly all = orderly
+still_orderly settings (one ∷ rest) past at orderly all = still_orderly settings rest (past ++ one ∷ []) (done one at) all.0.orderly all.1
+
+waiting_paid : (frame : Option PlainFrame) → waiting_cost frame ≡ paid_for frame
+waiting_paid None = refl
+waiting_paid (Some frame) = refl
+
+pub credits-are_read : CreditsAreRead
+credits-are_read settings before occurrences all =
+    let at : Reacted = all_done occurrences (new_over settings before) in
+    let w = holds_all settings before occurrences [] (new_over settings before) (first_holds settings before) all in
+    let has = carries_credits (settings.mtu - 6) settings.credits (passed (unmarked w.all)) w.holds.got at.server.mux at.server.frame w.holds.upholds.carries (still_orderly settings occurrences [] (new_over settings before) tt all) in
+    record {
+      spare = has.spare;
+      credits = ap (λ (os : List Occurrence). credits_held 18 Responder (passed os)) (sym w.same) ∙ has.credits;
+      exact = λ open_. has.exact open_ ∙ waiting_paid at.server.frame;
     }

@@ -1,10 +1,16 @@
 -- What a server of Object Push does with what comes, for any list of occurrences.
-use Rattle.std.specs.Prelude.{◌≡◌, ◌≤◌, List, [], ◌++◌, Option, Some, None}
+use Rattle.std.specs.Prelude.{ℕ, pos, ◌+◌, ◌≡◌, ◌≤◌, List, [], ◌++◌, Option, Some, None}
+use Rattle.std.specs.List.{filter_map}
 use Rattle.std.specs.Option.{option_map}
 use Rattle.bt_base.specs.declared.settings.Settings.{Settings}
 use Rattle.bt_base.specs.Objects.{Object, Contents}
-use Rattle.push_model.specs.Server.{Reacted}
+use Rattle.rfcomm_frames.specs.declared.connection.Role.TheVariants.{Responder}
+use Rattle.rfcomm_frames.specs.Frames.{PlainFrame}
+use Rattle.rfcomm_frames.specs.Multiplexing.{spent_by}
+use Rattle.rfcomm_frames.specs.UserChannel.{credits_held}
+use Rattle.push_model.specs.Server.{Server, Reacted, rfcomm_psm}
 use Rattle.push_laws.specs.Occurrences.{Occurrence, all_done, begun}
+use Rattle.push_laws.specs.Readings.{since, passed_by, user_dlci}
 use Rattle.push_laws.specs.Faults as with_faults
 use Rattle.push_laws.specs.Faults.{Marked, unmarked, failures, faults}
 use Rattle.push_laws.specs.Gains.{objects}
@@ -34,3 +40,21 @@ pub record GainsBut (settings : Settings) (before : List Object) (occurrences : 
 
 abbrev pub GainsAllButFaults : Type 0
 GainsAllButFaults = (settings : Settings) (before : List Object) (occurrences : List Occurrence) → AllMayCome NoneShort (IsTaken settings) settings [] (new_over settings before) occurrences → GainsBut settings before occurrences
+
+-- ---- credits
+
+-- a frame with information that waits for its channel was paid for already
+abbrev pub paid_for : Option PlainFrame → ℕ
+paid_for None = 0
+paid_for (Some frame) = spent_by user_dlci Responder (record { from = Responder; frame = frame })
+
+-- What the SDUs on the channel of the multiplexer granted it less what it spent is never below zero: it is what the
+-- multiplexer holds, with the frame that waits. Once it was closed, what it spent behind the closing is not counted.
+pub record HoldsCredits (occurrences : List Occurrence) (server : Server) : Type 0 where
+  pub spare : ℕ
+  pub credits : credits_held user_dlci Responder (filter_map passed_by (since rfcomm_psm occurrences)) ≡ pos (server.mux.account.held + spare)
+  pub exact : server.mux.closed ≡ None → spare ≡ paid_for server.frame
+
+abbrev pub CreditsAreRead : Type 0
+CreditsAreRead = (settings : Settings) (before : List Object) (occurrences : List Occurrence) → AllMayCome NoneShort (IsTaken settings) settings [] (new_over settings before) occurrences
+    → HoldsCredits occurrences (all_done occurrences (new_over settings before)).server

@@ -1,6 +1,6 @@
 //! Laws of a server of Object Push, for every list of what may happen to it.
 
-ghost use Rattle.push_laws.specs.Laws.{GainsAllButFaults, GainsWhatIsHeard};
+ghost use Rattle.push_laws.specs.Laws.{CreditsAreRead, GainsAllButFaults, GainsWhatIsHeard};
 
 /// From a new server on the inbox gains exactly the objects that the heard packets spell, over both transports and through
 /// every closing, in the order of their last packets. That is so where no call of the inbox fails, no request is ignored,
@@ -13,4 +13,10 @@ pub fn gains_what_is_heard()
 /// them takes a fault of its own, and want of memory is not among the faults.
 pub fn gains_all_but_faults()
     ensures { GainsAllButFaults }
+{}
+
+/// What the SDUs on the channel of the server's multiplexer grant it less what it spent is a whole number that is never
+/// below zero, and while the multiplexer is open it is what that holds, with the frame that waits for its channel.
+pub fn credits_are_read()
+    ensures { CreditsAreRead }
 {}
