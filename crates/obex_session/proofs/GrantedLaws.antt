@@ -1,6 +1,6 @@
 -- What comes of a packet where the inbox grants its calls, and where one fails.
 use Rattle.std.proofs.Common.{Bool, true, false, cond, eqb, ltb, ◌+◌, ◌||◌, ◌&&◌, ◌≡◌, ℕ, List, [], ◌∷◌, ◌++◌, length, Option, Some, None, Result, Ok, Err, refl, sym, ap, ◌∙◌}
-use Rattle.std.specs.Prelude.{not}
+use Rattle.std.specs.Prelude.{not, is_some, slice_index}
 use Rattle.std.specs.List.{list_any, AllByRecursion}
 use Rattle.std.specs.Option.{option_map}
 use Rattle.std.proofs.lemmas.Bool.{cond-true, cond-false, or_from}
@@ -9,22 +9,26 @@ use Rattle.bt_base.specs.declared.ports.PortFault.TheVariants.{Failed}
 use Rattle.bt_base.specs.Objects.{Object, Contents, aborted}
 use Rattle.obex_headers.specs.declared.fault.ObexRefusal.{ObexRefusal}
 use Rattle.obex_headers.specs.Packets.{PlainHeader, PlainPacket, units_of}
-use Rattle.obex_headers.specs.Runs.{name_text, body_of, names, bodies, is_final, object_of}
+use Rattle.obex_headers.specs.Runs.{put_of, name_text, body_of, names, bodies, is_final, object_of}
 use Rattle.obex_session.specs.declared.codes.Code.TheVariants.{TooLarge}
 use Rattle.obex_session.specs.declared.course.Course.{Course}
 use Rattle.obex_session.specs.declared.course.Progress.{Progress}
 use Rattle.obex_session.specs.declared.course.Progress.TheVariants.{Unnamed, Named, Filled}
 use Rattle.obex_session.specs.declared.course.Verdict.{Verdict}
 use Rattle.obex_session.specs.declared.course.Verdict.TheVariants.{Open, Whole, Ended, PassedOver}
+use Rattle.obex_session.specs.declared.marks.Marks.{Marks}
+use Rattle.obex_session.specs.declared.responding.Saying.{Saying}
+use Rattle.obex_session.specs.declared.responding.Saying.TheVariants.{Response, Confirmation, Silence, NoMemory}
 use Rattle.obex_session.specs.declared.marks.Kind.{Kind}
 use Rattle.obex_session.specs.declared.marks.Kind.TheVariants.{Put, Other}
 use Rattle.obex_session.specs.InboxCalls.{InboxCall, Begin, Append, Abort, Answer, come_of, held_after, done_by, all_done}
 use Rattle.obex_session.specs.Marks.{is_name, marks_of, kind_of}
 use Rattle.obex_session.specs.Rules.{Ruling, opens, aborts, is_under_way, at_parts, at_header, then_on, after_headers, finished, at_put, at_packet, at_put_in, ends, other_response, progress_in, is_ignoring}
-use Rattle.obex_session.specs.Past.{progress_from, progress_of, pending_from, pending_of}
-use Rattle.obex_session.specs.Serving.{has_name}
+use Rattle.obex_session.specs.Past.{Serving, progress_from, progress_of, pending_from, pending_of}
+use Rattle.obex_session.specs.Serving.{kind_heard, ruling_on, verdict_or, heard_with, has_name}
 use Rattle.obex_session.specs.Turns.{said_after, said_open, said_whole, is_first_in, is_single_in}
-use Rattle.obex_session.specs.Views.{is_shortage}
+use Rattle.obex_session.specs.Exchanges.{is_success, stores_one}
+use Rattle.obex_session.specs.Views.{octets_said, is_shortage, is_silence}
 use Rattle.obex_session.proofs.PacketLaws.{put_unminded}
 use Rattle.obex_session.proofs.RuleLaws.{held}
 
@@ -182,6 +186,39 @@ spoken offered course kind (Open progress) = open_spoken (is_first_in course) (i
 spoken offered course kind Whole = whole_spoken (is_first_in course) (is_single_in offered course kind)
 spoken offered course kind (Ended code) = refl
 spoken offered course kind (PassedOver final) = refl
+
+-- ---- what is said
+
+pub silence_is_none : (packet : List ℕ) (maximum : ℕ) (said : Saying) → is_silence said ≡ true → octets_said packet maximum said ≡ []
+silence_is_none packet maximum (Response code) e = absurd (let f : false ≡ true = e in cc)
+silence_is_none packet maximum (Confirmation code) e = absurd (let f : false ≡ true = e in cc)
+silence_is_none packet maximum Silence e = refl
+silence_is_none packet maximum NoMemory e = absurd (let f : false ≡ true = e in cc)
+
+-- success is the first octet of what is said
+success_read : (packet : List ℕ) (maximum : ℕ) (said : Saying) → is_success said ≡ eqb (slice_index (octets_said packet maximum said) 0) 0xA0
+success_read packet maximum (Response code) = refl
+success_read packet maximum (Confirmation code) = refl
+success_read packet maximum Silence = refl
+success_read packet maximum NoMemory = refl
+
+stores_at : (put final : Bool) (marks : Marks) (packet : PlainPacket) (said : Saying) (success : Bool) → is_success said ≡ success → stores_one (cond put (Put final marks) (Other packet.code)) said ≡ (is_some (cond put (Some packet) None) && success)
+stores_at true final marks packet said success e = e
+stores_at false final marks packet said success e = refl
+
+-- a PUT that is answered with success stores an object
+pub stores_read : (read : Result PlainPacket ObexRefusal) (packet : List ℕ) (maximum : ℕ) (said : Saying) → stores_one (kind_of read) said ≡ (is_some (put_of read) && eqb (slice_index (octets_said packet maximum said) 0) 0xA0)
+stores_read (Ok found) packet maximum said = stores_at (eqb found.code 0x02 || eqb found.code 0x82) (eqb found.code 0x82) (marks_of found.headers) found said _ (success_read packet maximum said)
+stores_read (Err refusal) packet maximum said = refl
+
+none_come : (calls : List InboxCall) → come_of calls [] ≡ Ok tt
+none_come [] = refl
+none_come (call ∷ calls) = refl
+
+-- where no call fails, what is said does not look at the answers
+pub said_alike : (session : Serving) (packet : List ℕ) (answers : List Answer) → come_of (ruling_on session packet).calls answers ≡ Ok tt → (heard_with session packet answers).saying ≡ (heard_with session packet []).saying
+said_alike session packet answers e =
+    ap (λ (come : Answer). said_after session.offered session.course (kind_heard session packet) (verdict_or (ruling_on session packet).verdict come)) (e ∙ sym (none_come (ruling_on session packet).calls))
 
 -- ---- a packet that has nothing to do with the inbox
 

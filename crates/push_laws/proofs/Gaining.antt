@@ -59,7 +59,7 @@ pub record Holds (settings : Settings) (before : List Object) (past : List Marke
   pub upholds : Now settings (unmarked past) (heard_over L2cap past) (heard_over Rfcomm past) (before ++ objects settings past) got at
 
 module _ (settings : Settings) (before : List Object) where
-  unfailed : (past : List Marked) (at calm : Reacted) → Holds settings before past at → cond at.server.listener.service.failed (let r : Reacted = record { server = at.server; gift = at.gift } in r) calm ≡ calm
+  pub unfailed : (past : List Marked) (at calm : Reacted) → Holds settings before past at → cond at.server.listener.service.failed (let r : Reacted = record { server = at.server; gift = at.gift } in r) calm ≡ calm
   unfailed past at calm h = cond-false _ _ _ h.upholds.listens.serves.enough
 
   faults_append : (xs ys : List Answer) → faults_of (xs ++ ys) ≡ faults_of xs + faults_of ys
@@ -179,7 +179,7 @@ module _ (settings : Settings) (before : List Object) where
   idle_first L2cap = refl
   idle_first Rfcomm = refl
 
-  first_holds : Holds settings before [] (new_over settings before)
+  pub first_holds : Holds settings before [] (new_over settings before)
   first_holds = record {
     got = [];
     heard = refl;
@@ -198,10 +198,10 @@ module _ (settings : Settings) (before : List Object) where
 
   -- ---- where none fails
 
-  abbrev clean : List Occurrence → List Marked
+  abbrev pub clean : List Occurrence → List Marked
   clean past = map (λ (one : Occurrence). (let m : Marked = record { occurrence = one; failed = false } in m)) past
 
-  clean_same : (past : List Occurrence) → unmarked (clean past) ≡ past
+  pub clean_same : (past : List Occurrence) → unmarked (clean past) ≡ past
   clean_same [] = refl
   clean_same (one ∷ past) = ap (λ (os : List Occurrence). one ∷ os) (clean_same past)
 
@@ -218,7 +218,7 @@ module _ (settings : Settings) (before : List Object) where
       from_clean t (past ++ one ∷ []) (heard_behind t past kept (record { occurrence = one; failed = false })) rest (kept_clean (closes (faulty.psm_of t) one) kept (gained (packets_over t) past one) e)
 
   -- what is marked is what is read
-  clean_reads : (past : List Occurrence) (at : Reacted) → Holds settings before (clean past) at → (t : Transport) → heard_over t (clean past) ≡ without_fault (packets_over t past)
+  pub clean_reads : (past : List Occurrence) (at : Reacted) → Holds settings before (clean past) at → (t : Transport) → heard_over t (clean past) ≡ without_fault (packets_over t past)
   clean_reads past at h L2cap = from_clean L2cap [] [] past refl ∙ ap without_fault (h.direct ∙ ap (packets_over L2cap) (clean_same past))
   clean_reads past at h Rfcomm = from_clean Rfcomm [] [] past refl ∙ ap without_fault (h.upholds.listens.packets ∙ ap obex_packets (sym h.heard) ∙ ap (packets_over Rfcomm) (clean_same past))
 
@@ -236,7 +236,7 @@ module _ (settings : Settings) (before : List Object) where
       ∙ no_names (names (open_headers (own_maximum Rfcomm settings) (without_fault packets))) (bodies (open_headers (own_maximum Rfcomm settings) (without_fault packets))) e
   cut_idle true carried tail got held packets is cut e = ap rules.is_under_way (idle_progress (open_headers (own_maximum Rfcomm settings) (carried ++ tail)) cut.cleared)
 
-  idle_read : (past : List Occurrence) (at : Reacted) → Holds settings before (clean past) at → (t : Transport) → is_under_way settings t past ≡ false → has_object (session_of t at.server.listener.service.sessions) ≡ false
+  pub idle_read : (past : List Occurrence) (at : Reacted) → Holds settings before (clean past) at → (t : Transport) → is_under_way settings t past ≡ false → has_object (session_of t at.server.listener.service.sessions) ≡ false
   idle_read past at h L2cap e =
       let hs : List PlainHeader = open_headers (own_maximum L2cap settings) (without_fault (packets_over L2cap past)) in
       ap rules.is_under_way (h.upholds.listens.serves.stands.progress L2cap ∙ ap (λ (ps : List Heard). progress_of (open_headers (own_maximum L2cap settings) ps)) (clean_reads past at h L2cap)) ∙ no_names (names hs) (bodies hs) e
@@ -244,7 +244,7 @@ module _ (settings : Settings) (before : List Object) where
       let l = h.upholds.listens in
       ap rules.is_under_way (l.serves.stands.progress Rfcomm) ∙ cut_idle at.server.listener.breaks (heard_over Rfcomm (clean past)) l.tail h.got at.server.held (packets_over Rfcomm past) (clean_reads past at h Rfcomm) l.cut e
 
-  taken_all : (past : List Occurrence) (at : Reacted) → Holds settings before (clean past) at → (t : Transport) (packets : List (List ℕ)) → AllByRecursion (IsHeard settings past at.server.listener.service t) packets
+  pub taken_all : (past : List Occurrence) (at : Reacted) → Holds settings before (clean past) at → (t : Transport) (packets : List (List ℕ)) → AllByRecursion (IsHeard settings past at.server.listener.service t) packets
       → AllByRecursion (IsTaken settings past at.server.listener.service t) packets
   taken_all past at h t [] all = tt
   taken_all past at h t (packet ∷ packets) all = (record {
@@ -297,12 +297,12 @@ module _ (settings : Settings) (before : List Object) where
   unfailing false few = refl
 
   -- no packet is marked, and the objects are those of the packets
-  record Clear (past : List Occurrence) (at : Reacted) : Type 0 where
-    holds : Holds settings before (clean past) at
-    spared : faults_of at.gift.answers ≡ 0
-    same : objects settings (clean past) ≡ clear.objects settings past
+  pub record Clear (past : List Occurrence) (at : Reacted) : Type 0 where
+    pub holds : Holds settings before (clean past) at
+    pub spared : faults_of at.gift.answers ≡ 0
+    pub same : objects settings (clean past) ≡ clear.objects settings past
 
-  clear_more : (past : List Occurrence) (one : Occurrence) (at : Reacted) → Clear past at → MayCome AllGranted (IsHeard settings past at.server.listener.service) settings past at one → Clear (past ++ one ∷ []) (done one at)
+  pub clear_more : (past : List Occurrence) (one : Occurrence) (at : Reacted) → Clear past at → MayCome AllGranted (IsHeard settings past at.server.listener.service) settings past at one → Clear (past ++ one ∷ []) (done one at)
   clear_more past one at c may =
       let more = holds_more (clean past) one at c.holds (subst (λ (os : List Occurrence). MayCome NoneShort (IsTaken settings os at.server.listener.service) settings os at one) (sym (clean_same past)) (may_come past one at c.holds may)) in
       let none = answers_none one may.answers in
@@ -325,7 +325,7 @@ module _ (settings : Settings) (before : List Object) where
             ∙ sym (given_by-more (clear.objects_with settings) past one);
       }
 
-  clear_all : (occurrences past : List Occurrence) (at : Reacted) → Clear past at → AllMayCome AllGranted (IsHeard settings) settings past at occurrences → Clear (past ++ occurrences) (all_done occurrences at)
+  pub clear_all : (occurrences past : List Occurrence) (at : Reacted) → Clear past at → AllMayCome AllGranted (IsHeard settings) settings past at occurrences → Clear (past ++ occurrences) (all_done occurrences at)
   clear_all [] past at c all = subst (λ (os : List Occurrence). Clear os at) (sym (append-nil past)) c
   clear_all (one ∷ rest) past at c all =
       subst (λ (os : List Occurrence). Clear os (all_done rest (done one at))) (append_assoc past (one ∷ []) rest) (clear_all rest (past ++ one ∷ []) (done one at) (clear_more past one at c all.0) all.1)

@@ -7,3 +7,4 @@ pub mod Listening
 pub mod Servers
 pub mod Running
 pub mod Gaining
+pub mod Answering

@@ -11,6 +11,7 @@ use Rattle.rfcomm_frames.specs.UserChannel.{credits_held}
 use Rattle.push_model.specs.Server.{Server, Reacted, rfcomm_psm}
 use Rattle.push_laws.specs.Occurrences.{Occurrence, all_done, begun}
 use Rattle.push_laws.specs.Readings.{since, passed_by, user_dlci}
+use Rattle.push_laws.specs.Answers.{AnswersInTurn}
 use Rattle.push_laws.specs.Faults as with_faults
 use Rattle.push_laws.specs.Faults.{Marked, unmarked, failures, faults}
 use Rattle.push_laws.specs.Gains.{objects}
@@ -58,3 +59,11 @@ pub record HoldsCredits (occurrences : List Occurrence) (server : Server) : Type
 abbrev pub CreditsAreRead : Type 0
 CreditsAreRead = (settings : Settings) (before : List Object) (occurrences : List Occurrence) → AllMayCome NoneShort (IsTaken settings) settings [] (new_over settings before) occurrences
     → HoldsCredits occurrences (all_done occurrences (new_over settings before)).server
+
+-- ---- responses
+
+-- Over L2CAP the requests are answered in their order, each once, and success is said to a PUT exactly where it stores an
+-- object: where no call of the inbox fails and no request is ignored.
+abbrev pub AnswersComeInTurn : Type 0
+AnswersComeInTurn = (settings : Settings) (before : List Object) (occurrences : List Occurrence) → AllMayCome AllGranted (IsHeard settings) settings [] (new_over settings before) occurrences
+    → AnswersInTurn settings occurrences (all_done occurrences (new_over settings before)).server

@@ -2,5 +2,6 @@ pub mod Occurrences
 pub mod Readings
 pub mod Gains
 pub mod Faults
+pub mod Answers
 pub mod Premises
 pub mod Laws

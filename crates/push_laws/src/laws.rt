@@ -1,6 +1,6 @@
 //! Laws of a server of Object Push, for every list of what may happen to it.
 
-ghost use Rattle.push_laws.specs.Laws.{CreditsAreRead, GainsAllButFaults, GainsWhatIsHeard};
+ghost use Rattle.push_laws.specs.Laws.{AnswersComeInTurn, CreditsAreRead, GainsAllButFaults, GainsWhatIsHeard};
 
 /// From a new server on the inbox gains exactly the objects that the heard packets spell, over both transports and through
 /// every closing, in the order of their last packets. That is so where no call of the inbox fails, no request is ignored,
@@ -19,4 +19,10 @@ pub fn gains_all_but_faults()
 /// below zero, and while the multiplexer is open it is what that holds, with the frame that waits for its channel.
 pub fn credits_are_read()
     ensures { CreditsAreRead }
+{}
+
+/// Over L2CAP each request is answered once, in order, but for those that are passed over in silence, and one response waits
+/// at most. Success is said to a PUT exactly where it stores an object.
+pub fn answers_come_in_turn()
+    ensures { AnswersComeInTurn }
 {}
