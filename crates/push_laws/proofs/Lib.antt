@@ -8,3 +8,4 @@ pub mod Servers
 pub mod Running
 pub mod Gaining
 pub mod Answering
+pub mod Beginning

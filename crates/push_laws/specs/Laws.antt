@@ -1,5 +1,5 @@
 -- What a server of Object Push does with what comes, for any list of occurrences.
-use Rattle.std.specs.Prelude.{ℕ, pos, ◌+◌, ◌≡◌, ◌≤◌, List, [], ◌++◌, Option, Some, None}
+use Rattle.std.specs.Prelude.{ℕ, pos, ◌+◌, ◌≡◌, ◌≤◌, List, [], ◌∷◌, ◌++◌, Option, Some, None}
 use Rattle.std.specs.List.{filter_map}
 use Rattle.std.specs.Option.{option_map}
 use Rattle.bt_base.specs.declared.settings.Settings.{Settings}
@@ -8,8 +8,11 @@ use Rattle.rfcomm_frames.specs.declared.connection.Role.TheVariants.{Responder}
 use Rattle.rfcomm_frames.specs.Frames.{PlainFrame}
 use Rattle.rfcomm_frames.specs.Multiplexing.{spent_by}
 use Rattle.rfcomm_frames.specs.UserChannel.{credits_held}
-use Rattle.push_model.specs.Server.{Server, Reacted, rfcomm_psm}
-use Rattle.push_laws.specs.Occurrences.{Occurrence, all_done, begun}
+use Rattle.bt_base.specs.declared.settings.Transport.TheVariants.{L2cap}
+use Rattle.link_talk.specs.ObjectsHeard.{spelled_within}
+use Rattle.push_model.specs.Client.{own_maximum}
+use Rattle.push_model.specs.Server.{Server, Reacted, object_psm, rfcomm_psm}
+use Rattle.push_laws.specs.Occurrences.{Occurrence, Came, all_done, begun}
 use Rattle.push_laws.specs.Readings.{since, passed_by, user_dlci}
 use Rattle.push_laws.specs.Answers.{AnswersInTurn}
 use Rattle.push_laws.specs.Faults as with_faults
@@ -67,3 +70,11 @@ CreditsAreRead = (settings : Settings) (before : List Object) (occurrences : Lis
 abbrev pub AnswersComeInTurn : Type 0
 AnswersComeInTurn = (settings : Settings) (before : List Object) (occurrences : List Occurrence) → AllMayCome AllGranted (IsHeard settings) settings [] (new_over settings before) occurrences
     → AnswersInTurn settings occurrences (all_done occurrences (new_over settings before)).server
+
+-- ---- an example
+
+-- An object in one packet: whatever that is, it may come first over L2CAP, and the inbox gains what it spells.
+abbrev pub OnePacketIsHeard : Type 0
+OnePacketIsHeard = (settings : Settings) (before : List Object) (packet : List ℕ) →
+    let occurrences = Came object_psm packet ∷ [] in
+    AllMayCome AllGranted (IsHeard settings) settings [] (new_over settings before) occurrences × (objects settings occurrences ≡ spelled_within (own_maximum L2cap settings) (packet ∷ []))
