@@ -148,7 +148,7 @@ pub ruling_last : (course : Course) (read : Result PlainPacket ObexRefusal) → 
 ruling_last course (Ok packet) =
     either_last (eqb packet.code 0x02 || eqb packet.code 0x82) (at_put_in course packet) (ends (progress_in course) (other_response packet.code))
     (either_last (is_ignoring course && not (list_any is_name packet.headers)) (record { calls = []; verdict = PassedOver (is_final packet) }) (at_put (progress_in course) packet) tt
-        (put_last (after_headers (progress_in course) packet.headers).calls (after_headers (progress_in course) packet.headers).verdict (is_final packet) (headers_keep_all (progress_in course) packet.headers)))
+    (put_last (after_headers (progress_in course) packet.headers).calls (after_headers (progress_in course) packet.headers).verdict (is_final packet) (headers_keep_all (progress_in course) packet.headers)))
     (abort_last (progress_in course))
 ruling_last course (Err refusal) = abort_last (progress_in course)
 

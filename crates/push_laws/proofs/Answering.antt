@@ -1,15 +1,14 @@
 -- The responses of a server over L2CAP.
-use Rattle.std.proofs.Common.{inl, inr, zero, suc, Bool, true, false, cond, eqb, ◌⊎◌, ◌||◌, ◌&&◌, ◌+◌, ◌≡◌, ℕ, List, [], ◌∷◌, ◌++◌, length, map, Option, Some, None, Ok, Err, arith, refl, sym, ap, subst, ◌∙◌, append_assoc, append-nil, length-append}
-use Rattle.std.specs.Prelude.{not, is_err, slice_index, is_some}
+use Rattle.std.proofs.Common.{inl, inr, zero, suc, Bool, true, false, cond, ◌⊎◌, ◌||◌, ◌&&◌, ◌≡◌, ℕ, List, [], ◌∷◌, ◌++◌, length, Option, Some, None, Ok, Err, arith, refl, sym, ap, subst, ◌∙◌, append_assoc, append-nil}
+use Rattle.std.specs.Prelude.{not, is_err}
 use Rattle.std.specs.List.{filter_map, cons_option, AllByRecursion}
-use Rattle.std.proofs.lemmas.Bool.{cases_Bool, cond_both, cond-false, and_cases, or_parts}
+use Rattle.std.proofs.lemmas.Bool.{cond_both, cond-false, and_cases}
 use Rattle.std.proofs.lemmas.List.{map-append}
 use Rattle.std.proofs.lemmas.List.Elements.{filter_map-append}
 use Rattle.bt_base.specs.declared.settings.Settings.{Settings}
 use Rattle.bt_base.specs.declared.settings.Transport.{Transport}
 use Rattle.bt_base.specs.declared.settings.Transport.TheVariants.{L2cap, Rfcomm}
 use Rattle.bt_base.specs.Objects.{Object}
-use Rattle.bt_base.specs.Octets.{IsOctets}
 use Rattle.capture.specs.Histories.{EachAfter}
 use Rattle.capture.proofs.HistoryLaws.{each_after-more}
 use Rattle.obex_headers.specs.declared.packet.Phase.TheVariants.{Request}
@@ -25,32 +24,32 @@ use Rattle.obex_session.proofs.GrantedLaws.{silence_is_none, stores_read, said_a
 use Rattle.obex_session.proofs.SuccessLaws.{success_is_stored}
 use Rattle.rfcomm_frames.specs.FrameReading.{is_empty}
 use Rattle.rfcomm_frames.specs.Frames.{PlainFrame}
-use Rattle.rfcomm_model.specs.Machine.{Mux, is_ready, leaves}
+use Rattle.rfcomm_model.specs.Machine.{is_ready, leaves}
 use Rattle.rfcomm_model.specs.Hearing as hearing
 use Rattle.rfcomm_model.specs.Hearing.{Up, nothing, opened, bytes, closed, up}
 use Rattle.rfcomm_model.specs.Saying.{Said, next}
-use Rattle.link_talk.specs.Gains.{beyond, gained}
-use Rattle.link_talk.specs.ObjectsHeard.{put_within, spelled_within}
+use Rattle.link_talk.specs.Gains.{beyond}
+use Rattle.link_talk.specs.ObjectsHeard.{spelled_within}
 use Rattle.push_model.specs.declared.outlet.Outlet.{Outlet}
 use Rattle.push_model.specs.declared.outlet.Outlet.TheVariants.{Records, Direct, Muxed}
 use Rattle.push_model.specs.Client.{own_maximum}
 use Rattle.push_model.specs.Payloads.{Octets, IsSaid}
 use Rattle.push_model.specs.Sessions as model
 use Rattle.push_model.specs.Sessions.{Sessions, Gift, session_of, other_of, with_session, has_object, lets_go, answers_to, is_naming, hears_after, hears}
-use Rattle.push_model.specs.Service.{Service, Served, has_response, response_over, after_parted, after_heard, is_ignored, hears_packet}
+use Rattle.push_model.specs.Service.{Service, Served, has_response, response_over, after_heard, is_ignored, hears_packet}
 use Rattle.push_model.specs.Streams.{Front, Whole, Partial, Broken, front_of}
 use Rattle.push_model.specs.Listening.{Listener, Heeded, Received, stops, received, heeds_carried, hears_front, hears_stream}
 use Rattle.push_model.specs.Listening as listening
-use Rattle.push_model.specs.Server.{Server, Reacted, Lent, received_by, hears_up, hears_search, hears_on, on_sdu, filled, said_on, breaks_now, left_by, leaves_with, framed_by, framed, outlet_of, lends_new, lends_by, lends, frame_lent, lent_by, taken_by, closed_on, lets_go_on, lets_go_twice, remuxed, unreplied, unanswered, object_psm, rfcomm_psm}
+use Rattle.push_model.specs.Server.{Server, Reacted, Lent, hears_up, hears_search, hears_on, filled, said_on, breaks_now, left_by, leaves_with, framed_by, framed, outlet_of, lends_by, frame_lent, lent_by, taken_by, closed_on, lets_go_on, remuxed, unreplied, unanswered, object_psm}
 use Rattle.push_laws.specs.Occurrences.{Occurrence, Came, Went, Closed, LinkDown, Asked, Answering, done, all_done}
 use Rattle.push_laws.specs.Readings.{closes, since, came_on, packets_over}
 use Rattle.push_laws.specs.Faults.{faults_of}
-use Rattle.push_laws.specs.Answers.{Replied, requests, says_success, SaysWhatIsStored, said, responses, went_on, AnswersInTurn}
+use Rattle.push_laws.specs.Answers.{Replied, requests, says_success, SaysWhatIsStored, said, responses, went_on}
 use Rattle.push_laws.specs.Premises.{IsHeard, AllGranted, MayCome, AllMayCome, new_packets}
 use Rattle.push_laws.specs.Laws.{new_over, AnswersComeInTurn}
 use Rattle.push_laws.proofs.Readings.{read_more, read_same, read_closed, drop_front, spelled_stored}
 use Rattle.push_laws.proofs.Servers.{by_psm}
-use Rattle.push_laws.proofs.Gaining.{Holds, unfailed, taken_all, Clear, clear_more, first_holds, clean, clean_same, clean_reads}
+use Rattle.push_laws.proofs.Gaining.{unfailed, taken_all, Clear, clear_more, first_holds, clean, clean_reads}
 
 -- ---- the response over L2CAP stays
 
@@ -135,13 +134,13 @@ response_is : (t : Transport) (packet : List ℕ) (sessions : Sessions) (gift : 
 response_is t packet sessions gift alone =
     cond_both (is_naming t packet sessions) _ _ (λ (h : model.Heard). h.response ≡ said_to (session_of t sessions) packet gift.answers)
     (λ named.
-        let calls : List InboxCall = aborts (progress_in (session_of (other_of t) sessions).course) in
-        let none : calls ≡ [] = no_aborts (progress_in (session_of (other_of t) sessions).course) (alone named) in
-        let parted = lets_go (other_of t) sessions gift in
-        let calm : parted.short ≡ false = ap (λ (cs : List InboxCall). model.is_short (come_of cs gift.answers)) none in
-        ap (λ (h : model.Heard). h.response) (cond-false parted.short _ (answers_to t packet parted.sessions parted.gift) calm)
-        ∙ ap (λ (s : Serving). said_to s packet parted.gift.answers) (kept_session t _ sessions)
-        ∙ ap (λ (cs : List InboxCall). said_to (session_of t sessions) packet (calls_left cs gift.answers)) none)
+    let calls : List InboxCall = aborts (progress_in (session_of (other_of t) sessions).course) in
+    let none : calls ≡ [] = no_aborts (progress_in (session_of (other_of t) sessions).course) (alone named) in
+    let parted = lets_go (other_of t) sessions gift in
+    let calm : parted.short ≡ false = ap (λ (cs : List InboxCall). model.is_short (come_of cs gift.answers)) none in
+    ap (λ (h : model.Heard). h.response) (cond-false parted.short _ (answers_to t packet parted.sessions parted.gift) calm)
+    ∙ ap (λ (s : Serving). said_to s packet parted.gift.answers) (kept_session t _ sessions)
+    ∙ ap (λ (cs : List InboxCall). said_to (session_of t sessions) packet (calls_left cs gift.answers)) none)
     (λ unnamed. refl)
 
 -- ---- one request more
@@ -232,16 +231,16 @@ module _ (settings : Settings) (before : List Object) (past : List Occurrence) w
       let stands = c.holds.upholds.listens.serves.stands in
       let come = come_granted (ruling_on session sdu).calls at.gift.answers c.spared in
       let progress : progress_in session.course ≡ progress_of (open_headers session.maximum (without_fault (packets_over L2cap past))) =
-          stands.progress L2cap ∙ ap (λ (hs : List Heard). progress_of (open_headers maximum hs)) (clean_reads settings before past at c.holds L2cap)
-          ∙ ap (λ (n : ℕ). progress_of (open_headers n (without_fault (packets_over L2cap past)))) (sym (stands.maxima L2cap)) in
+      stands.progress L2cap ∙ ap (λ (hs : List Heard). progress_of (open_headers maximum hs)) (clean_reads settings before past at c.holds L2cap)
+      ∙ ap (λ (n : ℕ). progress_of (open_headers n (without_fault (packets_over L2cap past)))) (sym (stands.maxima L2cap)) in
       let means : length (beyond (spelled_within maximum (packets_over L2cap past)) (spelled_within maximum (packets_over L2cap past ++ sdu ∷ []))) ≡ cond (says_success maximum new) 1 0 =
-          subst (λ (n : ℕ). length (beyond (spelled_within n (packets_over L2cap past)) (spelled_within n (packets_over L2cap past ++ sdu ∷ []))) ≡ cond (says_success n new) 1 0) (stands.maxima L2cap)
-          (stored_says session (packets_over L2cap past) sdu at.gift.answers come progress) in
+      subst (λ (n : ℕ). length (beyond (spelled_within n (packets_over L2cap past)) (spelled_within n (packets_over L2cap past ++ sdu ∷ []))) ≡ cond (says_success n new) 1 0) (stands.maxima L2cap)
+      (stored_says session (packets_over L2cap past) sdu at.gift.answers come progress) in
       let behind : requests (a.replied ++ new ∷ []) ≡ requests a.replied ++ sdu ∷ [] = map-append (λ (x : Replied). x.request) a.replied (new ∷ []) in
       let response_now : (hears_packet L2cap sdu service at.gift).service.response ≡ cond (is_empty r) service.response r =
-          ap (λ (s : Served). s.service.response) (cond-false _ _ (after_heard L2cap service h) taken)
-          ∙ over_is h.response (record service { sessions = h.sessions; failed = service.failed || h.short })
-          ∙ ap (λ (x : List ℕ). cond (is_empty x) service.response x) (response_is L2cap sdu service.sessions at.gift alone) in
+      ap (λ (s : Served). s.service.response) (cond-false _ _ (after_heard L2cap service h) taken)
+      ∙ over_is h.response (record service { sessions = h.sessions; failed = service.failed || h.short })
+      ∙ ap (λ (x : List ℕ). cond (is_empty x) service.response x) (response_is L2cap sdu service.sessions at.gift alone) in
       let went : List (List ℕ) = filter_map (went_on object_psm) (since object_psm past) in
       record {
         replied = a.replied ++ new ∷ [];
@@ -296,11 +295,11 @@ module _ (settings : Settings) (before : List Object) (past : List Occurrence) w
       (λ may. same_turn (Came 0x0001 sdu) (response_of at.server) _ refl refl refl (search_keeps sdu at.server) a)
       (λ may. same_turn (Came 0x0003 sdu) (response_of at.server) _ refl refl refl (up_keeps (up sdu at.server.mux) (record (at.server) { mux = hearing.hears sdu at.server.mux }) at.gift) a)
       (λ may.
-          let new : new_packets L2cap past (Came 0x1001 sdu) ≡ sdu ∷ [] = ap (beyond (packets_over L2cap past)) (read_more (came_on object_psm) object_psm past (Came 0x1001 sdu) refl) ∙ drop_front (packets_over L2cap past) (sdu ∷ []) in
-          let is = (taken_all settings before past at c.holds L2cap (sdu ∷ []) (subst (AllByRecursion (IsHeard settings past at.server.listener.service L2cap)) new (may.requests.heard L2cap))).0 in
-          came_turn sdu at c is.taken is.alone a)
+      let new : new_packets L2cap past (Came 0x1001 sdu) ≡ sdu ∷ [] = ap (beyond (packets_over L2cap past)) (read_more (came_on object_psm) object_psm past (Came 0x1001 sdu) refl) ∙ drop_front (packets_over L2cap past) (sdu ∷ []) in
+      let is = (taken_all settings before past at c.holds L2cap (sdu ∷ []) (subst (AllByRecursion (IsHeard settings past at.server.listener.service L2cap)) new (may.requests.heard L2cap))).0 in
+      came_turn sdu at c is.taken is.alone a)
       (λ p x y z may. same_turn (Came p sdu) (response_of at.server) _ refl (cond-false _ _ _ z) refl
-          (ap (λ (r : Reacted). response_of r.server) (cond-false _ _ _ x ∙ (cond-false _ _ _ y ∙ cond-false _ _ (let r : Reacted = record { server = at.server; gift = at.gift } in r) z))) a)
+      (ap (λ (r : Reacted). response_of r.server) (cond-false _ _ _ x ∙ (cond-false _ _ _ y ∙ cond-false _ _ (let r : Reacted = record { server = at.server; gift = at.gift } in r) z))) a)
       psm
 
   closing_turn : (at : Reacted) → AnswersSoFar settings past (response_of at.server) → (psm : ℕ) → AnswersSoFar settings (past ++ Closed psm ∷ []) (response_of (closed_on psm at.server at.gift).server)
@@ -310,7 +309,7 @@ module _ (settings : Settings) (before : List Object) (past : List Occurrence) w
       (same_turn (Closed 0x0003) (response_of at.server) (response_of at.server) refl refl refl refl a)
       (closed_turn (Closed 0x1001) [] refl refl)
       (λ p x y z. same_turn (Closed p) (response_of at.server) _ z refl refl
-          (ap (λ (r : Reacted). response_of r.server) (cond-false _ _ _ x ∙ (cond-false _ _ _ y ∙ cond-false _ _ (let r : Reacted = record { server = at.server; gift = at.gift } in r) z))) a)
+      (ap (λ (r : Reacted). response_of r.server) (cond-false _ _ _ x ∙ (cond-false _ _ _ y ∙ cond-false _ _ (let r : Reacted = record { server = at.server; gift = at.gift } in r) z))) a)
       psm
 
   turn_more : (one : Occurrence) (at : Reacted) → Clear settings before past at → MayCome AllGranted (IsHeard settings past at.server.listener.service) settings past at one → AnswersSoFar settings past (response_of at.server)

@@ -1,5 +1,5 @@
 -- The first packet of all comes over L2CAP.
-use Rattle.std.proofs.Common.{false, ◌≤◌, ◌≡◌, ℕ, List, [], ◌∷◌, ◌++◌, length, Some, None, arith, refl, sym, ap, subst, ◌∙◌, append-nil}
+use Rattle.std.proofs.Common.{false, ◌≤◌, ◌≡◌, ℕ, List, [], ◌∷◌, ◌++◌, length, arith, refl, sym, ap, subst, ◌∙◌, append-nil}
 use Rattle.std.specs.Prelude.{nat_lt}
 use Rattle.std.specs.List.{AllByRecursion}
 use Rattle.bt_base.specs.declared.settings.Settings.{Settings}
@@ -17,7 +17,6 @@ use Rattle.link_talk.specs.Gains.{beyond}
 use Rattle.link_talk.specs.ObjectsHeard.{spelled_within}
 use Rattle.push_model.specs.Client.{own_maximum}
 use Rattle.push_laws.specs.Occurrences.{Occurrence, Came, Went, Closed, LinkDown, Asked, Answering}
-use Rattle.push_laws.specs.Gains.{objects}
 use Rattle.push_laws.specs.Premises.{is_under_way, IsHeard, AllGranted, MayCome, new_packets}
 use Rattle.push_laws.specs.Laws.{new_over, OnePacketIsHeard}
 use Rattle.push_laws.proofs.Streams.{no_packets}
@@ -60,5 +59,5 @@ pub one-packet_is_heard : OnePacketIsHeard
 one-packet_is_heard settings before packet = (
   (may_come settings before packet, tt),
   append-nil (spelled_within (own_maximum L2cap settings) (packet ∷ []) ++ beyond (spelled_within (own_maximum Rfcomm settings) (obex_packets [])) (spelled_within (own_maximum Rfcomm settings) (obex_packets [])))
-  ∙ ap (λ (os : List Object). spelled_within (own_maximum L2cap settings) (packet ∷ []) ++ os) (drop_same (spelled_within (own_maximum Rfcomm settings) (obex_packets []))) ∙ append-nil (spelled_within (own_maximum L2cap settings) (packet ∷ [])),
+      ∙ ap (λ (os : List Object). spelled_within (own_maximum L2cap settings) (packet ∷ []) ++ os) (drop_same (spelled_within (own_maximum Rfcomm settings) (obex_packets []))) ∙ append-nil (spelled_within (own_maximum L2cap settings) (packet ∷ [])),
 )

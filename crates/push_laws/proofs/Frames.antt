@@ -1,7 +1,7 @@
 -- The frames of a multiplexer, as the SDUs on its channel show them.
-use Rattle.std.proofs.Common.{Bool, true, false, cond, eqb, ltb, ◌||◌, ◌&&◌, ◌+◌, ◌-◌, ◌<◌, ◌≤◌, ◌≡◌, ℕ, List, [], ◌∷◌, ◌++◌, length, take, Option, Some, None, Ok, Err, inl, inr, refl, sym, ap, subst, ◌∙◌, arith, append_assoc, append-nil}
+use Rattle.std.proofs.Common.{Bool, true, false, cond, eqb, ltb, ◌||◌, ◌&&◌, ◌+◌, ◌-◌, ◌≤◌, ◌≡◌, ℕ, List, [], ◌∷◌, ◌++◌, length, take, Option, Some, None, Ok, Err, inl, inr, refl, sym, ap, subst, ◌∙◌, arith, append_assoc, append-nil}
 use Rattle.std.specs.Prelude.{pos, ◌-ℤ◌, not, is_none, is_some}
-use Rattle.std.specs.List.{filter_map, cons_option}
+use Rattle.std.specs.List.{cons_option}
 use Rattle.std.proofs.lemmas.Bool.{cases_Bool, cond-true, and_parts}
 use Rattle.std.proofs.Math.IntN.{pos-+ℤ-pos, +ℤ-neg_ℤ_cancel}
 use Rattle.std.proofs.lemmas.List.Sums.{sum_by-append, sum_by-cons}
@@ -126,8 +126,8 @@ quiet_granted : (lines : Connections) (course : Course) (before after : List Fra
 quiet_granted lines course [] after f e =
     ap (λ (n : ℕ). n + granted 18 Responder (connections_after 18 lines (own f)) (to_closing 18 Responder (course_after 18 Responder course (own f)) after)) (own_grants 18 Responder lines f)
     ∙ (let same : granted 18 Responder (connections_after 18 lines (own f)) (to_closing 18 Responder (course_after 18 Responder course (own f)) after) ≡ granted_to lines course after =
-        ap (λ (l : Connections). granted 18 Responder l (to_closing 18 Responder (course_after 18 Responder course (own f)) after)) (lines_quiet f lines e) ∙ ap (λ (c : Course). granted_to lines c after) (course_quiet f course e)
-      in omega (arith, same))
+    ap (λ (l : Connections). granted 18 Responder l (to_closing 18 Responder (course_after 18 Responder course (own f)) after)) (lines_quiet f lines e) ∙ ap (λ (c : Course). granted_to lines c after) (course_quiet f course e)
+    in omega (arith, same))
 quiet_granted lines course (g ∷ before) after f e =
     ap (λ (n : ℕ). granted_by 18 Responder lines g + n)
     (granted_alike (is_last 18 Responder course g) (connections_after 18 lines g) _ _ (quiet_granted (connections_after 18 lines g) (course_after 18 Responder course g) before after f e))

@@ -1,7 +1,7 @@
 -- From a new server on, whatever may come: the inbox gains what the heard packets spell.
 use Rattle.std.proofs.Common.{Bool, true, false, cond, ltb, ◌+◌, ◌-◌, ◌≤◌, ◌≡◌, ℕ, List, [], ◌∷◌, ◌++◌, length, map, Option, Some, None, Ok, Err, inl, arith, refl, sym, ap, subst, ◌∙◌, append_assoc, append-nil}
 use Rattle.std.specs.List.{AllByRecursion, cons_option}
-use Rattle.std.proofs.lemmas.Bool.{cond-false, cond-true, ltb-false}
+use Rattle.std.proofs.lemmas.Bool.{cond-false, ltb-false}
 use Rattle.std.proofs.lemmas.List.{map-append}
 use Rattle.std.proofs.lemmas.List.Sums.{sum_by-append, sum_by-cons}
 use Rattle.bt_base.specs.declared.settings.Settings.{Settings}
@@ -12,10 +12,9 @@ use Rattle.bt_base.specs.Objects.{Object}
 use Rattle.capture.proofs.HistoryLaws.{given_by-more}
 use Rattle.obex_headers.specs.Packets.{PlainHeader}
 use Rattle.obex_headers.specs.Runs.{names, bodies}
-use Rattle.obex_session.specs.declared.course.Progress.{Progress}
 use Rattle.obex_session.specs.InboxCalls.{Answer}
 use Rattle.obex_session.specs.Laws.{without_fault}
-use Rattle.obex_session.specs.Past.{Heard, stored_by, open_headers, progress_from, progress_of, pending_of}
+use Rattle.obex_session.specs.Past.{Heard, stored_by, open_headers, progress_from, progress_of}
 use Rattle.obex_session.specs.Rules as rules
 use Rattle.obex_session.proofs.GrantedLaws.{idle_progress}
 use Rattle.rfcomm_frames.specs.declared.connection.Role.TheVariants.{Responder}
@@ -24,10 +23,8 @@ use Rattle.rfcomm_frames.specs.ObexPackets.{obex_packets}
 use Rattle.rfcomm_frames.specs.UserChannel.{credits_held}
 use Rattle.rfcomm_model.specs.ClosedSides.{IsOrderly}
 use Rattle.link_talk.specs.Gains.{beyond, gained}
-use Rattle.link_talk.specs.ObjectsHeard.{spelled_within}
 use Rattle.push_model.specs.Client.{own_maximum}
-use Rattle.push_model.specs.Sessions.{session_of, other_of, has_object, is_naming}
-use Rattle.push_model.specs.Service.{Service}
+use Rattle.push_model.specs.Sessions.{session_of, other_of, has_object}
 use Rattle.push_model.specs.Server.{Reacted, object_psm, rfcomm_psm}
 use Rattle.push_laws.specs.Occurrences.{Occurrence, Came, Went, Closed, LinkDown, Asked, Answering, done, all_done}
 use Rattle.push_laws.specs.Readings.{closes, came_on, octets_heard, packets_over}
@@ -40,9 +37,8 @@ use Rattle.obex_session.specs.Marks as marks
 use Rattle.obex_headers.specs.Reading as reading
 use Rattle.obex_headers.specs.declared.packet.Phase.TheVariants as phase
 use Rattle.push_laws.specs.Premises.{is_under_way, IsHeard, IsTaken, AllGranted, NoneShort, AnswersAre, MayCome, AllMayCome, new_packets}
-use Rattle.push_laws.specs.Laws.{stored_in, new_over, paid_for, GainsWhatIsHeard, GainsBut, GainsAllButFaults, CreditsAreRead}
+use Rattle.push_laws.specs.Laws.{stored_in, new_over, paid_for, GainsWhatIsHeard, GainsAllButFaults, CreditsAreRead}
 use Rattle.push_laws.proofs.Sessions as opened
-use Rattle.push_model.specs.Sessions as sessions
 use Rattle.push_laws.proofs.Readings.{read_more, read_closed, drop_front, unmarked_more, heard_more, spelled_stored}
 use Rattle.push_laws.proofs.Streams.{no_packets}
 use Rattle.push_laws.proofs.Listening.{pasts, octets_of, IsCut}
@@ -119,11 +115,11 @@ module _ (settings : Settings) (before : List Object) where
       let heard : octets_heard (unmarked past ++ one ∷ []) ≡ next.octets = carries_read (settings.mtu - 6) settings.credits (passed (unmarked past ++ one ∷ [])) next.octets (done one at).server.mux (done one at).server.frame next.upholds.carries may.orderly in
       let direct : heard_over L2cap later ≡ direct_after settings (unmarked past) (heard_over L2cap past) (heard_over Rfcomm past) (before ++ objects settings past) h.got one next.failed = heard_more L2cap past last in
       let carried : heard_over Rfcomm later ≡ carried_after settings (unmarked past) (heard_over L2cap past) (heard_over Rfcomm past) (before ++ objects settings past) h.got one next.failed next.octets =
-          heard_more Rfcomm past last
-          ∙ ap (λ (xs : List ℕ). cond (closes rfcomm_psm one) [] (heard_over Rfcomm past ++ heard_as next.failed (beyond (obex_packets xs) (obex_packets (octets_heard (unmarked past ++ one ∷ [])))))) h.heard
-          ∙ ap (λ (xs : List ℕ). cond (closes rfcomm_psm one) [] (heard_over Rfcomm past ++ heard_as next.failed (beyond (obex_packets h.got) (obex_packets xs)))) heard in
+      heard_more Rfcomm past last
+      ∙ ap (λ (xs : List ℕ). cond (closes rfcomm_psm one) [] (heard_over Rfcomm past ++ heard_as next.failed (beyond (obex_packets xs) (obex_packets (octets_heard (unmarked past ++ one ∷ [])))))) h.heard
+      ∙ ap (λ (xs : List ℕ). cond (closes rfcomm_psm one) [] (heard_over Rfcomm past ++ heard_as next.failed (beyond (obex_packets h.got) (obex_packets xs)))) heard in
       let stored : (before ++ objects settings past) ++ objects_with settings past last ≡ before ++ objects settings later =
-          append_assoc before (objects settings past) (objects_with settings past last) ∙ ap (λ (os : List Object). before ++ os) (sym (given_by-more (objects_with settings) past last)) in
+      append_assoc before (objects settings past) (objects_with settings past last) ∙ ap (λ (os : List Object). before ++ os) (sym (given_by-more (objects_with settings) past last)) in
       record {
         failed = next.failed;
         holds = record {
@@ -133,10 +129,10 @@ module _ (settings : Settings) (before : List Object) where
           upholds = subst (λ (os : List Occurrence). Now settings os (heard_over L2cap later) (heard_over Rfcomm later) (before ++ objects settings later) next.octets (done one at)) (sym occurrences)
               (subst (λ (os : List Object). Now settings (unmarked past ++ one ∷ []) (heard_over L2cap later) (heard_over Rfcomm later) os next.octets (done one at)) stored
               (subst (λ (ds : List Heard). Now settings (unmarked past ++ one ∷ []) ds (heard_over Rfcomm later) ((before ++ objects settings past) ++ (beyond (stored_by (own_maximum L2cap settings) (heard_over L2cap past)) (stored_by (own_maximum L2cap settings) ds)
-                      ++ beyond (stored_by (own_maximum Rfcomm settings) (heard_over Rfcomm past)) (stored_by (own_maximum Rfcomm settings) (heard_over Rfcomm later)))) next.octets (done one at)) (sym direct)
+              ++ beyond (stored_by (own_maximum Rfcomm settings) (heard_over Rfcomm past)) (stored_by (own_maximum Rfcomm settings) (heard_over Rfcomm later)))) next.octets (done one at)) (sym direct)
               (subst (λ (cs : List Heard). Now settings (unmarked past ++ one ∷ []) (direct_after settings (unmarked past) (heard_over L2cap past) (heard_over Rfcomm past) (before ++ objects settings past) h.got one next.failed) cs
-                      ((before ++ objects settings past) ++ (beyond (stored_by (own_maximum L2cap settings) (heard_over L2cap past)) (stored_by (own_maximum L2cap settings) (direct_after settings (unmarked past) (heard_over L2cap past) (heard_over Rfcomm past) (before ++ objects settings past) h.got one next.failed))
-                      ++ beyond (stored_by (own_maximum Rfcomm settings) (heard_over Rfcomm past)) (stored_by (own_maximum Rfcomm settings) cs))) next.octets (done one at)) (sym carried) next.upholds)));
+              ((before ++ objects settings past) ++ (beyond (stored_by (own_maximum L2cap settings) (heard_over L2cap past)) (stored_by (own_maximum L2cap settings) (direct_after settings (unmarked past) (heard_over L2cap past) (heard_over Rfcomm past) (before ++ objects settings past) h.got one next.failed))
+              ++ beyond (stored_by (own_maximum Rfcomm settings) (heard_over Rfcomm past)) (stored_by (own_maximum Rfcomm settings) cs))) next.octets (done one at)) (sym carried) next.upholds)));
         };
         paid = next.paid;
       }
@@ -247,10 +243,13 @@ module _ (settings : Settings) (before : List Object) where
   pub taken_all : (past : List Occurrence) (at : Reacted) → Holds settings before (clean past) at → (t : Transport) (packets : List (List ℕ)) → AllByRecursion (IsHeard settings past at.server.listener.service t) packets
       → AllByRecursion (IsTaken settings past at.server.listener.service t) packets
   taken_all past at h t [] all = tt
-  taken_all past at h t (packet ∷ packets) all = (record {
+  taken_all past at h t (packet ∷ packets) all = (
+    record {
       taken = all.0.taken;
       alone = λ named. idle_read past at h (other_of t) (all.0.alone (ap (λ (n : ℕ). serving.has_name (marks.kind_of (reading.packet_in phase.Request n packet))) (sym (h.upholds.listens.serves.stands.maxima t)) ∙ named));
-    }, taken_all past at h t packets all.1)
+    },
+    taken_all past at h t packets all.1,
+  )
 
   granted_enough : (answers : List Answer) → AllGranted answers → NoneShort answers
   granted_enough [] all = tt
@@ -314,7 +313,7 @@ module _ (settings : Settings) (before : List Object) where
       let holds : Holds settings before (clean past ++ last ∷ []) (done one at) = subst (λ (b : Bool). Holds settings before (clean past ++ record { occurrence = one; failed = b } ∷ []) (done one at)) unmarked_one more.holds in
       let holds' : Holds settings before (clean (past ++ one ∷ [])) (done one at) = subst (λ (ms : List Marked). Holds settings before ms (done one at)) (sym later) holds in
       let gains = λ (t : Transport). ap (λ (os : List Object). beyond os (stored_over settings t (clean past ++ last ∷ []))) (clean_over past at c.holds t)
-          ∙ ap (beyond (objects_over settings t past)) (ap (stored_over settings t) (sym later) ∙ clean_over (past ++ one ∷ []) (done one at) holds' t) in
+      ∙ ap (beyond (objects_over settings t past)) (ap (stored_over settings t) (sym later) ∙ clean_over (past ++ one ∷ []) (done one at) holds' t) in
       record {
         holds = holds';
         spared = omega (arith, paid, none, spared);

@@ -1,13 +1,12 @@
 -- A server behind each occurrence stands for what can be read off them all.
-use Rattle.std.proofs.Common.{inl, inr, Bool, true, false, cond, eqb, ◌+◌, ◌-◌, ◌≤◌, ◌≡◌, ℕ, List, [], ◌∷◌, ◌++◌, length, drop, Option, Some, None, Ok, refl, sym, ap, subst, ◌∙◌, arith, append_assoc, append-nil}
+use Rattle.std.proofs.Common.{Bool, true, false, cond, eqb, ◌+◌, ◌-◌, ◌≤◌, ◌≡◌, ℕ, List, [], ◌∷◌, ◌++◌, length, Option, Some, None, refl, sym, ap, subst, ◌∙◌, arith, append-nil}
 use Rattle.std.specs.List.{filter_map, AllByRecursion}
-use Rattle.std.specs.Option.{option_map}
 use Rattle.std.proofs.Math.Seq.{drop-nil}
 use Rattle.std.proofs.lemmas.Bool.{cond_both, cond-false}
 use Rattle.bt_base.specs.declared.settings.Settings.{Settings}
 use Rattle.bt_base.specs.declared.settings.Transport.{Transport}
 use Rattle.bt_base.specs.declared.settings.Transport.TheVariants.{L2cap, Rfcomm}
-use Rattle.bt_base.specs.Objects.{Object, Contents}
+use Rattle.bt_base.specs.Objects.{Object}
 use Rattle.bt_base.specs.Octets.{IsOctets}
 use Rattle.rfcomm_frames.specs.declared.connection.Role.{Role}
 use Rattle.rfcomm_frames.specs.declared.connection.Role.TheVariants.{Initiator, Responder}
@@ -25,22 +24,20 @@ use Rattle.obex_session.specs.Past.{Heard, stored_by}
 use Rattle.push_model.specs.declared.outlet.Outlet.{Outlet}
 use Rattle.push_model.specs.declared.outlet.Outlet.TheVariants.{Records, Direct, Muxed}
 use Rattle.push_model.specs.Client.{own_maximum}
-use Rattle.push_model.specs.Payloads.{Payload, Framed, IsSaid}
-use Rattle.push_model.specs.Sessions.{Gift, other_of}
-use Rattle.push_model.specs.Service.{Service, without_response}
-use Rattle.push_model.specs.Listening.{Listener}
-use Rattle.push_model.specs.Server.{Server, Reacted, Lent, hears_search, hears_up, hears_on, on_sdu, object_psm, rfcomm_psm, search_psm, frame_lent, lent_by, lent_sdu, taken_by, stepped, remuxed, unanswered, unreplied, lets_go_on, closed_on, lets_go_twice, new_server}
-use Rattle.push_laws.specs.Occurrences.{Occurrence, Came, Went, Closed, LinkDown, Asked, Answering, done, all_done, begun, IsLent}
+use Rattle.push_model.specs.Payloads.{Framed, IsSaid}
+use Rattle.push_model.specs.Sessions.{Gift}
+use Rattle.push_model.specs.Service.{Service}
+use Rattle.push_model.specs.Server.{Server, Reacted, Lent, hears_search, hears_up, hears_on, object_psm, rfcomm_psm, frame_lent, lent_by, taken_by, remuxed, unanswered, unreplied, lets_go_on, closed_on, lets_go_twice}
+use Rattle.push_laws.specs.Occurrences.{Occurrence, Came, Went, Closed, LinkDown, done}
 use Rattle.push_laws.specs.Readings.{closes, since, came_on, passed_by, octets_heard, packets_over}
 use Rattle.push_laws.specs.Faults.{heard_as, counted, faults_of, faults_by}
 use Rattle.push_laws.specs.Premises.{IsTaken, NoneShort, only_carries, FrameIsHeard, MayCome, new_packets}
-use Rattle.push_laws.proofs.Readings.{read, read_more, read_same, read_closed, drop_front, drop_same}
-use Rattle.push_laws.proofs.Streams.{no_packets}
+use Rattle.push_laws.proofs.Readings.{read_more, read_same, read_closed, drop_front, drop_same}
 use Rattle.push_laws.proofs.Listening as listening
 use Rattle.push_laws.proofs.Listening.{Listens, IsWell, OneAtATime, hears_more, direct_heard, direct_closed, carried_closed}
 use Rattle.push_laws.proofs.Services.{let_go_paid}
 use Rattle.push_laws.proofs.Frames.{Carries, carries_read, carries_new, carries_came, carries_went, only_quiet, reached_kept}
-use Rattle.push_laws.proofs.Servers.{Upholds, asked_upholds, answers_uphold, octets_uphold, octets_give, by_psm, up_keeps}
+use Rattle.push_laws.proofs.Servers.{Upholds, octets_uphold, octets_give, by_psm, up_keeps}
 
 abbrev pub most : Settings → Transport → ℕ
 most settings = λ t. own_maximum t settings
@@ -220,7 +217,7 @@ module _ (settings : Settings) (past : List Occurrence) (direct carried : List H
       let new : new_packets Rfcomm past one ≡ beyond (obex_packets got) (obex_packets octets) = ap (λ (xs : List ℕ). beyond (obex_packets xs) (obex_packets (octets_heard (past ++ one ∷ [])))) heard ∙ ap (λ (xs : List ℕ). beyond (obex_packets got) (obex_packets xs)) heard' in
       let requests = may.requests in
       let single : OneAtATime (most settings) at.server.listener.service (beyond (obex_packets got) (obex_packets octets)) =
-          subst (OneAtATime (most settings) at.server.listener.service) new (record { single = requests.single; heard = wells Rfcomm at.server.listener.service (new_packets Rfcomm past one) (requests.heard Rfcomm); lengths = requests.lengths }) in
+      subst (OneAtATime (most settings) at.server.listener.service) new (record { single = requests.single; heard = wells Rfcomm at.server.listener.service (new_packets Rfcomm past one) (requests.heard Rfcomm); lengths = requests.lengths }) in
       let then = up_comes comes on server at.gift u.listens carries single in
       let now : List Heard = carried ++ heard_as then.failed (beyond (obex_packets got) (obex_packets octets)) in
       next_by one at.gift (hears_on 0x0003 sdu at.server at.gift) then.failed direct now on octets (stored ++ carried_gain now)
@@ -286,15 +283,15 @@ module _ (settings : Settings) (past : List Occurrence) (direct carried : List H
       by_psm (λ p. Next (Closed p) at.gift (closed_on p at.server at.gift))
       (same_next (Closed 0x0001) at.gift (closed_on 0x0001 at.server at.gift) refl refl refl refl (record { listens = u.listens; carries = u.carries }) (omega arith))
       (next_by (Closed 0x0003) at.gift (closed_on 0x0003 at.server at.gift) false direct [] [] [] stored (direct_same (Closed 0x0003) false refl (read_same (came_on object_psm) object_psm past (Closed 0x0003) refl refl)) refl
-          (read_closed passed_by rfcomm_psm past (Closed 0x0003) refl) (no_gain stored (direct_gain direct) (carried_gain []) (nothing_gained (own_maximum L2cap settings) direct) (all_forgotten (own_maximum Rfcomm settings) carried))
-          (carried_upholds (most settings) (settings.mtu - 6) settings.credits direct carried (passed past) got stored at.server at.gift u)
-          (let paid = let_go_paid Rfcomm (remuxed at.server).listener.service at.gift in omega arith))
+      (read_closed passed_by rfcomm_psm past (Closed 0x0003) refl) (no_gain stored (direct_gain direct) (carried_gain []) (nothing_gained (own_maximum L2cap settings) direct) (all_forgotten (own_maximum Rfcomm settings) carried))
+      (carried_upholds (most settings) (settings.mtu - 6) settings.credits direct carried (passed past) got stored at.server at.gift u)
+      (let paid = let_go_paid Rfcomm (remuxed at.server).listener.service at.gift in omega arith))
       (next_by (Closed 0x1001) at.gift (closed_on 0x1001 at.server at.gift) false [] carried (passed past) got stored refl (carried_same (Closed 0x1001) false refl)
-          (read_same passed_by rfcomm_psm past (Closed 0x1001) refl refl) (no_gain stored (direct_gain []) (carried_gain carried) (all_forgotten (own_maximum L2cap settings) direct) (nothing_gained (own_maximum Rfcomm settings) carried))
-          (direct_upholds (most settings) (settings.mtu - 6) settings.credits direct carried (passed past) got stored at.server at.gift u)
-          (let paid = let_go_paid L2cap (unanswered at.server).listener.service at.gift in omega arith))
+      (read_same passed_by rfcomm_psm past (Closed 0x1001) refl refl) (no_gain stored (direct_gain []) (carried_gain carried) (all_forgotten (own_maximum L2cap settings) direct) (nothing_gained (own_maximum Rfcomm settings) carried))
+      (direct_upholds (most settings) (settings.mtu - 6) settings.credits direct carried (passed past) got stored at.server at.gift u)
+      (let paid = let_go_paid L2cap (unanswered at.server).listener.service at.gift in omega arith))
       (λ p a b c. subst (Next (Closed p) at.gift) (sym (cond-false _ _ _ a ∙ (cond-false _ _ _ b ∙ cond-false _ _ (let r : Reacted = record { server = at.server; gift = at.gift } in r) c)))
-          (same_next (Closed p) at.gift at c b refl refl u (omega arith)))
+      (same_next (Closed p) at.gift at c b refl refl u (omega arith)))
       psm
 
   pub down_next : (at : Reacted) → Now at → Next LinkDown at.gift (lets_go_twice (lets_go_on L2cap (unanswered at.server) at.gift))

@@ -1,29 +1,23 @@
 -- A server behind what comes on its channels, goes on them and closes them.
-use Rattle.std.proofs.Common.{inl, inr, Bool, true, false, cond, eqb, ltb, ◌||◌, ◌&&◌, ◌≤◌, ◌≡◌, ℕ, List, [], ◌∷◌, ◌++◌, length, Option, Some, None, Ok, refl, sym, ap, subst, ◌∙◌, arith, append_assoc, append-nil}
+use Rattle.std.proofs.Common.{inl, inr, Bool, true, false, cond, eqb, ◌&&◌, ◌≡◌, ℕ, List, [], ◌∷◌, ◌++◌, length, Option, Some, None, refl, sym, subst}
 use Rattle.std.specs.Prelude.{not}
-use Rattle.std.specs.List.{AllByRecursion}
-use Rattle.std.proofs.lemmas.Bool.{cases_Bool, cond_both, cond-false, cond-true, eqb-true, and_parts}
+use Rattle.std.proofs.lemmas.Bool.{cases_Bool, cond_both, eqb-true, and_parts}
 use Rattle.bt_base.specs.declared.settings.Transport.{Transport}
-use Rattle.bt_base.specs.declared.settings.Transport.TheVariants.{L2cap, Rfcomm}
 use Rattle.bt_base.specs.Objects.{Object}
 use Rattle.rfcomm_frames.specs.FrameReading.{is_empty}
 use Rattle.rfcomm_frames.specs.Frames.{PlainFrame}
 use Rattle.rfcomm_frames.specs.Multiplexing.{Passed}
-use Rattle.rfcomm_frames.specs.ObexPackets.{obex_packets}
-use Rattle.rfcomm_model.specs.Machine.{Mux, is_ready, sends, leaves, taken_count}
-use Rattle.rfcomm_model.specs.Hearing as hearing
+use Rattle.rfcomm_model.specs.Machine.{is_ready, leaves}
 use Rattle.rfcomm_model.specs.Hearing.{Up, nothing, opened, bytes, closed}
 use Rattle.rfcomm_model.specs.Saying.{Said, next}
-use Rattle.rfcomm_model.specs.Sides.{handed}
 use Rattle.obex_session.specs.InboxCalls.{Answer}
 use Rattle.obex_session.specs.Past.{Heard}
 use Rattle.push_laws.specs.Premises.{NoneShort}
 use Rattle.push_model.specs.declared.outlet.Outlet.{Outlet}
 use Rattle.push_model.specs.Sessions.{Gift}
-use Rattle.push_model.specs.Service.{Service, answer_cut}
 use Rattle.push_model.specs.Listening.{Received, hears_stream}
-use Rattle.push_model.specs.Server.{Server, Reacted, received_by, hears_octets, hears_up, with_service, filled, said_on, breaks_now, left_by, leaves_with, framed_by, framed, outlet_of, lends_new, lends_by, lends}
-use Rattle.push_laws.proofs.Listening.{Listens, OneAtATime, hears_more}
+use Rattle.push_model.specs.Server.{Server, Reacted, received_by, hears_octets, hears_up, filled, said_on, breaks_now, left_by, leaves_with, framed_by, framed, outlet_of, lends_new, lends_by, lends}
+use Rattle.push_laws.proofs.Listening.{Listens, hears_more}
 use Rattle.push_laws.proofs.Frames.{Carries, mux_said, frame_said, carries_says, carries_sends, carries_leaves}
 
 -- ---- a server stands for what it heard, and for the SDUs that passed
@@ -45,9 +39,9 @@ module _ (most : Transport → ℕ) (largest cap : ℕ) (direct carried : List H
       let answer : List ℕ = server.listener.service.answer in
       cond_both (is_ready server.mux && not (is_empty answer)) _ _ (λ (s : Server). IsFree most largest cap direct carried passed got stored s gift)
       (λ ready. record {
-          listens = record { tail = u.listens.tail; serves = u.listens.serves; packets = u.listens.packets; cut = u.listens.cut };
-          carries = carries_sends largest cap passed got server.mux None answer (and_parts (is_ready server.mux) _ ready).0 u.carries;
-        })
+        listens = record { tail = u.listens.tail; serves = u.listens.serves; packets = u.listens.packets; cut = u.listens.cut };
+        carries = carries_sends largest cap passed got server.mux None answer (and_parts (is_ready server.mux) _ ready).0 u.carries;
+      })
       (λ busy. u)
 
   said_upholds : (o : Option Said) (server : Server) (gift : Gift) → Listens most direct carried got stored server.listener server.held gift → Carries largest cap passed got (mux_said o server.mux) (frame_said o)
@@ -134,9 +128,9 @@ by_psm P one three object other psm =
     elim (cases_Bool (eqb psm 0x0001)) [
       | inl e ↦ subst P (sym (eqb-true psm 0x0001 e)) one
       | inr a ↦ elim (cases_Bool (eqb psm 0x0003)) [
-          | inl e ↦ subst P (sym (eqb-true psm 0x0003 e)) three
-          | inr b ↦ elim (cases_Bool (eqb psm 0x1001)) [ inl e ↦ subst P (sym (eqb-true psm 0x1001 e)) object | inr c ↦ other psm a b c ]
-        ]
+        | inl e ↦ subst P (sym (eqb-true psm 0x0003 e)) three
+        | inr b ↦ elim (cases_Bool (eqb psm 0x1001)) [ inl e ↦ subst P (sym (eqb-true psm 0x1001 e)) object | inr c ↦ other psm a b c ]
+      ]
     ]
 
 -- ---- what comes up leaves the multiplexer as it is

@@ -1,6 +1,6 @@
 -- A service behind one packet more, and behind octets that begin none.
-use Rattle.std.proofs.Common.{Bool, true, false, cond, ◌||◌, ◌+◌, ◌≤◌, ◌≡◌, ℕ, List, [], ◌∷◌, ◌++◌, Option, Some, None, Err, arith, refl, sym, ap, subst, ◌∙◌, append-nil}
-use Rattle.std.proofs.lemmas.Bool.{cond_both, cond-false, cond-true, or_from}
+use Rattle.std.proofs.Common.{Bool, true, false, ◌||◌, ◌+◌, ◌≤◌, ◌≡◌, ℕ, List, [], ◌∷◌, ◌++◌, Option, None, Err, arith, refl, sym, ap, subst, ◌∙◌, append-nil}
+use Rattle.std.proofs.lemmas.Bool.{cond_both, cond-false, or_from}
 use Rattle.bt_base.specs.declared.settings.Transport.{Transport}
 use Rattle.bt_base.specs.declared.settings.Transport.TheVariants.{L2cap, Rfcomm}
 use Rattle.bt_base.specs.Objects.{Object}
@@ -13,8 +13,8 @@ use Rattle.obex_session.specs.Marks.{kind_of}
 use Rattle.obex_session.specs.Past.{put_heard, open_from, pending_of}
 use Rattle.obex_session.specs.Serving.{has_name}
 use Rattle.push_laws.specs.Faults.{counted, faults_of}
-use Rattle.push_model.specs.Sessions.{Sessions, Gift, session_of, other_of, lets_go, is_naming, hears}
-use Rattle.push_model.specs.Service.{Service, Served, response_over, after_parted, after_heard, is_ignored, hears_packet, parts}
+use Rattle.push_model.specs.Sessions.{Sessions, Gift, other_of, lets_go, is_naming, hears}
+use Rattle.push_model.specs.Service.{Service, Served, response_over, after_heard, is_ignored, hears_packet, parts}
 use Rattle.push_laws.proofs.Sessions.{Pasts, pending, Stands, StandsAfter, Adds, gain, run_of, headers_behind, gone, gone_paid, heard}
 
 -- ---- a service
@@ -112,15 +112,15 @@ pub refused_heard : (most : Transport → ℕ) (past : Pasts) (t : Transport) (o
 refused_heard most past t octets refusal stored service gift s e =
     cond_both (is_ignored t octets service) _ _ (λ (served : Served). RefusedAs most past t octets stored gift served.service served.gift)
     (λ ignored. record {
-        failed = false;
-        serves = λ past' adds. let_go_of most past past' t stored service gift s (nothing_pending most past past' t octets false refusal adds e) adds.there;
-        paid = let_go_paid t service gift;
-      })
+      failed = false;
+      serves = λ past' adds. let_go_of most past past' t stored service gift s (nothing_pending most past past' t octets false refusal adds e) adds.there;
+      paid = let_go_paid t service gift;
+    })
     (λ taken.
-        let then = after_hearing most past t octets stored service gift s (λ named. absurd (never (sym named ∙ unnamed most past t octets refusal stored service gift s e))) in
-        record {
-          failed = then.failed;
-          serves = λ past' adds. subst (λ (os : List Object). (let served = after_heard t service (hears t octets service.sessions gift) in Serves most past' os served.service served.gift))
-              (ap (λ (os : List Object). stored ++ os) (nothing_gained most past t octets then.failed refusal e) ∙ append-nil stored) (then.serves past' adds);
-          paid = (let paid = then.paid in omega arith);
-        })
+    let then = after_hearing most past t octets stored service gift s (λ named. absurd (never (sym named ∙ unnamed most past t octets refusal stored service gift s e))) in
+    record {
+      failed = then.failed;
+      serves = λ past' adds. subst (λ (os : List Object). (let served = after_heard t service (hears t octets service.sessions gift) in Serves most past' os served.service served.gift))
+          (ap (λ (os : List Object). stored ++ os) (nothing_gained most past t octets then.failed refusal e) ∙ append-nil stored) (then.serves past' adds);
+      paid = (let paid = then.paid in omega arith);
+    })

@@ -1,5 +1,5 @@
 -- One packet more, and an object let go, at two sessions over one inbox.
-use Rattle.std.proofs.Common.{inl, inr, ◌⊎◌, Bool, true, false, cond, ◌+◌, ◌≤◌, ◌≡◌, ℕ, List, [], ◌∷◌, ◌++◌, Option, Some, None, Ok, Err, is_err, arith, refl, sym, ap, subst, ◌∙◌, append-nil}
+use Rattle.std.proofs.Common.{inl, inr, ◌⊎◌, Bool, true, false, ◌+◌, ◌≤◌, ◌≡◌, ℕ, List, [], ◌∷◌, ◌++◌, Option, Some, None, Ok, Err, is_err, arith, refl, sym, ap, subst, ◌∙◌, append-nil}
 use Rattle.std.specs.Option.{option_map}
 use Rattle.std.proofs.lemmas.Bool.{cases_Bool, cond_both, cond-false}
 use Rattle.std.proofs.lemmas.List.{map-append}
@@ -12,14 +12,13 @@ use Rattle.obex_headers.specs.declared.packet.Phase.TheVariants.{Request}
 use Rattle.obex_headers.specs.Packets.{PlainHeader, PlainPacket}
 use Rattle.obex_headers.specs.Reading.{packet_in}
 use Rattle.obex_headers.specs.Runs.{run_headers, objects_from}
-use Rattle.obex_session.specs.declared.course.Course.TheVariants.{Rests}
 use Rattle.obex_session.specs.declared.course.Progress.{Progress}
-use Rattle.obex_session.specs.InboxCalls.{InboxCall, Answer, come_of, left_by, held_after, all_done}
+use Rattle.obex_session.specs.InboxCalls.{InboxCall, Answer, come_of, left_by, all_done}
 use Rattle.obex_session.specs.Rules.{Ruling, aborts, is_under_way, at_packet, progress_in}
 use Rattle.obex_session.specs.Hearing.{progress_after}
 use Rattle.obex_session.specs.Past.{Heard, put_heard, puts_heard, open_from, open_headers, progress_of, pending_of, Serving}
-use Rattle.obex_session.specs.Serving.{kind_heard, ruling_on, verdict_or, outcome_on, heard_with, has_name}
-use Rattle.obex_session.specs.Turns.{course_after, said_after}
+use Rattle.obex_session.specs.Serving.{kind_heard, ruling_on, verdict_or, outcome_on, heard_with}
+use Rattle.obex_session.specs.Turns.{said_after}
 use Rattle.obex_session.specs.Views.{rested, is_shortage}
 use Rattle.obex_session.proofs.PastLaws.{Leaves, packet_leaves, headers_keep, open-more}
 use Rattle.obex_session.proofs.RuleLaws.{held}
@@ -201,13 +200,16 @@ minded most past t packet stored sessions gift s alone =
     elim (which t s.on) [
       | inl e ↦ inl (subst (λ (u : Transport). pending most past (other_of u) ≡ None) e s.idle)
       | inr e ↦ elim (cases_Bool (is_naming t packet sessions)) [
-          | inl named ↦ inl (alone named)
-          | inr unnamed ↦
-              let free = here_at most past t s.on e s.idle in
-              let session : Serving = session_of t sessions in
-              inr (subst (λ (u : Transport). gift.content ≡ Some (held stored (headers most past u))) e s.holds,
-                  quiet session.course (packet_in Request session.maximum packet) (ap is_under_way (s.progress t ∙ idle_progress (headers most past t) free)) unnamed, free)
-        ]
+        | inl named ↦ inl (alone named)
+        | inr unnamed ↦
+            let free = here_at most past t s.on e s.idle in
+            let session : Serving = session_of t sessions in
+            inr (
+              subst (λ (u : Transport). gift.content ≡ Some (held stored (headers most past u))) e s.holds,
+              quiet session.course (packet_in Request session.maximum packet) (ap is_under_way (s.progress t ∙ idle_progress (headers most past t) free)) unnamed,
+              free,
+            )
+      ]
     ]
 
 answered_well : (most : Transport → ℕ) (past past' : Pasts) (t : Transport) (packet : List ℕ) (stored : List Object) (sessions : Sessions) (gift : Gift) → Stands most past stored sessions gift.content → NoneShort gift.answers
@@ -221,10 +223,10 @@ answered_well most past past' t packet stored sessions gift s enough well adds a
     let leaves = λ (os : List Object). leaves_it most past t packet session os (s.maxima t) (s.progress t) in
     let come = ap (verdict_or ruling.verdict) well in
     let rests : Settles most past' (stored ++ gain most past t (packet, false)) (option_map (all_done ruling.calls) gift.content) =
-        elim (minded most past t packet stored sessions gift s alone) [
-          | inl free ↦ rests_here most past past' t packet stored ruling gift.content adds (leaves stored) free (holds_on most past stored sessions gift.content t s free)
-          | inr still ↦ rests_there most past past' t packet stored ruling gift.content adds (leaves []) still.1 still.2 still.0
-        ] in
+    elim (minded most past t packet stored sessions gift s alone) [
+      | inl free ↦ rests_here most past past' t packet stored ruling gift.content adds (leaves stored) free (holds_on most past stored sessions gift.content t s free)
+      | inr still ↦ rests_there most past past' t packet stored ruling gift.content adds (leaves []) still.1 still.2 still.0
+    ] in
     record {
       stands = record {
         maxima = either_way (λ u. (session_of u (with_session t turn.session sessions)).maximum ≡ most u) t (ap (λ (x : Serving). x.maximum) (same_session t turn.session sessions) ∙ s.maxima t)
@@ -257,10 +259,10 @@ answered_badly most past past' t packet stored sessions gift s enough badly adds
     let come = ap (verdict_or ruling.verdict) badly in
     let cleared : headers most past' t ≡ [] = headers_behind most past past' t (packet, true) adds in
     let free : pending most past (other_of t) ≡ None =
-        elim (minded most past t packet stored sessions gift s alone) [
-          | inl free ↦ free
-          | inr still ↦ absurd (no_fault_come Failed (sym (ap (λ (cs : List InboxCall). come_of cs gift.answers) still.1) ∙ badly))
-        ] in
+    elim (minded most past t packet stored sessions gift s alone) [
+      | inl free ↦ free
+      | inr still ↦ absurd (no_fault_come Failed (sym (ap (λ (cs : List InboxCall). come_of cs gift.answers) still.1) ∙ badly))
+    ] in
     record {
       stands = record {
         maxima = either_way (λ u. (session_of u (with_session t turn.session sessions)).maximum ≡ most u) t (ap (λ (x : Serving). x.maximum) (same_session t turn.session sessions) ∙ s.maxima t)
@@ -320,7 +322,7 @@ gone most past past' t stored sessions gift s enough cleared there =
           ∙ none_done gift.content ∙ subst (λ (u : Transport). gift.content ≡ Some (held stored (headers most past u))) e s.holds ∙ ap (λ (hs : List PlainHeader). Some (held stored hs)) (sym other_same);
     } in r) in
     let rests : Settles most past' stored (option_map (all_done calls) gift.content) =
-        elim (which t s.on) [ inl e ↦ here (subst (λ (u : Transport). pending most past (other_of u) ≡ None) e s.idle) | inr e ↦ elsewhere e ] in
+    elim (which t s.on) [ inl e ↦ here (subst (λ (u : Transport). pending most past (other_of u) ≡ None) e s.idle) | inr e ↦ elsewhere e ] in
     record {
       stands = record {
         maxima = either_way (λ u. (session_of u (with_session t (rested session) sessions)).maximum ≡ most u) t (ap (λ (x : Serving). x.maximum) (same_session t (rested session) sessions) ∙ s.maxima t)
@@ -350,10 +352,10 @@ pub heard : (most : Transport → ℕ) (past : Pasts) (t : Transport) (packet : 
 heard most past t packet stored sessions gift s enough alone =
     cond_both (is_naming t packet sessions) _ _ (HeardWell most past t packet stored gift)
     (λ named.
-        let free = alone named in
-        let parted = lets_go (other_of t) sessions gift in
-        let before = gone most past past (other_of t) stored sessions gift s enough free refl in
-        let then = answered_by (come_of (ruling_on (session_of t parted.sessions) packet).calls parted.gift.answers) most past t packet stored parted.sessions parted.gift refl before.stands before.none_short (λ again. free) in
-        subst (HeardWell most past t packet stored gift) (sym (cond-false parted.short _ (answers_to t packet parted.sessions parted.gift) before.enough))
-        (record { failed = then.failed; stands = then.stands; paid = (let first = gone_paid (other_of t) sessions gift in let second = then.paid in omega arith) }))
+    let free = alone named in
+    let parted = lets_go (other_of t) sessions gift in
+    let before = gone most past past (other_of t) stored sessions gift s enough free refl in
+    let then = answered_by (come_of (ruling_on (session_of t parted.sessions) packet).calls parted.gift.answers) most past t packet stored parted.sessions parted.gift refl before.stands before.none_short (λ again. free) in
+    subst (HeardWell most past t packet stored gift) (sym (cond-false parted.short _ (answers_to t packet parted.sessions parted.gift) before.enough))
+    (record { failed = then.failed; stands = then.stands; paid = (let first = gone_paid (other_of t) sessions gift in let second = then.paid in omega arith) }))
     (λ unnamed. answered_by (come_of (ruling_on (session_of t sessions) packet).calls gift.answers) most past t packet stored sessions gift refl s enough (λ named. alone named))
