@@ -1,5 +1,5 @@
 -- What comes of a packet where the inbox grants its calls, and where one fails.
-use Rattle.std.proofs.Common.{Bool, true, false, cond, eqb, ltb, ◌+◌, ◌||◌, ◌&&◌, ◌≡◌, ℕ, List, [], ◌∷◌, ◌++◌, length, Option, Some, None, Result, Ok, Err, refl, sym, ap, ◌∙◌}
+use Rattle.std.proofs.Common.{Bool, true, false, cond, eqb, ltb, ◌+◌, ◌≤◌, ◌||◌, ◌&&◌, ◌≡◌, ℕ, List, [], ◌∷◌, ◌++◌, length, Option, Some, None, Result, Ok, Err, arith, refl, sym, ap, ◌∙◌}
 use Rattle.std.specs.Prelude.{not, is_some, slice_index}
 use Rattle.std.specs.List.{list_any, AllByRecursion}
 use Rattle.std.specs.Option.{option_map}
@@ -8,7 +8,7 @@ use Rattle.bt_base.specs.declared.ports.PortFault.{PortFault}
 use Rattle.bt_base.specs.declared.ports.PortFault.TheVariants.{Failed}
 use Rattle.bt_base.specs.Objects.{Object, Contents, aborted}
 use Rattle.obex_headers.specs.declared.fault.ObexRefusal.{ObexRefusal}
-use Rattle.obex_headers.specs.Packets.{PlainHeader, PlainPacket, units_of}
+use Rattle.obex_headers.specs.Packets.{PlainHeader, PlainPacket, bare, packet_octets, units_of}
 use Rattle.obex_headers.specs.Runs.{put_of, name_text, body_of, names, bodies, is_final, object_of}
 use Rattle.obex_session.specs.declared.codes.Code.TheVariants.{TooLarge}
 use Rattle.obex_session.specs.declared.course.Course.{Course}
@@ -21,6 +21,8 @@ use Rattle.obex_session.specs.declared.responding.Saying.{Saying}
 use Rattle.obex_session.specs.declared.responding.Saying.TheVariants.{Response, Confirmation, Silence, NoMemory}
 use Rattle.obex_session.specs.declared.marks.Kind.{Kind}
 use Rattle.obex_session.specs.declared.marks.Kind.TheVariants.{Put, Other}
+use Rattle.obex_session.specs.Codes.{octet_of}
+use Rattle.obex_session.specs.Responses.{is_connect, connect_fields}
 use Rattle.obex_session.specs.InboxCalls.{InboxCall, Begin, Append, Abort, Answer, come_of, held_after, done_by, all_done}
 use Rattle.obex_session.specs.Marks.{is_name, marks_of, kind_of}
 use Rattle.obex_session.specs.Rules.{Ruling, opens, aborts, is_under_way, at_parts, at_header, then_on, after_headers, finished, at_put, at_packet, at_put_in, ends, other_response, progress_in, is_ignoring}
@@ -194,6 +196,17 @@ silence_is_none packet maximum (Response code) e = absurd (let f : false ≡ tru
 silence_is_none packet maximum (Confirmation code) e = absurd (let f : false ≡ true = e in cc)
 silence_is_none packet maximum Silence e = refl
 silence_is_none packet maximum NoMemory e = absurd (let f : false ≡ true = e in cc)
+
+few_by : (connecting : Bool) (maximum code : ℕ) → length (packet_octets (bare code (cond connecting (connect_fields maximum) []))) ≤ 7
+few_by true maximum code = omega arith
+few_by false maximum code = omega arith
+
+-- a response has seven octets at most
+pub said_few : (packet : List ℕ) (maximum : ℕ) (said : Saying) → length (octets_said packet maximum said) ≤ 7
+said_few packet maximum (Response code) = few_by (is_connect packet) maximum (octet_of code)
+said_few packet maximum (Confirmation code) = omega arith
+said_few packet maximum Silence = omega arith
+said_few packet maximum NoMemory = omega arith
 
 -- success is the first octet of what is said
 success_read : (packet : List ℕ) (maximum : ℕ) (said : Saying) → is_success said ≡ eqb (slice_index (octets_said packet maximum said) 0) 0xA0

@@ -9,3 +9,5 @@ pub mod Running
 pub mod Gaining
 pub mod Answering
 pub mod Beginning
+pub mod SmallFrames
+pub mod SmallAnswers

@@ -1,5 +1,5 @@
 -- What a server of Object Push does with what comes, for any list of occurrences.
-use Rattle.std.specs.Prelude.{ℕ, pos, ◌+◌, ◌≡◌, ◌≤◌, List, [], ◌∷◌, ◌++◌, Option, Some, None}
+use Rattle.std.specs.Prelude.{ℕ, pos, ◌+◌, ◌≡◌, ◌≤◌, List, [], ◌∷◌, ◌++◌, length, Option, Some, None}
 use Rattle.std.specs.List.{filter_map}
 use Rattle.std.specs.Option.{option_map}
 use Rattle.bt_base.specs.declared.settings.Settings.{Settings}
@@ -11,7 +11,8 @@ use Rattle.rfcomm_frames.specs.UserChannel.{credits_held}
 use Rattle.bt_base.specs.declared.settings.Transport.TheVariants.{L2cap}
 use Rattle.link_talk.specs.ObjectsHeard.{spelled_within}
 use Rattle.push_model.specs.Client.{own_maximum}
-use Rattle.push_model.specs.Server.{Server, Reacted, object_psm, rfcomm_psm}
+use Rattle.push_model.specs.Payloads.{IsSaid}
+use Rattle.push_model.specs.Server.{Server, Reacted, Lent, lent_sdu, object_psm, rfcomm_psm}
 use Rattle.push_laws.specs.Occurrences.{Occurrence, Came, all_done, begun}
 use Rattle.push_laws.specs.Readings.{since, passed_by, user_dlci}
 use Rattle.push_laws.specs.Answers.{AnswersInTurn}
@@ -70,6 +71,13 @@ CreditsAreRead = (settings : Settings) (before : List Object) (occurrences : Lis
 abbrev pub AnswersComeInTurn : Type 0
 AnswersComeInTurn = (settings : Settings) (before : List Object) (occurrences : List Occurrence) → AllMayCome AllGranted (IsHeard settings) settings [] (new_over settings before) occurrences
     → AnswersInTurn settings occurrences (all_done occurrences (new_over settings before)).server
+
+-- ---- what is lent
+
+-- Each SDU that a server lends has 48 octets at most, whatever came, so it fits a channel of any MTU.
+abbrev pub LendsFewOctets : Type 0
+LendsFewOctets = (settings : Settings) (content : Option Contents) (occurrences : List Occurrence) (lent : Lent) (sdu : List ℕ) → lent_sdu (all_done occurrences (begun settings content)).server ≡ Some lent
+    → IsSaid lent.payload sdu → length sdu ≤ 48
 
 -- ---- an example
 

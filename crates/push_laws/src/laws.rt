@@ -1,6 +1,6 @@
 //! Laws of a server of Object Push, for every list of what may happen to it.
 
-ghost use Rattle.push_laws.specs.Laws.{AnswersComeInTurn, CreditsAreRead, GainsAllButFaults, GainsWhatIsHeard, OnePacketIsHeard};
+ghost use Rattle.push_laws.specs.Laws.{AnswersComeInTurn, CreditsAreRead, GainsAllButFaults, GainsWhatIsHeard, LendsFewOctets, OnePacketIsHeard};
 
 /// From a new server on the inbox gains exactly the objects that the heard packets spell, over both transports and through
 /// every closing, in the order of their last packets. That is so where no call of the inbox fails, no request is ignored,
@@ -25,6 +25,11 @@ pub fn credits_are_read()
 /// at most. Success is said to a PUT exactly where it stores an object.
 pub fn answers_come_in_turn()
     ensures { AnswersComeInTurn }
+{}
+
+/// Each SDU that a server lends has 48 octets at most, whatever came and whatever its inbox answered.
+pub fn lends_few_octets()
+    ensures { LendsFewOctets }
 {}
 
 /// Any packet may come first over L2CAP, and the objects that are then heard are those that it spells by itself.
