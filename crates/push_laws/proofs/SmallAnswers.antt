@@ -1,20 +1,17 @@
 -- What a server lends is small: replies of 48 octets, responses of seven, frames of 45.
-use Rattle.std.proofs.Common.{Bool, true, false, cond, eqb, ltb, zero, suc, ◌||◌, ◌&&◌, ◌+◌, ◌-◌, ◌*◌, ◌/◌, ◌≤◌, ◌≡◌, ℕ, List, [], ◌∷◌, ◌++◌, length, take, drop, min, Option, Some, None, Result, Ok, Err, arith, refl, sym, ap, subst, ◌∙◌, length-append}
+use Rattle.std.proofs.Common.{Bool, true, false, cond, eqb, ltb, zero, suc, ◌||◌, ◌&&◌, ◌+◌, ◌-◌, ◌*◌, ◌/◌, ◌≤◌, ◌≡◌, ℕ, List, [], ◌∷◌, ◌++◌, length, take, drop, min, Option, Some, None, Result, Ok, Err, arith, sym, ap, subst, length-append}
 use Rattle.std.specs.Prelude.{not}
 use Rattle.std.specs.List.{flat_map}
 use Rattle.std.proofs.lemmas.Bool.{cond_both}
 use Rattle.std.proofs.lemmas.List.{length-take, length-drop}
-use Rattle.bt_base.specs.declared.settings.Settings.{Settings}
 use Rattle.bt_base.specs.declared.settings.Serves.{Serves}
 use Rattle.bt_base.specs.declared.settings.Transport.{Transport}
 use Rattle.bt_base.specs.declared.settings.Transport.TheVariants.{L2cap, Rfcomm}
-use Rattle.bt_base.specs.Objects.{Contents}
 use Rattle.bt_base.specs.Octets.{be16, be32}
-use Rattle.obex_session.specs.Serving.{heard_with}
 use Rattle.obex_session.proofs.GrantedLaws.{said_few}
 use Rattle.rfcomm_frames.specs.FrameReading.{is_empty}
 use Rattle.rfcomm_frames.specs.Frames.{PlainFrame, credit_octets, size_of}
-use Rattle.rfcomm_model.specs.Machine.{Mux, is_ready, sends, leaves, taken_count}
+use Rattle.rfcomm_model.specs.Machine.{is_ready, leaves, taken_count}
 use Rattle.rfcomm_model.specs.Hearing as hearing
 use Rattle.rfcomm_model.specs.Hearing.{Up, nothing, opened, bytes, closed, up}
 use Rattle.rfcomm_model.specs.Saying.{Said, next}
@@ -29,14 +26,14 @@ use Rattle.sdp_server.specs.Requests.{Request, request_in}
 use Rattle.sdp_server.specs.Replies.{code_number, part_from, handles_parameters, handles_reply, replied, answered, responded, transaction_of, with_error, reply_to}
 use Rattle.push_model.specs.declared.outlet.Outlet.{Outlet}
 use Rattle.push_model.specs.declared.outlet.Outlet.TheVariants.{Records, Direct, Muxed}
-use Rattle.push_model.specs.Payloads.{Payload, Octets, Framed, IsSaid}
+use Rattle.push_model.specs.Payloads.{Octets, Framed, IsSaid}
 use Rattle.push_model.specs.Sessions as model
 use Rattle.push_model.specs.Sessions.{Sessions, Gift, session_of, other_of, lets_go, answers_to, is_naming, hears}
-use Rattle.push_model.specs.Service.{Service, Served, response_over, after_heard, is_ignored, hears_packet}
+use Rattle.push_model.specs.Service.{Service, Served, response_over, is_ignored, hears_packet}
 use Rattle.push_model.specs.Streams.{Front, Whole, Partial, Broken, front_of}
 use Rattle.push_model.specs.Listening.{Listener, Heeded, Received, stops, heeds_carried, hears_front, hears_stream}
 use Rattle.push_model.specs.Listening as listening
-use Rattle.push_model.specs.Server.{Server, Reacted, Lent, hears_up, hears_search, hears_on, filled, said_on, breaks_now, left_by, leaves_with, framed_by, framed, outlet_of, lends_by, lent_by, lent_sdu, frame_lent, taken_by, closed_on, lets_go_on, lets_go_twice, remuxed, unreplied, unanswered}
+use Rattle.push_model.specs.Server.{Server, Reacted, Lent, hears_up, hears_search, hears_on, filled, said_on, breaks_now, left_by, leaves_with, framed_by, framed, outlet_of, lends_by, lent_by, frame_lent, taken_by, closed_on, lets_go_on, lets_go_twice, remuxed, unreplied, unanswered}
 use Rattle.push_laws.specs.Occurrences.{Occurrence, Came, Went, Closed, LinkDown, Asked, Answering, done, all_done, begun}
 use Rattle.push_laws.specs.Laws.{LendsFewOctets}
 use Rattle.push_laws.proofs.SmallFrames.{IsSmall, Small, hears_small, SaidSmall, next_small, sends_small, leaves_small}
@@ -51,8 +48,8 @@ hears_few : (t : Transport) (packet : List ℕ) (sessions : Sessions) (gift : Gi
 hears_few t packet sessions gift =
     cond_both (is_naming t packet sessions) _ _ (λ (h : model.Heard). length h.response ≤ 7)
     (λ named.
-        let parted = lets_go (other_of t) sessions gift in
-        cond_both parted.short _ (answers_to t packet parted.sessions parted.gift) (λ (h : model.Heard). length h.response ≤ 7) (λ short. omega arith) (λ enough. said_few packet (session_of t parted.sessions).maximum _))
+    let parted = lets_go (other_of t) sessions gift in
+    cond_both parted.short _ (answers_to t packet parted.sessions parted.gift) (λ (h : model.Heard). length h.response ≤ 7) (λ short. omega arith) (λ enough. said_few packet (session_of t parted.sessions).maximum _))
     (λ unnamed. said_few packet (session_of t sessions).maximum _)
 
 over_few : (t : Transport) (response : List ℕ) (service : Service) → length response ≤ 7 → Few service → Few (response_over t response service)
@@ -66,8 +63,8 @@ packet_few t packet service gift s =
     cond_both (is_ignored t packet service) _ _ (λ (x : Served). Few x.service)
     (λ ignored. record { response = s.response; answer = s.answer })
     (λ taken.
-        let h = hears t packet service.sessions gift in
-        over_few t h.response (record service { sessions = h.sessions; failed = service.failed || h.short }) (hears_few t packet service.sessions gift) (record { response = s.response; answer = s.answer }))
+    let h = hears t packet service.sessions gift in
+    over_few t h.response (record service { sessions = h.sessions; failed = service.failed || h.short }) (hears_few t packet service.sessions gift) (record { response = s.response; answer = s.answer }))
 
 more_few : (less : ℕ) (rest : List ℕ) (heeded : Heeded) → Few heeded.listener.service → ((l : Listener) (g : Gift) → Few l.service → Few (hears_stream less rest l g).listener.service)
     → Few (listening.hears_on (λ l g. hears_stream less rest l g) heeded).listener.service
@@ -133,11 +130,11 @@ handles_fits serves pattern transaction request =
     let count : ℕ = min request.most (length octets / 4) in
     either_fits (eqb (length request.continuation) 0) (Ok (pdu_octets 3 transaction (handles_parameters octets count))) (Err InvalidContinuation)
     (λ t.
-        let all = pdu_len 3 transaction (handles_parameters octets count) in
-        let front = length-take (4 * count) octets in
-        let few = handles_few serves pattern in
-        let last = length-append (take (4 * count) octets) (0 ∷ []) in
-        omega (arith, all, front, few, last))
+    let all = pdu_len 3 transaction (handles_parameters octets count) in
+    let front = length-take (4 * count) octets in
+    let few = handles_few serves pattern in
+    let last = length-append (take (4 * count) octets) (0 ∷ []) in
+    omega (arith, all, front, few, last))
     (error_fits InvalidContinuation)
 
 replied_fits : (serves : Serves) (transaction : ℕ) (question : Question) (request : Request) → Fits (replied transaction question (answer serves question) request 48)
@@ -184,9 +181,9 @@ hears_brief : (psm : ℕ) (sdu : List ℕ) (server : Server) (gift : Gift) → B
 hears_brief psm sdu server gift b =
     cond_both (eqb psm 0x0001) _ _ (λ (r : Reacted). Brief r.server) (λ e. search_brief sdu server b)
     (λ e. cond_both (eqb psm 0x0003) _ _ (λ (r : Reacted). Brief r.server)
-        (λ f. up_brief (up sdu server.mux) (record server { mux = hearing.hears sdu server.mux }) gift (record { reply = b.reply; few = b.few; mux = hears_small sdu server.mux b.mux; frame = b.frame }))
-        (λ f. cond_both (eqb psm 0x1001) _ _ (λ (r : Reacted). Brief r.server)
-            (λ g. record { reply = b.reply; few = packet_few L2cap sdu server.listener.service gift b.few; mux = b.mux; frame = b.frame }) (λ g. b)))
+    (λ f. up_brief (up sdu server.mux) (record server { mux = hearing.hears sdu server.mux }) gift (record { reply = b.reply; few = b.few; mux = hears_small sdu server.mux b.mux; frame = b.frame }))
+    (λ f. cond_both (eqb psm 0x1001) _ _ (λ (r : Reacted). Brief r.server)
+    (λ g. record { reply = b.reply; few = packet_few L2cap sdu server.listener.service gift b.few; mux = b.mux; frame = b.frame }) (λ g. b)))
 
 said_brief : (o : Option Said) (server : Server) → SaidSmall o → Brief server → Brief (said_on o server)
 said_brief None server s b = record { reply = b.reply; few = b.few; mux = b.mux; frame = tt }
@@ -208,11 +205,11 @@ filled_brief server b =
     let count : ℕ = taken_count (length answer) server.mux in
     cond_both (is_ready server.mux && not (is_empty answer)) _ _ Brief
     (λ e. record {
-        reply = b.reply;
-        few = record { response = b.few.response; answer = (let rest = length-drop count answer in let few = b.few.answer in omega (arith, rest, few)) };
-        mux = sends_small answer server.mux (let few = b.few.answer in omega (arith, few)) b.mux;
-        frame = b.frame;
-      })
+      reply = b.reply;
+      few = record { response = b.few.response; answer = (let rest = length-drop count answer in let few = b.few.answer in omega (arith, rest, few)) };
+      mux = sends_small answer server.mux (let few = b.few.answer in omega (arith, few)) b.mux;
+      frame = b.frame;
+    })
     (λ e. b)
 
 framed_brief : (o : Option PlainFrame) (server : Server) → Brief server → Brief (framed_by o server)
@@ -246,7 +243,7 @@ closed_brief : (psm : ℕ) (server : Server) (gift : Gift) → Brief server → 
 closed_brief psm server gift b =
     cond_both (eqb psm 0x0001) _ _ (λ (r : Reacted). Brief r.server) (λ e. unreplied_brief server b)
     (λ e. cond_both (eqb psm 0x0003) _ _ (λ (r : Reacted). Brief r.server) (λ f. carried_brief server gift b)
-        (λ f. cond_both (eqb psm 0x1001) _ _ (λ (r : Reacted). Brief r.server) (λ g. direct_brief server gift b) (λ g. b)))
+    (λ f. cond_both (eqb psm 0x1001) _ _ (λ (r : Reacted). Brief r.server) (λ g. direct_brief server gift b) (λ g. b)))
 
 -- a server that failed stays as it is
 unless_brief : (failed : Bool) (server : Server) (gift : Gift) (r : Reacted) → Brief server → Brief r.server → Brief (cond failed (record { server = server; gift = gift }) r).server
