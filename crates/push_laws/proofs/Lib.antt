@@ -9,5 +9,6 @@ pub mod Running
 pub mod Gaining
 pub mod Answering
 pub mod Beginning
+pub mod Calling
 pub mod SmallFrames
 pub mod SmallAnswers

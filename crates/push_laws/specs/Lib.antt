@@ -4,4 +4,5 @@ pub mod Gains
 pub mod Faults
 pub mod Answers
 pub mod Premises
+pub mod Calls
 pub mod Laws

@@ -1,5 +1,6 @@
 //! Laws of a server of Object Push, for every list of what may happen to it.
 
+ghost use Rattle.push_laws.specs.Calls.{InboxIsCalledByRuns};
 ghost use Rattle.push_laws.specs.Laws.{AnswersComeInTurn, CreditsAreRead, GainsAllButFaults, GainsWhatIsHeard, LendsFewOctets, OnePacketIsHeard};
 
 /// From a new server on the inbox gains exactly the objects that the heard packets spell, over both transports and through
@@ -19,6 +20,13 @@ pub fn gains_all_but_faults()
 /// below zero, and while the multiplexer is open it is what that holds, with the frame that waits for its channel.
 pub fn credits_are_read()
     ensures { CreditsAreRead }
+{}
+
+/// Where no call fails, the calls of the inbox over any list of packets are those of the runs into which these fall: a run
+/// that spells an object begins it, appends each body and commits it; one that ends without an object aborts what it began,
+/// and so does the end of the link.
+pub fn inbox_is_called_by_runs()
+    ensures { InboxIsCalledByRuns }
 {}
 
 /// Over L2CAP each request is answered once, in order, but for those that are passed over in silence, and one response waits
