@@ -1,7 +1,7 @@
 -- The calls of a session are those of the runs into which its packets fall.
 use Rattle.std.proofs.Common.{inl, inr, Bool, true, false, cond, eqb, ltb, ◌+◌, ◌||◌, ◌&&◌, ◌<◌, ◌⊎◌, ◌≡◌, ℕ, List, [], ◌∷◌, ◌++◌, length, map, Option, Some, None, Result, Ok, Err, arith, refl, sym, ap, subst, ◌∙◌, append_assoc, append-nil}
 use Rattle.std.specs.Prelude.{not}
-use Rattle.std.specs.List.{filter_map, flat_map, cons_option, list_any, AllByRecursion}
+use Rattle.std.specs.List.{flat_map, cons_option, list_any, AllByRecursion}
 use Rattle.std.proofs.lemmas.Bool.{cases_Bool, cond-true, cond-false, or_from, or_left, or_right, and_parts, ne_eqb}
 use Rattle.std.proofs.lemmas.List.{map-append}
 use Rattle.std.proofs.lemmas.List.Elements.{filter_map-append}
@@ -13,16 +13,15 @@ use Rattle.obex_headers.specs.Reading.{packet_in}
 use Rattle.obex_headers.specs.Packets.{PlainHeader, PlainPacket, units_of}
 use Rattle.obex_headers.specs.Runs.{put_of, is_final, name_text, body_of, names, bodies, run_headers, breaks, lacks, KeepsRules, IsOpen, SpellsObject, EndsWithout, Stretch, Spelling, Broken, IsStretch, puts, stretch_packets, FallsInto}
 use Rattle.obex_headers.proofs.RunLaws.{keeps, kept, rules_front}
-use Rattle.obex_session.specs.declared.codes.Code.{Code}
-use Rattle.obex_session.specs.declared.codes.Code.TheVariants.{BadRequest, TooLarge}
+use Rattle.obex_session.specs.declared.codes.Code.TheVariants.{TooLarge}
 use Rattle.obex_session.specs.declared.course.Course.{Course}
 use Rattle.obex_session.specs.declared.course.Progress.{Progress}
 use Rattle.obex_session.specs.declared.course.Progress.TheVariants.{Unnamed, Named, Filled}
 use Rattle.obex_session.specs.declared.course.Verdict.{Verdict}
 use Rattle.obex_session.specs.declared.course.Verdict.TheVariants.{Open, Whole, Ended, PassedOver}
-use Rattle.obex_session.specs.InboxCalls.{InboxCall, Begin, Append, Commit, Abort, Answer, come_of, all_done}
+use Rattle.obex_session.specs.InboxCalls.{InboxCall, Begin, Append, Commit, Answer, come_of}
 use Rattle.obex_session.specs.Marks.{is_name, is_body}
-use Rattle.obex_session.specs.Rules.{Ruling, opens, ends, aborts, at_parts, at_header, behind, then_on, after_headers, finished, at_put, at_put_in, at_packet, other_response, progress_in, is_ignoring}
+use Rattle.obex_session.specs.Rules.{Ruling, opens, ends, aborts, at_parts, at_header, then_on, after_headers, finished, at_put, at_put_in, at_packet, other_response, progress_in, is_ignoring}
 use Rattle.obex_session.specs.Past.{progress_from, progress_of, open_from, Serving}
 use Rattle.obex_session.specs.Hearing.{progress_after}
 use Rattle.obex_session.specs.Serving.{kind_heard, ruling_on, verdict_or, outcome_on, heard_with}
@@ -30,7 +29,7 @@ use Rattle.obex_session.specs.Calls.{call_at, call_of, calls_of, kept_behind, ab
 use Rattle.obex_session.proofs.PacketLaws.{without, nameless_put}
 use Rattle.obex_session.proofs.PastLaws.{ignoring_rests, not_true, packet_leaves, open_keeps, headers-more}
 use Rattle.obex_session.proofs.TurnLaws.{progress_behind}
-use Rattle.obex_session.proofs.RuleLaws.{held, Follows, follows, step}
+use Rattle.obex_session.proofs.RuleLaws.{Follows, follows, step}
 
 -- ---- one header
 

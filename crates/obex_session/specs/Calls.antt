@@ -1,5 +1,5 @@
 -- The calls of an inbox that a list of packets asks for, run by run (Object Push Profile 1.2, 4.3).
-use Rattle.std.specs.Prelude.{ℕ, ◌||◌, Bool, List, [], ◌∷◌, ◌++◌, map, Option, Some, None, if◌then◌else◌}
+use Rattle.std.specs.Prelude.{ℕ, List, [], ◌∷◌, ◌++◌, Option, Some, None, if◌then◌else◌}
 use Rattle.std.specs.List.{filter_map}
 use Rattle.obex_headers.specs.Packets.{PlainHeader, PlainPacket, units_of}
 use Rattle.obex_headers.specs.Runs.{name_text, body_of, names, run_headers, breaks, Stretch, Spelling, Broken}

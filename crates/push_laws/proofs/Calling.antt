@@ -1,6 +1,6 @@
 -- The inbox is called by the runs of packets.
 use Rattle.std.proofs.Common.{List, [], refl, ap, arith, ◌∙◌}
-use Rattle.obex_headers.specs.Packets.{PlainHeader, PlainPacket}
+use Rattle.obex_headers.specs.Packets.{PlainPacket}
 use Rattle.obex_headers.specs.Runs.{run_headers, KeepsRules}
 use Rattle.obex_session.specs.Past.{progress_of}
 use Rattle.obex_session.specs.Rules.{aborts}
