@@ -1,7 +1,9 @@
 -- A packet that was heard, as those see it that know no names of sayings.
-use Rattle.std.proofs.Common.{◌≡◌, ℕ, Bool, true, false, List, [], ◌∷◌, ◌++◌, length, drop, Option, is_none, IfSome, Ok, Err, IsErrOf, refl, ap, sym, subst, ◌∙◌, append-nil}
+use Rattle.std.proofs.Common.{◌≡◌, ℕ, Bool, true, false, List, [], ◌∷◌, ◌++◌, length, drop, Option, Some, None, is_none, IfSome, Result, Ok, Err, IsErrOf, refl, ap, sym, subst, ◌∙◌, append-nil}
 use Rattle.std.specs.Option.{option_map}
-use Rattle.bt_base.specs.Objects.{Contents}
+use Rattle.bt_base.specs.Counts.{HasCause, HasRisen}
+use Rattle.bt_base.specs.Objects.{Contents, aborted}
+use Rattle.bt_base.specs.declared.ports.PortFault.{PortFault}
 use Rattle.bt_base.specs.declared.ports.PortFault.TheVariants.{Failed, NoMemory}
 use Rattle.obex_session.specs.declared.course.Course.{Course}
 use Rattle.obex_session.specs.declared.course.Verdict.{Verdict}
@@ -10,6 +12,7 @@ use Rattle.obex_session.specs.declared.marks.Kind.{Kind}
 use Rattle.obex_session.specs.declared.responding.Saying.{Saying}
 use Rattle.obex_session.specs.declared.responding.Saying.TheVariants as saying
 use Rattle.obex_session.specs.declared.server.Reply.{Reply}
+use Rattle.obex_session.specs.declared.server.Reply.TheVariants as reply
 use Rattle.obex_session.specs.InboxCalls.{InboxCall, Answer, come_of, left_by, held_after, done_by}
 use Rattle.obex_session.specs.Past.{Serving}
 use Rattle.obex_session.specs.Serving.{Hears, Says, Turn, heard_with, kind_heard, ruling_on, outcome_on, verdict_or}
