@@ -324,7 +324,7 @@ module _ (settings : Settings) (before : List Object) (past : List Occurrence) w
   turn_more Asked at c may a = same_turn Asked (response_of at.server) _ refl refl refl (lends_keep at.server.lent at.server) a
   turn_more (Answering answers) at c may a = same_turn (Answering answers) (response_of at.server) (response_of at.server) refl refl refl refl a
 
-turns_all : (settings : Settings) (before : List Object) (occurrences past : List Occurrence) (at : Reacted) → Clear settings before past at → AllMayCome AllGranted (IsHeard settings) settings past at occurrences → AnswersSoFar settings past (response_of at.server)
+turns_all : (settings : Settings) (before : List Object) (occurrences past : List Occurrence) (at : Reacted) → Clear settings before past at → AllMayCome settings past at occurrences → AnswersSoFar settings past (response_of at.server)
     → AnswersSoFar settings (past ++ occurrences) (response_of (all_done occurrences at).server)
 turns_all settings before [] past at c all a = subst (λ (os : List Occurrence). AnswersSoFar settings os (response_of at.server)) (sym (append-nil past)) a
 turns_all settings before (one ∷ rest) past at c all a =

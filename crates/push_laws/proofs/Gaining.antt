@@ -36,7 +36,7 @@ use Rattle.obex_session.specs.Serving as serving
 use Rattle.obex_session.specs.Marks as marks
 use Rattle.obex_headers.specs.Reading as reading
 use Rattle.obex_headers.specs.declared.packet.Phase.TheVariants as phase
-use Rattle.push_laws.specs.Premises.{is_under_way, IsHeard, IsTaken, AllGranted, NoneShort, AnswersAre, MayCome, AllMayCome, new_packets}
+use Rattle.push_laws.specs.Premises.{is_under_way, IsHeard, IsTaken, AllGranted, NoneShort, AnswersAre, MayCome, AllMayCome, new_packets, AllMayFail}
 use Rattle.push_laws.specs.Laws.{stored_in, new_over, paid_for, GainsWhatIsHeard, GainsAllButFaults, CreditsAreRead}
 use Rattle.push_laws.proofs.Sessions as opened
 use Rattle.push_laws.proofs.Readings.{read_more, read_closed, drop_front, unmarked_more, heard_more, spelled_stored}
@@ -151,13 +151,13 @@ module _ (settings : Settings) (before : List Object) where
       let last = sum_by-cons (λ (m : Marked). counted m.failed) one [] in
       omega (arith, two, last)
 
-  holds_all : (occurrences : List Occurrence) (past : List Marked) (at : Reacted) → Holds settings before past at → AllMayCome NoneShort (IsTaken settings) settings (unmarked past) at occurrences → Walked past occurrences at
+  holds_all : (occurrences : List Occurrence) (past : List Marked) (at : Reacted) → Holds settings before past at → AllMayFail settings (unmarked past) at occurrences → Walked past occurrences at
   holds_all [] past at h all = record { all = past; same = sym (append-nil (unmarked past)); holds = h; paid = omega arith }
   holds_all (one ∷ rest) past at h all =
       let more = holds_more past one at h all.0 in
       let last : Marked = record { occurrence = one; failed = more.failed } in
       let later : List Marked = past ++ last ∷ [] in
-      let then = holds_all rest later (done one at) more.holds (subst (λ (os : List Occurrence). AllMayCome NoneShort (IsTaken settings) settings os (done one at) rest) (sym (unmarked_more past last)) all.1) in
+      let then = holds_all rest later (done one at) more.holds (subst (λ (os : List Occurrence). AllMayFail settings os (done one at) rest) (sym (unmarked_more past last)) all.1) in
       record {
         all = then.all;
         same = then.same ∙ ap (λ (os : List Occurrence). os ++ rest) (unmarked_more past last) ∙ append_assoc (unmarked past) (one ∷ []) rest;
@@ -324,7 +324,7 @@ module _ (settings : Settings) (before : List Object) where
             ∙ sym (given_by-more (clear.objects_with settings) past one);
       }
 
-  pub clear_all : (occurrences past : List Occurrence) (at : Reacted) → Clear past at → AllMayCome AllGranted (IsHeard settings) settings past at occurrences → Clear (past ++ occurrences) (all_done occurrences at)
+  pub clear_all : (occurrences past : List Occurrence) (at : Reacted) → Clear past at → AllMayCome settings past at occurrences → Clear (past ++ occurrences) (all_done occurrences at)
   clear_all [] past at c all = subst (λ (os : List Occurrence). Clear os at) (sym (append-nil past)) c
   clear_all (one ∷ rest) past at c all =
       subst (λ (os : List Occurrence). Clear os (all_done rest (done one at))) (append_assoc past (one ∷ []) rest) (clear_all rest (past ++ one ∷ []) (done one at) (clear_more past one at c all.0) all.1)
@@ -349,7 +349,7 @@ gains-all_but_faults settings before occurrences all =
 -- ---- credits
 
 -- the multiplexer refused nothing to the end
-still_orderly : (settings : Settings) (occurrences : List Occurrence) (past : List Occurrence) (at : Reacted) → IsOrderly at.server.mux.closed → AllMayCome NoneShort (IsTaken settings) settings past at occurrences → IsOrderly (all_done occurrences at).server.mux.closed
+still_orderly : (settings : Settings) (occurrences : List Occurrence) (past : List Occurrence) (at : Reacted) → IsOrderly at.server.mux.closed → AllMayFail settings past at occurrences → IsOrderly (all_done occurrences at).server.mux.closed
 still_orderly settings [] past at orderly all = orderly
 still_orderly settings (one ∷ rest) past at orderly all = still_orderly settings rest (past ++ one ∷ []) (done one at) all.0.orderly all.1
 

@@ -19,7 +19,7 @@ use Rattle.push_laws.specs.Answers.{AnswersInTurn}
 use Rattle.push_laws.specs.Faults as with_faults
 use Rattle.push_laws.specs.Faults.{Marked, unmarked, failures, faults}
 use Rattle.push_laws.specs.Gains.{objects}
-use Rattle.push_laws.specs.Premises.{IsHeard, IsTaken, AllGranted, NoneShort, AllMayCome}
+use Rattle.push_laws.specs.Premises.{AllMayCome, AllMayFail}
 
 -- the objects that an inbox stored, where it tells them
 abbrev pub stored_in : Option Contents → Option (List Object)
@@ -32,7 +32,7 @@ new_over settings before = begun settings (Some (record { stored = before; pendi
 -- From a new server on the inbox gains exactly the objects that the heard packets spell, in the order of their last packets:
 -- where no call of the inbox fails, no request is ignored, and at most one transport has an object under way.
 abbrev pub GainsWhatIsHeard : Type 0
-GainsWhatIsHeard = (settings : Settings) (before : List Object) (occurrences : List Occurrence) → AllMayCome AllGranted (IsHeard settings) settings [] (new_over settings before) occurrences
+GainsWhatIsHeard = (settings : Settings) (before : List Object) (occurrences : List Occurrence) → AllMayCome settings [] (new_over settings before) occurrences
     → stored_in (all_done occurrences (new_over settings before)).gift.content ≡ Some (before ++ objects settings occurrences)
 
 -- Where calls of the inbox fail, it gains what the packets spell if those at which one failed count as refused: no more of
@@ -44,7 +44,7 @@ pub record GainsBut (settings : Settings) (before : List Object) (occurrences : 
   pub gains : stored_in (all_done occurrences (new_over settings before)).gift.content ≡ Some (before ++ with_faults.objects settings marked)
 
 abbrev pub GainsAllButFaults : Type 0
-GainsAllButFaults = (settings : Settings) (before : List Object) (occurrences : List Occurrence) → AllMayCome NoneShort (IsTaken settings) settings [] (new_over settings before) occurrences → GainsBut settings before occurrences
+GainsAllButFaults = (settings : Settings) (before : List Object) (occurrences : List Occurrence) → AllMayFail settings [] (new_over settings before) occurrences → GainsBut settings before occurrences
 
 -- ---- credits
 
@@ -61,7 +61,7 @@ pub record HoldsCredits (occurrences : List Occurrence) (server : Server) : Type
   pub exact : server.mux.closed ≡ None → spare ≡ paid_for server.frame
 
 abbrev pub CreditsAreRead : Type 0
-CreditsAreRead = (settings : Settings) (before : List Object) (occurrences : List Occurrence) → AllMayCome NoneShort (IsTaken settings) settings [] (new_over settings before) occurrences
+CreditsAreRead = (settings : Settings) (before : List Object) (occurrences : List Occurrence) → AllMayFail settings [] (new_over settings before) occurrences
     → HoldsCredits occurrences (all_done occurrences (new_over settings before)).server
 
 -- ---- responses
@@ -69,7 +69,7 @@ CreditsAreRead = (settings : Settings) (before : List Object) (occurrences : Lis
 -- Over L2CAP the requests are answered in their order, each once, and success is said to a PUT exactly where it stores an
 -- object: where no call of the inbox fails and no request is ignored.
 abbrev pub AnswersComeInTurn : Type 0
-AnswersComeInTurn = (settings : Settings) (before : List Object) (occurrences : List Occurrence) → AllMayCome AllGranted (IsHeard settings) settings [] (new_over settings before) occurrences
+AnswersComeInTurn = (settings : Settings) (before : List Object) (occurrences : List Occurrence) → AllMayCome settings [] (new_over settings before) occurrences
     → AnswersInTurn settings occurrences (all_done occurrences (new_over settings before)).server
 
 -- ---- what is lent
@@ -85,4 +85,4 @@ LendsFewOctets = (settings : Settings) (content : Option Contents) (occurrences 
 abbrev pub OnePacketIsHeard : Type 0
 OnePacketIsHeard = (settings : Settings) (before : List Object) (packet : List ℕ) →
     let occurrences = Came object_psm packet ∷ [] in
-    AllMayCome AllGranted (IsHeard settings) settings [] (new_over settings before) occurrences × (objects settings occurrences ≡ spelled_within (own_maximum L2cap settings) (packet ∷ []))
+    AllMayCome settings [] (new_over settings before) occurrences × (objects settings occurrences ≡ spelled_within (own_maximum L2cap settings) (packet ∷ []))

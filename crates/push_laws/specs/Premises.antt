@@ -97,7 +97,15 @@ pub record MayCome (Are : List Answer → Type 0) (Comes : Transport → List �
   -- the multiplexer refuses nothing
   pub orderly : IsOrderly (done one at).server.mux.closed
 
-abbrev pub AllMayCome : (List Answer → Type 0) → (List Occurrence → Service → Transport → List ℕ → Type 0) → Settings → List Occurrence → Reacted → List Occurrence → Type 0
-AllMayCome Are Comes settings past at [] = Unit {0}
-AllMayCome Are Comes settings past at (one ∷ rest) =
-    MayCome Are (Comes past at.server.listener.service) settings past at one × AllMayCome Are Comes settings (past ++ one ∷ []) (done one at) rest
+abbrev pub AllCome : (List Answer → Type 0) → (List Occurrence → Service → Transport → List ℕ → Type 0) → Settings → List Occurrence → Reacted → List Occurrence → Type 0
+AllCome Are Comes settings past at [] = Unit {0}
+AllCome Are Comes settings past at (one ∷ rest) =
+    MayCome Are (Comes past at.server.listener.service) settings past at one × AllCome Are Comes settings (past ++ one ∷ []) (done one at) rest
+
+-- all of them may, over an inbox that grants all calls
+abbrev pub AllMayCome : Settings → List Occurrence → Reacted → List Occurrence → Type 0
+AllMayCome settings past at occurrences = AllCome AllGranted (IsHeard settings) settings past at occurrences
+
+-- or over one whose calls may fail, but not for want of memory
+abbrev pub AllMayFail : Settings → List Occurrence → Reacted → List Occurrence → Type 0
+AllMayFail settings past at occurrences = AllCome NoneShort (IsTaken settings) settings past at occurrences
