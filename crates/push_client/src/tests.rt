@@ -80,29 +80,47 @@ const CLOSE_USER: [u8; 4] = [0x4B, 0x53, 0x01, 0xD3];
 
 const CLOSE_CONTROL: [u8; 4] = [0x03, 0x53, 0x01, 0xFD];
 
-/// What is told, the step that follows it, and the octets of its SDU.
-type Row<'a> = (Option<ProfileEvent<'a>>, Step, &'a [u8]);
+/// What is told of the channel of a row, or of the link.
+#[derive(Clone, Copy)]
+enum Told<'a> {
+    Nothing,
+    Up,
+    Down(u8),
+    Open(u16),
+    Closed,
+    Heard(&'a [u8]),
+    Features,
+}
 
-/// Whether a step follows what is told, with this SDU. It is done then.
-fn follows(client: &mut PushClient, shelf: &mut MemShelf, row: &Row<'_>) -> bool {
-    let (told, wanted, octets) = *row;
-    if let Some(event) = told {
-        client.on(event);
+/// The PSM of a channel, what is told, the step that follows it, and the octets of its SDU.
+type Row<'a> = (Psm, Told<'a>, Step, &'a [u8]);
+
+fn tell(client: &mut PushClient, psm: Psm, told: &Told<'_>) {
+    match told {
+        Told::Nothing => {}
+        Told::Up => client.on(ProfileEvent::LinkUp),
+        Told::Down(reason) => client.on(ProfileEvent::LinkDown(*reason)),
+        Told::Open(mtu) => client.on(ProfileEvent::ChannelOpen(psm, *mtu)),
+        Told::Closed => client.on(ProfileEvent::ChannelClosed(psm, CloseCause::Own)),
+        Told::Heard(sdu) => client.on(ProfileEvent::Sdu(psm, sdu)),
+        Told::Features => client.on(ProfileEvent::Features(Some(0xA8))),
     }
+}
+
+/// Whether this step is next, with this SDU. It is done then.
+fn steps(client: &mut PushClient, shelf: &mut MemShelf, wanted: Step, octets: &[u8]) -> bool {
     let step = client.advance(shelf);
-    if !matches!(step, Step::SendSdu(_)) {
-        client.stepped();
-        return step == wanted && octets.is_empty();
-    }
-    let is_right = step == wanted && client.octets() == octets;
+    let has_sdu = matches!(step, Step::SendSdu(_));
+    let is_right = step == wanted && (!has_sdu || client.octets() == octets);
     client.stepped();
     is_right
 }
 
 /// How many rows are followed, up to the first that is not.
 fn rows_followed(client: &mut PushClient, shelf: &mut MemShelf, rows: &[Row<'_>]) -> usize {
-    for (i, row) in rows.iter().enumerate() {
-        if !follows(client, shelf, row) {
+    for (i, (psm, told, wanted, octets)) in rows.iter().enumerate() {
+        tell(client, *psm, told);
+        if !steps(client, shelf, *wanted, octets) {
             return i;
         }
     }
@@ -117,62 +135,57 @@ fn psm(rt: &impl Abort, number: u16) -> Psm {
 }
 
 /// The rows of a search, up to the end of its channel.
-fn searches<'a>(records: Psm, reply: &'a [u8]) -> [Row<'a>; 5] {
+fn searches<'a>(records: Psm) -> [Row<'a>; 5] {
     [
-        (None, Step::MakeLink, &[]),
-        (Some(ProfileEvent::LinkUp), Step::OpenChannel(records), &[]),
+        (records, Told::Nothing, Step::MakeLink, &[]),
+        (records, Told::Up, Step::OpenChannel(records), &[]),
+        (records, Told::Open(672), Step::SendSdu(records), &SEARCH),
         (
-            Some(ProfileEvent::ChannelOpen(records, 672)),
-            Step::SendSdu(records),
-            &SEARCH,
-        ),
-        (
-            Some(ProfileEvent::Sdu(records, reply)),
+            records,
+            Told::Heard(&REPLY),
             Step::CloseChannel(records),
             &[],
         ),
-        (None, Step::Wait, &[]),
+        (records, Told::Nothing, Step::Wait, &[]),
     ]
 }
 
 /// The rows that end a push with its channel and its link.
 fn ends<'a>(channel: Psm, outcome: Outcome) -> [Row<'a>; 3] {
-    let closed = ProfileEvent::ChannelClosed(channel, CloseCause::Own);
     [
-        (Some(closed), Step::BreakLink, &[]),
-        (
-            Some(ProfileEvent::LinkDown(0x16)),
-            Step::Ended(outcome),
-            &[],
-        ),
-        (None, Step::Wait, &[]),
+        (channel, Told::Closed, Step::BreakLink, &[]),
+        (channel, Told::Down(0x16), Step::Ended(outcome), &[]),
+        (channel, Told::Nothing, Step::Wait, &[]),
     ]
 }
 
-/// The rows of a push over L2CAP, from the end of the search to that of the channel of the object.
-fn puts<'a>(records: Psm, objects: Psm) -> [Row<'a>; 6] {
-    let closed = ProfileEvent::ChannelClosed(records, CloseCause::Own);
-    let open = ProfileEvent::ChannelOpen(objects, 1024);
+/// The rows from the end of a search over L2CAP to CONNECT.
+fn connects<'a>(records: Psm, objects: Psm) -> [Row<'a>; 3] {
     [
-        (Some(closed), Step::AskFeatures, &[]),
+        (records, Told::Closed, Step::AskFeatures, &[]),
+        (objects, Told::Features, Step::OpenChannel(objects), &[]),
+        (objects, Told::Open(1024), Step::SendSdu(objects), &CONNECT),
+    ]
+}
+
+/// The rows from there to the end of the channel.
+fn puts<'a>(objects: Psm) -> [Row<'a>; 3] {
+    [
         (
-            Some(ProfileEvent::Features(Some(0xA8))),
-            Step::OpenChannel(objects),
-            &[],
-        ),
-        (Some(open), Step::SendSdu(objects), &CONNECT),
-        (
-            Some(ProfileEvent::Sdu(objects, &CONNECTED)),
+            objects,
+            Told::Heard(&CONNECTED),
             Step::SendSdu(objects),
             &PUT_HI,
         ),
         (
-            Some(ProfileEvent::Sdu(objects, &SUCCESS)),
+            objects,
+            Told::Heard(&SUCCESS),
             Step::SendSdu(objects),
             &DISCONNECT,
         ),
         (
-            Some(ProfileEvent::Sdu(objects, &SUCCESS)),
+            objects,
+            Told::Heard(&SUCCESS),
             Step::CloseChannel(objects),
             &[],
         ),
@@ -181,33 +194,36 @@ fn puts<'a>(records: Psm, objects: Psm) -> [Row<'a>; 6] {
 
 /// The rows in which the multiplexer is opened.
 fn opens<'a>(records: Psm, frames: Psm) -> [Row<'a>; 7] {
-    let closed = ProfileEvent::ChannelClosed(records, CloseCause::Own);
-    let open = ProfileEvent::ChannelOpen(frames, 133);
     [
-        (Some(closed), Step::OpenChannel(frames), &[]),
-        (Some(open), Step::SendSdu(frames), &OPEN_CONTROL),
+        (records, Told::Closed, Step::OpenChannel(frames), &[]),
         (
-            Some(ProfileEvent::Sdu(frames, &CONTROL_DONE)),
+            frames,
+            Told::Open(133),
+            Step::SendSdu(frames),
+            &OPEN_CONTROL,
+        ),
+        (
+            frames,
+            Told::Heard(&CONTROL_DONE),
             Step::SendSdu(frames),
             &OFFER,
         ),
         (
-            Some(ProfileEvent::Sdu(frames, &ACCEPTANCE)),
+            frames,
+            Told::Heard(&ACCEPTANCE),
             Step::SendSdu(frames),
             &OPEN_USER,
         ),
         (
-            Some(ProfileEvent::Sdu(frames, &USER_DONE)),
+            frames,
+            Told::Heard(&USER_DONE),
             Step::SendSdu(frames),
             &OWN_STATUS,
         ),
+        (frames, Told::Heard(&STATUS_HEARD), Step::Wait, &[]),
         (
-            Some(ProfileEvent::Sdu(frames, &STATUS_HEARD)),
-            Step::Wait,
-            &[],
-        ),
-        (
-            Some(ProfileEvent::Sdu(frames, &PEER_STATUS)),
+            frames,
+            Told::Heard(&PEER_STATUS),
             Step::SendSdu(frames),
             &HEARD_STATUS,
         ),
@@ -217,29 +233,34 @@ fn opens<'a>(records: Psm, frames: Psm) -> [Row<'a>; 7] {
 /// The rows in which the object goes through it, and it is closed.
 fn puts_through<'a>(frames: Psm) -> [Row<'a>; 6] {
     [
-        (None, Step::SendSdu(frames), &CONNECT_FRAME),
+        (frames, Told::Nothing, Step::SendSdu(frames), &CONNECT_FRAME),
         (
-            Some(ProfileEvent::Sdu(frames, &CONNECTED_FRAME)),
+            frames,
+            Told::Heard(&CONNECTED_FRAME),
             Step::SendSdu(frames),
             &PUT_FRAME,
         ),
         (
-            Some(ProfileEvent::Sdu(frames, &SUCCESS_FRAME)),
+            frames,
+            Told::Heard(&SUCCESS_FRAME),
             Step::SendSdu(frames),
             &DISCONNECT_FRAME,
         ),
         (
-            Some(ProfileEvent::Sdu(frames, &SUCCESS_FRAME)),
+            frames,
+            Told::Heard(&SUCCESS_FRAME),
             Step::SendSdu(frames),
             &CLOSE_USER,
         ),
         (
-            Some(ProfileEvent::Sdu(frames, &USER_DONE)),
+            frames,
+            Told::Heard(&USER_DONE),
             Step::SendSdu(frames),
             &CLOSE_CONTROL,
         ),
         (
-            Some(ProfileEvent::Sdu(frames, &CONTROL_DONE)),
+            frames,
+            Told::Heard(&CONTROL_DONE),
             Step::CloseChannel(frames),
             &[],
         ),
@@ -254,15 +275,16 @@ fn an_object_is_pushed_over_l2cap(rt: HostRuntime) -> Result<(), Fail> {
     let mut client = PushClient::new(rt.alloc(), &Settings::plain())?;
     for _ in 0..2 {
         client.begin("a", &mut shelf)?;
-        assert!(rt; client.may_cancel());
         assert_eq!(rt;
-            rows_followed(&mut client, &mut shelf, &searches(records, &REPLY)),
+            rows_followed(&mut client, &mut shelf, &searches(records)),
             5
         );
         assert_eq!(rt;
-            rows_followed(&mut client, &mut shelf, &puts(records, objects)),
-            6
+            rows_followed(&mut client, &mut shelf, &connects(records, objects)),
+            3
         );
+        assert!(rt; client.may_cancel());
+        assert_eq!(rt; rows_followed(&mut client, &mut shelf, &puts(objects)), 3);
         assert_eq!(rt;
             rows_followed(&mut client, &mut shelf, &ends(objects, Outcome::Done)),
             3
@@ -282,7 +304,7 @@ fn an_object_is_pushed_over_rfcomm(rt: HostRuntime) -> Result<(), Fail> {
     let mut client = PushClient::new(rt.alloc(), &settings)?;
     client.begin("a", &mut shelf)?;
     assert_eq!(rt;
-        rows_followed(&mut client, &mut shelf, &searches(records, &REPLY)),
+        rows_followed(&mut client, &mut shelf, &searches(records)),
         5
     );
     assert_eq!(rt;
@@ -300,57 +322,51 @@ fn an_object_is_pushed_over_rfcomm(rt: HostRuntime) -> Result<(), Fail> {
     Ok(())
 }
 
-/// What comes of a push whose channel of the object is open, where this is told then.
-fn outcome_of(
-    rt: &impl Abort,
+/// A push whose CONNECT was sent, where this is told then, has this outcome.
+fn has_outcome(
     client: &mut PushClient,
     shelf: &mut MemShelf,
-    told: ProfileEvent<'_>,
-) -> Option<Outcome> {
-    let (records, objects) = (psm(rt, 0x0001), psm(rt, 0x1001));
-    assert_eq!(rt; rows_followed(client, shelf, &searches(records, &REPLY)), 5);
-    assert_eq!(rt;
-        rows_followed(client, shelf, &puts(records, objects)[..3]),
-        3
-    );
-    client.on(told);
-    let outcome = client.outcome();
+    objects: Psm,
+    told: &Told<'_>,
+    outcome: Outcome,
+) -> bool {
+    tell(client, objects, told);
+    let is_right = client.outcome() == Some(outcome);
     client.on(ProfileEvent::LinkDown(0x13));
-    let _ended = client.advance(shelf);
-    outcome
+    is_right && steps(client, shelf, Step::Ended(outcome), &[])
 }
 
 #[test]
 fn the_first_cause_is_told(rt: HostRuntime) -> Result<(), Fail> {
-    let mut shelf = MemShelf::new(rt.alloc(), &[5])?;
+    let mut shelf = MemShelf::new(rt.alloc(), &[4])?;
     shelf.add("a", b"hi")?;
-    let objects = psm(&rt, 0x1001);
+    let (records, objects) = (psm(&rt, 0x0001), psm(&rt, 0x1001));
     let mut client = PushClient::new(rt.alloc(), &Settings::plain())?;
     let rows = [
-        (
-            ProfileEvent::Sdu(objects, &NOT_CONNECTED),
-            Outcome::Refused(0xD0),
-        ),
-        (
-            ProfileEvent::Sdu(objects, &SUCCESS),
-            Outcome::PeerFault(5, 1),
-        ),
-        (
-            ProfileEvent::ChannelClosed(objects, CloseCause::Peer),
-            Outcome::PeerClosed,
-        ),
-        (ProfileEvent::LinkDown(0x08), Outcome::LinkLost),
+        (Told::Heard(&NOT_CONNECTED), Outcome::Refused(0xD0)),
+        (Told::Heard(&SUCCESS), Outcome::PeerFault(5, 1)),
+        (Told::Down(0x08), Outcome::LinkLost),
     ];
-    for (told, outcome) in rows {
+    for (told, outcome) in rows.iter() {
         client.begin("a", &mut shelf)?;
         assert_eq!(rt;
-            outcome_of(&rt, &mut client, &mut shelf, told),
-            Some(outcome)
+            rows_followed(&mut client, &mut shelf, &searches(records)),
+            5
         );
-        assert!(rt; client.idle());
+        assert_eq!(rt;
+            rows_followed(&mut client, &mut shelf, &connects(records, objects)),
+            3
+        );
+        assert!(rt; has_outcome(&mut client, &mut shelf, objects, told, *outcome));
     }
     client.begin("a", &mut shelf)?;
-    let ended: [Row<'_>; 1] = [(None, Step::Ended(Outcome::ShelfFault), &[])];
-    assert_eq!(rt; rows_followed(&mut client, &mut shelf, &ended), 1);
+    assert!(rt;
+        steps(
+            &mut client,
+            &mut shelf,
+            Step::Ended(Outcome::ShelfFault),
+            &[]
+        )
+    );
     Ok(())
 }
