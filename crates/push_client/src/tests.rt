@@ -1,5 +1,5 @@
 use super::*;
-use bt_base::{MemShelf, Psm, Settings, Transport};
+use bt_base::{MemShelf, NoMemory, Psm, Settings, Transport};
 use std::process::Abort;
 use std::test::Fail;
 
@@ -105,6 +105,11 @@ fn tell(client: &mut PushClient, psm: Psm, told: &Told<'_>) {
         Told::Heard(sdu) => client.on(ProfileEvent::Sdu(psm, sdu)),
         Told::Features => client.on(ProfileEvent::Features(Some(0xA8))),
     }
+}
+
+/// The push of the object `a` begins.
+fn begins(client: &mut PushClient, shelf: &mut MemShelf) -> Result<(), NoMemory> {
+    client.begin("a", shelf)
 }
 
 /// Whether this step is next, with this SDU. It is done then.
@@ -274,7 +279,7 @@ fn an_object_is_pushed_over_l2cap(rt: HostRuntime) -> Result<(), Fail> {
     let (records, objects) = (psm(&rt, 0x0001), psm(&rt, 0x1001));
     let mut client = PushClient::new(rt.alloc(), &Settings::plain())?;
     for _ in 0..2 {
-        client.begin("a", &mut shelf)?;
+        begins(&mut client, &mut shelf)?;
         assert_eq!(rt;
             rows_followed(&mut client, &mut shelf, &searches(records)),
             5
@@ -302,7 +307,7 @@ fn an_object_is_pushed_over_rfcomm(rt: HostRuntime) -> Result<(), Fail> {
     let mut settings = Settings::plain();
     settings.transport = Transport::Rfcomm;
     let mut client = PushClient::new(rt.alloc(), &settings)?;
-    client.begin("a", &mut shelf)?;
+    begins(&mut client, &mut shelf)?;
     assert_eq!(rt;
         rows_followed(&mut client, &mut shelf, &searches(records)),
         5
@@ -332,7 +337,7 @@ fn has_outcome(
 ) -> bool {
     tell(client, objects, told);
     let is_right = client.outcome() == Some(outcome);
-    client.on(ProfileEvent::LinkDown(0x13));
+    tell(client, objects, &Told::Down(0x13));
     is_right && steps(client, shelf, Step::Ended(outcome), &[])
 }
 
@@ -348,7 +353,7 @@ fn the_first_cause_is_told(rt: HostRuntime) -> Result<(), Fail> {
         (Told::Down(0x08), Outcome::LinkLost),
     ];
     for (told, outcome) in rows.iter() {
-        client.begin("a", &mut shelf)?;
+        begins(&mut client, &mut shelf)?;
         assert_eq!(rt;
             rows_followed(&mut client, &mut shelf, &searches(records)),
             5
@@ -359,7 +364,7 @@ fn the_first_cause_is_told(rt: HostRuntime) -> Result<(), Fail> {
         );
         assert!(rt; has_outcome(&mut client, &mut shelf, objects, told, *outcome));
     }
-    client.begin("a", &mut shelf)?;
+    begins(&mut client, &mut shelf)?;
     assert!(rt;
         steps(
             &mut client,

@@ -90,7 +90,7 @@ front_keeps more keeps stream (Whole packet rest) client =
 front_keeps more keeps stream Partial client = λ first e. e
 front_keeps more keeps stream (Broken refusal) client = ends_keeps (cause_of_obex refusal) (record client { held = [] })
 
-stream_keeps : (count : ℕ) (stream : List ℕ) (client : Client) → Keeps client (hears_stream count stream client)
+pub stream_keeps : (count : ℕ) (stream : List ℕ) (client : Client) → Keeps client (hears_stream count stream client)
 unfolding hears_stream
 stream_keeps zero stream client = λ first e. e
 stream_keeps (suc count) stream client = front_keeps (λ rest next. hears_stream count rest next) (λ rest next. stream_keeps count rest next) stream (front_of client.session.maximum stream) client
