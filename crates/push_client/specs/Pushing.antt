@@ -73,6 +73,18 @@ step_of payload BreakLink = steps.BreakLink
 step_of payload (Ended outcome) = steps.Ended outcome
 step_of payload NoMemory = steps.NoMemory
 
+-- the shelf found no memory
+abbrev pub wants_memory : Step → Bool
+wants_memory Wait = false
+wants_memory MakeLink = false
+wants_memory AskFeatures = false
+wants_memory (OpenChannel psm) = false
+wants_memory (SendSdu psm) = false
+wants_memory (CloseChannel psm) = false
+wants_memory BreakLink = false
+wants_memory (Ended outcome) = false
+wants_memory NoMemory = true
+
 abbrev pub gone : Client → Step → List Part → Stepped
 gone client step parts = record { client = client; step = step_of (payload_in client) step; left = parts }
 

@@ -9,7 +9,7 @@ ghost use Rattle.push_model.specs.Events.{hears_news, armed};
 ghost use Rattle.push_model.specs.Payloads.{IsSaid};
 ghost use Rattle.push_model.specs.Steps.{steps, stepped, is_muxed};
 ghost use Rattle.push_client.specs.Putting.{Comes};
-ghost use Rattle.push_client.specs.Pushing.{Begins, fails_now, gone, payload_in};
+ghost use Rattle.push_client.specs.Pushing.{Begins, fails_now, gone, payload_in, wants_memory};
 ghost use Rattle.push_client.specs.Telling.{news_of};
 
 mod beginning;
@@ -161,6 +161,7 @@ impl PushClient {
     /// not have.
     pub fn advance<F: Shelf>(&mut self, shelf: &mut F) -> Step
         ensures comes { Comes (steps self.old) (gone self.new result) self.old (F.content shelf.old) (F.faults shelf.old) (F.faults shelf.new) (F.shortages shelf.old) (F.shortages shelf.new) (fails_now self.old self.new) }
+        ensures fails { wants_memory result ≡ self.new.failed }
         ensures content { F.content shelf.new ≡ F.content shelf.old }
         ensures absence { Reaches self.old.size self.old.name (F.content shelf.old) → F.absences shelf.new ≡ F.absences shelf.old }
     {

@@ -6,7 +6,7 @@ ghost use Rattle.push_model.specs.Causes.{cause_of_close};
 ghost use Rattle.push_model.specs.Responding.{hears_frame, hears_up, hears_end, is_left};
 ghost use Rattle.rfcomm_model.specs.Hearing.{up, hears};
 
-use super::{LONGEST_PACKET, PushClient, SEARCH_PSM};
+use super::{FRAME_SIZE, LONGEST_PACKET, PushClient, SEARCH_PSM};
 use crate::causes::{of_close, of_mux, small_channel, unawaited_response};
 use bt_base::{Psm, Transport};
 use push_model::{CloseCause, Contact, Point, Stage};
@@ -17,9 +17,6 @@ const LEAST_LIMIT: u16 = 255;
 
 /// The least frame size of a multiplexer (RFCOMM 1.2, 5.3).
 const LEAST_FRAME: u16 = 23;
-
-/// How many octets a frame of the multiplexer has around its information at most.
-const FRAME_SIZE: u16 = 6;
 
 /// The largest own frame of a multiplexer over a channel that takes so many octets at a time.
 fn own_frame(largest: u16, mtu: u16) -> u16

@@ -81,7 +81,7 @@ impl PushClient {
         self.given = false;
     }
 
-    /// The peer told its features, or that it does not tell them.
+    /// The peer told its features, whichever they are, or that it does not tell them.
     pub(super) fn features_told(&mut self, _features: Option<u32>)
         ensures { self.new ≡ hears_news FeaturesTold self.old }
     {

@@ -1,11 +1,11 @@
 //! A client searches for the way to its server.
 
-ghost use Rattle.std.specs.Prelude.{◌≡◌, List};
+ghost use Rattle.std.specs.Prelude.{◌≡◌, false, List};
 ghost use Rattle.sdp_elements.specs.Targets.{is_service_psm, is_server_channel, kept};
 ghost use Rattle.push_model.specs.Events.{kept_of, found_psm, found_channel, found_way, finds, hears_reply, fires};
 ghost use Rattle.push_model.specs.Steps.{Part, steps_search};
 ghost use Rattle.push_model.specs.declared.course.Stage.TheVariants.{Search};
-ghost use Rattle.push_client.specs.Pushing.{gone};
+ghost use Rattle.push_client.specs.Pushing.{gone, wants_memory};
 
 use super::{PushClient, RFCOMM_PSM, SEARCH_PSM, psm_of};
 use crate::causes::of_query;
@@ -42,6 +42,7 @@ impl PushClient {
     pub(super) fn search(&mut self) -> Step
         requires { self.old.stage ≡ Search }
         ensures failed { self.new.failed ≡ self.old.failed }
+        ensures works { wants_memory result ≡ false }
         ensures steps { (parts : List Part) → steps_search self.old parts ≡ gone self.new result parts }
     {
         if !self.query.is_due() {

@@ -8,7 +8,7 @@ ghost use Rattle.push_model.specs.Responding.{is_object};
 ghost use Rattle.push_model.specs.Steps.{Part, filled, next_ask, says, takes_some, asks_through, steps_direct, steps_muxed, steps_at, tells_end};
 ghost use Rattle.push_model.specs.declared.course.Stage.TheVariants.{Object};
 ghost use Rattle.push_client.specs.Putting.{Comes};
-ghost use Rattle.push_client.specs.Pushing.{gone, said_next, given_at, left};
+ghost use Rattle.push_client.specs.Pushing.{gone, said_next, given_at, left, wants_memory};
 ghost use Rattle.push_client.specs.Requesting.{ask_of, sent_direct, sent_through, Stays, PutsAlike};
 
 use super::{PushClient, RFCOMM_PSM, SEARCH_PSM, psm_of};
@@ -23,6 +23,7 @@ impl PushClient {
     pub(super) fn go_on<F: Shelf>(&mut self, shelf: &mut F) -> Step
         requires works { self.old.failed ≡ false }
         ensures comes { Comes (steps_at self.old.stage self.old) (gone self.new result) self.old (F.content shelf.old) (F.faults shelf.old) (F.faults shelf.new) (F.shortages shelf.old) (F.shortages shelf.new) self.new.failed }
+        ensures fails { wants_memory result ≡ self.new.failed }
         ensures content { F.content shelf.new ≡ F.content shelf.old }
         ensures absence { Reaches self.old.size self.old.name (F.content shelf.old) → F.absences shelf.new ≡ F.absences shelf.old }
     {
@@ -40,6 +41,7 @@ impl PushClient {
         requires { is_object self.old.stage ≡ false }
         ensures steps { (parts : List Part) → steps_at self.old.stage self.old parts ≡ gone self.new result parts }
         ensures failed { self.new.failed ≡ self.old.failed }
+        ensures works { wants_memory result ≡ false }
     {
         match self.stage() {
             Stage::Link(Point::Due) => self.give(Step::MakeLink, Stage::Link(Point::Asked)),
@@ -85,6 +87,7 @@ impl PushClient {
     /// Tells the end of a push that is over.
     fn tell_end(&mut self) -> Step
         ensures failed { self.new.failed ≡ self.old.failed }
+        ensures works { wants_memory result ≡ false }
         ensures steps { (parts : List Part) → tells_end self.old.cause self.old parts ≡ gone self.new result parts }
     {
         let Some(outcome) = self.reception.dialog.course.cause else {
@@ -100,6 +103,7 @@ impl PushClient {
         requires stage { self.old.stage ≡ Object }
         requires transport { self.old.transport ≡ transports.L2cap }
         ensures comes { Comes (steps_direct self.old) (gone self.new result) self.old (F.content shelf.old) (F.faults shelf.old) (F.faults shelf.new) (F.shortages shelf.old) (F.shortages shelf.new) self.new.failed }
+        ensures fails { wants_memory result ≡ self.new.failed }
         ensures content { F.content shelf.new ≡ F.content shelf.old }
         ensures absence { Reaches self.old.size self.old.name (F.content shelf.old) → F.absences shelf.new ≡ F.absences shelf.old }
     {
@@ -123,6 +127,7 @@ impl PushClient {
         requires stage { self.old.stage ≡ Object }
         requires transport { self.old.transport ≡ transports.L2cap }
         ensures comes { Comes (sent_direct (ask_of ask) self.old) (gone self.new result) self.old (F.content shelf.old) (F.faults shelf.old) (F.faults shelf.new) (F.shortages shelf.old) (F.shortages shelf.new) self.new.failed }
+        ensures fails { wants_memory result ≡ self.new.failed }
         ensures content { F.content shelf.new ≡ F.content shelf.old }
         ensures absence { Reaches self.old.size self.old.name (F.content shelf.old) → F.absences shelf.new ≡ F.absences shelf.old }
     {
@@ -140,6 +145,7 @@ impl PushClient {
         requires stage { self.old.stage ≡ Object }
         requires transport { self.old.transport ≡ transports.Rfcomm }
         ensures comes { Comes (steps_muxed self.old) (gone self.new result) self.old (F.content shelf.old) (F.faults shelf.old) (F.faults shelf.new) (F.shortages shelf.old) (F.shortages shelf.new) self.new.failed }
+        ensures fails { wants_memory result ≡ self.new.failed }
         ensures content { F.content shelf.new ≡ F.content shelf.old }
         ensures absence { Reaches self.old.size self.old.name (F.content shelf.old) → F.absences shelf.new ≡ F.absences shelf.old }
     {
@@ -163,6 +169,7 @@ impl PushClient {
         requires transport { self.old.transport ≡ transports.Rfcomm }
         ensures steps { (parts : List Part) → says (left self.old) parts ≡ gone self.new result parts }
         ensures failed { self.new.failed ≡ self.old.failed }
+        ensures works { wants_memory result ≡ false }
     {
         self.mux.close();
         self.reception.dialog.contact = Contact::Closing;
@@ -177,6 +184,7 @@ impl PushClient {
         requires stage { self.old.stage ≡ Object }
         requires transport { self.old.transport ≡ transports.Rfcomm }
         ensures comes { Comes (asks_through (ask_of ask) self.old) (gone self.new result) self.old (F.content shelf.old) (F.faults shelf.old) (F.faults shelf.new) (F.shortages shelf.old) (F.shortages shelf.new) self.new.failed }
+        ensures fails { wants_memory result ≡ self.new.failed }
         ensures content { F.content shelf.new ≡ F.content shelf.old }
         ensures absence { Reaches self.old.size self.old.name (F.content shelf.old) → F.absences shelf.new ≡ F.absences shelf.old }
     {
@@ -196,6 +204,7 @@ impl PushClient {
         requires stage { self.old.stage ≡ Object }
         requires transport { self.old.transport ≡ transports.Rfcomm }
         ensures comes { Comes (sent_through (ask_of ask) self.old) (gone self.new result) self.old (F.content shelf.old) (F.faults shelf.old) (F.faults shelf.new) (F.shortages shelf.old) (F.shortages shelf.new) self.new.failed }
+        ensures fails { wants_memory result ≡ self.new.failed }
         ensures content { F.content shelf.new ≡ F.content shelf.old }
         ensures absence { Reaches self.old.size self.old.name (F.content shelf.old) → F.absences shelf.new ≡ F.absences shelf.old }
     {
@@ -219,6 +228,7 @@ impl PushClient {
         requires transport { self.old.transport ≡ transports.Rfcomm }
         ensures steps { (parts : List Part) → says self.old parts ≡ gone self.new result parts }
         ensures failed { self.new.failed ≡ self.old.failed }
+        ensures works { wants_memory result ≡ false }
     {
         self.say();
         if !self.frame.is_there() {

@@ -75,6 +75,7 @@ returns-in_default g c =
     let alike = c.say.ensures.alike in
     record {
       comes = comes_alike _ _ _ old now _ _ _ _ _ _ alike (λ parts. quiet_asks_on old now (ask_of c.next_ask.result) parts c.say.ensures.client none free asks closes rests) c.ask_through.ensures.comes;
+      fails = c.ask_through.ensures.fails;
       content = c.ask_through.ensures.content;
       absence = λ reaches. c.ask_through.ensures.absence (reaches_alike old now _ alike reaches);
     }
