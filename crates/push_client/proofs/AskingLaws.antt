@@ -1,5 +1,5 @@
 -- The next PUT of an object, and what the shelf answered for it.
-use Rattle.std.proofs.Common.{◌≡◌, ◌<◌, ℕ, zero, suc, ◌==◌, Bool, true, false, List, [], ◌∷◌, ◌++◌, length, Option, Some, None, Result, Ok, Err, refl, sym, ap, subst, ◌∙◌, if◌then◌else◌, arith}
+use Rattle.std.proofs.Common.{◌≡◌, ◌<◌, ℕ, zero, suc, ◌==◌, Bool, true, false, List, [], ◌∷◌, ◌++◌, length, Option, Result, Ok, Err, refl, sym, ap, ◌∙◌, if◌then◌else◌, arith}
 use Rattle.std.proofs.lemmas.List.{nil_from_length}
 use Rattle.bt_base.specs.Counts.{HasCause}
 use Rattle.bt_base.specs.Objects.{Object}
@@ -8,7 +8,7 @@ use Rattle.bt_base.specs.declared.ports.PortFault.TheVariants as fault
 use Rattle.obex_session.specs.Asking.{Asking}
 use Rattle.obex_session.specs.NextPut.{after_put}
 use Rattle.push_model.specs.Client.{Client}
-use Rattle.push_model.specs.Steps.{Part, Made, put_count, is_last_put, put_octets, puts_part, puts_from, puts}
+use Rattle.push_model.specs.Steps.{Part, put_count, is_last_put, put_octets, puts_part, puts_from, puts}
 use Rattle.push_client.specs.Putting.{IsPut, PutsOr, Comes}
 use Rattle.push_client.specs.Requesting.{made_by, is_shortage}
 

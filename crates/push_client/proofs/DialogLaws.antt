@@ -1,7 +1,7 @@
 -- What a response leaves of a session.
 use Rattle.std.proofs.Common.{◌≡◌, ℕ, ◌==◌, Bool, true, false, List, Option, Some, None, is_some, Result, Ok, Err, IfSome, refl, ap, ◌∙◌, if◌then◌else◌}
 use Rattle.obex_headers.specs.Reading.{packet_in}
-use Rattle.obex_session.specs.Asking.{Asking, phase_of, awaited_code, limit_by, single_by, after_by, after_read, after_answer}
+use Rattle.obex_session.specs.Asking.{Asking, phase_of, awaited_code, limit_by, single_by, after_read, after_answer}
 use Rattle.obex_session.specs.Marks.{marks_of}
 
 by_option : {R : Type 0} (o : Option R) (P : Option R → Type 0) → P None → ((r : R) → P (Some r)) → P o

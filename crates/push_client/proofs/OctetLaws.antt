@@ -1,5 +1,5 @@
 -- Octets that wait between two places of a room.
-use Rattle.std.proofs.Common.{◌≡◌, ◌≤◌, ◌-◌, ◌==◌, ℕ, Bool, List, [], ◌∷◌, length, take, drop, refl, sym, ap, ◌∙◌, arith, length-take-le}
+use Rattle.std.proofs.Common.{◌≡◌, ◌≤◌, ◌-◌, ◌==◌, ℕ, List, [], ◌∷◌, length, take, drop, refl, ap, ◌∙◌, arith, length-take-le}
 use Rattle.std.proofs.lemmas.List.{length-drop}
 use Rattle.rfcomm_frames.specs.FrameReading.{is_empty}
 

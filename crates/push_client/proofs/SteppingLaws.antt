@@ -1,5 +1,5 @@
 -- The steps of a client on the channel of the object.
-use Rattle.std.proofs.Common.{◌≡◌, ℕ, ◌&&◌, not, min, Bool, true, false, List, [], ◌∷◌, ◌++◌, length, drop, Option, Some, None, is_some, IfSome, Result, Ok, Err, refl, sym, ap, subst, ◌∙◌, if◌then◌else◌}
+use Rattle.std.proofs.Common.{◌≡◌, ℕ, ◌&&◌, not, min, Bool, true, false, List, [], ◌∷◌, ◌++◌, Option, Some, None, is_some, IfSome, Ok, Err, refl, sym, ap, subst, ◌∙◌, if◌then◌else◌}
 use Rattle.bt_base.specs.Objects.{Object, octets_of, HasAt}
 use Rattle.bt_base.specs.declared.no_memory.NoMemory.{NoMemory}
 use Rattle.bt_base.specs.declared.ports.PortFault.TheVariants as fault
@@ -15,8 +15,6 @@ use Rattle.push_model.specs.Payloads.{Payload, Octets}
 use Rattle.push_model.specs.Responding.{is_object}
 use Rattle.push_model.specs.Steps as steps
 use Rattle.push_model.specs.Steps.{Part, Ask, Made, Stepped, put_count, requests, sends_direct, sends_muxed, filled, says, said_by, goes_muxed, steps_muxed, asks_muxed, asks_through, may_ask, next_ask, is_muxed, rests}
-use Rattle.rfcomm_frames.specs.FrameReading.{is_empty}
-use Rattle.rfcomm_model.specs.Machine.{is_ready, sends, taken_count}
 use Rattle.rfcomm_model.specs.Saying.{Said, next, after_said}
 use Rattle.push_rooms.specs.Frames.{said_frame}
 use Rattle.push_client.specs.Putting.{AreAnswers, Comes}

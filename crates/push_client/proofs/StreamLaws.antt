@@ -9,7 +9,6 @@ use Rattle.obex_headers.specs.Assembling.{Assembling, Answers, IsFramed, fresh}
 use Rattle.push_model.proofs.StreamLaws.{whole_front, partial_front, broken_front}
 use Rattle.push_model.specs.Causes.{cause_of_obex}
 use Rattle.push_model.specs.Client.{Client}
-use Rattle.push_model.specs.Client as clients
 use Rattle.push_model.specs.Responding.{is_object, reads_on, hears_response, hears_front, hears_stream}
 use Rattle.push_model.specs.Streams.{Front, Whole, Partial, front_of}
 use Rattle.push_client.specs.Courses.{ends}

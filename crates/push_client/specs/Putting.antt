@@ -1,5 +1,5 @@
 -- How the next PUT of an object is written, and what the shelf is asked for it.
-use Rattle.std.specs.Prelude.{◌≡◌, ◌<◌, ◌≤◌, ℕ, Bool, IsTrue, List, [], ◌∷◌, ◌++◌, length, min, nat_le, Option, Some, None, Result, Ok, Err, IfSome}
+use Rattle.std.specs.Prelude.{◌≡◌, ◌<◌, ◌≤◌, ℕ, Bool, IsTrue, List, [], ◌∷◌, ◌++◌, length, min, nat_le, Option, Result, Ok, Err, IfSome}
 use Rattle.bt_base.specs.Counts.{HasRisen}
 use Rattle.bt_base.specs.Objects.{Object, octets_of, HasAt}
 use Rattle.bt_base.specs.declared.ports.PortFault.{PortFault}

@@ -30,7 +30,11 @@ const PUT_HI: [u8; 20] = [
     0x00, 0x05, 0x68, 0x69,
 ];
 
+const ABORT: [u8; 3] = [0xFF, 0x00, 0x03];
+
 const DISCONNECT: [u8; 3] = [0x81, 0x00, 0x03];
+
+const CONTINUE: [u8; 3] = [0x90, 0x00, 0x03];
 
 const SUCCESS: [u8; 3] = [0xA0, 0x00, 0x03];
 
@@ -90,6 +94,7 @@ enum Told<'a> {
     Closed,
     Heard(&'a [u8]),
     Features,
+    Late,
 }
 
 /// The PSM of a channel, what is told, the step that follows it, and the octets of its SDU.
@@ -104,6 +109,7 @@ fn tell(client: &mut PushClient, psm: Psm, told: &Told<'_>) {
         Told::Closed => client.on(ProfileEvent::ChannelClosed(psm, CloseCause::Own)),
         Told::Heard(sdu) => client.on(ProfileEvent::Sdu(psm, sdu)),
         Told::Features => client.on(ProfileEvent::Features(Some(0xA8))),
+        Told::Late => client.on(ProfileEvent::Timer),
     }
 }
 
@@ -372,6 +378,69 @@ fn the_first_cause_is_told(rt: HostRuntime) -> Result<(), Fail> {
             Step::Ended(Outcome::ShelfFault),
             &[]
         )
+    );
+    Ok(())
+}
+
+/// How many SDUs go out ahead of this one, each answered with CONTINUE.
+fn sent_ahead_of(
+    client: &mut PushClient,
+    shelf: &mut MemShelf,
+    objects: Psm,
+    wanted: &[u8],
+) -> usize {
+    for count in 0..100 {
+        if steps(client, shelf, Step::SendSdu(objects), wanted) {
+            return count;
+        }
+        tell(client, objects, &Told::Heard(&CONTINUE));
+    }
+    100
+}
+
+#[test]
+fn what_was_put_is_aborted_where_the_shelf_fails(rt: HostRuntime) -> Result<(), Fail> {
+    let mut shelf = MemShelf::new(rt.alloc(), &[4])?;
+    shelf.add("a", &[0x55; 3000])?;
+    let (records, objects) = (psm(&rt, 0x0001), psm(&rt, 0x1001));
+    let mut client = PushClient::new(rt.alloc(), &Settings::plain())?;
+    begins(&mut client, &mut shelf)?;
+    assert_eq!(rt;
+        rows_followed(&mut client, &mut shelf, &searches(records)),
+        5
+    );
+    assert_eq!(rt;
+        rows_followed(&mut client, &mut shelf, &connects(records, objects)),
+        3
+    );
+    tell(&mut client, objects, &Told::Heard(&CONNECTED));
+    assert_eq!(rt; sent_ahead_of(&mut client, &mut shelf, objects, &ABORT), 2);
+    let rows = puts(objects);
+    assert_eq!(rt; rows_followed(&mut client, &mut shelf, &rows[1..]), 2);
+    assert_eq!(rt;
+        rows_followed(&mut client, &mut shelf, &ends(objects, Outcome::ShelfFault)),
+        3
+    );
+    Ok(())
+}
+
+#[test]
+fn a_search_is_asked_again_and_given_up(rt: HostRuntime) -> Result<(), Fail> {
+    let mut shelf = MemShelf::new(rt.alloc(), &[])?;
+    shelf.add("a", b"hi")?;
+    let records = psm(&rt, 0x0001);
+    let mut client = PushClient::new(rt.alloc(), &Settings::plain())?;
+    begins(&mut client, &mut shelf)?;
+    let rows = searches(records);
+    assert_eq!(rt; rows_followed(&mut client, &mut shelf, &rows[..3]), 3);
+    assert!(rt; client.armed());
+    tell(&mut client, records, &Told::Late);
+    assert!(rt; steps(&mut client, &mut shelf, Step::SendSdu(records), &SEARCH));
+    client.cancel();
+    assert!(rt; steps(&mut client, &mut shelf, Step::CloseChannel(records), &[]));
+    assert_eq!(rt;
+        rows_followed(&mut client, &mut shelf, &ends(records, Outcome::Cancelled)),
+        3
     );
     Ok(())
 }

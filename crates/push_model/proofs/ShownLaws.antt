@@ -26,16 +26,16 @@ use Rattle.push_model.specs.declared.course.Point.TheVariants.{Due, Asked}
 use Rattle.push_model.specs.declared.course.Stage.{Stage}
 use Rattle.push_model.specs.declared.course.Stage.TheVariants.{Rest, Link, SearchChannel, Search, SearchEnd, Features, ObjectChannel, Object, ObjectEnd, LinkEnd, Over}
 use Rattle.push_model.specs.Causes.{cause_of_link, cause_of_page, cause_of_close, cause_of_query, cause_of_mux, cause_of_obex, small_channel, unawaited_response, unknown_parameters}
-use Rattle.push_model.specs.Client.{Client, ends, ends_by, ends_if, cancelled, may_cancel, is_direct}
+use Rattle.push_model.specs.Client.{Client, ends, ends_by, ends_if, may_cancel, is_direct}
 use Rattle.push_model.specs.Events as events
-use Rattle.push_model.specs.Events.{News, over, over_by, object_opened, search_left, search_closed, kept_of, found_psm, found_channel, found_way, finds, hears_reply, hears_outside, hears_object, sdu_at, fires, armed, linked_at, opened_at, closed_at, is_linked, is_paging, is_asking_features, search_psm}
+use Rattle.push_model.specs.Events.{News, over, over_by, object_opened, search_left, search_closed, kept_of, found_psm, found_channel, found_way, finds, hears_reply, hears_outside, hears_object, sdu_at, armed, linked_at, opened_at, closed_at, is_linked, is_paging, is_asking_features, search_psm}
 use Rattle.push_model.specs.Laws as laws
 use Rattle.push_model.specs.Laws.{Deed, done, all_done}
 use Rattle.push_model.specs.Payloads.{Octets}
-use Rattle.push_model.specs.Responding.{takes, hears_answer, hears_response, is_object, reads_on, hears_front, hears_stream, hears_end, hears_up, hears_frame, is_left, is_success, is_early}
-use Rattle.push_model.specs.Shown.{first_of, watched, closed_shows, opened_shows, way_of, found_shows, says, answer_shows, response_shows, front_shows, stream_shows, up_shows, object_shows, outside_shows, sdu_shows, news_show, part_shows, ask_shows, said_shows, step_shows, steps_show, shows, first_shown, OutcomesAreShown}
+use Rattle.push_model.specs.Responding.{takes, hears_answer, hears_response, is_object, reads_on, hears_front, hears_stream, hears_end, hears_up, is_left, is_success, is_early}
+use Rattle.push_model.specs.Shown.{first_of, watched, closed_shows, opened_shows, way_of, found_shows, says, answer_shows, response_shows, front_shows, stream_shows, up_shows, object_shows, outside_shows, sdu_shows, news_show, part_shows, ask_shows, said_shows, step_shows, shows, first_shown, OutcomesAreShown}
 use Rattle.push_model.specs.Steps as steps
-use Rattle.push_model.specs.Steps.{Part, Stepped, Made, Ask, Connect, Put, Abort, Disconnect, Close, Nothing, put_count, puts_part, puts_from, puts, leaves_by, failing, puts_or_leaves, requests, sends_direct, asks_direct, filled, said_by, sends_muxed, takes_some, asks_through, asks_muxed, goes_muxed, steps_object, steps_search, tells_end, steps_at, rests, sends_sdu, may_ask, next_ask}
+use Rattle.push_model.specs.Steps.{Part, Stepped, Made, Ask, Connect, Put, Abort, Disconnect, Close, Nothing, put_count, puts_part, puts_from, puts, leaves_by, puts_or_leaves, requests, sends_direct, asks_direct, filled, said_by, sends_muxed, takes_some, asks_muxed, goes_muxed, steps_object, tells_end, steps_at, rests, sends_sdu, may_ask, next_ask}
 use Rattle.push_model.specs.Streams.{Front, Whole, Partial, Broken, front_of}
 use Rattle.push_model.proofs.CauseLaws.{first_causes_stay, stream_keeps}
 

@@ -1,5 +1,5 @@
 -- What ends a push, by what is told to its client and by what the shelf answers it: a table, and the first that it shows.
-use Rattle.std.specs.Prelude.{ℕ, zero, suc, ◌==◌, ◌&&◌, ◌||◌, ◌≡◌, not, nat_lt, Bool, true, false, List, [], ◌∷◌, ◌++◌, length, Option, Some, None, is_none, Result, Ok, Err, if◌then◌else◌}
+use Rattle.std.specs.Prelude.{ℕ, zero, suc, ◌==◌, ◌&&◌, ◌||◌, ◌≡◌, not, nat_lt, List, [], ◌∷◌, ◌++◌, length, Option, Some, None, is_none, Result, Ok, Err, if◌then◌else◌}
 use Rattle.bt_base.specs.declared.ports.PortFault.{PortFault}
 use Rattle.bt_base.specs.declared.ports.PortFault.TheVariants as fault
 use Rattle.bt_base.specs.declared.settings.Transport.{Transport}
@@ -28,7 +28,7 @@ use Rattle.push_model.specs.Events.{News, search_psm, is_linked, is_paging, is_a
 use Rattle.push_model.specs.Laws as laws
 use Rattle.push_model.specs.Laws.{Deed, done, all_done}
 use Rattle.push_model.specs.Responding.{is_early, is_success, is_left, is_object, hears_response}
-use Rattle.push_model.specs.Steps.{Part, Ask, Connect, Put, Abort, Disconnect, Close, Nothing, next_ask, may_ask, puts, takes_some, filled}
+use Rattle.push_model.specs.Steps.{Part, Ask, Put, next_ask, may_ask, puts, takes_some, filled}
 use Rattle.push_model.specs.Streams.{Front, Whole, Partial, Broken, front_of}
 
 abbrev pub first_of : Option Outcome → Option Outcome → Option Outcome

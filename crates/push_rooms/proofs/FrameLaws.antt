@@ -1,9 +1,7 @@
 -- What a multiplexer says waits in its shortest form.
-use Rattle.std.proofs.Common.{◌≡◌, ◌≤◌, ℕ, zero, suc, Bool, true, false, not, ◌==◌, List, [], ◌∷◌, ◌++◌, length, take, Option, Some, None, is_some, IfSome, IfNone, refl, sym, ap, subst, ◌∙◌, arith, inl, inr, length-take, length-take-le}
+use Rattle.std.proofs.Common.{◌≡◌, ◌≤◌, ℕ, zero, suc, false, not, ◌==◌, List, [], ◌∷◌, ◌++◌, length, take, Option, Some, None, is_some, IfSome, IfNone, refl, sym, ap, subst, ◌∙◌, arith, inl, inr, length-take, length-take-le}
 use Rattle.std.proofs.lemmas.List.{nil_from_length}
 use Rattle.bt_base.specs.Octets.{IsOctets}
-use Rattle.rfcomm_frames.specs.declared.refusal.MuxRefusal.TheVariants.{Short}
-use Rattle.rfcomm_frames.specs.Answers.{Answer}
 use Rattle.rfcomm_frames.specs.Frames.{PlainFrame}
 use Rattle.rfcomm_frames.specs.FrameReading.{frame_answer}
 use Rattle.rfcomm_frames.proofs.FrameReading.{spelled_answered}

@@ -1,4 +1,4 @@
-use Rattle.std.proofs.Common.{sym, ap, ◌∙◌, subst}
+use Rattle.std.proofs.Common.{sym, ap, ◌∙◌}
 use Rattle.obex_headers.specs.Assembled.{answer_of}
 use Rattle.obex_headers.specs.Assembling as assembling
 use Rattle.push_terms.specs.declared.outcome.Outcome.{Outcome}

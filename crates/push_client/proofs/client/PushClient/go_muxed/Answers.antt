@@ -1,11 +1,10 @@
-use Rattle.std.proofs.Common.{◌≡◌, Bool, true, false, is_some, List, sym, ap, ◌∙◌, subst}
+use Rattle.std.proofs.Common.{◌≡◌, Bool, true, is_some, sym, ap, ◌∙◌, subst}
 use Rattle.push_model.specs.Client.{Client}
 use Rattle.push_model.specs.Steps as steps
-use Rattle.push_model.specs.Steps.{Ask, Part, Stepped, steps_muxed, asks_muxed, asks_through, may_ask, next_ask}
+use Rattle.push_model.specs.Steps.{steps_muxed, may_ask, next_ask}
 use Rattle.push_client.specs.Pushing.{gone}
 use Rattle.push_client.specs.Putting.{Comes}
 use Rattle.push_client.specs.Requesting.{ask_of}
-use Rattle.push_client.specs.declared.asking.Ask.{Ask as Enquiry}
 use Rattle.push_client.specs.declared.step.Step.{Step}
 use Rattle.push_client.specs.declared.step.Step.TheVariants.{Wait}
 use Rattle.push_client.proofs.AskingLaws.{comes_at_once}

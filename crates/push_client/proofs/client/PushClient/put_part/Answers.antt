@@ -1,4 +1,4 @@
-use Rattle.std.proofs.Common.{true, List, ℕ, Result, Ok, Err, false, refl, sym, ap, ◌∙◌, subst}
+use Rattle.std.proofs.Common.{true, List, ℕ, Result, Ok, Err, false, refl, ap, ◌∙◌, subst}
 use Rattle.bt_base.specs.Counts.{HasCause}
 use Rattle.bt_base.specs.declared.ports.PortFault.{PortFault}
 use Rattle.push_model.specs.Client.{Client}
