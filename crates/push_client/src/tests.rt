@@ -179,15 +179,19 @@ fn connects<'a>(records: Psm, objects: Psm) -> [Row<'a>; 3] {
     ]
 }
 
-/// The rows from there to the end of the channel.
-fn puts<'a>(objects: Psm) -> [Row<'a>; 3] {
+/// The row from there to the PUT.
+fn puts<'a>(objects: Psm) -> [Row<'a>; 1] {
+    [(
+        objects,
+        Told::Heard(&CONNECTED),
+        Step::SendSdu(objects),
+        &PUT_HI,
+    )]
+}
+
+/// The rows from its response, or that to ABORT, to the end of the channel.
+fn leaves<'a>(objects: Psm) -> [Row<'a>; 2] {
     [
-        (
-            objects,
-            Told::Heard(&CONNECTED),
-            Step::SendSdu(objects),
-            &PUT_HI,
-        ),
         (
             objects,
             Told::Heard(&SUCCESS),
@@ -295,7 +299,8 @@ fn an_object_is_pushed_over_l2cap(rt: HostRuntime) -> Result<(), Fail> {
             3
         );
         assert!(rt; client.may_cancel());
-        assert_eq!(rt; rows_followed(&mut client, &mut shelf, &puts(objects)), 3);
+        assert_eq!(rt; rows_followed(&mut client, &mut shelf, &puts(objects)), 1);
+        assert_eq!(rt; rows_followed(&mut client, &mut shelf, &leaves(objects)), 2);
         assert_eq!(rt;
             rows_followed(&mut client, &mut shelf, &ends(objects, Outcome::Done)),
             3
@@ -415,8 +420,7 @@ fn what_was_put_is_aborted_where_the_shelf_fails(rt: HostRuntime) -> Result<(), 
     );
     tell(&mut client, objects, &Told::Heard(&CONNECTED));
     assert_eq!(rt; sent_ahead_of(&mut client, &mut shelf, objects, &ABORT), 2);
-    let rows = puts(objects);
-    assert_eq!(rt; rows_followed(&mut client, &mut shelf, &rows[1..]), 2);
+    assert_eq!(rt; rows_followed(&mut client, &mut shelf, &leaves(objects)), 2);
     assert_eq!(rt;
         rows_followed(&mut client, &mut shelf, &ends(objects, Outcome::ShelfFault)),
         3
