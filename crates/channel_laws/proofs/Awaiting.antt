@@ -38,9 +38,9 @@ none_of p (x ∷ xs) is = by (p x) is (none_of p xs)
     by true any later = cc
     by false any later = later any
 
-any_none : {X : Type 0} (p : X → Bool) (xs : List X) → find p xs ≡ None → list_any p xs ≡ false
-any_none p [] is = refl
-any_none p (x ∷ xs) is = by (p x) is (any_none p xs)
+pub any-none : {X : Type 0} (p : X → Bool) (xs : List X) → find p xs ≡ None → list_any p xs ≡ false
+any-none p [] is = refl
+any-none p (x ∷ xs) is = by (p x) is (any-none p xs)
   where
     by : (t : Bool) → cond t (Some x) (find p xs) ≡ None → (find p xs ≡ None → list_any p xs ≡ false) → (t || list_any p xs) ≡ false
     by true any later = cc
@@ -155,7 +155,7 @@ asks_back : (policy : Policy) (read : Reading) (held : Held) (stage : Stage) →
 asks_back policy read held (Requested request) is (answered, failed, only) reads asks =
     let none : read_at held.own read.entries ≡ None = requested-unread policy held request (read_at held.own read.entries) is reads in
     implied (is_own_call request.identifier held.own) (waits_at held.own read)
-    (λ one named. still_waits read request.identifier held.own one failed (any_none (is_given held.own) read.entries none) named) read.requests.calls
+    (λ one named. still_waits read request.identifier held.own one failed (any-none (is_given held.own) read.entries none) named) read.requests.calls
     (made_by read.requests request.identifier held.own (wanted_by held.psm held.own) answered)
 asks_back policy read held (Connected peer setup) is wants reads asks = cc
 asks_back policy read held (Leaving peer setup request) is wants reads asks = cc

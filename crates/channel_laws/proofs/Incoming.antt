@@ -236,7 +236,7 @@ pub record RunUp (policy : Policy) (party : Party) (channel : Channel) (run : Ru
 with_came : (policy : Policy) (frame : ℕ) (came came' : ℕ → List (List ℕ)) (v : Channels) → ((own : ℕ) → came' own ≡ came own) → AllAttend policy frame came v → AllAttend policy frame came' v
 with_came policy frame came came' v same all = record {
   at = λ own. subst (λ p. HeldAttends policy frame p (find (has_own own) v.held)) (sym (same own)) (all.at own);
-  fresh = λ own above. ap (frames_in frame) (same own) ∙ all.fresh own above;
+  fresh = λ own psm above. ap (frames_in frame) (same own) ∙ all.fresh own psm above;
   below = all.below;
 }
 
@@ -368,11 +368,11 @@ carried_up policy party channel run pdu sound so_far told =
       told = told;
       attend = record {
         at = λ own. (at own).0;
-        fresh = λ own above.
+        fresh = λ own psm above.
             let high : run.value.next ≤ own = omega (arith, next_is, above) in
             ap (λ s. frames_in party.frame (heard_on (channel_at channel own) s)) (sym whole)
             ∙ (ap (frames_in party.frame) ((stays-heard party (channel_at channel own) asked before (none_asked run.value w)).heard_is
-            ∙ fresh_heard policy party channel run pdu sound own (sound.core.read_below own high)) ∙ so_far.attend.fresh own high);
+            ∙ fresh_heard policy party channel run pdu sound own (sound.core.read_below own high)) ∙ so_far.attend.fresh own psm high);
         below = λ own above. fresh_held own k pdu run.value (so_far.attend.below own (omega (arith, next_is, above)));
       };
       handed = λ own. subst (λ es. IsHandedUp (is_told_broken own (es ++ w.events)) (sdus_up own (run.up ++ up_at k pdu run.value ∷ [])) (sdus party (channel_at channel own) Into (run.said ++ (Carried Into pdu ∷ asked)))) (append_none run.told) (at own).1;
@@ -433,7 +433,7 @@ one_up policy party channel run Tells states sound so_far told =
 first_up : (policy : Policy) (party : Party) (channel : Channel) → RunUp policy party channel new_link
 first_up policy party channel = record {
   told = nothing_told;
-  attend = record { at = λ own. tt; fresh = λ own above. refl; below = λ own above. refl };
+  attend = record { at = λ own. tt; fresh = λ own psm above. refl; below = λ own above. refl };
   handed = λ own. inl refl;
 }
 

@@ -31,7 +31,6 @@ use Rattle.channel_model.specs.Carrying.{reason_of, settles_machine, machine_hea
 use Rattle.channel_model.specs.Timing.{fires, times_carrier, times_setup, times_stage, times_held, loses_end, times_end_at, times_end}
 use Rattle.channel_model.specs.Giving.{gives, one_more, stage_given, counted, carrier_spent, held_given, queue_given, after_given}
 use Rattle.channel_model.specs.Calls.{can_connect, connected, disconnected_at, disconnected_held, disconnected, sends_on, sends_held, sends}
-use Rattle.channel_laws.specs.Runs.{fired_channel}
 
 -- the identifier of the question for the peer's features, where it waits
 abbrev pub asked_by : Option Request → Option ℕ
@@ -310,7 +309,8 @@ ended_held : (v : Channels) (held : Option Held) (tries : ℕ) → Lasts v (time
 ended_held v None tries = (refl, refl)
 ended_held v (Some held) tries = timed_end v held.stage tries held
 
-pub fires-last : (tries own : ℕ) (v : Channels) → (let between : Channels = times_held (held_at own v) tries v in Lasts v between × Lasts between (fired_channel tries own v))
-fires-last tries own v =
-    let between : Channels = times_held (held_at own v) tries v in
-    (timed_held v (held_at own v) tries, ended_held between (held_at own between) tries)
+pub times-last : (tries own : ℕ) (v : Channels) → Lasts v (times_held (held_at own v) tries v)
+times-last tries own v = timed_held v (held_at own v) tries
+
+pub ends-last : (tries own : ℕ) (v : Channels) → Lasts v (times_end (held_at own v) tries v)
+ends-last tries own v = ended_held v (held_at own v) tries

@@ -28,6 +28,7 @@ pub mod Running
 pub mod Telling
 pub mod CheckWords
 pub mod Stretching
+pub mod Keeping
 pub mod Attending
 pub mod HandedUp
 pub mod Taking
@@ -38,6 +39,9 @@ pub mod Naming
 pub mod Repeating
 pub mod Awaiting
 pub mod Lasting
+pub mod Replying
+pub mod Agreed
+pub mod Conversing
 pub mod Informing
 pub mod Trying
 pub mod Sparing
@@ -46,4 +50,5 @@ pub mod Demanding
 pub mod Wishing
 pub mod Anew
 pub mod Accepting
-pub mod Replies
+pub mod Heeding
+
