@@ -51,4 +51,7 @@ pub mod Wishing
 pub mod Anew
 pub mod Accepting
 pub mod Heeding
+pub mod Answered
+pub mod Showing
+pub mod Options
 

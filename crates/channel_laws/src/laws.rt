@@ -1,6 +1,6 @@
 //! Laws of the channels of one host.
 
-ghost use Rattle.channel_laws.specs.Awaited.{FeaturesAreAwaited, RequestsAreAwaited};
+ghost use Rattle.channel_laws.specs.Awaited.{FeaturesAreAwaited, OptionsAreAwaited, RequestsAreAwaited};
 ghost use Rattle.channel_laws.specs.CheckWords.{CheckWordsAreRead};
 ghost use Rattle.channel_laws.specs.Endpoints.{EndpointsNameOneChannel};
 ghost use Rattle.channel_laws.specs.Laws.{ChannelsAreRead, EndpointsAreNew};
@@ -60,6 +60,12 @@ pub fn requests_are_awaited()
 /// was neither answered nor gave it up.
 pub fn features_are_awaited()
     ensures { FeaturesAreAwaited }
+{}
+
+/// A request of a host for the options of a channel waits for its answer exactly where its own talk says so, as
+/// long as the channel is there and its host has not closed it.
+pub fn options_are_awaited()
+    ensures { OptionsAreAwaited }
 {}
 
 /// A host gives a request that waits for its answer at most as often as it tries, and once where it tries less.
