@@ -47,9 +47,9 @@ any-none p (x ∷ xs) is = by (p x) is (any-none p xs)
     by false any later = later any
 
 -- a member that is found passes another test too
-any_other : {X : Type 0} (p q : X → Bool) (xs : List X) (found : X) → find p xs ≡ Some found → q found ≡ true → list_any q xs ≡ true
-any_other p q [] found is passes = cc
-any_other {X = X} p q (x ∷ xs) found is passes = by (p x) (q x) refl is (any_other p q xs found)
+pub any-other : {X : Type 0} (p q : X → Bool) (xs : List X) (found : X) → find p xs ≡ Some found → q found ≡ true → list_any q xs ≡ true
+any-other p q [] found is passes = cc
+any-other {X = X} p q (x ∷ xs) found is passes = by (p x) (q x) refl is (any-other p q xs found)
   where
     by : (t u : Bool) → q x ≡ u → cond t (Some x) (find p xs) ≡ Some found → (find p xs ≡ Some found → q found ≡ true → list_any q xs ≡ true) → (u || list_any q xs) ≡ true
     by t true now some later = refl
@@ -122,7 +122,7 @@ is_waiting read own one found is = by one.wanted refl
         let out = both_true (went Out one) (wants read one.identifier one.wanted) parts.1 in
         let wanting = both_true (not (has_failed read.requests one.identifier wanted.source)) (not (list_any (is_given wanted.source) read.entries)) (sym (ap (wants read one.identifier) some) ∙ out.1) in
         record {
-          called = any_other (waits_at own read) (is_own_call one.identifier own) read.requests.calls one found
+          called = any-other (waits_at own read) (is_own_call one.identifier own) read.requests.calls one found
               (ap (λ t. t && is_call one.identifier own one) out.0 ∙ (ap (λ t. t && has_source own one.wanted) (eqb-same one.identifier) ∙ parts.0));
           failed = subst (λ n. has_failed read.requests one.identifier n ≡ false) source (not_true (has_failed read.requests one.identifier wanted.source) wanting.0);
           given = subst (λ n. list_any (is_given n) read.entries ≡ false) source (not_true (list_any (is_given wanted.source) read.entries) wanting.1);
@@ -149,7 +149,7 @@ waits_there policy read v own sound is =
 
 -- and one that is asked for waits
 implied : {X : Type 0} (p q : X → Bool) → ((x : X) → p x ≡ true → q x ≡ true) → (xs : List X) → list_any p xs ≡ true → list_any q xs ≡ true
-implied p q goes xs is = let (found, at, passes) = any-finds p xs is in any_other p q xs found at (goes found passes)
+implied p q goes xs is = let (found, at, passes) = any-finds p xs is in any-other p q xs found at (goes found passes)
 
 asks_back : (policy : Policy) (read : Reading) (held : Held) (stage : Stage) → held.stage ≡ stage → WantsAt read.requests held stage → Reads policy (Some held) (read_at held.own read.entries) → asks_for_channel stage ≡ true → channel_waits held.own read ≡ true
 asks_back policy read held (Requested request) is (answered, failed, only) reads asks =

@@ -33,6 +33,8 @@ pub mod Attending
 pub mod HandedUp
 pub mod Taking
 pub mod Receiving
+pub mod Signalling
+pub mod Carriages
 pub mod Incoming
 pub mod Pairing
 pub mod Naming
