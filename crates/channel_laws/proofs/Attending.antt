@@ -44,13 +44,13 @@ happens-last (first ∷ events) event c = happens-last events event (happens fir
 
 -- ---- what happens beside what comes in
 
-given_machine : (found : Option Giving) (c : Course) → (given found c).machine ≡ after_by found c.machine
-given_machine None c = refl
-given_machine (Some giving) c = refl
+pub given-machine : (found : Option Giving) (c : Course) → (given found c).machine ≡ after_by found c.machine
+given-machine None c = refl
+given-machine (Some giving) c = refl
 
-given_came : (found : Option Giving) (c : Course) → (given found c).came ≡ c.came
-given_came None c = refl
-given_came (Some giving) c = refl
+pub given-came : (found : Option Giving) (c : Course) → (given found c).came ≡ c.came
+given-came None c = refl
+given-came (Some giving) c = refl
 
 giving_keeps : (found : Giving) (m : Ertm) → ((after_giving found m).closed ≡ m.closed) × ((after_giving found m).agreed ≡ m.agreed)
 giving_keeps PollAnswer m = (refl, refl)
@@ -99,8 +99,8 @@ submits-aside sdu m = record {
 pub gives-aside : (m : Ertm) → Aside m (after_frame m)
 gives-aside m = record {
   event = Gives;
-  after_is = λ c is. given_machine (giving c.machine) c ∙ ap after_frame is;
-  came_same = λ c. given_came (giving c.machine) c;
+  after_is = λ c is. given-machine (giving c.machine) c ∙ ap after_frame is;
+  came_same = λ c. given-came (giving c.machine) c;
   agreed_same = (by_keeps (giving m) m).1;
   open_still = λ is. (by_keeps (giving m) m).0 ∙ is;
 }
@@ -216,15 +216,31 @@ abbrev pub HeldAttends : Policy → (frame : ℕ) (pdus : List (List ℕ)) → O
 HeldAttends policy frame pdus held = HeldKeeps policy (Attended frame pdus) held
 
 -- a new carrier is one of the mode that is wished
-new_attends : (wish : Wish) (frame : ℕ) (pdus : List (List ℕ)) (opened : Bool) (carrier : Carrier) → wish.mps ≡ frame → frames_in frame pdus ≡ [] → IsAccepted wish carrier → CarrierAttends wish frame pdus opened (Some carrier)
-new_attends wish frame pdus opened carrier mps none accepted =
-    subst (λ c. CarrierAttends wish frame pdus opened (Some c)) (sym accepted.is) (by wish.mode refl)
+pub record IsNew (wish : Wish) (agreed : Agreed) (carrier : Carrier) : Type 0 where
+  pub is : carrier ≡ Retransmitting (new_ertm agreed)
+  pub small : agreed.send_window ≤ 63
+  pub frame_is : agreed.receive_mps ≡ wish.mps
+
+pub new-carrier : (wish : Wish) (carrier : Carrier) → IsAccepted wish carrier → ((agreed : Agreed) × (carrier ≡ Plain agreed None) × (wish.mode ≡ Basic)) ⊎ ((agreed : Agreed) × IsNew wish agreed carrier)
+new-carrier wish carrier accepted = by wish.mode refl
   where
-    by : (mode : Mode) → wish.mode ≡ mode → CarrierAttends wish frame pdus opened (Some (carrier_by mode (bounded_agreement (agreed_on wish accepted.options))))
-    by Basic is = is
-    by Enhanced is =
-        attends-new frame pdus opened (bounded_agreement (agreed_on wish accepted.options))
-        (window_small wish.mode (asked_mode accepted.options) wish.window accepted.given (accepted_values wish accepted.options accepted.given accepted.accepts)) mps none
+    agreed : Agreed
+    agreed = bounded_agreement (agreed_on wish accepted.options)
+
+    by : (mode : Mode) → wish.mode ≡ mode → ((a : Agreed) × (carrier ≡ Plain a None) × (wish.mode ≡ Basic)) ⊎ ((a : Agreed) × IsNew wish a carrier)
+    by Basic is = inl (agreed, accepted.is ∙ ap (λ m. carrier_by m agreed) is, is)
+    by Enhanced is = inr (agreed, record {
+      is = accepted.is ∙ ap (λ m. carrier_by m agreed) is;
+      small = window_small wish.mode (asked_mode accepted.options) wish.window accepted.given (accepted_values wish accepted.options accepted.given accepted.accepts);
+      frame_is = refl;
+    })
+
+new_attends : (wish : Wish) (frame : ℕ) (pdus : List (List ℕ)) (opened : Bool) (carrier : Carrier) → wish.mps ≡ frame → frames_in frame pdus ≡ [] → IsAccepted wish carrier → CarrierAttends wish frame pdus opened (Some carrier)
+new_attends wish frame pdus opened carrier mps none accepted = by (new-carrier wish carrier accepted)
+  where
+    by : ((a : Agreed) × (carrier ≡ Plain a None) × (wish.mode ≡ Basic)) ⊎ ((a : Agreed) × IsNew wish a carrier) → CarrierAttends wish frame pdus opened (Some carrier)
+    by (inl (agreed, is, basic)) = subst (λ c. CarrierAttends wish frame pdus opened (Some c)) (sym is) basic
+    by (inr (agreed, new)) = subst (λ c. CarrierAttends wish frame pdus opened (Some c)) (sym new.is) (attends-new frame pdus opened agreed new.small (new.frame_is ∙ mps) none)
 
 -- in basic mode a new carrier has no machine
 plain_again : (wish : Wish) (frame : ℕ) (pdus : List (List ℕ)) (opened : Bool) (carrier : Carrier) → wish.mode ≡ Basic → IsAccepted wish carrier → CarrierAttends wish frame pdus opened (Some carrier)

@@ -270,8 +270,8 @@ fresh_heard policy party channel run pdu sound own none = by (eqb (channel_of pd
     by true is = ((before_comes policy party (channel_at channel own) run pdu sound is).passes (ap opens none)).0
     by false is = (nothing-heard party (channel_at channel own) run.said (Carried Into pdu) (into-else is_heard (channel_at channel own) run.said pdu is)).heard_is
 
-fresh_held : (own k : ℕ) (pdu : List ℕ) (v : Channels) → find (has_own own) v.held ≡ None → find (has_own own) (takes k pdu v).held ≡ None
-fresh_held own k pdu v none = by (eqb k own) refl
+pub fresh-held : (own k : ℕ) (pdu : List ℕ) (v : Channels) → find (has_own own) v.held ≡ None → find (has_own own) (takes k pdu v).held ≡ None
+fresh-held own k pdu v none = by (eqb k own) refl
   where
     by : (same : Bool) → eqb k own ≡ same → find (has_own own) (takes k pdu v).held ≡ None
     by true is =
@@ -299,7 +299,7 @@ carried_up policy party channel run pdu sound so_far told =
             ap (λ s. frames_in party.frame (heard_on (channel_at channel own) s)) (sym whole)
             ∙ (ap (frames_in party.frame) ((stays-heard party (channel_at channel own) asked before (bare-comes asked (bare-asked run.value w))).heard_is
             ∙ fresh_heard policy party channel run pdu sound own (sound.core.read_below own high)) ∙ so_far.attend.fresh own psm high);
-        below = λ own above. fresh_held own k pdu run.value (so_far.attend.below own (omega (arith, next_is, above)));
+        below = λ own above. fresh-held own k pdu run.value (so_far.attend.below own (omega (arith, next_is, above)));
       };
       handed = λ own. subst (λ es. IsHandedUp (is_told_broken own (es ++ w.events)) (sdus_up own (run.up ++ up_at k pdu run.value ∷ [])) (sdus party (channel_at channel own) Into (run.said ++ (Carried Into pdu ∷ asked)))) (append_none run.told) (at own).1;
     }

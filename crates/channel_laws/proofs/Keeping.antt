@@ -104,7 +104,7 @@ goes_keep policy C P keeps own held (Crossed peer request) (Some (Crossed at oth
 
 -- ---- all channels
 
-under : (v : Channels) (held : Held) (next own : ℕ) → next ≡ v.next → ((n : ℕ) → v.next ≤ n → find (has_own n) v.held ≡ None) → find (has_own held.own) v.held ≡ Some held → next ≤ own → held.own < own
+pub under : (v : Channels) (held : Held) (next own : ℕ) → next ≡ v.next → ((n : ℕ) → v.next ≤ n → find (has_own n) v.held ≡ None) → find (has_own held.own) v.held ≡ Some held → next ≤ own → held.own < own
 under v held next own is below found above = by (nat_lt held.own own) refl
   where
     by : (b : Bool) → nat_lt held.own own ≡ b → held.own < own

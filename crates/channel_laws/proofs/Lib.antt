@@ -35,6 +35,9 @@ pub mod Taking
 pub mod Receiving
 pub mod Signalling
 pub mod Carriages
+pub mod Passing
+pub mod Passages
+pub mod Holding
 pub mod Incoming
 pub mod Pairing
 pub mod Naming

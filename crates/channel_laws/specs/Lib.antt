@@ -8,4 +8,5 @@ pub mod Pairs
 pub mod Endpoints
 pub mod Repeats
 pub mod Awaited
+pub mod Frames
 pub mod Tries

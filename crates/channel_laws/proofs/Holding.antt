@@ -1,0 +1,376 @@
+-- A host holds the frames that its talk says.
+use Rattle.std.proofs.Common.{◌≡◌, ℕ, ◌+◌, ◌≤◌, ◌<◌, List, [], ◌∷◌, ◌++◌, map, drop, Bool, true, false, cond, eqb, not, ◌&&◌, ◌||◌, Option, Some, None, Ok, Err, refl, sym, ap, subst, ◌∙◌, ◌⊎◌, inl, inr, arith, append_assoc, append-nil}
+use Rattle.std.specs.Prelude.{find, option_map, option_to_list, unwrap_or, is_some}
+use Rattle.std.proofs.lemmas.Bool.{eqb-true}
+use Rattle.std.proofs.lemmas.List.Sums.{fold-append}
+use Rattle.bt_base.specs.Octets.{IsOctets}
+use Rattle.bt_base.proofs.OctetLemmas.{le16-number}
+use Rattle.acl_fragments.specs.Pieces.{channel_of}
+use Rattle.capture.specs.declared.flow.Flow.TheVariants.{Out, Into}
+use Rattle.capture.specs.Histories.{EachAfter}
+use Rattle.l2cap_signal.specs.Reading.{answers}
+use Rattle.l2cap_config.specs.declared.wish.Mode.{Mode}
+use Rattle.l2cap_config.specs.declared.wish.Mode.TheVariants.{Basic, Enhanced}
+use Rattle.l2cap_config.specs.declared.wish.Agreed.{Agreed}
+use Rattle.l2cap_config.specs.declared.wish.Wish.{Wish}
+use Rattle.ertm_frames.specs.Frames.{PlainFrame, Spells}
+use Rattle.ertm_frames.specs.Answers.{Answer as FrameAnswer}
+use Rattle.ertm_frames.specs.Reading.{frame_by, frame_in}
+use Rattle.ertm_frames.specs.Picking.{Passage, Out as Gave, In}
+use Rattle.ertm_model.specs.declared.reason.ErtmReason.{ErtmReason}
+use Rattle.ertm_model.specs.Value.{Ertm}
+use Rattle.ertm_model.specs.Submitting.{submitted}
+use Rattle.ertm_model.specs.Giving.{next_frame, after_frame}
+use Rattle.link_talk.specs.declared.channel.Channel.{Channel}
+use Rattle.link_talk.specs.declared.party.Party.{Party}
+use Rattle.link_talk.specs.Sayings.{Saying, Carried}
+use Rattle.link_talk.specs.Setups.{is_set}
+use Rattle.link_talk.specs.Channels.{Entry, is_there, reading}
+use Rattle.link_talk.specs.Carriages.{is_held, is_passed}
+use Rattle.link_talk.specs.Accounts.{frames_passed}
+use Rattle.channel_model.specs.declared.errand.Errand.{Errand}
+use Rattle.channel_model.specs.declared.errand.Errand.TheVariants as errands
+use Rattle.channel_model.specs.Value.{Request, Queued, Answer, Ask, Own, Unasked, Asking, Granted, Carrier, Plain, Retransmitting, Setup, Stage, Requested, Connected, Leaving, Closing, Crossed, Held, Channels, no_channels}
+use Rattle.channel_model.specs.Policies.{Policy}
+use Rattle.channel_model.specs.Changing.{has_own, held_at, is_granted, is_open, setup_of, stage_with, with_setup, to_setup, in_place_of}
+use Rattle.channel_model.specs.declared.event.CloseReason.{CloseReason}
+use Rattle.channel_model.specs.Asking.{new_request}
+use Rattle.channel_model.specs.Configuring.{granted_setup}
+use Rattle.channel_model.specs.Closing.{closes_at}
+use Rattle.channel_model.specs.Hearing.{hears_commands}
+use Rattle.channel_model.specs.Carrying.{reason_of, settles_machine, machine_heard, read_by as read, is_frame, shows, is_taken_with, takes_on, takes_held, takes}
+use Rattle.channel_model.specs.Giving.{Given, Signal, Whole, Framed, next_given, after_given, headed, gives, stage_gives, some_carrier_gives, carrier_gives, carrier_given, carrier_spent, held_gives, held_given, queue_gives, queue_given, counted, connection_given, configuration_given, disconnection_given, setup_given, own_given, stage_given}
+use Rattle.channel_model.specs.Calls.{setup_on, carrier_at, open_carrier, carrier_if, carrier_with, sends_setup, sends_on, sends_held, sends}
+use Rattle.channel_model.proofs.Lookups.{own_of, Distinct, found-has, found-distinct, found-placed, find-placed, eqb-same, eqb-away, and_off}
+use Rattle.channel_model.proofs.Going.{is_stated, staged}
+use Rattle.channel_model.proofs.Walking.{found-own, with-setup, with-found}
+use Rattle.channel_laws.specs.OwnTalk.{asked_between}
+use Rattle.channel_laws.specs.Runs.{Occurrence, Comes, Connects, AsksFeatures, Disconnects, Sends, Gives, Fires, Tells, said_by_carrier, said_as, said_in, value_after, peer_at, Run, run_of}
+use Rattle.channel_laws.specs.Sdus.{StatesFrame}
+use Rattle.channel_laws.specs.Frames.{IsSpelled, IsUttered, AreUttered}
+use Rattle.channel_laws.specs.Views.{peer_of, life_of, asked_mode, carrier_mode, IsThere, read_at}
+use Rattle.channel_laws.proofs.Sound.{Agrees, AgreesIf, ReadsBy, Reads, Sound, at_each, requested-unread}
+use Rattle.channel_laws.proofs.Steps.{less-apart}
+use Rattle.channel_laws.proofs.CheckWords.{stated_mode}
+use Rattle.channel_laws.proofs.Keeping.{OfCarrier, StageKeeps, HeldKeeps, AllKeep, KeepsOn, Keeps, keep-also, under}
+use Rattle.channel_laws.proofs.Taking.{Opens, takes-cases, takes-others}
+use Rattle.channel_laws.proofs.Incoming.{channel_at, fresh-held}
+use Rattle.channel_laws.proofs.Carriages.{counted_in}
+use Rattle.channel_laws.proofs.Passing.{Passing, CarrierPasses, Passed, heard_in, passing-submits, passing-gives, passing-hears}
+use Rattle.channel_laws.proofs.Passages.{into-other, into-own, GoesOut, out-other, out-own, spelled-frame}
+
+-- the frames that passed on the channel of an own endpoint
+abbrev pub frames_on : Party → Channel → List Saying → (own : ℕ) → List Passage
+frames_on party channel past own = frames_passed party (channel_at channel own) past
+
+-- each machine holds them
+abbrev pub Pass : Policy → Party → Channel → List Saying → Channels → Type 0
+Pass policy party channel past v = AllKeep policy (λ own. Passed party.frame (frames_on party channel past own)) v
+
+-- ---- a channel that talks
+
+kept_setup : (frame : ℕ) (frames : List Passage) (wish : Wish) (stage : Stage) (setup : Setup) → setup_of stage ≡ Some setup → StageKeeps (Passed frame frames) wish stage → CarrierPasses frame frames wish (is_open setup) setup.carrier
+kept_setup frame frames wish (Requested request) setup is kept = cc
+kept_setup frame frames wish (Connected peer s) setup is kept = let same : s ≡ setup = cc in subst (λ (x : Setup). CarrierPasses frame frames wish (is_open x) x.carrier) same kept
+kept_setup frame frames wish (Leaving peer s request) setup is kept = let same : s ≡ setup = cc in subst (λ (x : Setup). CarrierPasses frame frames wish (is_open x) x.carrier) same kept
+kept_setup frame frames wish (Closing peer request) setup is kept = cc
+kept_setup frame frames wish (Crossed peer request) setup is kept = cc
+
+keeps_setup : (frame : ℕ) (frames : List Passage) (wish : Wish) (stage : Stage) (setup : Setup) → setup_of stage ≡ Some setup → CarrierPasses frame frames wish (is_open setup) setup.carrier → StageKeeps (Passed frame frames) wish stage
+keeps_setup frame frames wish (Requested request) setup is passes = cc
+keeps_setup frame frames wish (Connected peer s) setup is passes = let same : s ≡ setup = cc in subst (λ (x : Setup). CarrierPasses frame frames wish (is_open x) x.carrier) (sym same) passes
+keeps_setup frame frames wish (Leaving peer s request) setup is passes = let same : s ≡ setup = cc in subst (λ (x : Setup). CarrierPasses frame frames wish (is_open x) x.carrier) (sym same) passes
+keeps_setup frame frames wish (Closing peer request) setup is passes = cc
+keeps_setup frame frames wish (Crossed peer request) setup is passes = cc
+
+-- what is read of it
+record IsRead (policy : Policy) (past : List Saying) (own : ℕ) (held : Held) (setup : Setup) : Type 0 where
+  peer : ℕ
+  peer_is : peer_of held.stage ≡ Some peer
+  entry : Entry
+  found : read_at own (reading past).entries ≡ Some entry
+  here : entry.channel.peer ≡ peer
+  there : is_there entry.life ≡ true
+  agrees : Agrees (policy.wish held.psm) setup entry.setup
+
+read_by : (policy : Policy) (past : List Saying) (own : ℕ) (held : Held) (setup : Setup) (peer : ℕ) (found : Option Entry) → peer_of held.stage ≡ Some peer → is_there (life_of held.stage) ≡ true → setup_of held.stage ≡ Some setup
+    → read_at own (reading past).entries ≡ found → ReadsBy policy held (Some peer) found → IsRead policy past own held setup
+read_by policy past own held setup peer None peer_is lives has at reads = elim reads [ ]
+read_by policy past own held setup peer (Some entry) peer_is lives has at (there, agrees) = record {
+  peer = peer;
+  peer_is = peer_is;
+  entry = entry;
+  found = at;
+  here = ap (λ (c : Channel). c.peer) there.channel_is;
+  there = ap is_there there.life_is ∙ lives;
+  agrees = subst (λ s. AgreesIf (policy.wish held.psm) s entry.setup) has agrees;
+}
+
+talks_at : (stage : Stage) (setup : Setup) → setup_of stage ≡ Some setup → (peer : ℕ) × (peer_of stage ≡ Some peer) × (is_there (life_of stage) ≡ true)
+talks_at (Requested request) setup is = cc
+talks_at (Connected peer s) setup is = (peer, refl, refl)
+talks_at (Leaving peer s request) setup is = (peer, refl, refl)
+talks_at (Closing peer request) setup is = cc
+talks_at (Crossed peer request) setup is = cc
+
+is_read : (policy : Policy) (past : List Saying) (v : Channels) (own : ℕ) (held : Held) (setup : Setup) → find (has_own own) v.held ≡ Some held → setup_of held.stage ≡ Some setup → Sound policy (reading past) v → IsRead policy past own held setup
+is_read policy past v own held setup found has sound =
+    let (peer, peer_is, lives) = talks_at held.stage setup has in
+    read_by policy past own held setup peer (read_at own (reading past).entries) peer_is lives has refl
+    (subst (λ p. ReadsBy policy held p (read_at own (reading past).entries)) peer_is (subst (λ h. Reads policy h (read_at own (reading past).entries)) found (sound.core.reads own)))
+
+-- whether it has opened in the talk
+unset_is : (policy : Policy) (past : List Saying) (own : ℕ) (held : Held) (setup : Setup) (r : IsRead policy past own held setup) → (setup.carrier ≡ None) ⊎ (setup.own ≡ Unasked) → is_set r.entry.setup ≡ false
+unset_is policy past own held setup r (inl none) = ap (λ (m : Option Mode). is_some r.entry.setup.asked && is_some m) (r.agrees.set_up.accepted_is ∙ ap (option_map carrier_mode) none) ∙ and_off (is_some r.entry.setup.asked)
+unset_is policy past own held setup r (inr unasked) = ap (λ (m : Option Mode). is_some m && is_some r.entry.setup.accepted) (r.agrees.set_up.asked_is ∙ ap (asked_mode (policy.wish held.psm)) unasked)
+
+set_is : (policy : Policy) (past : List Saying) (own : ℕ) (held : Held) (setup : Setup) (r : IsRead policy past own held setup) (carrier : Carrier) → setup.carrier ≡ Some carrier → is_stated setup.own ≡ true → is_set r.entry.setup ≡ true
+set_is policy past own held setup r carrier is stated =
+    ap (λ (m : Option Mode). is_some m && is_some r.entry.setup.accepted) (r.agrees.set_up.asked_is ∙ stated_mode (policy.wish held.psm) setup.own stated)
+    ∙ ap (λ (m : Option Mode). is_some m) (r.agrees.set_up.accepted_is ∙ ap (option_map carrier_mode) is)
+
+and_right : (a b : Bool) → (a && b) ≡ true → b ≡ true
+and_right true b is = is
+and_right false b is = cc
+
+and_on : (b : Bool) → (b && true) ≡ b
+and_on true = refl
+and_on false = refl
+
+held_is : (policy : Policy) (past : List Saying) (own : ℕ) (held : Held) (setup : Setup) (r : IsRead policy past own held setup) (b : Bool) → is_set r.entry.setup ≡ b → counted_in is_passed (read_at own (reading past).entries) ≡ b
+held_is policy past own held setup r b is = ap (counted_in is_passed) r.found ∙ (ap (λ t. is_set r.entry.setup && t) r.there ∙ (and_on (is_set r.entry.setup) ∙ is))
+
+-- ---- a PDU comes in
+
+-- a channel that its machine closes is closed
+closed_keeps : (policy : Policy) (P : OfCarrier) (u : Channels) (held : Held) (reason : CloseReason) (stage : Stage) (setup : Setup) → find (has_own held.own) u.held ≡ Some held → setup_of stage ≡ Some setup → HeldKeeps policy P (find (has_own held.own) (closes_at stage reason held u).held)
+closed_keeps policy P u held reason (Requested request) setup found has = cc
+closed_keeps policy P u held reason (Connected peer s) setup found has = subst (HeldKeeps policy P) (sym (found-placed (staged held (Closing peer (new_request u))) held u.held found)) tt
+closed_keeps policy P u held reason (Leaving peer s request) setup found has = subst (HeldKeeps policy P) (sym (found-placed (staged held (Closing peer request)) held u.held found)) tt
+closed_keeps policy P u held reason (Closing peer request) setup found has = cc
+closed_keeps policy P u held reason (Crossed peer request) setup found has = cc
+
+-- the machine of a channel that takes it
+heard_keeps : (policy : Policy) (party : Party) (frames : List Passage) (pdu : List ℕ) (u : Channels) (held : Held) (setup : Setup) (machine : Ertm) (opened : Bool) (closed : Option ErtmReason) → setup_of held.stage ≡ Some setup
+    → find (has_own held.own) u.held ≡ Some (with_setup held (granted_setup setup)) → Passing party.frame frames opened machine → (machine_heard (read machine pdu) machine).closed ≡ closed
+    → HeldKeeps policy (Passed party.frame (frames ++ heard_in party.frame pdu)) (find (has_own held.own) (settles_machine closed (machine_heard (read machine pdu) machine) (with_setup held (granted_setup setup)) (granted_setup setup) u).held)
+heard_keeps policy party frames pdu u held setup machine opened None has here passing open' =
+    let base : Setup = granted_setup setup in
+    let after : Ertm = machine_heard (read machine pdu) machine in
+    let last : Setup = record base { carrier = Some (Retransmitting after) } in
+    let at_base : Held = with_setup held base in
+    subst (HeldKeeps policy (Passed party.frame (frames ++ heard_in party.frame pdu))) (sym (with-found u at_base last here))
+    (keeps_setup party.frame (frames ++ heard_in party.frame pdu) (policy.wish held.psm) (stage_with last at_base.stage) last (with-setup at_base.stage base last (with-setup held.stage setup base has)) (passing-hears party.frame frames opened machine pdu passing open'))
+heard_keeps policy party frames pdu u held setup machine opened (Some reason) has here passing open' =
+    let base : Setup = granted_setup setup in
+    let at_base : Held = with_setup held base in
+    closed_keeps policy (Passed party.frame (frames ++ heard_in party.frame pdu)) u at_base (reason_of reason) at_base.stage base here (with-setup held.stage setup base has)
+
+heard_none : (party : Party) (frames : List Passage) (opened : Bool) (machine : Ertm) (pdu : List ℕ) → Passing party.frame frames opened machine → is_frame (read machine pdu) ≡ false → heard_in party.frame pdu ≡ []
+heard_none party frames opened machine pdu passing none =
+    ap (λ n. heard_in n pdu) (sym (ap (λ (a : Agreed). a.receive_mps) passing.agreed_is ∙ passing.frame_is)) ∙ by (read machine pdu) none
+  where
+    by : (found : FrameAnswer) → is_frame found ≡ false → option_to_list (option_map In (frame_by found)) ≡ []
+    by (Ok frame) is = cc
+    by (Err refusal) is = refl
+
+-- a channel that does not take it, or that the talk has not opened
+into_none : (party : Party) (channel : Channel) (past : List Saying) (pdu : List ℕ) (own : ℕ) (holds : Bool) → eqb (channel_of pdu) own ≡ true → counted_in is_passed (read_at own (reading past).entries) ≡ holds → (holds ≡ false) ⊎ (heard_in party.frame pdu ≡ [])
+    → frames_on party channel (past ++ Carried Into pdu ∷ []) own ≡ frames_on party channel past own
+into_none party channel past pdu own holds here is none = into-own party (channel_at channel own) past pdu holds here is ∙ (ap (λ fs. frames_on party channel past own ++ fs) (by holds none) ∙ append-nil (frames_on party channel past own))
+  where
+    by : (holds : Bool) → (holds ≡ false) ⊎ (heard_in party.frame pdu ≡ []) → cond holds (heard_in party.frame pdu) [] ≡ []
+    by false none = refl
+    by true (inl shut) = cc
+    by true (inr nothing) = nothing
+
+-- all of what may come of it
+comes_on : (policy : Policy) (party : Party) (channel : Channel) (past : List Saying) (v : Channels) (pdu : List ℕ) (held : Held) (setup : Setup) → eqb (channel_of pdu) held.own ≡ true → find (has_own held.own) v.held ≡ Some held → setup_of held.stage ≡ Some setup
+    → Sound policy (reading past) v → StageKeeps (Passed party.frame (frames_on party channel past held.own)) (policy.wish held.psm) held.stage
+    → HeldKeeps policy (Passed party.frame (frames_on party channel (past ++ Carried Into pdu ∷ []) held.own)) (find (has_own held.own) (takes_on (Some setup) pdu held v).held)
+comes_on policy party channel past v pdu held setup here found has sound kept =
+    takes-cases (λ w. HeldKeeps policy (Passed party.frame after) (find (has_own held.own) w.held)) v pdu held setup (record {
+      none = λ is. stays (same (inl (held_is policy past held.own held setup r false (unset_is policy past held.own held setup r (inl is)))));
+      ignored = λ carrier is taken. stays (same (ignored setup.own refl carrier is taken));
+      whole = λ u agreed waiting is taken opens.
+          subst (HeldKeeps policy (Passed party.frame after)) (sym opens.here)
+          (keeps_setup party.frame after (policy.wish held.psm) (stage_with (granted_setup setup) held.stage) (granted_setup setup) (with-setup held.stage setup (granted_setup setup) has)
+          (subst (CarrierPasses party.frame after (policy.wish held.psm) (is_open (granted_setup setup))) (sym is) (subst (CarrierPasses party.frame before (policy.wish held.psm) (is_open setup)) is passes)));
+      framed = λ u machine is taken opens.
+          subst (λ fs. HeldKeeps policy (Passed party.frame fs) (find (has_own held.own) (settles_machine (machine_heard (read machine pdu) machine).closed (machine_heard (read machine pdu) machine) (with_setup held (granted_setup setup)) (granted_setup setup) u).held))
+          (sym (into-own party (channel_at channel held.own) past pdu true here (held_is policy past held.own held setup r true (set_is policy past held.own held setup r (Retransmitting machine) is (stated setup.own (Retransmitting machine) taken)))))
+          (heard_keeps policy party before pdu u held setup machine (is_open setup) (machine_heard (read machine pdu) machine).closed has opens.here (subst (CarrierPasses party.frame before (policy.wish held.psm) (is_open setup)) is passes) refl);
+    }) found has
+  where
+    before : List Passage
+    before = frames_on party channel past held.own
+
+    after : List Passage
+    after = frames_on party channel (past ++ Carried Into pdu ∷ []) held.own
+
+    r : IsRead policy past held.own held setup
+    r = is_read policy past v held.own held setup found has sound
+
+    passes : CarrierPasses party.frame before (policy.wish held.psm) (is_open setup) setup.carrier
+    passes = kept_setup party.frame before (policy.wish held.psm) held.stage setup has kept
+
+    holds : Bool
+    holds = counted_in is_passed (read_at held.own (reading past).entries)
+
+    same : (holds ≡ false) ⊎ (heard_in party.frame pdu ≡ []) → after ≡ before
+    same none = into_none party channel past pdu held.own holds here refl none
+
+    stays : after ≡ before → HeldKeeps policy (Passed party.frame after) (find (has_own held.own) v.held)
+    stays is = subst (HeldKeeps policy (Passed party.frame after)) (sym found) (subst (λ fs. StageKeeps (Passed party.frame fs) (policy.wish held.psm) held.stage) (sym is) kept)
+
+    ignored : (own : Own) → setup.own ≡ own → (carrier : Carrier) → setup.carrier ≡ Some carrier → is_taken_with own carrier pdu ≡ false → (holds ≡ false) ⊎ (heard_in party.frame pdu ≡ [])
+    ignored Unasked own_is carrier is taken = inl (held_is policy past held.own held setup r false (unset_is policy past held.own held setup r (inr own_is)))
+    ignored (Asking request options) own_is (Plain agreed waiting) is taken = cc
+    ignored (Asking request options) own_is (Retransmitting machine) is taken =
+        inr (heard_none party before (is_open setup) machine pdu (subst (CarrierPasses party.frame before (policy.wish held.psm) (is_open setup)) is passes) taken)
+    ignored Granted own_is carrier is taken = cc
+
+    stated : (own : Own) (carrier : Carrier) → is_taken_with own carrier pdu ≡ true → is_stated own ≡ true
+    stated Unasked carrier taken = cc
+    stated (Asking request options) carrier taken = refl
+    stated Granted carrier taken = refl
+
+-- a channel of which there is nothing to carry
+comes_none : (policy : Policy) (party : Party) (channel : Channel) (past : List Saying) (pdu : List ℕ) (held : Held) (stage : Stage) → held.stage ≡ stage → setup_of stage ≡ None → eqb (channel_of pdu) held.own ≡ true → Reads policy (Some held) (read_at held.own (reading past).entries)
+    → StageKeeps (Passed party.frame (frames_on party channel past held.own)) (policy.wish held.psm) stage → StageKeeps (Passed party.frame (frames_on party channel (past ++ Carried Into pdu ∷ []) held.own)) (policy.wish held.psm) stage
+comes_none policy party channel past pdu held (Requested request) is has here reads kept =
+    into_none party channel past pdu held.own false here (ap (counted_in is_passed) (requested-unread policy held request (read_at held.own (reading past).entries) is reads)) (inl refl) ∙ kept
+comes_none policy party channel past pdu held (Connected peer setup) is has here reads kept = cc
+comes_none policy party channel past pdu held (Leaving peer setup request) is has here reads kept = cc
+comes_none policy party channel past pdu held (Closing peer request) is has here reads kept = tt
+comes_none policy party channel past pdu held (Crossed peer request) is has here reads kept = tt
+
+comes_held : (policy : Policy) (party : Party) (channel : Channel) (past : List Saying) (v : Channels) (pdu : List ℕ) (held : Held) → eqb (channel_of pdu) held.own ≡ true → find (has_own held.own) v.held ≡ Some held → Sound policy (reading past) v
+    → StageKeeps (Passed party.frame (frames_on party channel past held.own)) (policy.wish held.psm) held.stage
+    → HeldKeeps policy (Passed party.frame (frames_on party channel (past ++ Carried Into pdu ∷ []) held.own)) (find (has_own held.own) (takes_on (setup_of held.stage) pdu held v).held)
+comes_held policy party channel past v pdu held here found sound kept = by (setup_of held.stage) refl
+  where
+    by : (setup : Option Setup) → setup_of held.stage ≡ setup → HeldKeeps policy (Passed party.frame (frames_on party channel (past ++ Carried Into pdu ∷ []) held.own)) (find (has_own held.own) (takes_on setup pdu held v).held)
+    by None has =
+        subst (HeldKeeps policy (Passed party.frame (frames_on party channel (past ++ Carried Into pdu ∷ []) held.own))) (sym found)
+        (comes_none policy party channel past pdu held held.stage refl has here (subst (λ h. Reads policy h (read_at held.own (reading past).entries)) found (sound.core.reads held.own)) kept)
+    by (Some setup) has = comes_on policy party channel past v pdu held setup here found has sound kept
+
+pub comes-pass : (policy : Policy) (party : Party) (channel : Channel) (past : List Saying) (v : Channels) (pdu : List ℕ) → Sound policy (reading past) v → Pass policy party channel past v → Pass policy party channel (past ++ Carried Into pdu ∷ []) (takes (channel_of pdu) pdu v)
+comes-pass policy party channel past v pdu sound all = record {
+  at = λ own. by own (eqb k own) refl;
+  fresh = λ own psm above. fresh own (eqb k own) refl (above_v own above) ∙ all.fresh own psm (above_v own above);
+  below = λ own above. fresh-held own k pdu v (all.below own (above_v own above));
+}
+  where
+    k : ℕ
+    k = channel_of pdu
+
+    w : Channels
+    w = takes k pdu v
+
+    above_v : (own : ℕ) → w.next ≤ own → v.next ≤ own
+    above_v own above = let same : w.next ≡ v.next = (takes-others k pdu v).next_is in omega (arith, same, above)
+
+    fresh : (own : ℕ) (same : Bool) → eqb k own ≡ same → v.next ≤ own → frames_on party channel (past ++ Carried Into pdu ∷ []) own ≡ frames_on party channel past own
+    fresh own true is above = into_none party channel past pdu own false is (ap (counted_in is_passed) (sound.core.read_below own above)) (inl refl)
+    fresh own false away above = into-other party (channel_at channel own) past pdu away
+
+    on : (own : ℕ) (held : Option Held) → find (has_own own) v.held ≡ held → eqb k own ≡ true → HeldKeeps policy (Passed party.frame (frames_on party channel past own)) held
+        → HeldKeeps policy (Passed party.frame (frames_on party channel (past ++ Carried Into pdu ∷ []) own)) (find (has_own own) (takes_held held pdu v).held)
+    on own None found is kept = subst (HeldKeeps policy (Passed party.frame (frames_on party channel (past ++ Carried Into pdu ∷ []) own))) (sym found) tt
+    on own (Some held) found is kept =
+        let same : held.own ≡ own = found-has own_of own v.held held found in
+        subst (λ n. HeldKeeps policy (Passed party.frame (frames_on party channel (past ++ Carried Into pdu ∷ []) n)) (find (has_own n) (takes_on (setup_of held.stage) pdu held v).held)) same
+        (comes_held policy party channel past v pdu held (ap (eqb k) same ∙ is) (found-own own v held found) sound (subst (λ n. StageKeeps (Passed party.frame (frames_on party channel past n)) (policy.wish held.psm) held.stage) (sym same) kept))
+
+    by : (own : ℕ) (same : Bool) → eqb k own ≡ same → HeldKeeps policy (Passed party.frame (frames_on party channel (past ++ Carried Into pdu ∷ []) own)) (find (has_own own) w.held)
+    by own true is =
+        subst (λ n. HeldKeeps policy (Passed party.frame (frames_on party channel (past ++ Carried Into pdu ∷ []) own)) (find (has_own own) (takes n pdu v).held)) (sym (eqb-true k own is))
+        (on own (find (has_own own) v.held) refl is (all.at own))
+    by own false away =
+        subst (HeldKeeps policy (Passed party.frame (frames_on party channel (past ++ Carried Into pdu ∷ []) own))) (sym ((takes-others k pdu v).others own away))
+        (subst (λ fs. HeldKeeps policy (Passed party.frame fs) (find (has_own own) v.held)) (sym (into-other party (channel_at channel own) past pdu away)) (all.at own))
+
+-- ---- one channel goes on
+
+-- with what is said on it
+pass_placed : (policy : Policy) (party : Party) (channel : Channel) (past past' : List Saying) (v w : Channels) (held : Held) (stage : Stage) → find (has_own held.own) v.held ≡ Some held → w.held ≡ map (in_place_of (staged held stage)) v.held → w.next ≡ v.next
+    → ((own : ℕ) → eqb held.own own ≡ false → frames_on party channel past' own ≡ frames_on party channel past own) → StageKeeps (Passed party.frame (frames_on party channel past' held.own)) (policy.wish held.psm) stage
+    → Pass policy party channel past v → Pass policy party channel past' w
+pass_placed policy party channel past past' v w held stage found held_is next_is others kept all = record {
+  at = at_each (λ n. HeldKeeps policy (Passed party.frame (frames_on party channel past n)) (find (has_own n) v.held)) (λ n. HeldKeeps policy (Passed party.frame (frames_on party channel past' n)) (find (has_own n) w.held)) held.own
+      (λ n away was. subst (HeldKeeps policy (Passed party.frame (frames_on party channel past' n))) (sym (ap (find (has_own n)) held_is ∙ find-placed (staged held stage) v.held n away))
+      (subst (λ fs. HeldKeeps policy (Passed party.frame fs) (find (has_own n) v.held)) (sym (others n away)) was))
+      (subst (HeldKeeps policy (Passed party.frame (frames_on party channel past' held.own))) (sym (ap (find (has_own held.own)) held_is ∙ found-placed (staged held stage) held v.held found)) kept)
+      all.at;
+  fresh = λ own psm above.
+      let high : v.next ≤ own = omega (arith, next_is, above) in
+      others own (less-apart held.own own (under v held v.next own refl all.below found high)) ∙ all.fresh own psm high;
+  below = λ own above.
+      let high : v.next ≤ own = omega (arith, next_is, above) in
+      ap (find (has_own own)) held_is ∙ (find-placed (staged held stage) v.held own (less-apart held.own own (under v held v.next own refl all.below found high)) ∙ all.below own high);
+}
+
+pass_same : (policy : Policy) (party : Party) (channel : Channel) (past past' : List Saying) (v w : Channels) → w.held ≡ v.held → w.next ≡ v.next → past' ≡ past → Pass policy party channel past v → Pass policy party channel past' w
+pass_same policy party channel past past' v w held_is next_is same all = subst (λ said. Pass policy party channel said w) (sym same) (record {
+  at = λ own. subst (HeldKeeps policy (Passed party.frame (frames_on party channel past own))) (sym (ap (find (has_own own)) held_is)) (all.at own);
+  fresh = λ own psm above. all.fresh own psm (omega (arith, next_is, above));
+  below = λ own above. ap (find (has_own own)) held_is ∙ all.below own (omega (arith, next_is, above));
+})
+
+-- a channel of an endpoint that something goes out on
+goes_out : (policy : Policy) (past : List Saying) (v : Channels) (own : ℕ) (held : Held) (setup : Setup) (r : IsRead policy past own held setup) → is_set r.entry.setup ≡ true → Sound policy (reading past) v → GoesOut past own r.peer
+goes_out policy past v own held setup r set sound = record {
+  entry = r.entry;
+  found = r.found;
+  peer_is = r.here;
+  holds = ap (λ t. t && is_there r.entry.life) set ∙ r.there;
+  only = λ other x at there same. sound.core.apart other own x r.entry at r.found there r.there (same ∙ sym r.here);
+}
+
+open_stated : (setup : Setup) → is_open setup ≡ true → is_stated setup.own ≡ true
+open_stated setup is = by setup.own (and_right (is_some setup.carrier) (is_granted setup.own) is)
+  where
+    by : (own : Own) → is_granted own ≡ true → is_stated own ≡ true
+    by Unasked is = cc
+    by (Asking request options) is = cc
+    by Granted is = refl
+
+-- in basic mode nothing is held
+plain_placed : (policy : Policy) (party : Party) (channel : Channel) (past past' : List Saying) (v : Channels) (held : Held) (setup after : Setup) (agreed : Agreed) (waiting waiting' : Option (List ℕ)) → find (has_own held.own) v.held ≡ Some held → setup_of held.stage ≡ Some setup
+    → setup.carrier ≡ Some (Plain agreed waiting) → after.carrier ≡ Some (Plain agreed waiting') → ((own : ℕ) → eqb held.own own ≡ false → frames_on party channel past' own ≡ frames_on party channel past own)
+    → Pass policy party channel past v → Pass policy party channel past' (to_setup held after v)
+plain_placed policy party channel past past' v held setup after agreed waiting waiting' found has is after_is others all =
+    let before : List Passage = frames_on party channel past held.own in
+    let basic : (policy.wish held.psm).mode ≡ Basic = subst (CarrierPasses party.frame before (policy.wish held.psm) (is_open setup)) is (kept_setup party.frame before (policy.wish held.psm) held.stage setup has (subst (HeldKeeps policy (Passed party.frame before)) found (all.at held.own))) in
+    pass_placed policy party channel past past' v (to_setup held after v) held (stage_with after held.stage) found refl refl others
+    (keeps_setup party.frame (frames_on party channel past' held.own) (policy.wish held.psm) (stage_with after held.stage) after (with-setup held.stage setup after has)
+    (subst (CarrierPasses party.frame (frames_on party channel past' held.own) (policy.wish held.psm) (is_open after)) (sym after_is) basic)) all
+
+-- ---- an SDU is sent
+
+sent_on : (policy : Policy) (party : Party) (channel : Channel) (past : List Saying) (v : Channels) (held : Held) (setup : Setup) (sdu : List ℕ) (carrier : Option Carrier) → find (has_own held.own) v.held ≡ Some held → setup_of held.stage ≡ Some setup → setup.carrier ≡ carrier
+    → is_open setup ≡ true → peer_at (Some held) < 65536 → Sound policy (reading past) v → Pass policy party channel past v
+    → (let after : Setup = record setup { carrier = option_map (λ c. carrier_with c sdu) carrier } in Pass policy party channel (past ++ said_by_carrier carrier (peer_at (Some held)) sdu) (to_setup held after v))
+sent_on policy party channel past v held setup sdu None found has is opened fits sound all = let never : false ≡ true = sym (ap (λ (c : Option Carrier). is_some c && is_granted setup.own) is) ∙ opened in absurd cc
+sent_on policy party channel past v held setup sdu (Some (Retransmitting machine)) found has is opened fits sound all =
+    let after : Setup = record setup { carrier = Some (Retransmitting (submitted sdu machine)) } in
+    let before : List Passage = frames_on party channel past held.own in
+    let passes : CarrierPasses party.frame before (policy.wish held.psm) (is_open setup) (Some (Retransmitting machine)) =
+    subst (CarrierPasses party.frame before (policy.wish held.psm) (is_open setup)) is (kept_setup party.frame before (policy.wish held.psm) held.stage setup has (subst (HeldKeeps policy (Passed party.frame before)) found (all.at held.own))) in
+    subst (λ said. Pass policy party channel said (to_setup held after v)) (sym (append-nil past))
+    (pass_placed policy party channel past past v (to_setup held after v) held (stage_with after held.stage) found refl refl (λ own away. refl)
+    (keeps_setup party.frame before (policy.wish held.psm) (stage_with after held.stage) after (with-setup held.stage setup after has)
+    (subst (λ b. Passing party.frame before b (submitted sdu machine)) (sym (and_right (is_some setup.carrier) (is_granted setup.own) opened)) (passing-submits party.frame before (is_open setup) machine sdu passes))) all)
+sent_on policy party channel past v held setup sdu (Some (Plain agreed (Some waiting))) found has is opened fits sound all =
+    let after : Setup = record setup { carrier = Some (Plain agreed (Some waiting)) } in
+    subst (λ said. Pass policy party channel said (to_setup held after v)) (sym (append-nil past))
+    (plain_placed policy party channel past past v held setup after agreed (Some waiting) (Some waiting) found has is refl (λ own away. refl) all)
+sent_on policy party channel past v held setup sdu (Some (Plain agreed None)) found has is opened fits sound all =
+    let after : Setup = record setup { carrier = Some (Plain agreed (Some sdu)) } in
+    let r : IsRead policy past held.own held setup = is_read policy past v held.own held setup found has sound in
+    let to : peer_at (Some held) ≡ r.peer = ap (λ p. unwrap_or p 0) r.peer_is in
+    let out : GoesOut past held.own r.peer = goes_out policy past v held.own held setup r (set_is policy past held.own held setup r (Plain agreed None) is (open_stated setup opened)) sound in
+    plain_placed policy party channel past (past ++ Carried Out (headed (peer_at (Some held)) sdu) ∷ []) v held setup after agreed None (Some sdu) found has is refl
+    (λ own away. out-other party (channel_at channel own) past held.own r.peer (headed (peer_at (Some held)) sdu) out (le16-number (peer_at (Some held)) sdu fits ∙ to) away) all
