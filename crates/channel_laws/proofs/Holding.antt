@@ -69,29 +69,29 @@ Pass policy party channel past v = AllKeep policy (λ own. Passed party.frame (f
 
 -- ---- a channel that talks
 
-kept_setup : (frame : ℕ) (frames : List Passage) (wish : Wish) (stage : Stage) (setup : Setup) → setup_of stage ≡ Some setup → StageKeeps (Passed frame frames) wish stage → CarrierPasses frame frames wish (is_open setup) setup.carrier
-kept_setup frame frames wish (Requested request) setup is kept = cc
-kept_setup frame frames wish (Connected peer s) setup is kept = let same : s ≡ setup = cc in subst (λ (x : Setup). CarrierPasses frame frames wish (is_open x) x.carrier) same kept
-kept_setup frame frames wish (Leaving peer s request) setup is kept = let same : s ≡ setup = cc in subst (λ (x : Setup). CarrierPasses frame frames wish (is_open x) x.carrier) same kept
-kept_setup frame frames wish (Closing peer request) setup is kept = cc
-kept_setup frame frames wish (Crossed peer request) setup is kept = cc
+pub kept-setup : (frame : ℕ) (frames : List Passage) (wish : Wish) (stage : Stage) (setup : Setup) → setup_of stage ≡ Some setup → StageKeeps (Passed frame frames) wish stage → CarrierPasses frame frames wish (is_open setup) setup.carrier
+kept-setup frame frames wish (Requested request) setup is kept = cc
+kept-setup frame frames wish (Connected peer s) setup is kept = let same : s ≡ setup = cc in subst (λ (x : Setup). CarrierPasses frame frames wish (is_open x) x.carrier) same kept
+kept-setup frame frames wish (Leaving peer s request) setup is kept = let same : s ≡ setup = cc in subst (λ (x : Setup). CarrierPasses frame frames wish (is_open x) x.carrier) same kept
+kept-setup frame frames wish (Closing peer request) setup is kept = cc
+kept-setup frame frames wish (Crossed peer request) setup is kept = cc
 
-keeps_setup : (frame : ℕ) (frames : List Passage) (wish : Wish) (stage : Stage) (setup : Setup) → setup_of stage ≡ Some setup → CarrierPasses frame frames wish (is_open setup) setup.carrier → StageKeeps (Passed frame frames) wish stage
-keeps_setup frame frames wish (Requested request) setup is passes = cc
-keeps_setup frame frames wish (Connected peer s) setup is passes = let same : s ≡ setup = cc in subst (λ (x : Setup). CarrierPasses frame frames wish (is_open x) x.carrier) (sym same) passes
-keeps_setup frame frames wish (Leaving peer s request) setup is passes = let same : s ≡ setup = cc in subst (λ (x : Setup). CarrierPasses frame frames wish (is_open x) x.carrier) (sym same) passes
-keeps_setup frame frames wish (Closing peer request) setup is passes = cc
-keeps_setup frame frames wish (Crossed peer request) setup is passes = cc
+pub keeps-setup : (frame : ℕ) (frames : List Passage) (wish : Wish) (stage : Stage) (setup : Setup) → setup_of stage ≡ Some setup → CarrierPasses frame frames wish (is_open setup) setup.carrier → StageKeeps (Passed frame frames) wish stage
+keeps-setup frame frames wish (Requested request) setup is passes = cc
+keeps-setup frame frames wish (Connected peer s) setup is passes = let same : s ≡ setup = cc in subst (λ (x : Setup). CarrierPasses frame frames wish (is_open x) x.carrier) (sym same) passes
+keeps-setup frame frames wish (Leaving peer s request) setup is passes = let same : s ≡ setup = cc in subst (λ (x : Setup). CarrierPasses frame frames wish (is_open x) x.carrier) (sym same) passes
+keeps-setup frame frames wish (Closing peer request) setup is passes = cc
+keeps-setup frame frames wish (Crossed peer request) setup is passes = cc
 
 -- what is read of it
-record IsRead (policy : Policy) (past : List Saying) (own : ℕ) (held : Held) (setup : Setup) : Type 0 where
-  peer : ℕ
-  peer_is : peer_of held.stage ≡ Some peer
-  entry : Entry
-  found : read_at own (reading past).entries ≡ Some entry
-  here : entry.channel.peer ≡ peer
-  there : is_there entry.life ≡ true
-  agrees : Agrees (policy.wish held.psm) setup entry.setup
+pub record IsRead (policy : Policy) (past : List Saying) (own : ℕ) (held : Held) (setup : Setup) : Type 0 where
+  pub peer : ℕ
+  pub peer_is : peer_of held.stage ≡ Some peer
+  pub entry : Entry
+  pub found : read_at own (reading past).entries ≡ Some entry
+  pub here : entry.channel.peer ≡ peer
+  pub there : is_there entry.life ≡ true
+  pub agrees : Agrees (policy.wish held.psm) setup entry.setup
 
 read_by : (policy : Policy) (past : List Saying) (own : ℕ) (held : Held) (setup : Setup) (peer : ℕ) (found : Option Entry) → peer_of held.stage ≡ Some peer → is_there (life_of held.stage) ≡ true → setup_of held.stage ≡ Some setup
     → read_at own (reading past).entries ≡ found → ReadsBy policy held (Some peer) found → IsRead policy past own held setup
@@ -113,25 +113,25 @@ talks_at (Leaving peer s request) setup is = (peer, refl, refl)
 talks_at (Closing peer request) setup is = cc
 talks_at (Crossed peer request) setup is = cc
 
-is_read : (policy : Policy) (past : List Saying) (v : Channels) (own : ℕ) (held : Held) (setup : Setup) → find (has_own own) v.held ≡ Some held → setup_of held.stage ≡ Some setup → Sound policy (reading past) v → IsRead policy past own held setup
-is_read policy past v own held setup found has sound =
+pub is-read : (policy : Policy) (past : List Saying) (v : Channels) (own : ℕ) (held : Held) (setup : Setup) → find (has_own own) v.held ≡ Some held → setup_of held.stage ≡ Some setup → Sound policy (reading past) v → IsRead policy past own held setup
+is-read policy past v own held setup found has sound =
     let (peer, peer_is, lives) = talks_at held.stage setup has in
     read_by policy past own held setup peer (read_at own (reading past).entries) peer_is lives has refl
     (subst (λ p. ReadsBy policy held p (read_at own (reading past).entries)) peer_is (subst (λ h. Reads policy h (read_at own (reading past).entries)) found (sound.core.reads own)))
 
 -- whether it has opened in the talk
-unset_is : (policy : Policy) (past : List Saying) (own : ℕ) (held : Held) (setup : Setup) (r : IsRead policy past own held setup) → (setup.carrier ≡ None) ⊎ (setup.own ≡ Unasked) → is_set r.entry.setup ≡ false
-unset_is policy past own held setup r (inl none) = ap (λ (m : Option Mode). is_some r.entry.setup.asked && is_some m) (r.agrees.set_up.accepted_is ∙ ap (option_map carrier_mode) none) ∙ and_off (is_some r.entry.setup.asked)
-unset_is policy past own held setup r (inr unasked) = ap (λ (m : Option Mode). is_some m && is_some r.entry.setup.accepted) (r.agrees.set_up.asked_is ∙ ap (asked_mode (policy.wish held.psm)) unasked)
+pub unset-is : (policy : Policy) (past : List Saying) (own : ℕ) (held : Held) (setup : Setup) (r : IsRead policy past own held setup) → (setup.carrier ≡ None) ⊎ (setup.own ≡ Unasked) → is_set r.entry.setup ≡ false
+unset-is policy past own held setup r (inl none) = ap (λ (m : Option Mode). is_some r.entry.setup.asked && is_some m) (r.agrees.set_up.accepted_is ∙ ap (option_map carrier_mode) none) ∙ and_off (is_some r.entry.setup.asked)
+unset-is policy past own held setup r (inr unasked) = ap (λ (m : Option Mode). is_some m && is_some r.entry.setup.accepted) (r.agrees.set_up.asked_is ∙ ap (asked_mode (policy.wish held.psm)) unasked)
 
-set_is : (policy : Policy) (past : List Saying) (own : ℕ) (held : Held) (setup : Setup) (r : IsRead policy past own held setup) (carrier : Carrier) → setup.carrier ≡ Some carrier → is_stated setup.own ≡ true → is_set r.entry.setup ≡ true
-set_is policy past own held setup r carrier is stated =
+pub set-is : (policy : Policy) (past : List Saying) (own : ℕ) (held : Held) (setup : Setup) (r : IsRead policy past own held setup) (carrier : Carrier) → setup.carrier ≡ Some carrier → is_stated setup.own ≡ true → is_set r.entry.setup ≡ true
+set-is policy past own held setup r carrier is stated =
     ap (λ (m : Option Mode). is_some m && is_some r.entry.setup.accepted) (r.agrees.set_up.asked_is ∙ stated_mode (policy.wish held.psm) setup.own stated)
     ∙ ap (λ (m : Option Mode). is_some m) (r.agrees.set_up.accepted_is ∙ ap (option_map carrier_mode) is)
 
-and_right : (a b : Bool) → (a && b) ≡ true → b ≡ true
-and_right true b is = is
-and_right false b is = cc
+pub and-right : (a b : Bool) → (a && b) ≡ true → b ≡ true
+and-right true b is = is
+and-right false b is = cc
 
 and_on : (b : Bool) → (b && true) ≡ b
 and_on true = refl
@@ -160,7 +160,7 @@ heard_keeps policy party frames pdu u held setup machine opened None has here pa
     let last : Setup = record base { carrier = Some (Retransmitting after) } in
     let at_base : Held = with_setup held base in
     subst (HeldKeeps policy (Passed party.frame (frames ++ heard_in party.frame pdu))) (sym (with-found u at_base last here))
-    (keeps_setup party.frame (frames ++ heard_in party.frame pdu) (policy.wish held.psm) (stage_with last at_base.stage) last (with-setup at_base.stage base last (with-setup held.stage setup base has)) (passing-hears party.frame frames opened machine pdu passing open'))
+    (keeps-setup party.frame (frames ++ heard_in party.frame pdu) (policy.wish held.psm) (stage_with last at_base.stage) last (with-setup at_base.stage base last (with-setup held.stage setup base has)) (passing-hears party.frame frames opened machine pdu passing open'))
 heard_keeps policy party frames pdu u held setup machine opened (Some reason) has here passing open' =
     let base : Setup = granted_setup setup in
     let at_base : Held = with_setup held base in
@@ -190,15 +190,15 @@ comes_on : (policy : Policy) (party : Party) (channel : Channel) (past : List Sa
     → HeldKeeps policy (Passed party.frame (frames_on party channel (past ++ Carried Into pdu ∷ []) held.own)) (find (has_own held.own) (takes_on (Some setup) pdu held v).held)
 comes_on policy party channel past v pdu held setup here found has sound kept =
     takes-cases (λ w. HeldKeeps policy (Passed party.frame after) (find (has_own held.own) w.held)) v pdu held setup (record {
-      none = λ is. stays (same (inl (held_is policy past held.own held setup r false (unset_is policy past held.own held setup r (inl is)))));
+      none = λ is. stays (same (inl (held_is policy past held.own held setup r false (unset-is policy past held.own held setup r (inl is)))));
       ignored = λ carrier is taken. stays (same (ignored setup.own refl carrier is taken));
       whole = λ u agreed waiting is taken opens.
           subst (HeldKeeps policy (Passed party.frame after)) (sym opens.here)
-          (keeps_setup party.frame after (policy.wish held.psm) (stage_with (granted_setup setup) held.stage) (granted_setup setup) (with-setup held.stage setup (granted_setup setup) has)
+          (keeps-setup party.frame after (policy.wish held.psm) (stage_with (granted_setup setup) held.stage) (granted_setup setup) (with-setup held.stage setup (granted_setup setup) has)
           (subst (CarrierPasses party.frame after (policy.wish held.psm) (is_open (granted_setup setup))) (sym is) (subst (CarrierPasses party.frame before (policy.wish held.psm) (is_open setup)) is passes)));
       framed = λ u machine is taken opens.
           subst (λ fs. HeldKeeps policy (Passed party.frame fs) (find (has_own held.own) (settles_machine (machine_heard (read machine pdu) machine).closed (machine_heard (read machine pdu) machine) (with_setup held (granted_setup setup)) (granted_setup setup) u).held))
-          (sym (into-own party (channel_at channel held.own) past pdu true here (held_is policy past held.own held setup r true (set_is policy past held.own held setup r (Retransmitting machine) is (stated setup.own (Retransmitting machine) taken)))))
+          (sym (into-own party (channel_at channel held.own) past pdu true here (held_is policy past held.own held setup r true (set-is policy past held.own held setup r (Retransmitting machine) is (stated setup.own (Retransmitting machine) taken)))))
           (heard_keeps policy party before pdu u held setup machine (is_open setup) (machine_heard (read machine pdu) machine).closed has opens.here (subst (CarrierPasses party.frame before (policy.wish held.psm) (is_open setup)) is passes) refl);
     }) found has
   where
@@ -209,10 +209,10 @@ comes_on policy party channel past v pdu held setup here found has sound kept =
     after = frames_on party channel (past ++ Carried Into pdu ∷ []) held.own
 
     r : IsRead policy past held.own held setup
-    r = is_read policy past v held.own held setup found has sound
+    r = is-read policy past v held.own held setup found has sound
 
     passes : CarrierPasses party.frame before (policy.wish held.psm) (is_open setup) setup.carrier
-    passes = kept_setup party.frame before (policy.wish held.psm) held.stage setup has kept
+    passes = kept-setup party.frame before (policy.wish held.psm) held.stage setup has kept
 
     holds : Bool
     holds = counted_in is_passed (read_at held.own (reading past).entries)
@@ -224,7 +224,7 @@ comes_on policy party channel past v pdu held setup here found has sound kept =
     stays is = subst (HeldKeeps policy (Passed party.frame after)) (sym found) (subst (λ fs. StageKeeps (Passed party.frame fs) (policy.wish held.psm) held.stage) (sym is) kept)
 
     ignored : (own : Own) → setup.own ≡ own → (carrier : Carrier) → setup.carrier ≡ Some carrier → is_taken_with own carrier pdu ≡ false → (holds ≡ false) ⊎ (heard_in party.frame pdu ≡ [])
-    ignored Unasked own_is carrier is taken = inl (held_is policy past held.own held setup r false (unset_is policy past held.own held setup r (inr own_is)))
+    ignored Unasked own_is carrier is taken = inl (held_is policy past held.own held setup r false (unset-is policy past held.own held setup r (inr own_is)))
     ignored (Asking request options) own_is (Plain agreed waiting) is taken = cc
     ignored (Asking request options) own_is (Retransmitting machine) is taken =
         inr (heard_none party before (is_open setup) machine pdu (subst (CarrierPasses party.frame before (policy.wish held.psm) (is_open setup)) is passes) taken)
@@ -291,86 +291,3 @@ comes-pass policy party channel past v pdu sound all = record {
     by own false away =
         subst (HeldKeeps policy (Passed party.frame (frames_on party channel (past ++ Carried Into pdu ∷ []) own))) (sym ((takes-others k pdu v).others own away))
         (subst (λ fs. HeldKeeps policy (Passed party.frame fs) (find (has_own own) v.held)) (sym (into-other party (channel_at channel own) past pdu away)) (all.at own))
-
--- ---- one channel goes on
-
--- with what is said on it
-pass_placed : (policy : Policy) (party : Party) (channel : Channel) (past past' : List Saying) (v w : Channels) (held : Held) (stage : Stage) → find (has_own held.own) v.held ≡ Some held → w.held ≡ map (in_place_of (staged held stage)) v.held → w.next ≡ v.next
-    → ((own : ℕ) → eqb held.own own ≡ false → frames_on party channel past' own ≡ frames_on party channel past own) → StageKeeps (Passed party.frame (frames_on party channel past' held.own)) (policy.wish held.psm) stage
-    → Pass policy party channel past v → Pass policy party channel past' w
-pass_placed policy party channel past past' v w held stage found held_is next_is others kept all = record {
-  at = at_each (λ n. HeldKeeps policy (Passed party.frame (frames_on party channel past n)) (find (has_own n) v.held)) (λ n. HeldKeeps policy (Passed party.frame (frames_on party channel past' n)) (find (has_own n) w.held)) held.own
-      (λ n away was. subst (HeldKeeps policy (Passed party.frame (frames_on party channel past' n))) (sym (ap (find (has_own n)) held_is ∙ find-placed (staged held stage) v.held n away))
-      (subst (λ fs. HeldKeeps policy (Passed party.frame fs) (find (has_own n) v.held)) (sym (others n away)) was))
-      (subst (HeldKeeps policy (Passed party.frame (frames_on party channel past' held.own))) (sym (ap (find (has_own held.own)) held_is ∙ found-placed (staged held stage) held v.held found)) kept)
-      all.at;
-  fresh = λ own psm above.
-      let high : v.next ≤ own = omega (arith, next_is, above) in
-      others own (less-apart held.own own (under v held v.next own refl all.below found high)) ∙ all.fresh own psm high;
-  below = λ own above.
-      let high : v.next ≤ own = omega (arith, next_is, above) in
-      ap (find (has_own own)) held_is ∙ (find-placed (staged held stage) v.held own (less-apart held.own own (under v held v.next own refl all.below found high)) ∙ all.below own high);
-}
-
-pass_same : (policy : Policy) (party : Party) (channel : Channel) (past past' : List Saying) (v w : Channels) → w.held ≡ v.held → w.next ≡ v.next → past' ≡ past → Pass policy party channel past v → Pass policy party channel past' w
-pass_same policy party channel past past' v w held_is next_is same all = subst (λ said. Pass policy party channel said w) (sym same) (record {
-  at = λ own. subst (HeldKeeps policy (Passed party.frame (frames_on party channel past own))) (sym (ap (find (has_own own)) held_is)) (all.at own);
-  fresh = λ own psm above. all.fresh own psm (omega (arith, next_is, above));
-  below = λ own above. ap (find (has_own own)) held_is ∙ all.below own (omega (arith, next_is, above));
-})
-
--- a channel of an endpoint that something goes out on
-goes_out : (policy : Policy) (past : List Saying) (v : Channels) (own : ℕ) (held : Held) (setup : Setup) (r : IsRead policy past own held setup) → is_set r.entry.setup ≡ true → Sound policy (reading past) v → GoesOut past own r.peer
-goes_out policy past v own held setup r set sound = record {
-  entry = r.entry;
-  found = r.found;
-  peer_is = r.here;
-  holds = ap (λ t. t && is_there r.entry.life) set ∙ r.there;
-  only = λ other x at there same. sound.core.apart other own x r.entry at r.found there r.there (same ∙ sym r.here);
-}
-
-open_stated : (setup : Setup) → is_open setup ≡ true → is_stated setup.own ≡ true
-open_stated setup is = by setup.own (and_right (is_some setup.carrier) (is_granted setup.own) is)
-  where
-    by : (own : Own) → is_granted own ≡ true → is_stated own ≡ true
-    by Unasked is = cc
-    by (Asking request options) is = cc
-    by Granted is = refl
-
--- in basic mode nothing is held
-plain_placed : (policy : Policy) (party : Party) (channel : Channel) (past past' : List Saying) (v : Channels) (held : Held) (setup after : Setup) (agreed : Agreed) (waiting waiting' : Option (List ℕ)) → find (has_own held.own) v.held ≡ Some held → setup_of held.stage ≡ Some setup
-    → setup.carrier ≡ Some (Plain agreed waiting) → after.carrier ≡ Some (Plain agreed waiting') → ((own : ℕ) → eqb held.own own ≡ false → frames_on party channel past' own ≡ frames_on party channel past own)
-    → Pass policy party channel past v → Pass policy party channel past' (to_setup held after v)
-plain_placed policy party channel past past' v held setup after agreed waiting waiting' found has is after_is others all =
-    let before : List Passage = frames_on party channel past held.own in
-    let basic : (policy.wish held.psm).mode ≡ Basic = subst (CarrierPasses party.frame before (policy.wish held.psm) (is_open setup)) is (kept_setup party.frame before (policy.wish held.psm) held.stage setup has (subst (HeldKeeps policy (Passed party.frame before)) found (all.at held.own))) in
-    pass_placed policy party channel past past' v (to_setup held after v) held (stage_with after held.stage) found refl refl others
-    (keeps_setup party.frame (frames_on party channel past' held.own) (policy.wish held.psm) (stage_with after held.stage) after (with-setup held.stage setup after has)
-    (subst (CarrierPasses party.frame (frames_on party channel past' held.own) (policy.wish held.psm) (is_open after)) (sym after_is) basic)) all
-
--- ---- an SDU is sent
-
-sent_on : (policy : Policy) (party : Party) (channel : Channel) (past : List Saying) (v : Channels) (held : Held) (setup : Setup) (sdu : List ℕ) (carrier : Option Carrier) → find (has_own held.own) v.held ≡ Some held → setup_of held.stage ≡ Some setup → setup.carrier ≡ carrier
-    → is_open setup ≡ true → peer_at (Some held) < 65536 → Sound policy (reading past) v → Pass policy party channel past v
-    → (let after : Setup = record setup { carrier = option_map (λ c. carrier_with c sdu) carrier } in Pass policy party channel (past ++ said_by_carrier carrier (peer_at (Some held)) sdu) (to_setup held after v))
-sent_on policy party channel past v held setup sdu None found has is opened fits sound all = let never : false ≡ true = sym (ap (λ (c : Option Carrier). is_some c && is_granted setup.own) is) ∙ opened in absurd cc
-sent_on policy party channel past v held setup sdu (Some (Retransmitting machine)) found has is opened fits sound all =
-    let after : Setup = record setup { carrier = Some (Retransmitting (submitted sdu machine)) } in
-    let before : List Passage = frames_on party channel past held.own in
-    let passes : CarrierPasses party.frame before (policy.wish held.psm) (is_open setup) (Some (Retransmitting machine)) =
-    subst (CarrierPasses party.frame before (policy.wish held.psm) (is_open setup)) is (kept_setup party.frame before (policy.wish held.psm) held.stage setup has (subst (HeldKeeps policy (Passed party.frame before)) found (all.at held.own))) in
-    subst (λ said. Pass policy party channel said (to_setup held after v)) (sym (append-nil past))
-    (pass_placed policy party channel past past v (to_setup held after v) held (stage_with after held.stage) found refl refl (λ own away. refl)
-    (keeps_setup party.frame before (policy.wish held.psm) (stage_with after held.stage) after (with-setup held.stage setup after has)
-    (subst (λ b. Passing party.frame before b (submitted sdu machine)) (sym (and_right (is_some setup.carrier) (is_granted setup.own) opened)) (passing-submits party.frame before (is_open setup) machine sdu passes))) all)
-sent_on policy party channel past v held setup sdu (Some (Plain agreed (Some waiting))) found has is opened fits sound all =
-    let after : Setup = record setup { carrier = Some (Plain agreed (Some waiting)) } in
-    subst (λ said. Pass policy party channel said (to_setup held after v)) (sym (append-nil past))
-    (plain_placed policy party channel past past v held setup after agreed (Some waiting) (Some waiting) found has is refl (λ own away. refl) all)
-sent_on policy party channel past v held setup sdu (Some (Plain agreed None)) found has is opened fits sound all =
-    let after : Setup = record setup { carrier = Some (Plain agreed (Some sdu)) } in
-    let r : IsRead policy past held.own held setup = is_read policy past v held.own held setup found has sound in
-    let to : peer_at (Some held) ≡ r.peer = ap (λ p. unwrap_or p 0) r.peer_is in
-    let out : GoesOut past held.own r.peer = goes_out policy past v held.own held setup r (set_is policy past held.own held setup r (Plain agreed None) is (open_stated setup opened)) sound in
-    plain_placed policy party channel past (past ++ Carried Out (headed (peer_at (Some held)) sdu) ∷ []) v held setup after agreed None (Some sdu) found has is refl
-    (λ own away. out-other party (channel_at channel own) past held.own r.peer (headed (peer_at (Some held)) sdu) out (le16-number (peer_at (Some held)) sdu fits ∙ to) away) all

@@ -38,6 +38,7 @@ pub mod Carriages
 pub mod Passing
 pub mod Passages
 pub mod Holding
+pub mod Outgoing
 pub mod Incoming
 pub mod Pairing
 pub mod Naming
