@@ -39,6 +39,7 @@ pub mod Passing
 pub mod Passages
 pub mod Holding
 pub mod Outgoing
+pub mod Frames
 pub mod Incoming
 pub mod Pairing
 pub mod Naming

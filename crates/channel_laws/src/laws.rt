@@ -3,6 +3,7 @@
 ghost use Rattle.channel_laws.specs.Awaited.{FeaturesAreAwaited, OptionsAreAwaited, RequestsAreAwaited};
 ghost use Rattle.channel_laws.specs.CheckWords.{CheckWordsAreRead};
 ghost use Rattle.channel_laws.specs.Endpoints.{EndpointsNameOneChannel};
+ghost use Rattle.channel_laws.specs.Frames.{FramesAreHeld};
 ghost use Rattle.channel_laws.specs.Laws.{ChannelsAreRead, EndpointsAreNew};
 ghost use Rattle.channel_laws.specs.Pairs.{EachEndRuns};
 ghost use Rattle.channel_laws.specs.Repeats.{RepeatsAreAnswered};
@@ -66,6 +67,12 @@ pub fn features_are_awaited()
 /// long as the channel is there and its host has not closed it.
 pub fn options_are_awaited()
     ensures { OptionsAreAwaited }
+{}
+
+/// Of an enhanced channel a host holds as many frames as its own talk says that are not acknowledged, and its machine
+/// is armed exactly where the talk says that a frame or a poll waits, if what it gives goes out as its octets.
+pub fn frames_are_held()
+    ensures { FramesAreHeld }
 {}
 
 /// A host gives a request that waits for its answer at most as often as it tries, and once where it tries less.
