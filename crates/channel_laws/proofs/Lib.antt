@@ -61,4 +61,5 @@ pub mod Heeding
 pub mod Answered
 pub mod Showing
 pub mod Options
+pub mod Arming
 

@@ -9,4 +9,5 @@ pub mod Endpoints
 pub mod Repeats
 pub mod Awaited
 pub mod Frames
+pub mod Armed
 pub mod Tries

@@ -1,5 +1,6 @@
 //! Laws of the channels of one host.
 
+ghost use Rattle.channel_laws.specs.Armed.{ArmedIsWhatWaits};
 ghost use Rattle.channel_laws.specs.Awaited.{FeaturesAreAwaited, OptionsAreAwaited, RequestsAreAwaited};
 ghost use Rattle.channel_laws.specs.CheckWords.{CheckWordsAreRead};
 ghost use Rattle.channel_laws.specs.Endpoints.{EndpointsNameOneChannel};
@@ -73,6 +74,12 @@ pub fn options_are_awaited()
 /// is armed exactly where the talk says that a frame or a poll waits, if what it gives goes out as its octets.
 pub fn frames_are_held()
     ensures { FramesAreHeld }
+{}
+
+/// The channels of a host are armed exactly where its own talk says that something waits: a request for a channel,
+/// for options, for the end of a channel or for information, a frame or a poll; requests for services are not theirs.
+pub fn armed_is_what_waits()
+    ensures { ArmedIsWhatWaits }
 {}
 
 /// A host gives a request that waits for its answer at most as often as it tries, and once where it tries less.
