@@ -229,11 +229,14 @@ new-carrier wish carrier accepted = by wish.mode refl
 
     by : (mode : Mode) → wish.mode ≡ mode → ((a : Agreed) × (carrier ≡ Plain a None) × (wish.mode ≡ Basic)) ⊎ ((a : Agreed) × IsNew wish a carrier)
     by Basic is = inl (agreed, accepted.is ∙ ap (λ m. carrier_by m agreed) is, is)
-    by Enhanced is = inr (agreed, record {
-      is = accepted.is ∙ ap (λ m. carrier_by m agreed) is;
-      small = window_small wish.mode (asked_mode accepted.options) wish.window accepted.given (accepted_values wish accepted.options accepted.given accepted.accepts);
-      frame_is = refl;
-    })
+    by Enhanced is = inr (
+      agreed,
+      record {
+        is = accepted.is ∙ ap (λ m. carrier_by m agreed) is;
+        small = window_small wish.mode (asked_mode accepted.options) wish.window accepted.given (accepted_values wish accepted.options accepted.given accepted.accepts);
+        frame_is = refl;
+      },
+    )
 
 new_attends : (wish : Wish) (frame : ℕ) (pdus : List (List ℕ)) (opened : Bool) (carrier : Carrier) → wish.mps ≡ frame → frames_in frame pdus ≡ [] → IsAccepted wish carrier → CarrierAttends wish frame pdus opened (Some carrier)
 new_attends wish frame pdus opened carrier mps none accepted = by (new-carrier wish carrier accepted)

@@ -1,15 +1,13 @@
 -- A host holds the frames that its talk says that are not acknowledged, and awaits what it says.
-use Rattle.std.proofs.Common.{◌≡◌, ℕ, List, [], ◌∷◌, ◌++◌, map, drop, fold, Bool, true, false, cond, eqb, not, ◌&&◌, ◌||◌, Option, Some, None, refl, sym, ap, subst, ◌∙◌, inl, inr, append_assoc, append-nil}
-use Rattle.std.specs.Prelude.{find, option_map, is_some, nat_lt}
+use Rattle.std.proofs.Common.{◌≡◌, ℕ, List, [], ◌∷◌, ◌++◌, map, drop, Bool, true, false, cond, eqb, ◌&&◌, ◌||◌, Option, Some, None, refl, sym, ap, subst, ◌∙◌, inr, append_assoc, append-nil}
+use Rattle.std.specs.Prelude.{option_map, is_some, nat_lt}
 use Rattle.std.proofs.lemmas.List.Sums.{fold-append}
 use Rattle.acl_fragments.specs.Pieces.{channel_of}
 use Rattle.capture.specs.declared.flow.Flow.TheVariants.{Into}
 use Rattle.capture.specs.Histories.{EachAfter}
 use Rattle.l2cap_signal.specs.Reading.{answers}
-use Rattle.l2cap_config.specs.declared.wish.Mode.{Mode}
 use Rattle.l2cap_config.specs.declared.wish.Mode.TheVariants.{Basic, Enhanced}
-use Rattle.l2cap_config.specs.declared.wish.Wish.{Wish}
-use Rattle.ertm_frames.specs.Picking.{Passage, outs, ins, unacknowledged, poll_waits}
+use Rattle.ertm_frames.specs.Picking.{outs, ins, unacknowledged, poll_waits}
 use Rattle.ertm_model.specs.Value.{Ertm, window_used as machine_window, armed as machine_armed}
 use Rattle.link_talk.specs.declared.channel.Channel.{Channel}
 use Rattle.link_talk.specs.declared.party.Party.{Party}
@@ -18,10 +16,10 @@ use Rattle.link_talk.specs.Setups.{is_enhanced, agreed_mode}
 use Rattle.link_talk.specs.Channels.{reading}
 use Rattle.link_talk.specs.Carriages.{entry_mode, mode_of}
 use Rattle.link_talk.specs.Accounts.{frames_passed, waiting_frames, window_used}
-use Rattle.link_talk.specs.Waits.{frames_wait_in, frames_wait}
+use Rattle.link_talk.specs.Waits.{frames_wait_in}
 use Rattle.channel_model.specs.Value.{Own, Unasked, Asking, Granted, Carrier, Plain, Retransmitting, Setup, Held, Channels}
 use Rattle.channel_model.specs.Policies.{Policy}
-use Rattle.channel_model.specs.Changing.{held_at, is_granted, is_open, setup_of}
+use Rattle.channel_model.specs.Changing.{held_at, is_granted, is_open}
 use Rattle.channel_model.specs.Hearing.{hears_commands}
 use Rattle.channel_model.specs.Carrying.{takes}
 use Rattle.channel_model.specs.Timing.{timed_out}
@@ -38,7 +36,7 @@ use Rattle.channel_laws.specs.Views.{asked_mode, carrier_mode}
 use Rattle.channel_laws.proofs.Sound.{CarrierIs, Sound}
 use Rattle.channel_laws.proofs.CheckWords.{stated_mode}
 use Rattle.channel_laws.proofs.Running.{all-sound, run-more}
-use Rattle.channel_laws.proofs.Keeping.{AllKeep, KeepsOn, HeldKeeps, keep-also, walks-keep}
+use Rattle.channel_laws.proofs.Keeping.{KeepsOn, HeldKeeps, keep-also, walks-keep}
 use Rattle.channel_laws.proofs.Signalling.{IsBare, bare-append, bare-asked, bare-with_all, bare-forgone, bare-fired}
 use Rattle.channel_laws.proofs.Incoming.{channel_at}
 use Rattle.channel_laws.proofs.Passing.{Passing, CarrierPasses, Passed, Fired, keeps-passed, passing-used}

@@ -1,63 +1,44 @@
 -- A host holds the frames that its talk says.
-use Rattle.std.proofs.Common.{◌≡◌, ℕ, ◌+◌, ◌≤◌, ◌<◌, List, [], ◌∷◌, ◌++◌, map, drop, Bool, true, false, cond, eqb, not, ◌&&◌, ◌||◌, Option, Some, None, Ok, Err, refl, sym, ap, subst, ◌∙◌, ◌⊎◌, inl, inr, arith, append_assoc, append-nil}
-use Rattle.std.specs.Prelude.{find, option_map, option_to_list, unwrap_or, is_some}
+use Rattle.std.proofs.Common.{◌≡◌, ℕ, ◌≤◌, List, [], ◌∷◌, ◌++◌, Bool, true, false, cond, eqb, ◌&&◌, Option, Some, None, Ok, Err, refl, sym, ap, subst, ◌∙◌, ◌⊎◌, inl, inr, arith, append-nil}
+use Rattle.std.specs.Prelude.{find, option_map, option_to_list, is_some}
 use Rattle.std.proofs.lemmas.Bool.{eqb-true}
-use Rattle.std.proofs.lemmas.List.Sums.{fold-append}
-use Rattle.bt_base.specs.Octets.{IsOctets}
-use Rattle.bt_base.proofs.OctetLemmas.{le16-number}
 use Rattle.acl_fragments.specs.Pieces.{channel_of}
-use Rattle.capture.specs.declared.flow.Flow.TheVariants.{Out, Into}
-use Rattle.capture.specs.Histories.{EachAfter}
-use Rattle.l2cap_signal.specs.Reading.{answers}
+use Rattle.capture.specs.declared.flow.Flow.TheVariants.{Into}
 use Rattle.l2cap_config.specs.declared.wish.Mode.{Mode}
-use Rattle.l2cap_config.specs.declared.wish.Mode.TheVariants.{Basic, Enhanced}
 use Rattle.l2cap_config.specs.declared.wish.Agreed.{Agreed}
 use Rattle.l2cap_config.specs.declared.wish.Wish.{Wish}
-use Rattle.ertm_frames.specs.Frames.{PlainFrame, Spells}
 use Rattle.ertm_frames.specs.Answers.{Answer as FrameAnswer}
-use Rattle.ertm_frames.specs.Reading.{frame_by, frame_in}
-use Rattle.ertm_frames.specs.Picking.{Passage, Out as Gave, In}
+use Rattle.ertm_frames.specs.Reading.{frame_by}
+use Rattle.ertm_frames.specs.Picking.{Passage, In}
 use Rattle.ertm_model.specs.declared.reason.ErtmReason.{ErtmReason}
 use Rattle.ertm_model.specs.Value.{Ertm}
-use Rattle.ertm_model.specs.Submitting.{submitted}
-use Rattle.ertm_model.specs.Giving.{next_frame, after_frame}
 use Rattle.link_talk.specs.declared.channel.Channel.{Channel}
 use Rattle.link_talk.specs.declared.party.Party.{Party}
 use Rattle.link_talk.specs.Sayings.{Saying, Carried}
 use Rattle.link_talk.specs.Setups.{is_set}
 use Rattle.link_talk.specs.Channels.{Entry, is_there, reading}
-use Rattle.link_talk.specs.Carriages.{is_held, is_passed}
+use Rattle.link_talk.specs.Carriages.{is_passed}
 use Rattle.link_talk.specs.Accounts.{frames_passed}
-use Rattle.channel_model.specs.declared.errand.Errand.{Errand}
-use Rattle.channel_model.specs.declared.errand.Errand.TheVariants as errands
-use Rattle.channel_model.specs.Value.{Request, Queued, Answer, Ask, Own, Unasked, Asking, Granted, Carrier, Plain, Retransmitting, Setup, Stage, Requested, Connected, Leaving, Closing, Crossed, Held, Channels, no_channels}
+use Rattle.channel_model.specs.Value.{Own, Unasked, Asking, Granted, Carrier, Plain, Retransmitting, Setup, Stage, Requested, Connected, Leaving, Closing, Crossed, Held, Channels}
 use Rattle.channel_model.specs.Policies.{Policy}
-use Rattle.channel_model.specs.Changing.{has_own, held_at, is_granted, is_open, setup_of, stage_with, with_setup, to_setup, in_place_of}
+use Rattle.channel_model.specs.Changing.{has_own, is_open, setup_of, stage_with, with_setup}
 use Rattle.channel_model.specs.declared.event.CloseReason.{CloseReason}
 use Rattle.channel_model.specs.Asking.{new_request}
 use Rattle.channel_model.specs.Configuring.{granted_setup}
 use Rattle.channel_model.specs.Closing.{closes_at}
-use Rattle.channel_model.specs.Hearing.{hears_commands}
-use Rattle.channel_model.specs.Carrying.{reason_of, settles_machine, machine_heard, read_by as read, is_frame, shows, is_taken_with, takes_on, takes_held, takes}
-use Rattle.channel_model.specs.Giving.{Given, Signal, Whole, Framed, next_given, after_given, headed, gives, stage_gives, some_carrier_gives, carrier_gives, carrier_given, carrier_spent, held_gives, held_given, queue_gives, queue_given, counted, connection_given, configuration_given, disconnection_given, setup_given, own_given, stage_given}
-use Rattle.channel_model.specs.Calls.{setup_on, carrier_at, open_carrier, carrier_if, carrier_with, sends_setup, sends_on, sends_held, sends}
-use Rattle.channel_model.proofs.Lookups.{own_of, Distinct, found-has, found-distinct, found-placed, find-placed, eqb-same, eqb-away, and_off}
+use Rattle.channel_model.specs.Carrying.{reason_of, settles_machine, machine_heard, read_by as read, is_frame, is_taken_with, takes_on, takes_held, takes}
+use Rattle.channel_model.proofs.Lookups.{own_of, found-has, found-placed, and_off}
 use Rattle.channel_model.proofs.Going.{is_stated, staged}
 use Rattle.channel_model.proofs.Walking.{found-own, with-setup, with-found}
-use Rattle.channel_laws.specs.OwnTalk.{asked_between}
-use Rattle.channel_laws.specs.Runs.{Occurrence, Comes, Connects, AsksFeatures, Disconnects, Sends, Gives, Fires, Tells, said_by_carrier, said_as, said_in, value_after, peer_at, Run, run_of}
-use Rattle.channel_laws.specs.Sdus.{StatesFrame}
-use Rattle.channel_laws.specs.Frames.{IsSpelled, IsUttered, AreUttered}
-use Rattle.channel_laws.specs.Views.{peer_of, life_of, asked_mode, carrier_mode, IsThere, read_at}
-use Rattle.channel_laws.proofs.Sound.{Agrees, AgreesIf, ReadsBy, Reads, Sound, at_each, requested-unread}
-use Rattle.channel_laws.proofs.Steps.{less-apart}
+use Rattle.channel_laws.specs.Views.{peer_of, life_of, asked_mode, carrier_mode, read_at}
+use Rattle.channel_laws.proofs.Sound.{Agrees, AgreesIf, ReadsBy, Reads, Sound, requested-unread}
 use Rattle.channel_laws.proofs.CheckWords.{stated_mode}
-use Rattle.channel_laws.proofs.Keeping.{OfCarrier, StageKeeps, HeldKeeps, AllKeep, KeepsOn, Keeps, keep-also, under}
-use Rattle.channel_laws.proofs.Taking.{Opens, takes-cases, takes-others}
+use Rattle.channel_laws.proofs.Keeping.{OfCarrier, StageKeeps, HeldKeeps, AllKeep}
+use Rattle.channel_laws.proofs.Taking.{takes-cases, takes-others}
 use Rattle.channel_laws.proofs.Incoming.{channel_at, fresh-held}
 use Rattle.channel_laws.proofs.Carriages.{counted_in}
-use Rattle.channel_laws.proofs.Passing.{Passing, CarrierPasses, Passed, heard_in, passing-submits, passing-gives, passing-hears}
-use Rattle.channel_laws.proofs.Passages.{into-other, into-own, GoesOut, out-other, out-own, spelled-frame}
+use Rattle.channel_laws.proofs.Passing.{Passing, CarrierPasses, Passed, heard_in, passing-hears}
+use Rattle.channel_laws.proofs.Passages.{into-other, into-own}
 
 -- the frames that passed on the channel of an own endpoint
 abbrev pub frames_on : Party → Channel → List Saying → (own : ℕ) → List Passage

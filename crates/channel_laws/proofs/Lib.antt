@@ -62,4 +62,3 @@ pub mod Answered
 pub mod Showing
 pub mod Options
 pub mod Arming
-
