@@ -62,3 +62,4 @@ pub mod Answered
 pub mod Showing
 pub mod Options
 pub mod Arming
+pub mod Behind

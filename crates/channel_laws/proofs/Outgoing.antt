@@ -74,8 +74,8 @@ goes_out policy past v own held setup r set sound = record {
   only = λ other x at there same. sound.core.apart other own x r.entry at r.found there r.there (same ∙ sym r.here);
 }
 
-open_stated : (setup : Setup) → is_open setup ≡ true → is_stated setup.own ≡ true
-open_stated setup is = by setup.own (and-right (is_some setup.carrier) (is_granted setup.own) is)
+pub open-stated : (setup : Setup) → is_open setup ≡ true → is_stated setup.own ≡ true
+open-stated setup is = by setup.own (and-right (is_some setup.carrier) (is_granted setup.own) is)
   where
     by : (own : Own) → is_granted own ≡ true → is_stated own ≡ true
     by Unasked is = cc
@@ -116,7 +116,7 @@ sent_on policy party channel past v held setup sdu (Some (Plain agreed None)) fo
     let after : Setup = record setup { carrier = Some (Plain agreed (Some sdu)) } in
     let r : IsRead policy past held.own held setup = is-read policy past v held.own held setup found has sound in
     let to : peer_at (Some held) ≡ r.peer = ap (λ p. unwrap_or p 0) r.peer_is in
-    let out : GoesOut past held.own r.peer = goes_out policy past v held.own held setup r (set-is policy past held.own held setup r (Plain agreed None) is (open_stated setup opened)) sound in
+    let out : GoesOut past held.own r.peer = goes_out policy past v held.own held setup r (set-is policy past held.own held setup r (Plain agreed None) is (open-stated setup opened)) sound in
     plain_placed policy party channel past (past ++ Carried Out (headed (peer_at (Some held)) sdu) ∷ []) v held setup after agreed None (Some sdu) found has is refl
     (λ own away. out-other party (channel_at channel own) past held.own r.peer (headed (peer_at (Some held)) sdu) out (le16-number (peer_at (Some held)) sdu fits ∙ to) away) all
 
@@ -195,19 +195,19 @@ counted_passes policy party channel past v errands.Features all = pass-same poli
 
 -- ---- an SDU or a frame is given
 
-gives_none : (stage : Stage) → setup_of stage ≡ None → stage_gives stage ≡ None
-gives_none (Requested request) is = refl
-gives_none (Connected peer setup) is = cc
-gives_none (Leaving peer setup request) is = cc
-gives_none (Closing peer request) is = refl
-gives_none (Crossed peer request) is = refl
+pub gives-none : (stage : Stage) → setup_of stage ≡ None → stage_gives stage ≡ None
+gives-none (Requested request) is = refl
+gives-none (Connected peer setup) is = cc
+gives-none (Leaving peer setup request) is = cc
+gives-none (Closing peer request) is = refl
+gives-none (Crossed peer request) is = refl
 
-gives_by : (stage : Stage) (setup : Setup) (peer : ℕ) → setup_of stage ≡ Some setup → peer_of stage ≡ Some peer → stage_gives stage ≡ some_carrier_gives setup.carrier peer
-gives_by (Requested request) setup peer is to = cc
-gives_by (Connected p s) setup peer is to = let same : s ≡ setup = cc in let at : p ≡ peer = cc in ap (λ (x : Setup). some_carrier_gives x.carrier p) same ∙ ap (some_carrier_gives setup.carrier) at
-gives_by (Leaving p s request) setup peer is to = let same : s ≡ setup = cc in let at : p ≡ peer = cc in ap (λ (x : Setup). some_carrier_gives x.carrier p) same ∙ ap (some_carrier_gives setup.carrier) at
-gives_by (Closing p request) setup peer is to = cc
-gives_by (Crossed p request) setup peer is to = cc
+pub gives-by : (stage : Stage) (setup : Setup) (peer : ℕ) → setup_of stage ≡ Some setup → peer_of stage ≡ Some peer → stage_gives stage ≡ some_carrier_gives setup.carrier peer
+gives-by (Requested request) setup peer is to = cc
+gives-by (Connected p s) setup peer is to = let same : s ≡ setup = cc in let at : p ≡ peer = cc in ap (λ (x : Setup). some_carrier_gives x.carrier p) same ∙ ap (some_carrier_gives setup.carrier) at
+gives-by (Leaving p s request) setup peer is to = let same : s ≡ setup = cc in let at : p ≡ peer = cc in ap (λ (x : Setup). some_carrier_gives x.carrier p) same ∙ ap (some_carrier_gives setup.carrier) at
+gives-by (Closing p request) setup peer is to = cc
+gives-by (Crossed p request) setup peer is to = cc
 
 -- what its carrier gives, if anything
 spent_by : (policy : Policy) (party : Party) (channel : Channel) (past : List Saying) (v : Channels) (held : Held) (setup : Setup) (carrier : Option Carrier) (pdu : List ℕ) → find (has_own held.own) v.held ≡ Some held → setup_of held.stage ≡ Some setup → setup.carrier ≡ carrier
@@ -233,7 +233,7 @@ spent_by policy party channel past v held setup (Some (Retransmitting machine)) 
         let passes : CarrierPasses party.frame before (policy.wish held.psm) (is_open setup) (Some (Retransmitting machine)) =
         subst (CarrierPasses party.frame before (policy.wish held.psm) (is_open setup)) is (kept-setup party.frame before (policy.wish held.psm) held.stage setup has (subst (HeldKeeps policy (Passed party.frame before)) found (all.at held.own))) in
         let (opened, passing) = passing-gives party.frame before (is_open setup) machine frame next passes in
-        let out : GoesOut past held.own r.peer = goes_out policy past v held.own held setup r (set-is policy past held.own held setup r (Retransmitting machine) is (open_stated setup opened)) sound in
+        let out : GoesOut past held.own r.peer = goes_out policy past v held.own held setup r (set-is policy past held.own held setup r (Retransmitting machine) is (open-stated setup opened)) sound in
         pass_placed policy party channel past (past ++ Carried Out pdu ∷ []) v (to_setup held after v) held (stage_with after held.stage) found refl refl
         (λ own away. out-other party (channel_at channel own) past held.own r.peer pdu out to away)
         (keeps-setup party.frame (frames_on party channel (past ++ Carried Out pdu ∷ []) held.own) (policy.wish held.psm) (stage_with after held.stage) after (with-setup held.stage setup after has)
@@ -242,10 +242,10 @@ spent_by policy party channel past v held setup (Some (Retransmitting machine)) 
 
 spent_on : (policy : Policy) (party : Party) (channel : Channel) (past : List Saying) (v : Channels) (held : Held) (setup : Option Setup) (pdu : List ℕ) → find (has_own held.own) v.held ≡ Some held → setup_of held.stage ≡ setup → Sound policy (reading past) v
     → Pass policy party channel past v → is_some (stage_gives held.stage) ≡ true → IsSpelled (stage_gives held.stage) pdu → Pass policy party channel (past ++ said_as (stage_gives held.stage) pdu) (carrier_spent setup held v)
-spent_on policy party channel past v held None pdu found has sound all gives spelled = let never : false ≡ true = sym (ap (λ (g : Option Given). is_some g) (gives_none held.stage has)) ∙ gives in absurd cc
+spent_on policy party channel past v held None pdu found has sound all gives spelled = let never : false ≡ true = sym (ap (λ (g : Option Given). is_some g) (gives-none held.stage has)) ∙ gives in absurd cc
 spent_on policy party channel past v held (Some setup) pdu found has sound all gives spelled =
     let r : IsRead policy past held.own held setup = is-read policy past v held.own held setup found has sound in
-    let same : stage_gives held.stage ≡ some_carrier_gives setup.carrier r.peer = gives_by held.stage setup r.peer has r.peer_is in
+    let same : stage_gives held.stage ≡ some_carrier_gives setup.carrier r.peer = gives-by held.stage setup r.peer has r.peer_is in
     subst (λ g. Pass policy party channel (past ++ said_as g pdu) (carrier_spent (Some setup) held v)) (sym same)
     (spent_by policy party channel past v held setup setup.carrier pdu found has refl sound all r (sym (ap (λ (g : Option Given). is_some g) same) ∙ gives) (subst (λ g. IsSpelled g pdu) same spelled))
 

@@ -10,4 +10,5 @@ pub mod Repeats
 pub mod Awaited
 pub mod Frames
 pub mod Armed
+pub mod Acceptance
 pub mod Tries

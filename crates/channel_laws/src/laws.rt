@@ -1,5 +1,6 @@
 //! Laws of the channels of one host.
 
+ghost use Rattle.channel_laws.specs.Acceptance.{SendsBehindAcceptance};
 ghost use Rattle.channel_laws.specs.Armed.{ArmedIsWhatWaits};
 ghost use Rattle.channel_laws.specs.Awaited.{FeaturesAreAwaited, OptionsAreAwaited, RequestsAreAwaited};
 ghost use Rattle.channel_laws.specs.CheckWords.{CheckWordsAreRead};
@@ -80,6 +81,12 @@ pub fn frames_are_held()
 /// for options, for the end of a channel or for information, a frame or a poll; requests for services are not theirs.
 pub fn armed_is_what_waits()
     ensures { ArmedIsWhatWaits }
+{}
+
+/// A host says an SDU or a frame only on a channel that is there, where its own talk so far says that it accepted the
+/// peer's request for options, and that its own one was made and waits no more.
+pub fn sends_behind_acceptance()
+    ensures { SendsBehindAcceptance }
 {}
 
 /// A host gives a request that waits for its answer at most as often as it tries, and once where it tries less.
