@@ -10,7 +10,7 @@ ghost use Rattle.channel_laws.specs.Laws.{ChannelsAreRead, EndpointsAreNew};
 ghost use Rattle.channel_laws.specs.Pairs.{EachEndRuns};
 ghost use Rattle.channel_laws.specs.Repeats.{RepeatsAreAnswered};
 ghost use Rattle.channel_laws.specs.Sdus.{SdusAreRead};
-ghost use Rattle.channel_laws.specs.Tries.{FiringsAloneRepeat, TriesAreKept};
+ghost use Rattle.channel_laws.specs.Tries.{FiringsAloneRepeat, FiringsAreCounted, TriesAreKept};
 
 /// What a host holds of each of its endpoints is what its own talk says, whatever it asks for, whatever
 /// PDUs come in on whatever channels, and whenever its timer fires: which channels there are, how far each
@@ -97,4 +97,10 @@ pub fn tries_are_kept()
 /// A request is to be given once more only because the timer fired.
 pub fn firings_alone_repeat()
     ensures { FiringsAloneRepeat }
+{}
+
+/// A request that waits was given at most once more often than the timer of its host fired, with the copies of it that
+/// wait: for the t-th time only behind t - 1 firings.
+pub fn firings_are_counted()
+    ensures { FiringsAreCounted }
 {}
