@@ -1,8 +1,7 @@
 -- A host sends on a channel only behind its peer's acceptance.
-use Rattle.std.proofs.Common.{◌≡◌, ℕ, ◌<◌, List, [], ◌∷◌, ◌++◌, map, drop, Bool, true, false, cond, eqb, ◌&&◌, ◌||◌, Option, Some, None, refl, sym, ap, subst, ◌∙◌, append_assoc, append-nil}
+use Rattle.std.proofs.Common.{◌≡◌, ℕ, ◌<◌, List, [], ◌∷◌, ◌++◌, map, drop, Bool, true, false, cond, eqb, Option, Some, None, refl, sym, ap, subst, ◌∙◌, append_assoc, append-nil}
 use Rattle.std.specs.Prelude.{find, option_map, is_some, unwrap_or}
 use Rattle.std.specs.List.{list_any}
-use Rattle.bt_base.specs.Octets.{IsOctets}
 use Rattle.bt_base.proofs.OctetLemmas.{le16-number}
 use Rattle.acl_fragments.specs.Pieces.{channel_of}
 use Rattle.capture.specs.declared.flow.Flow.TheVariants.{Out, Into}
@@ -18,13 +17,11 @@ use Rattle.link_talk.specs.Sayings.{Saying, Carried}
 use Rattle.link_talk.specs.Channels.{reading}
 use Rattle.channel_model.specs.Value.{Queued, Answer, Ask, Own, Unasked, Asking, Granted, Carrier, Plain, Retransmitting, Setup, Held, Channels}
 use Rattle.channel_model.specs.Policies.{Policy}
-use Rattle.channel_model.specs.Changing.{has_own, held_at, is_granted, is_open, setup_of}
+use Rattle.channel_model.specs.Changing.{held_at, is_granted, is_open, setup_of}
 use Rattle.channel_model.specs.Carrying.{takes}
-use Rattle.channel_model.specs.Timing.{timed_out}
-use Rattle.channel_model.specs.Giving.{Given, Signal, Whole, Framed, command_of, next_given, headed, gives, stage_gives, some_carrier_gives, held_gives, queue_gives}
-use Rattle.channel_model.specs.Calls.{setup_on, own_waits, carrier_at, open_carrier, carrier_if, connected, asks_features, disconnected}
-use Rattle.channel_model.proofs.Lookups.{own_of, found-has, found-distinct}
-use Rattle.channel_model.proofs.Walking.{found-own}
+use Rattle.channel_model.specs.Giving.{Signal, Framed, command_of, headed, gives, stage_gives, some_carrier_gives, held_gives, queue_gives}
+use Rattle.channel_model.specs.Calls.{setup_on, own_waits, open_carrier, carrier_if, connected, asks_features, disconnected}
+use Rattle.channel_model.proofs.Lookups.{own_of, found-distinct}
 use Rattle.channel_laws.specs.OwnTalk.{asked_between, said_with_all}
 use Rattle.channel_laws.specs.Runs.{Occurrence, Comes, Connects, AsksFeatures, Disconnects, Sends, Gives, Fires, Tells, given_up, said_by_channels, said_by_carrier, said_as, said_in, peer_at, Run, run_of}
 use Rattle.channel_laws.specs.Sdus.{StatesFrame}
@@ -38,7 +35,7 @@ use Rattle.channel_laws.proofs.Signalling.{is_carried, IsBare, bare-append, bare
 use Rattle.channel_laws.proofs.Options.{options-are_awaited}
 use Rattle.channel_laws.proofs.Passing.{CarrierPasses, Passed, passing-gives}
 use Rattle.channel_laws.proofs.Passages.{spelled-frame}
-use Rattle.channel_laws.proofs.Holding.{frames_on, Pass, kept-setup, IsRead, is-read, set-is, and-right}
+use Rattle.channel_laws.proofs.Holding.{frames_on, kept-setup, IsRead, is-read, set-is, and-right}
 use Rattle.channel_laws.proofs.Outgoing.{open-stated, gives-none, gives-by}
 use Rattle.channel_laws.proofs.Running.{all-sound}
 use Rattle.channel_laws.proofs.Frames.{RunPasses, run-passes}

@@ -11,4 +11,5 @@ pub mod Awaited
 pub mod Frames
 pub mod Armed
 pub mod Acceptance
+pub mod Ends
 pub mod Tries

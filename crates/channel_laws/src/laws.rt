@@ -5,6 +5,7 @@ ghost use Rattle.channel_laws.specs.Armed.{ArmedIsWhatWaits};
 ghost use Rattle.channel_laws.specs.Awaited.{FeaturesAreAwaited, OptionsAreAwaited, RequestsAreAwaited};
 ghost use Rattle.channel_laws.specs.CheckWords.{CheckWordsAreRead};
 ghost use Rattle.channel_laws.specs.Endpoints.{EndpointsNameOneChannel};
+ghost use Rattle.channel_laws.specs.Ends.{EachEndUtters};
 ghost use Rattle.channel_laws.specs.Frames.{FramesAreHeld};
 ghost use Rattle.channel_laws.specs.Laws.{ChannelsAreRead, EndpointsAreNew};
 ghost use Rattle.channel_laws.specs.Pairs.{EachEndRuns};
@@ -40,6 +41,12 @@ pub fn sdus_are_read()
 /// one host hold at both.
 pub fn each_end_runs()
     ensures { EachEndRuns }
+{}
+
+/// On a link that loses, repeats and damages, each end is a host that utters what it is, if its turns do: the laws of
+/// one host on frames, on what waits and on acceptance hold at both.
+pub fn each_end_utters()
+    ensures { EachEndUtters }
 {}
 
 /// An endpoint of a host names one channel for as long as the link is up, so what is under way for it is for no
