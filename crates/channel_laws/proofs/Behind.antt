@@ -31,7 +31,7 @@ use Rattle.channel_laws.specs.Views.{read_at}
 use Rattle.channel_laws.proofs.Entries.{read-own}
 use Rattle.channel_laws.proofs.Sound.{Sound}
 use Rattle.channel_laws.proofs.Keeping.{HeldKeeps}
-use Rattle.channel_laws.proofs.Signalling.{is_carried, IsBare, bare-append, bare-asked, bare-with_all, bare-forgone, bare-fired}
+use Rattle.channel_laws.proofs.Signalling.{is_carried, IsBare, bare-asked, bare-left, bare-with_all, bare-fired}
 use Rattle.channel_laws.proofs.Options.{options-are_awaited}
 use Rattle.channel_laws.proofs.Passing.{CarrierPasses, Passed, passing-gives}
 use Rattle.channel_laws.proofs.Passages.{spelled-frame}
@@ -172,7 +172,7 @@ accepted_by policy party list AsksFeatures pdu states uttered now said = let v :
 accepted_by policy party list (Disconnects own) pdu states uttered now said =
     let v : Channels = (run_of policy list).value in
     let w : Channels = disconnected own v in
-    absurd (bare_never (asked_between v w ++ given_up own v w) pdu (bare-append (asked_between v w) (given_up own v w) (bare-asked v w) (bare-forgone (held_at own v) (held_at own w))) said)
+    absurd (bare_never (asked_between v w ++ given_up own v w) pdu (bare-left own v w) said)
 accepted_by policy party list (Sends own sdu) pdu states uttered now said =
     sent_of policy party list own (held_at own (run_of policy list).value) sdu pdu states (all-sound policy list) refl now said
 accepted_by policy party list (Gives octets) pdu states uttered now said = given_from policy party list (run_of policy list).value.queue pdu octets states uttered now said

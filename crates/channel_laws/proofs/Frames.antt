@@ -37,7 +37,7 @@ use Rattle.channel_laws.proofs.Sound.{CarrierIs, Sound}
 use Rattle.channel_laws.proofs.CheckWords.{stated_mode}
 use Rattle.channel_laws.proofs.Running.{all-sound, run-more}
 use Rattle.channel_laws.proofs.Keeping.{KeepsOn, HeldKeeps, keep-also, walks-keep}
-use Rattle.channel_laws.proofs.Signalling.{IsBare, bare-append, bare-asked, bare-with_all, bare-forgone, bare-fired}
+use Rattle.channel_laws.proofs.Signalling.{IsBare, bare-asked, bare-left, bare-with_all, bare-fired}
 use Rattle.channel_laws.proofs.Incoming.{channel_at}
 use Rattle.channel_laws.proofs.Passing.{Passing, CarrierPasses, Passed, Fired, keeps-passed, passing-used}
 use Rattle.channel_laws.proofs.Passages.{bare-passes}
@@ -75,7 +75,7 @@ occurs_go policy party channel past v AsksFeatures states uttered sound all =
     let w : Channels = asks_features v in bare_pass policy party channel past (asked_between v w) w (bare-asked v w) (asks-features-goes policy Fired _ (walks policy party channel past states) v all)
 occurs_go policy party channel past v (Disconnects own) states uttered sound all =
     let w : Channels = disconnected own v in
-    bare_pass policy party channel past (asked_between v w ++ given_up own v w) w (bare-append (asked_between v w) (given_up own v w) (bare-asked v w) (bare-forgone (held_at own v) (held_at own w)))
+    bare_pass policy party channel past (asked_between v w ++ given_up own v w) w (bare-left own v w)
     (disconnected-goes policy Fired _ (walks policy party channel past states) own v all)
 occurs_go policy party channel past v (Sends own sdu) states uttered sound all = sends-pass policy party channel past v own sdu uttered sound all
 occurs_go policy party channel past v (Gives pdu) states uttered sound all = gives-pass policy party channel past v pdu sound all uttered

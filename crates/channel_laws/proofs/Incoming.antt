@@ -31,13 +31,13 @@ use Rattle.channel_model.proofs.Walking.{append_none, found-own, commands-go}
 use Rattle.channel_model.proofs.Calling.{connected-goes, asks-features-goes, disconnected-goes, sends-goes, takes-goes, timed-goes, given-goes}
 use Rattle.channel_laws.specs.Views.{peer_of, life_of, read_at}
 use Rattle.channel_laws.specs.OwnTalk.{asked_between, said_with_all}
-use Rattle.channel_laws.specs.Runs.{Occurrence, Comes, Connects, AsksFeatures, Disconnects, Sends, Gives, Fires, Tells, given_up, peer_at, said_by_carrier, said_as, said_in, Run, new_link, run_on, arisen, sdu_up, sdus_up}
+use Rattle.channel_laws.specs.Runs.{Occurrence, Comes, Connects, AsksFeatures, Disconnects, Sends, Gives, Fires, Tells, peer_at, said_by_carrier, said_as, said_in, Run, new_link, run_on, arisen, sdu_up, sdus_up}
 use Rattle.channel_laws.specs.Sdus.{StatesFrame, IsHandedUp, SdusAreRead}
 use Rattle.channel_laws.proofs.Sound.{AgreesIf, ReadsBy, Reads}
 use Rattle.channel_laws.proofs.Telling.{StageTold, HeldTold, RunTold, one_told, nothing_told, Anything}
 use Rattle.link_talk.specs.Carriages.{is_heard}
 use Rattle.channel_laws.proofs.Carriages.{into-here, into-else}
-use Rattle.channel_laws.proofs.Signalling.{bare-append, bare-asked, bare-with_all, bare-forgone, bare-fired, bare-comes}
+use Rattle.channel_laws.proofs.Signalling.{bare-asked, bare-left, bare-with_all, bare-fired, bare-comes}
 use Rattle.channel_laws.proofs.Stretching.{heard_on, NoneComes, StaysHeard, opens, nothing-heard, one-heard, stays-heard}
 use Rattle.channel_laws.proofs.Attending.{StageAttends, HeldAttends, AllAttend, AttendsOn, BesideCarrier, submits-aside, gives-aside, fires-aside, walks-attend}
 use Rattle.channel_laws.proofs.Taking.{takes-others}
@@ -337,7 +337,7 @@ one_up policy party channel run AsksFeatures states sound so_far told =
     (asks-features-goes policy BesideCarrier _ (walks-attend policy party.frame (λ own. heard_on (channel_at channel own) run.said) states) run.value) (gains_on run (asks_features run.value) (asks-features-goes policy Anything Gains (walks_gain policy) run.value)) so_far told
 one_up policy party channel run (Disconnects own) states sound so_far told =
     let w : Channels = disconnected own run.value in
-    quiet_up policy party channel run (said_in policy (Disconnects own) run.value) [] w (bare-comes (said_in policy (Disconnects own) run.value) (bare-append (asked_between run.value w) (given_up own run.value w) (bare-asked run.value w) (bare-forgone (held_at own run.value) (held_at own w))))
+    quiet_up policy party channel run (said_in policy (Disconnects own) run.value) [] w (bare-comes (said_in policy (Disconnects own) run.value) (bare-left own run.value w))
     (disconnected-goes policy BesideCarrier _ (walks-attend policy party.frame (λ n. heard_on (channel_at channel n) run.said) states) own run.value) (gains_on run w (disconnected-goes policy Anything Gains (walks_gain policy) own run.value)) so_far told
 one_up policy party channel run (Sends own sdu) states sound so_far told =
     quiet_up policy party channel run (said_in policy (Sends own sdu) run.value) [] (sends own sdu run.value) (none_carrier (carrier_at own run.value) (peer_at (held_at own run.value)) sdu)

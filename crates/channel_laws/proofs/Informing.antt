@@ -1,6 +1,6 @@
 -- A host waits for the features of its peer where its talk says so.
-use Rattle.std.proofs.Common.{◌≡◌, ℕ, List, [], ◌∷◌, ◌++◌, fold, map, Bool, true, false, cond, eqb, not, Option, Some, None, Ok, Err, refl, sym, ap, subst, ◌∙◌}
-use Rattle.std.specs.Prelude.{option_to_list, is_some, nat_le}
+use Rattle.std.proofs.Common.{◌≡◌, ℕ, List, [], ◌∷◌, ◌++◌, fold, Bool, true, false, cond, eqb, not, Option, Some, None, Ok, Err, refl, sym, ap, subst, ◌∙◌}
+use Rattle.std.specs.Prelude.{is_some, nat_le}
 use Rattle.std.specs.List.{filter_map, cons_option}
 use Rattle.std.proofs.lemmas.List.Sums.{fold-append}
 use Rattle.std.proofs.lemmas.List.Elements.{filter_map-append}
@@ -11,10 +11,9 @@ use Rattle.l2cap_signal.specs.Reading.{Answer as Read}
 use Rattle.link_talk.specs.Sayings.{Saying, Carried, GaveUp}
 use Rattle.link_talk.specs.Sayings as sayings
 use Rattle.link_talk.specs.Waits.{notice, notice_of, notice_answered, noticed, unless_same}
-use Rattle.channel_model.specs.declared.errand.Errand.{Errand}
 use Rattle.channel_model.specs.declared.errand.Errand.TheVariants as errands
 use Rattle.channel_model.specs.declared.event.ChannelEvent.TheVariants.{Features}
-use Rattle.channel_model.specs.Value.{Request, Ask, Own, Unasked, Asking, Granted, Carrier, Plain, Retransmitting, Stage, Requested, Connected, Leaving, Closing, Crossed, Held, Channels}
+use Rattle.channel_model.specs.Value.{Request, Ask, Carrier, Plain, Retransmitting, Channels}
 use Rattle.channel_model.specs.Policies.{Policy}
 use Rattle.channel_model.specs.Changing.{held_at, has_room, is_due, queued, forgets, tells}
 use Rattle.channel_model.specs.Asking.{new_request, asks, StillDue, OnceMore, Spent}
@@ -23,14 +22,15 @@ use Rattle.channel_model.specs.Responses.{has_identifier, hears_features, featur
 use Rattle.channel_model.specs.Hearing.{hears_content}
 use Rattle.channel_model.specs.Carrying.{takes}
 use Rattle.channel_model.specs.Timing.{fires, times_held, times_end, loses_features, times_features}
-use Rattle.channel_model.specs.Giving.{Given, Signal, Whole, Framed, connection_at, configuration_by, configuration_at, disconnection_at, on_held, features_command, next_given, after_given}
+use Rattle.channel_model.specs.Giving.{Given, Signal, Whole, Framed, next_given, after_given}
 use Rattle.channel_model.specs.Calls.{after_event, carrier_at, connected, disconnected, sends}
 use Rattle.channel_model.proofs.Lookups.{eqb-same}
-use Rattle.channel_laws.specs.OwnTalk.{spoken, command_with, command_if, exchanged, newest, said_of, asked_between}
-use Rattle.channel_laws.specs.Runs.{Occurrence, Comes, Connects, AsksFeatures, Disconnects, Sends, Gives, Fires, Tells, forgone_at, forgone_between, given_up, features_given_up, said_again, said_on_firing, peer_at, said_by_carrier, said_as, said_in, value_after, run_of}
+use Rattle.channel_laws.specs.OwnTalk.{spoken, command_with, command_if, exchanged, asked_between}
+use Rattle.channel_laws.specs.Runs.{Occurrence, Comes, Connects, AsksFeatures, Disconnects, Sends, Gives, Fires, Tells, given_up, features_given_up, said_again, said_on_firing, peer_at, said_by_carrier, said_as, said_in, value_after, run_of}
 use Rattle.channel_laws.specs.Awaited.{FeaturesAreAwaited}
 use Rattle.channel_laws.proofs.Asking.{asked-one, newest-asks}
 use Rattle.channel_laws.proofs.Lasting.{asked_by, follows-lasts, grant-lasts, response-lasts, end-lasts, takes-lasts, connects-lasts, disconnects-last, sends-last, gives-last, times-last, ends-last}
+use Rattle.channel_laws.proofs.Words.{Words, words-asked, words-again, words-left, words-firing}
 use Rattle.channel_laws.proofs.Replying.{is_response, IsReply}
 use Rattle.channel_laws.proofs.Conversing.{is_asking, is_single, Converses, conversed}
 
@@ -53,92 +53,29 @@ leaves_if : (n : Option ℕ) (b : Bool) (said : List Saying) → Leaves n said �
 leaves_if n true said leaves = leaves
 leaves_if n false said leaves = refl
 
--- ---- own requests
-
-leaves_connection : (n : Option ℕ) (held : Option Held) → Leaves n (map spoken (option_to_list (on_held (λ h. connection_at h.stage h) held)))
-leaves_connection n None = refl
-leaves_connection n (Some held) = by held.stage
-  where
-    by : (stage : Stage) → Leaves n (map spoken (option_to_list (connection_at stage held)))
-    by (Requested request) = refl
-    by (Connected peer setup) = refl
-    by (Leaving peer setup request) = refl
-    by (Closing peer request) = refl
-    by (Crossed peer request) = refl
-
-leaves_own : (n : Option ℕ) (peer : ℕ) (own : Own) → Leaves n (map spoken (option_to_list (configuration_by own peer)))
-leaves_own n peer Unasked = refl
-leaves_own n peer (Asking request options) = refl
-leaves_own n peer Granted = refl
-
-leaves_configuration : (n : Option ℕ) (held : Option Held) → Leaves n (map spoken (option_to_list (on_held (λ h. configuration_at h.stage) held)))
-leaves_configuration n None = refl
-leaves_configuration n (Some held) = by held.stage
-  where
-    by : (stage : Stage) → Leaves n (map spoken (option_to_list (configuration_at stage)))
-    by (Requested request) = refl
-    by (Connected peer setup) = leaves_own n peer setup.own
-    by (Leaving peer setup request) = leaves_own n peer setup.own
-    by (Closing peer request) = refl
-    by (Crossed peer request) = refl
-
-leaves_disconnection : (n : Option ℕ) (held : Option Held) → Leaves n (map spoken (option_to_list (on_held (λ h. disconnection_at h.stage h) held)))
-leaves_disconnection n None = refl
-leaves_disconnection n (Some held) = by held.stage
-  where
-    by : (stage : Stage) → Leaves n (map spoken (option_to_list (disconnection_at stage held)))
-    by (Requested request) = refl
-    by (Connected peer setup) = refl
-    by (Leaving peer setup request) = refl
-    by (Closing peer request) = refl
-    by (Crossed peer request) = refl
+-- ---- own words
 
 -- the question for the features is the one that waits
-leaves_features : (features : Option Request) → Leaves (asked_by features) (map spoken (option_to_list (features_command features)))
-leaves_features None = refl
-leaves_features (Some request) = refl
-
-leaves_errand : (w : Channels) (errand : Errand) → Leaves (asked_by w.features) (said_of (Some errand) w)
-leaves_errand w (errands.Connection own) = leaves_connection (asked_by w.features) (held_at own w)
-leaves_errand w (errands.Configuration own) = leaves_configuration (asked_by w.features) (held_at own w)
-leaves_errand w (errands.Disconnection own) = leaves_disconnection (asked_by w.features) (held_at own w)
-leaves_errand w errands.Features = leaves_features w.features
-
-leaves_newest : (w : Channels) (errand : Option Errand) → Leaves (asked_by w.features) (said_of errand w)
-leaves_newest w None = refl
-leaves_newest w (Some errand) = leaves_errand w errand
+own_words : (w : Channels) → Words w (Leaves (asked_by w.features))
+own_words w = record {
+  none = refl;
+  both = leaves_both (asked_by w.features);
+  calls = λ identifier psm own. refl;
+  wishes = λ own peer held setup request options at has to is. refl;
+  ends = λ identifier peer own. refl;
+  asks = λ request is. sym (ap asked_by is);
+  lets_call = λ identifier own. refl;
+  lets_end = λ own peer. refl;
+}
 
 leaves_asked : (v w : Channels) → Leaves (asked_by w.features) (asked_between v w)
-leaves_asked v w = by (eqb w.identifier v.identifier)
-  where
-    by : (same : Bool) → Leaves (asked_by w.features) (cond same [] (said_of (newest w.queue) w))
-    by true = refl
-    by false = leaves_newest w (newest w.queue)
+leaves_asked v w = words-asked w (Leaves (asked_by w.features)) (own_words w) v
 
-leaves_again : (errand : Errand) (v w : Channels) → Leaves (asked_by w.features) (said_again errand v w)
-leaves_again errand v w = leaves_if (asked_by w.features) _ (said_of (Some errand) w) (leaves_errand w errand)
-
--- ---- what is given up of channels
-
-leaves_forgone : (n : Option ℕ) (before after : Option Held) → Leaves n (forgone_between before after)
-leaves_forgone n None after = refl
-leaves_forgone n (Some held) None = by held.stage
-  where
-    by : (stage : Stage) → Leaves n (forgone_at stage held.own)
-    by (Requested request) = refl
-    by (Connected peer setup) = refl
-    by (Leaving peer setup request) = refl
-    by (Closing peer request) = refl
-    by (Crossed peer request) = refl
-leaves_forgone n (Some held) (Some other) = refl
+leaves_again : (v w : Channels) → Leaves (asked_by w.features) (said_again errands.Features v w)
+leaves_again v w = words-again w (Leaves (asked_by w.features)) (own_words w) errands.Features v
 
 leaves_firing : (own : ℕ) (v w : Channels) → Leaves (asked_by w.features) (said_on_firing own v w)
-leaves_firing own v w =
-    let n = asked_by w.features in
-    leaves_both n (said_again (errands.Connection own) v w) _ (leaves_again (errands.Connection own) v w)
-    (leaves_both n (said_again (errands.Configuration own) v w) _ (leaves_again (errands.Configuration own) v w)
-    (leaves_both n (said_again (errands.Disconnection own) v w) _ (leaves_again (errands.Disconnection own) v w)
-    (leaves_both n (asked_between v w) (given_up own v w) (leaves_asked v w) (leaves_forgone n (held_at own v) (held_at own w)))))
+leaves_firing own v w = words-firing w (Leaves (asked_by w.features)) (own_words w) own v
 
 -- ---- what comes in
 
@@ -274,11 +211,11 @@ kept_features request after is = ap (features_given_up (Some request)) is
 still_asked : (past : List Saying) (v w : Channels) (request : Request) → v.features ≡ Some request → w.features ≡ v.features → Informed past v → Informed (past ++ (said_again errands.Features v w ++ features_given_up (Some request) w.features)) w
 still_asked past v w request is same informed =
     subst (λ more. Informed (past ++ (said_again errands.Features v w ++ more)) w) (sym (kept_features request w.features (same ∙ is)))
-    (goes_on past v w (said_again errands.Features v w ++ []) (ap asked_by same) (leaves_both (asked_by w.features) (said_again errands.Features v w) [] (leaves_again errands.Features v w) refl) informed)
+    (goes_on past v w (said_again errands.Features v w ++ []) (ap asked_by same) (leaves_both (asked_by w.features) (said_again errands.Features v w) [] (leaves_again v w) refl) informed)
 
 features_fire : (past : List Saying) (tries : ℕ) (v : Channels) (features : Option Request) → v.features ≡ features → Informed past v
     → (let w : Channels = times_features features tries v in Informed (past ++ (said_again errands.Features v w ++ features_given_up features w.features)) w)
-features_fire past tries v None is informed = goes_on past v v (said_again errands.Features v v ++ []) refl (leaves_both (asked_by v.features) (said_again errands.Features v v) [] (leaves_again errands.Features v v) refl) informed
+features_fire past tries v None is informed = goes_on past v v (said_again errands.Features v v ++ []) refl (leaves_both (asked_by v.features) (said_again errands.Features v v) [] (leaves_again v v) refl) informed
 features_fire past tries v (Some request) is informed = by (is_due errands.Features v) (nat_le tries request.given)
   where
     lost : Informed (past ++ (said_again errands.Features v (loses_features v) ++ (GaveUp (sayings.Information request.identifier) ∷ []))) (loses_features v)
@@ -301,7 +238,7 @@ single_informed policy past v AsksFeatures is informed = asks_informed past v v.
 single_informed policy past v (Disconnects own) is informed =
     let w : Channels = disconnected own v in
     goes_on past v w (asked_between v w ++ given_up own v w) (disconnects-last own v).0
-    (leaves_both (asked_by w.features) (asked_between v w) (given_up own v w) (leaves_asked v w) (leaves_forgone (asked_by w.features) (held_at own v) (held_at own w))) informed
+    (words-left w (Leaves (asked_by w.features)) (own_words w) own v) informed
 single_informed policy past v (Sends own sdu) is informed =
     let w : Channels = sends own sdu v in
     goes_on past v w (said_by_carrier (carrier_at own v) (peer_at (held_at own v)) sdu) (sends-last own sdu v).0 (leaves_carrier (asked_by w.features) (carrier_at own v) (peer_at (held_at own v)) sdu) informed

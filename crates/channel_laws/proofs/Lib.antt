@@ -47,6 +47,7 @@ pub mod Repeating
 pub mod Awaiting
 pub mod Lasting
 pub mod Replying
+pub mod Words
 pub mod Agreed
 pub mod Conversing
 pub mod Informing

@@ -27,8 +27,9 @@ use Rattle.channel_laws.proofs.Lasting.{asked_by}
 use Rattle.channel_laws.proofs.Agreed.{AllStated, Stated, none-stated, keeps-stated, carries-stated}
 use Rattle.channel_laws.proofs.Conversing.{is_single, Converses, conversed}
 use Rattle.channel_laws.proofs.Demanding.{asked_on, Rests, same-rests, times-rest, ends-rest, connects-rest, asks-rest, disconnects-rests, sends-rest, gives-rest}
-use Rattle.channel_laws.proofs.Wishing.{waiting, Mild, mild-none, mild-both, mild-one, mild-asked, mild-again, mild-forgone, mild-firing}
+use Rattle.channel_laws.proofs.Wishing.{waiting, Mild, mild-none, mild-both, mild-one, mild-asked, own-words}
 use Rattle.channel_laws.proofs.Keeping.{keeps-all}
+use Rattle.channel_laws.proofs.Words.{words-again, words-left, words-firing}
 use Rattle.channel_laws.proofs.Heeding.{Heeds, rests-mild, behind, asked-so}
 use Rattle.channel_laws.proofs.Answered.{answered-so, setup-asks}
 use Rattle.channel_laws.proofs.Showing.{takes-so}
@@ -71,7 +72,7 @@ single_so policy party channel past v AsksFeatures is sound heeds after =
 single_so policy party channel past v (Disconnects own) is sound heeds after =
     let w : Channels = disconnected own v in
     rests-mild party channel policy past (asked_between v w ++ given_up own v w) v w (disconnects-rests own v)
-    (mild-both party channel w (asked_between v w) (given_up own v w) (mild-asked party channel v w) (mild-forgone party channel w (held_at own v) (held_at own w))) after heeds
+    (words-left w (Mild party channel w) (own-words party channel w) own v) after heeds
 single_so policy party channel past v (Sends own sdu) is sound heeds after =
     let w : Channels = sends own sdu v in
     rests-mild party channel policy past (said_in policy (Sends own sdu) v) v w (sends-rest own sdu v) (mild_carrier party channel w (carrier_at own v) (peer_at (held_at own v)) sdu) after heeds
@@ -89,13 +90,13 @@ converses policy party channel states = record {
   taken = λ past v pdu stated sound heeds after.
       behind party channel policy past (Carried Into pdu ∷ []) v (takes (channel_of pdu) pdu v) (λ m asked. inl (takes-so policy party channel past v pdu states stated sound heeds m asked)) after;
   waits = λ past v tries own sound heeds after.
-      let w : Channels = times_held (held_at own v) tries v in rests-mild party channel policy past (said_on_firing own v w) v w (times-rest tries own v) (mild-firing party channel own v w) after heeds;
+      let w : Channels = times_held (held_at own v) tries v in rests-mild party channel policy past (said_on_firing own v w) v w (times-rest tries own v) (words-firing w (Mild party channel w) (own-words party channel w) own v) after heeds;
   ends = λ past v tries own sound heeds after.
-      let w : Channels = times_end (held_at own v) tries v in rests-mild party channel policy past (said_on_firing own v w) v w (ends-rest tries own v) (mild-firing party channel own v w) after heeds;
+      let w : Channels = times_end (held_at own v) tries v in rests-mild party channel policy past (said_on_firing own v w) v w (ends-rest tries own v) (words-firing w (Mild party channel w) (own-words party channel w) own v) after heeds;
   loses = λ past v tries sound heeds after.
       let w : Channels = times_features v.features tries v in
       rests-mild party channel policy past (said_by_features tries v) v w (lost_rests tries v v.features)
-      (mild-both party channel w (said_again errands.Features v w) (features_given_up v.features w.features) (mild-again party channel errands.Features v w) (mild_features party channel w v.features w.features)) after heeds;
+      (mild-both party channel w (said_again errands.Features v w) (features_given_up v.features w.features) (words-again w (Mild party channel w) (own-words party channel w) errands.Features v) (mild_features party channel w v.features w.features)) after heeds;
   single = λ past v more is stated sound heeds after. single_so policy party channel past v more is sound heeds after;
 }
 

@@ -1,7 +1,6 @@
 -- What a host says of signalling alone.
-use Rattle.std.proofs.Common.{◌≡◌, ℕ, List, [], ◌∷◌, ◌++◌, map, Bool, true, false, cond, ◌||◌, eqb, Option, Some, None, refl, ap, ◌∙◌}
+use Rattle.std.proofs.Common.{◌≡◌, ℕ, List, [], ◌∷◌, ◌++◌, map, Bool, true, false, cond, ◌||◌, Option, Some, None, refl, ap, ◌∙◌}
 use Rattle.std.specs.Prelude.{option_map, option_to_list}
-use Rattle.std.specs.Option.{option_and_then}
 use Rattle.std.specs.List.{list_any}
 use Rattle.capture.specs.declared.flow.Flow.TheVariants.{Into}
 use Rattle.l2cap_signal.specs.Commands.{Command}
@@ -9,16 +8,15 @@ use Rattle.l2cap_signal.specs.Reading.{Answer as Read}
 use Rattle.link_talk.specs.Sayings.{Saying, Carried}
 use Rattle.link_talk.specs.Sayings as sayings
 use Rattle.channel_model.specs.Following.{can_say}
-use Rattle.channel_model.specs.declared.errand.Errand.{Errand}
 use Rattle.channel_model.specs.declared.errand.Errand.TheVariants as errands
-use Rattle.channel_model.specs.Value.{Request, Stage, Requested, Connected, Leaving, Closing, Crossed, Held, Channels}
+use Rattle.channel_model.specs.Value.{Request, Channels}
 use Rattle.channel_model.specs.Policies.{Policy}
 use Rattle.channel_model.specs.Changing.{held_at}
 use Rattle.channel_model.specs.Hearing.{hears_command}
-use Rattle.channel_model.specs.Giving.{command_of}
 use Rattle.channel_model.specs.Timing.{times_held, times_end, times_features}
-use Rattle.channel_laws.specs.OwnTalk.{spoken, reply_to, exchanged, newest, said_of, asked_between, said_with, said_with_all}
-use Rattle.channel_laws.specs.Runs.{forgone_at, forgone_between, given_up, features_given_up, said_again, said_on_firing, said_by_channel, fired_channel, said_by_channels}
+use Rattle.channel_laws.specs.OwnTalk.{spoken, reply_to, exchanged, asked_between, said_with, said_with_all}
+use Rattle.channel_laws.specs.Runs.{given_up, features_given_up, said_again, said_on_firing, said_by_channel, fired_channel, said_by_channels}
+use Rattle.channel_laws.proofs.Words.{Words, words-asked, words-again, words-left, words-firing}
 use Rattle.channel_laws.proofs.Stretching.{NoneComes, comes_in}
 use Rattle.link_talk.specs.Sayings.{Command as Said, GaveUp}
 
@@ -40,26 +38,31 @@ bare-append (x ∷ xs) ys one other = by (is_carried x) one (bare-append xs ys)
     by true all later = cc
     by false all later = later all other
 
-bare_spoken : (command : Option Command) → IsBare (map spoken (option_to_list command))
-bare_spoken None = refl
-bare_spoken (Some command) = refl
-
-bare_of : (errand : Option Errand) (w : Channels) → IsBare (said_of errand w)
-bare_of errand w = bare_spoken (option_and_then (λ one. command_of one w) errand)
-
-bare_if : (b : Bool) (said : List Saying) → IsBare said → IsBare (cond b said [])
-bare_if true said none = none
-bare_if false said none = refl
+own_words : (w : Channels) → Words w IsBare
+own_words w = record {
+  none = refl;
+  both = bare-append;
+  calls = λ identifier psm own. refl;
+  wishes = λ own peer held setup request options at has to is. refl;
+  ends = λ identifier peer own. refl;
+  asks = λ request is. refl;
+  lets_call = λ identifier own. refl;
+  lets_end = λ own peer. refl;
+}
 
 pub bare-asked : (v w : Channels) → IsBare (asked_between v w)
-bare-asked v w = by (eqb w.identifier v.identifier)
-  where
-    by : (b : Bool) → IsBare (cond b [] (said_of (newest w.queue) w))
-    by true = refl
-    by false = bare_of (newest w.queue) w
+bare-asked v w = words-asked w IsBare (own_words w) v
+
+pub bare-left : (own : ℕ) (v w : Channels) → IsBare (asked_between v w ++ given_up own v w)
+bare-left own v w = words-left w IsBare (own_words w) own v
 
 bare_exchanged : (one : Read) (reply : Option Command) (v : Channels) → IsBare (exchanged one reply v)
-bare_exchanged one reply v = bare_if (can_say (option_map (λ (c : Command). c.content) reply) v) (sayings.Command Into one ∷ map spoken (option_to_list reply)) (bare_spoken reply)
+bare_exchanged one reply v = by (can_say (option_map (λ (c : Command). c.content) reply) v) reply
+  where
+    by : (can : Bool) (reply : Option Command) → IsBare (cond can (sayings.Command Into one ∷ map spoken (option_to_list reply)) [])
+    by true None = refl
+    by true (Some command) = refl
+    by false reply = refl
 
 pub bare-with_all : (policy : Policy) (list : List Read) (v : Channels) → IsBare (said_with_all policy list v)
 bare-with_all policy [] v = refl
@@ -68,39 +71,17 @@ bare-with_all policy (one ∷ list) v =
     (bare-append (exchanged one (reply_to policy one v) v) (asked_between v (hears_command policy one v)) (bare_exchanged one (reply_to policy one v) v) (bare-asked v (hears_command policy one v)))
     (bare-with_all policy list (hears_command policy one v))
 
-pub bare-forgone : (before after : Option Held) → IsBare (forgone_between before after)
-bare-forgone None after = refl
-bare-forgone (Some held) None = by held.stage
-  where
-    by : (stage : Stage) → IsBare (forgone_at stage held.own)
-    by (Requested request) = refl
-    by (Connected peer setup) = refl
-    by (Leaving peer setup request) = refl
-    by (Closing peer request) = refl
-    by (Crossed peer request) = refl
-bare-forgone (Some held) (Some other) = refl
-
 bare_features : (before after : Option Request) → IsBare (features_given_up before after)
 bare_features None after = refl
 bare_features (Some request) None = refl
 bare_features (Some request) (Some other) = refl
 
-bare_again : (errand : Errand) (v w : Channels) → IsBare (said_again errand v w)
-bare_again errand v w = bare_if _ (said_of (Some errand) w) (bare_of (Some errand) w)
-
-bare_firing : (own : ℕ) (v w : Channels) → IsBare (said_on_firing own v w)
-bare_firing own v w =
-    bare-append (said_again (errands.Connection own) v w) _ (bare_again (errands.Connection own) v w)
-    (bare-append (said_again (errands.Configuration own) v w) _ (bare_again (errands.Configuration own) v w)
-    (bare-append (said_again (errands.Disconnection own) v w) _ (bare_again (errands.Disconnection own) v w)
-    (bare-append (asked_between v w) (given_up own v w) (bare-asked v w) (bare-forgone (held_at own v) (held_at own w)))))
-
 pub bare-fired : (tries : ℕ) (owns : List ℕ) (v : Channels) → IsBare (said_by_channels tries owns v)
-bare-fired tries [] v = bare-append (said_again errands.Features v (times_features v.features tries v)) _ (bare_again errands.Features v (times_features v.features tries v)) (bare_features v.features (times_features v.features tries v).features)
+bare-fired tries [] v = bare-append (said_again errands.Features v (times_features v.features tries v)) _ (words-again (times_features v.features tries v) IsBare (own_words (times_features v.features tries v)) errands.Features v) (bare_features v.features (times_features v.features tries v).features)
 bare-fired tries (own ∷ owns) v =
     let between : Channels = times_held (held_at own v) tries v in
     bare-append (said_by_channel tries own v) (said_by_channels tries owns (fired_channel tries own v))
-    (bare-append (said_on_firing own v between) (said_on_firing own between (times_end (held_at own between) tries between)) (bare_firing own v between) (bare_firing own between (times_end (held_at own between) tries between)))
+    (bare-append (said_on_firing own v between) (said_on_firing own between (times_end (held_at own between) tries between)) (words-firing between IsBare (own_words between) own v) (words-firing (times_end (held_at own between) tries between) IsBare (own_words (times_end (held_at own between) tries between)) own between))
     (bare-fired tries owns (fired_channel tries own v))
 
 -- so none comes in

@@ -17,21 +17,23 @@ use Rattle.link_talk.specs.Meanings.{Meaning, meant}
 use Rattle.link_talk.specs.Channels.{word, Entry, is_there, entry_after, made_by, reading}
 use Rattle.link_talk.specs.Carriages.{has_own as is_of}
 use Rattle.link_talk.specs.Waits.{AsksOptions, demand_of_saying, demand_at, demand, demanded}
-use Rattle.channel_model.specs.declared.errand.Errand.{Errand}
 use Rattle.channel_model.specs.declared.errand.Errand.TheVariants as errands
 use Rattle.channel_model.specs.Value.{Request, Own, Unasked, Asking, Granted, Stage, Requested, Connected, Leaving, Closing, Crossed, Held, Channels}
 use Rattle.channel_model.specs.Policies.{Policy}
 use Rattle.channel_model.specs.Changing.{held_at}
-use Rattle.channel_model.specs.Giving.{connection_at, configuration_by, configuration_at, disconnection_at, on_held, features_command}
+use Rattle.channel_model.specs.Giving.{configuration_by, configuration_at, on_held}
 use Rattle.channel_model.proofs.Lookups.{eqb-same}
-use Rattle.channel_laws.specs.OwnTalk.{spoken, command_with, newest, said_of, asked_between}
-use Rattle.channel_laws.specs.Runs.{forgone_at, forgone_between, given_up, said_again, said_on_firing}
+use Rattle.channel_laws.specs.OwnTalk.{spoken, command_with, said_of, asked_between}
 use Rattle.channel_laws.specs.Tries.{own_request}
 use Rattle.channel_laws.specs.Views.{peer_of, life_of, read_at}
 use Rattle.channel_laws.proofs.Entries.{read-after, there-before}
 use Rattle.channel_laws.proofs.Sound.{ReadsBy, Reads, Sound, some-of_map}
 use Rattle.channel_laws.proofs.Lasting.{asked_by}
 use Rattle.channel_laws.proofs.Demanding.{asked_at, asked_on}
+use Rattle.l2cap_config.specs.declared.options.Options.{Options}
+use Rattle.channel_model.specs.Value.{Setup}
+use Rattle.channel_model.specs.Changing.{setup_of}
+use Rattle.channel_laws.proofs.Words.{Words, words-asked}
 use Rattle.channel_laws.proofs.Conversing.{reading-on}
 
 -- the request for options that waits, of all that was said
@@ -145,10 +147,6 @@ mild-both party channel w xs ys one other past =
           sym (ap (waiting party channel) there) ∙ second.waits before m asked (first.waits (second.named before) m asked is);
     }
 
-pub mild-if : (party : Party) (channel : Channel) (w : Channels) (b : Bool) (said : List Saying) → Mild party channel w said → Mild party channel w (cond b said [])
-mild-if party channel w true said mild = mild
-mild-if party channel w false said mild = mild-none party channel w
-
 -- a saying that makes no channel
 abbrev MakesNone : Saying → Type 0
 MakesNone s = (asked : Requests) → made_by (meant asked (sense s)) ≡ None
@@ -227,104 +225,43 @@ asking_is stage request m is asking =
     let same : Some (Some request.identifier) ≡ Some m = sym asking ∙ is in
     let inner : Some request.identifier ≡ m = cc in inner
 
-mild_wish : (party : Party) (channel : Channel) (w : Channels) (other peer : ℕ) (held : Held) (own : Own) → held_at other w ≡ Some held → talks_to held.stage ≡ Some peer → asked_at held.stage ≡ Some (asked_by (own_request own))
-    → Mild party channel w (map spoken (option_to_list (configuration_by own peer)))
-mild_wish party channel w other peer held Unasked at talks asks = mild-none party channel w
-mild_wish party channel w other peer held Granted at talks asks = mild-none party channel w
-mild_wish party channel w other peer held (Asking request options) at talks asks = λ past. record { named = all_before past s w (λ asked. refl); waits = λ named m asked is. by past named m asked is (eqb other channel.own) refl }
+mild_wish : (party : Party) (channel : Channel) (w : Channels) (other peer : ℕ) (held : Held) (request : Request) (octets : List ℕ) → held_at other w ≡ Some held → talks_to held.stage ≡ Some peer → asked_at held.stage ≡ Some (Some request.identifier)
+    → Mild party channel w (wish_for request.identifier peer octets ∷ [])
+mild_wish party channel w other peer held request octets at talks asks = λ past. record { named = all_before past s w (λ asked. refl); waits = λ named m asked is. by past named m asked is (eqb other channel.own) refl }
   where
     s : Saying
-    s = wish_for request.identifier peer (written options)
+    s = wish_for request.identifier peer octets
 
     by : (past : List Saying) → AreNamed (reading (past ++ s ∷ [])).entries w → (m : Option ℕ) → asked_on (held_at channel.own w) ≡ Some m → waiting party channel past ≡ m → (b : Bool) → eqb other channel.own ≡ b → waiting party channel (past ++ s ∷ []) ≡ m
     by past after m asked is true same =
         let own_is : other ≡ channel.own = eqb-true other channel.own same in
         let here : held_at channel.own w ≡ Some held = subst (λ n. held_at n w ≡ Some held) own_is at in
-        wish_waits party channel past request.identifier peer (written options) ((all_before past s w (λ q. refl) after).named channel.own peer held here talks)
+        wish_waits party channel past request.identifier peer octets ((all_before past s w (λ q. refl) after).named channel.own peer held here talks)
         ∙ asking_is held.stage request m (sym (ap asked_on here) ∙ asked) asks
-    by past after m asked is false away = wish_passes party channel past w request.identifier peer other (written options) m held (held_at channel.own w) (all_before past s w (λ q. refl) after) at talks away refl asked ∙ is
+    by past after m asked is false away = wish_passes party channel past w request.identifier peer other octets m held (held_at channel.own w) (all_before past s w (λ q. refl) after) at talks away refl asked ∙ is
 
-mild_wish_at : (party : Party) (channel : Channel) (w : Channels) (other : ℕ) (held : Held) (stage : Stage) → held.stage ≡ stage → held_at other w ≡ Some held → Mild party channel w (map spoken (option_to_list (configuration_at stage)))
-mild_wish_at party channel w other held (Requested request) is at = mild-none party channel w
-mild_wish_at party channel w other held (Connected peer setup) is at = mild_wish party channel w other peer held setup.own at (ap talks_to is) (ap asked_at is)
-mild_wish_at party channel w other held (Leaving peer setup request) is at = mild_wish party channel w other peer held setup.own at (ap talks_to is) (ap asked_at is)
-mild_wish_at party channel w other held (Closing peer request) is at = mild-none party channel w
-mild_wish_at party channel w other held (Crossed peer request) is at = mild-none party channel w
+setup_wishes : (stage : Stage) (setup : Setup) (peer : ℕ) (request : Request) (options : Options) → setup_of stage ≡ Some setup → peer_of stage ≡ Some peer → setup.own ≡ Asking request options → (talks_to stage ≡ Some peer) × (asked_at stage ≡ Some (Some request.identifier))
+setup_wishes (Requested other) setup peer request options has to is = cc
+setup_wishes (Connected p s) setup peer request options has to is = let same : s ≡ setup = cc in (to, ap (λ o. Some (asked_by (own_request o))) (ap (λ (x : Setup). x.own) same ∙ is))
+setup_wishes (Leaving p s other) setup peer request options has to is = let same : s ≡ setup = cc in (to, ap (λ o. Some (asked_by (own_request o))) (ap (λ (x : Setup). x.own) same ∙ is))
+setup_wishes (Closing p other) setup peer request options has to is = cc
+setup_wishes (Crossed p other) setup peer request options has to is = cc
 
-mild_wish_on : (party : Party) (channel : Channel) (w : Channels) (other : ℕ) (held : Option Held) → held_at other w ≡ held → Mild party channel w (map spoken (option_to_list (on_held (λ h. configuration_at h.stage) held)))
-mild_wish_on party channel w other None at = mild-none party channel w
-mild_wish_on party channel w other (Some held) at = mild_wish_at party channel w other held held.stage refl at
-
-mild_call : (party : Party) (channel : Channel) (w : Channels) (held : Option Held) → Mild party channel w (map spoken (option_to_list (on_held (λ h. connection_at h.stage h) held)))
-mild_call party channel w None = mild-none party channel w
-mild_call party channel w (Some held) = by held.stage
-  where
-    by : (stage : Stage) → Mild party channel w (map spoken (option_to_list (connection_at stage held)))
-    by (Requested request) = mild-one party channel w (spoken (command_with request.identifier (connection_request held.psm held.own))) (λ asked. refl) (λ past entry. refl)
-    by (Connected peer setup) = mild-none party channel w
-    by (Leaving peer setup request) = mild-none party channel w
-    by (Closing peer request) = mild-none party channel w
-    by (Crossed peer request) = mild-none party channel w
-
-mild_end : (party : Party) (channel : Channel) (w : Channels) (held : Option Held) → Mild party channel w (map spoken (option_to_list (on_held (λ h. disconnection_at h.stage h) held)))
-mild_end party channel w None = mild-none party channel w
-mild_end party channel w (Some held) = by held.stage
-  where
-    asks : (peer : ℕ) (request : Request) → Mild party channel w (spoken (command_with request.identifier (disconnection_request peer held.own)) ∷ [])
-    asks peer request = mild-one party channel w (spoken (command_with request.identifier (disconnection_request peer held.own))) (λ asked. refl) (λ past entry. refl)
-
-    by : (stage : Stage) → Mild party channel w (map spoken (option_to_list (disconnection_at stage held)))
-    by (Requested request) = mild-none party channel w
-    by (Connected peer setup) = mild-none party channel w
-    by (Leaving peer setup request) = asks peer request
-    by (Closing peer request) = asks peer request
-    by (Crossed peer request) = asks peer request
-
-mild_features : (party : Party) (channel : Channel) (w : Channels) (features : Option Request) → Mild party channel w (map spoken (option_to_list (features_command features)))
-mild_features party channel w None = mild-none party channel w
-mild_features party channel w (Some request) = mild-one party channel w (spoken (command_with request.identifier (information_request 2))) (λ asked. refl) (λ past entry. refl)
-
-pub mild-errand : (party : Party) (channel : Channel) (w : Channels) (errand : Errand) → Mild party channel w (said_of (Some errand) w)
-mild-errand party channel w (errands.Connection own) = mild_call party channel w (held_at own w)
-mild-errand party channel w (errands.Configuration own) = mild_wish_on party channel w own (held_at own w) refl
-mild-errand party channel w (errands.Disconnection own) = mild_end party channel w (held_at own w)
-mild-errand party channel w errands.Features = mild_features party channel w w.features
-
-mild_newest : (party : Party) (channel : Channel) (w : Channels) (errand : Option Errand) → Mild party channel w (said_of errand w)
-mild_newest party channel w None = mild-none party channel w
-mild_newest party channel w (Some errand) = mild-errand party channel w errand
+-- whatever the host says of its own accord
+pub own-words : (party : Party) (channel : Channel) (w : Channels) → Words w (Mild party channel w)
+own-words party channel w = record {
+  none = mild-none party channel w;
+  both = mild-both party channel w;
+  calls = λ identifier psm own. mild-one party channel w (spoken (command_with identifier (connection_request psm own))) (λ asked. refl) (λ past entry. refl);
+  wishes = λ own peer held setup request options at has to is. let (talks, asks) = setup_wishes held.stage setup peer request options has to is in mild_wish party channel w own peer held request (written options) at talks asks;
+  ends = λ identifier peer own. mild-one party channel w (spoken (command_with identifier (disconnection_request peer own))) (λ asked. refl) (λ past entry. refl);
+  asks = λ request is. mild-one party channel w (spoken (command_with request.identifier (information_request 2))) (λ asked. refl) (λ past entry. refl);
+  lets_call = λ identifier own. mild-one party channel w (GaveUp (sayings.Connection identifier own)) (λ asked. refl) (λ past entry. refl);
+  lets_end = λ own peer. mild-one party channel w (GaveUp (sayings.Disconnection own peer)) (λ asked. refl) (λ past entry. refl);
+}
 
 pub mild-asked : (party : Party) (channel : Channel) (v w : Channels) → Mild party channel w (asked_between v w)
-mild-asked party channel v w = by (eqb w.identifier v.identifier)
-  where
-    by : (same : Bool) → Mild party channel w (cond same [] (said_of (newest w.queue) w))
-    by true = mild-none party channel w
-    by false = mild_newest party channel w (newest w.queue)
-
-pub mild-again : (party : Party) (channel : Channel) (errand : Errand) (v w : Channels) → Mild party channel w (said_again errand v w)
-mild-again party channel errand v w = mild-if party channel w _ (said_of (Some errand) w) (mild-errand party channel w errand)
-
-pub mild-forgone : (party : Party) (channel : Channel) (w : Channels) (before after : Option Held) → Mild party channel w (forgone_between before after)
-mild-forgone party channel w None after = mild-none party channel w
-mild-forgone party channel w (Some held) None = by held.stage
-  where
-    ended : (peer : ℕ) → Mild party channel w (GaveUp (sayings.Disconnection held.own peer) ∷ [])
-    ended peer = mild-one party channel w (GaveUp (sayings.Disconnection held.own peer)) (λ asked. refl) (λ past entry. refl)
-
-    by : (stage : Stage) → Mild party channel w (forgone_at stage held.own)
-    by (Requested request) = mild-one party channel w (GaveUp (sayings.Connection request.identifier held.own)) (λ asked. refl) (λ past entry. refl)
-    by (Connected peer setup) = mild-none party channel w
-    by (Leaving peer setup request) = ended peer
-    by (Closing peer request) = ended peer
-    by (Crossed peer request) = ended peer
-mild-forgone party channel w (Some held) (Some other) = mild-none party channel w
-
-pub mild-firing : (party : Party) (channel : Channel) (own : ℕ) (v w : Channels) → Mild party channel w (said_on_firing own v w)
-mild-firing party channel own v w =
-    mild-both party channel w (said_again (errands.Connection own) v w) _ (mild-again party channel (errands.Connection own) v w)
-    (mild-both party channel w (said_again (errands.Configuration own) v w) _ (mild-again party channel (errands.Configuration own) v w)
-    (mild-both party channel w (said_again (errands.Disconnection own) v w) _ (mild-again party channel (errands.Disconnection own) v w)
-    (mild-both party channel w (asked_between v w) (given_up own v w) (mild-asked party channel v w) (mild-forgone party channel w (held_at own v) (held_at own w)))))
+mild-asked party channel v w = words-asked w (Mild party channel w) (own-words party channel w) v
 
 -- ---- a request that is new
 
