@@ -1,11 +1,11 @@
 -- All that happens to a host, with what is said of it, step by step.
-use Rattle.std.proofs.Common.{◌≡◌, ℕ, List, [], ◌∷◌, ◌++◌, fold, map, drop, Bool, true, false, cond, eqb, not, Option, Some, None, Ok, Err, refl, sym, subst, append_assoc, append-nil}
+use Rattle.std.proofs.Common.{◌≡◌, ℕ, List, [], ◌∷◌, ◌++◌, fold, map, drop, Bool, true, false, cond, eqb, not, Option, Some, None, Ok, Err, refl, sym, ap, subst, ◌∙◌, ◌⊎◌, inl, inr, append_assoc, append-nil}
 use Rattle.std.specs.Prelude.{is_some, nat_le}
 use Rattle.std.specs.List.{AllByRecursion}
 use Rattle.std.proofs.lemmas.List.Sums.{fold-append}
 use Rattle.acl_fragments.specs.Pieces.{channel_of}
 use Rattle.capture.specs.declared.flow.Flow.TheVariants.{Into}
-use Rattle.l2cap_signal.specs.Commands.{Content, reject, connection_request, connection_response, configuration_request, configuration_response, disconnection_request, disconnection_response, echo_request, echo_response, information_request, information_response}
+use Rattle.l2cap_signal.specs.Commands.{Command, Content, reject, connection_request, connection_response, configuration_request, configuration_response, disconnection_request, disconnection_response, echo_request, echo_response, information_request, information_response}
 use Rattle.l2cap_signal.specs.Reading.{Answer as Read, answers}
 use Rattle.l2cap_signal.specs.declared.refusal.SignalRefusal.TheVariants.{ZeroIdentifier, BadLength, UnknownCode, AboveMtu}
 use Rattle.link_talk.specs.Sayings.{Saying, Carried}
@@ -14,9 +14,9 @@ use Rattle.channel_model.specs.declared.errand.Errand.TheVariants as errands
 use Rattle.channel_model.specs.declared.event.ChannelEvent.TheVariants.{Features}
 use Rattle.channel_model.specs.declared.request_kind.RequestKind.{RequestKind}
 use Rattle.channel_model.specs.declared.request_kind.RequestKind.TheVariants as kinds
-use Rattle.channel_model.specs.Value.{Request, Remembered, Channels, no_channels}
+use Rattle.channel_model.specs.Value.{Queued, Answer, Ask, Request, Remembered, Channels, no_channels}
 use Rattle.channel_model.specs.Policies.{Policy}
-use Rattle.channel_model.specs.Changing.{held_at, is_due, forgets, tells}
+use Rattle.channel_model.specs.Changing.{has_room, held_at, is_due, forgets, tells}
 use Rattle.channel_model.specs.Asking.{new_request, asks, StillDue, OnceMore, Spent}
 use Rattle.channel_model.specs.Answers.{kind_of_code, remembered, not_understood, too_long, answer_to}
 use Rattle.channel_model.specs.Following.{follows, remembers, says, can_say, hears_new, hears_again, hears_kind}
@@ -33,7 +33,7 @@ use Rattle.channel_laws.proofs.Commands.{IsTold, hears-any}
 use Rattle.channel_laws.proofs.Told.{all-told}
 use Rattle.channel_laws.proofs.Firing.{held-fires, ending-fires, features-fires}
 use Rattle.channel_laws.proofs.Running.{along, run-more}
-use Rattle.channel_laws.proofs.Lasting.{follows-lasts, grant-lasts, response-lasts, end-lasts, takes-lasts, connects-lasts, disconnects-last, sends-last, gives-last, times-last, ends-last}
+use Rattle.channel_laws.proofs.Lasting.{answers_of, follows-lasts, grant-lasts, response-lasts, end-lasts, takes-lasts, connects-lasts, disconnects-last, sends-last, gives-last, times-last, ends-last}
 use Rattle.channel_laws.proofs.Replying.{is_response, IsReply, IsReplied, Replies, replied, replies-with, answer-reply}
 
 -- ---- what each step keeps
@@ -44,6 +44,11 @@ pub record IsAlike (v u : Channels) : Type 0 where
   pub next_is : u.next ≡ v.next
   pub identifier_is : u.identifier ≡ v.identifier
   pub features_is : u.features ≡ v.features
+
+-- nothing more waits to be answered, or the answer to a command waits, for which there was room
+abbrev pub WaitsSo : (v u : Channels) (identifier : ℕ) → Option Content → Type 0
+WaitsSo v u identifier response =
+    (answers_of u.queue ≡ answers_of v.queue) ⊎ ((content : Content) × (response ≡ Some content) × (has_room v ≡ true) × (answers_of u.queue ≡ answers_of v.queue ++ command_with identifier content ∷ []))
 
 -- a command that is no response of the peer
 abbrev pub is_asking : Read → Bool
@@ -71,7 +76,7 @@ pub record Converses (policy : Policy) (K : Channels → Type 0) (J : List Sayin
   pub first : K no_channels
   pub kept : (v : Channels) (more : Occurrence) → Distinct own_of v.held → K v → K (value_after policy more v)
   -- the peer asks, and is answered
-  pub asked : (past : List Saying) (v u : Channels) (one : Read) (identifier : ℕ) (response : Option Content) (content : Content) → is_asking one ≡ true → IsReply response → IsAlike v u
+  pub asked : (past : List Saying) (v u : Channels) (one : Read) (identifier : ℕ) (response : Option Content) (content : Content) → is_asking one ≡ true → IsReply response → IsAlike v u → WaitsSo v u identifier response
       → Goes policy J past v (exchanged one (command_if identifier response) v ++ asked_between v (follows policy content u)) (follows policy content u)
   -- the peer responds
   pub answered : (past : List Saying) (v : Channels) (identifier : ℕ) (content : Content) → is_response content ≡ true
@@ -99,6 +104,15 @@ says_alike : (identifier : ℕ) (response : Option Content) (v : Channels) → I
 says_alike identifier None v = same_alike v
 says_alike identifier (Some content) v = record { held_is = refl; next_is = refl; identifier_is = refl; features_is = refl }
 
+answers_more : (queue : List Queued) (command : Command) → answers_of (queue ++ Answer command ∷ []) ≡ answers_of queue ++ command ∷ []
+answers_more [] command = refl
+answers_more (Answer other ∷ queue) command = ap (λ cs. other ∷ cs) (answers_more queue command)
+answers_more (Ask errand ∷ queue) command = answers_more queue command
+
+says_waits : (identifier : ℕ) (response : Option Content) (v t : Channels) → t.queue ≡ v.queue → can_say response v ≡ true → WaitsSo v (says identifier response t) identifier response
+says_waits identifier None v t same can = inl (ap answers_of same)
+says_waits identifier (Some content) v t same can = inr (content, refl, can, answers_more t.queue (command_with identifier content) ∙ ap (λ q. answers_of q ++ command_with identifier content ∷ []) same)
+
 says_memory : (identifier : ℕ) (response : Option Content) (v : Channels) → (says identifier response v).memory ≡ v.memory
 says_memory identifier None v = refl
 says_memory identifier (Some content) v = refl
@@ -112,32 +126,36 @@ abbrev Answers : Policy → (J : List Saying → Channels → Type 0) → List S
 Answers policy J past v one identifier response w = GoesBoth policy J past v (exchanged one (command_if identifier response) v ++ asked_between v w) w
 
 step : (policy : Policy) (K : Channels → Type 0) (J : List Saying → Channels → Type 0) (c : Converses policy K J) (past : List Saying) (v u : Channels) (one : Read) (identifier : ℕ) (response : Option Content) (content : Content) → is_asking one ≡ true → IsReply response → IsAlike v u
-    → (Replies v.memory → Replies u.memory) → Answers policy J past v one identifier response (follows policy content u)
-step policy K J c past v u one identifier response content asking reply alike replies sound (holds, known) after =
-    (c.asked past v u one identifier response content asking reply alike sound holds after, subst Replies (sym (follows-lasts policy content u).1) (replies known))
+    → WaitsSo v u identifier response → (Replies v.memory → Replies u.memory) → Answers policy J past v one identifier response (follows policy content u)
+step policy K J c past v u one identifier response content asking reply alike waits replies sound (holds, known) after =
+    (c.asked past v u one identifier response content asking reply alike waits sound holds after, subst Replies (sym (follows-lasts policy content u).1) (replies known))
 
 new_goes : (policy : Policy) (K : Channels → Type 0) (J : List Saying → Channels → Type 0) (c : Converses policy K J) (past : List Saying) (v : Channels) (kind : RequestKind) (one : Read) (identifier : ℕ) (response : Option Content) (content : Content) → is_asking one ≡ true → IsReply response
     → Answers policy J past v one identifier response (hears_new kind identifier response (follows policy content) v)
-new_goes policy K J c past v kind one identifier response content asking reply = by (can_say response v)
+new_goes policy K J c past v kind one identifier response content asking reply = by (can_say response v) refl
   where
     last : Remembered
     last = record { identifier = identifier; response = response }
 
-    u : Channels
-    u = says identifier response (remembers kind identifier response v)
+    t : Channels
+    t = remembers kind identifier response v
 
-    by : (can : Bool) → Answers policy J past v one identifier response (cond can (follows policy content u) v)
-    by true = step policy K J c past v u one identifier response content asking reply (remembered_alike kind identifier response v)
-        (λ known. subst Replies (sym (says_memory identifier response (remembers kind identifier response v))) (replies-with kind last v.memory reply known))
-    by false = step policy K J c past v v one identifier response (echo_response []) asking reply (same_alike v) (λ known. known)
+    u : Channels
+    u = says identifier response t
+
+    by : (can : Bool) → can_say response v ≡ can → Answers policy J past v one identifier response (cond can (follows policy content u) v)
+    by true can = step policy K J c past v u one identifier response content asking reply (remembered_alike kind identifier response v) (says_waits identifier response v t refl can)
+        (λ known. subst Replies (sym (says_memory identifier response t)) (replies-with kind last v.memory reply known))
+    by false can = step policy K J c past v v one identifier response (echo_response []) asking reply (same_alike v) (inl refl) (λ known. known)
 
 again_goes : (policy : Policy) (K : Channels → Type 0) (J : List Saying → Channels → Type 0) (c : Converses policy K J) (past : List Saying) (v : Channels) (one : Read) (identifier : ℕ) (response : Option Content) → is_asking one ≡ true → IsReply response
     → Answers policy J past v one identifier response (hears_again identifier response v)
-again_goes policy K J c past v one identifier response asking reply = by (can_say response v)
+again_goes policy K J c past v one identifier response asking reply = by (can_say response v) refl
   where
-    by : (can : Bool) → Answers policy J past v one identifier response (cond can (says identifier response v) v)
-    by true = step policy K J c past v (says identifier response v) one identifier response (echo_response []) asking reply (says_alike identifier response v) (λ known. subst Replies (sym (says_memory identifier response v)) known)
-    by false = step policy K J c past v v one identifier response (echo_response []) asking reply (same_alike v) (λ known. known)
+    by : (can : Bool) → can_say response v ≡ can → Answers policy J past v one identifier response (cond can (says identifier response v) v)
+    by true can = step policy K J c past v (says identifier response v) one identifier response (echo_response []) asking reply (says_alike identifier response v) (says_waits identifier response v v refl can)
+        (λ known. subst Replies (sym (says_memory identifier response v)) known)
+    by false can = step policy K J c past v v one identifier response (echo_response []) asking reply (same_alike v) (inl refl) (λ known. known)
 
 kind_goes : (policy : Policy) (K : Channels → Type 0) (J : List Saying → Channels → Type 0) (c : Converses policy K J) (past : List Saying) (v : Channels) (last : Option Remembered) (kind : RequestKind) (one : Read) (identifier : ℕ) (fresh : Option Content) (content : Content) → is_asking one ≡ true
     → (Replies v.memory → IsReplied last) → IsReply fresh → Answers policy J past v one identifier (response_by last identifier fresh) (hears_kind last kind identifier fresh (follows policy content) v)
@@ -185,7 +203,7 @@ content_goes policy K J c past v identifier (information_response kind answer re
 
 -- one that is refused, and follows from nothing
 none_goes : (policy : Policy) (K : Channels → Type 0) (J : List Saying → Channels → Type 0) (c : Converses policy K J) (past : List Saying) (v : Channels) (one : Read) → is_asking one ≡ true → Answers policy J past v one 0 None v
-none_goes policy K J c past v one asking = step policy K J c past v v one 0 None (echo_response []) asking tt (same_alike v) (λ known. known)
+none_goes policy K J c past v one asking = step policy K J c past v v one 0 None (echo_response []) asking tt (same_alike v) (inl refl) (λ known. known)
 
 malformed_goes : (policy : Policy) (K : Channels → Type 0) (J : List Saying → Channels → Type 0) (c : Converses policy K J) (past : List Saying) (v : Channels) (kind : Option RequestKind) (one : Read) (identifier : ℕ) → is_asking one ≡ true
     → Answers policy J past v one identifier (response_malformed kind identifier v) (cond (is_kind kind) (hears_malformed kind identifier v) (hears_again identifier (Some not_understood) v))

@@ -251,7 +251,7 @@ converses : (policy : Policy) → Converses policy (λ v. Unit {0}) Informed
 converses policy = record {
   first = tt;
   kept = λ v more lone known. tt;
-  asked = λ past v u one identifier response content asking reply alike sound informed after. heard_so past v (follows policy content u) one identifier response (one_none one asking) reply ((follows-lasts policy content u).0 ∙ ap asked_by alike.features_is) informed;
+  asked = λ past v u one identifier response content asking reply alike waits sound informed after. heard_so past v (follows policy content u) one identifier response (one_none one asking) reply ((follows-lasts policy content u).0 ∙ ap asked_by alike.features_is) informed;
   answered = λ past v identifier content is sound informed after. answered_so policy past v identifier content is informed;
   taken = λ past v pdu known sound informed after.
       let w : Channels = takes (channel_of pdu) pdu v in goes_on past v w (Carried Into pdu ∷ asked_between v w) (takes-lasts (channel_of pdu) pdu v).0 (leaves_asked v w) informed;

@@ -51,6 +51,7 @@ pub mod Words
 pub mod Agreed
 pub mod Conversing
 pub mod Informing
+pub mod Saying
 pub mod Trying
 pub mod Sparing
 pub mod Spending

@@ -85,7 +85,7 @@ converses : (policy : Policy) (party : Party) (channel : Channel) → StatesFram
 converses policy party channel states = record {
   first = none-stated policy;
   kept = λ v more lone. keeps-all policy _ (λ own. Stated) (keeps-stated policy) carries-stated more v lone;
-  asked = λ past v u one identifier response content asking reply alike sound heeds after. asked-so party channel policy past v u one identifier response content asking reply alike sound heeds after;
+  asked = λ past v u one identifier response content asking reply alike waits sound heeds after. asked-so party channel policy past v u one identifier response content asking reply alike sound heeds after;
   answered = λ past v identifier content is sound heeds after. answered-so party channel policy past v identifier content is sound heeds after;
   taken = λ past v pdu stated sound heeds after.
       behind party channel policy past (Carried Into pdu ∷ []) v (takes (channel_of pdu) pdu v) (λ m asked. inl (takes-so policy party channel past v pdu states stated sound heeds m asked)) after;

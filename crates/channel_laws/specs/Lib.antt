@@ -12,4 +12,5 @@ pub mod Frames
 pub mod Armed
 pub mod Acceptance
 pub mod Ends
+pub mod Signals
 pub mod Tries

@@ -11,6 +11,7 @@ ghost use Rattle.channel_laws.specs.Laws.{ChannelsAreRead, EndpointsAreNew};
 ghost use Rattle.channel_laws.specs.Pairs.{EachEndRuns};
 ghost use Rattle.channel_laws.specs.Repeats.{RepeatsAreAnswered};
 ghost use Rattle.channel_laws.specs.Sdus.{SdusAreRead};
+ghost use Rattle.channel_laws.specs.Signals.{AnswersAreSaid};
 ghost use Rattle.channel_laws.specs.Tries.{FiringsAloneRepeat, FiringsAreCounted, TriesAreKept};
 
 /// What a host holds of each of its endpoints is what its own talk says, whatever it asks for, whatever
@@ -94,6 +95,11 @@ pub fn armed_is_what_waits()
 /// peer's request for options, and that its own one was made and waits no more.
 pub fn sends_behind_acceptance()
     ensures { SendsBehindAcceptance }
+{}
+
+/// Each answer that waits to be given stands in the own talk of its host, so one that is given was said before.
+pub fn answers_are_said()
+    ensures { AnswersAreSaid }
 {}
 
 /// A host gives a request that waits for its answer at most as often as it tries, and once where it tries less.
