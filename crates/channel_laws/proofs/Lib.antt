@@ -52,6 +52,7 @@ pub mod Agreed
 pub mod Conversing
 pub mod Informing
 pub mod Saying
+pub mod Origins
 pub mod Trying
 pub mod Sparing
 pub mod Spending
@@ -65,3 +66,4 @@ pub mod Showing
 pub mod Options
 pub mod Arming
 pub mod Behind
+pub mod Belonging

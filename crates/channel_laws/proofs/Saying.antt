@@ -1,5 +1,5 @@
 -- A host has said each answer that waits to be given.
-use Rattle.std.proofs.Common.{◌≡◌, ℕ, List, [], ◌∷◌, ◌++◌, Bool, true, false, cond, eqb, Option, Some, None, Ok, Err, refl, sym, ap, subst, ◌∙◌, ◌⊎◌, inl, inr}
+use Rattle.std.proofs.Common.{◌≡◌, ℕ, List, [], ◌∷◌, ◌++◌, Bool, true, false, cond, Option, Some, None, Ok, refl, sym, ap, subst, ◌∙◌, ◌⊎◌, inl, inr}
 use Rattle.std.specs.Prelude.{find, is_some, nat_le}
 use Rattle.acl_fragments.specs.Pieces.{channel_of}
 use Rattle.capture.specs.declared.flow.Flow.TheVariants.{Into}
@@ -11,7 +11,7 @@ use Rattle.channel_model.specs.declared.errand.Errand.TheVariants as errands
 use Rattle.channel_model.specs.declared.event.ChannelEvent.TheVariants.{Features}
 use Rattle.channel_model.specs.Value.{Request, Queued, Answer, Ask, Setup, Held, Channels}
 use Rattle.channel_model.specs.Policies.{Policy}
-use Rattle.channel_model.specs.Changing.{held_at, has_room, is_due, forgets, queued, tells, setup_of}
+use Rattle.channel_model.specs.Changing.{held_at, is_due, forgets, tells, setup_of}
 use Rattle.channel_model.specs.Asking.{new_request, asks, StillDue, OnceMore, Spent}
 use Rattle.channel_model.specs.Following.{follows}
 use Rattle.channel_model.specs.Responses.{has_identifier, hears_features, features_in}
@@ -21,27 +21,27 @@ use Rattle.channel_model.specs.Timing.{fires, times_held, times_end, loses_featu
 use Rattle.channel_model.specs.Giving.{gives, stage_given, counted, carrier_spent, held_given, queue_given, connection_given, configuration_given, disconnection_given}
 use Rattle.channel_model.specs.Calls.{asks_features}
 use Rattle.channel_laws.specs.OwnTalk.{spoken, command_with, command_if, exchanged, asked_between}
-use Rattle.channel_laws.specs.Runs.{Occurrence, Comes, Connects, AsksFeatures, Disconnects, Sends, Gives, Fires, Tells, said_in, value_after, said_on_firing, said_by_features, Run, run_of}
+use Rattle.channel_laws.specs.Runs.{Occurrence, Comes, Connects, AsksFeatures, Disconnects, Sends, Gives, Fires, Tells, said_in, value_after, said_on_firing, said_by_features, run_of}
 use Rattle.channel_laws.specs.Signals.{StandsIn, AnswersAreSaid}
-use Rattle.channel_laws.proofs.Lasting.{answers_of, answers-asked, Lasts, follows-lasts, grant-lasts, response-lasts, end-lasts, takes-lasts, connects-lasts, disconnects-last, sends-last, times-last, ends-last, asked-with, forgotten}
+use Rattle.channel_laws.proofs.Lasting.{answers_of, answers-asked, follows-lasts, grant-lasts, response-lasts, end-lasts, takes-lasts, connects-lasts, disconnects-last, sends-last, times-last, ends-last, asked-with, forgotten}
 use Rattle.channel_laws.proofs.Replying.{is_response}
 use Rattle.channel_laws.proofs.Conversing.{WaitsSo, is_single, Converses, conversed}
 
 -- ---- members of lists
 
-stands_left : {X : Type 0} (x : X) (xs ys : List X) → StandsIn x xs → StandsIn x (xs ++ ys)
-stands_left x [] ys is = elim is [ ]
-stands_left x (y ∷ xs) ys (inl same) = inl same
-stands_left x (y ∷ xs) ys (inr later) = inr (stands_left x xs ys later)
+pub stands-left : {X : Type 0} (x : X) (xs ys : List X) → StandsIn x xs → StandsIn x (xs ++ ys)
+stands-left x [] ys is = elim is [ ]
+stands-left x (y ∷ xs) ys (inl same) = inl same
+stands-left x (y ∷ xs) ys (inr later) = inr (stands-left x xs ys later)
 
-stands_right : {X : Type 0} (x : X) (xs ys : List X) → StandsIn x ys → StandsIn x (xs ++ ys)
-stands_right x [] ys is = is
-stands_right x (y ∷ xs) ys is = inr (stands_right x xs ys is)
+pub stands-right : {X : Type 0} (x : X) (xs ys : List X) → StandsIn x ys → StandsIn x (xs ++ ys)
+stands-right x [] ys is = is
+stands-right x (y ∷ xs) ys is = inr (stands-right x xs ys is)
 
-stands_either : {X : Type 0} (x : X) (xs ys : List X) → StandsIn x (xs ++ ys) → StandsIn x xs ⊎ StandsIn x ys
-stands_either x [] ys is = inr is
-stands_either x (y ∷ xs) ys (inl same) = inl (inl same)
-stands_either x (y ∷ xs) ys (inr later) = by (stands_either x xs ys later)
+pub stands-either : {X : Type 0} (x : X) (xs ys : List X) → StandsIn x (xs ++ ys) → StandsIn x xs ⊎ StandsIn x ys
+stands-either x [] ys is = inr is
+stands-either x (y ∷ xs) ys (inl same) = inl (inl same)
+stands-either x (y ∷ xs) ys (inr later) = by (stands-either x xs ys later)
   where
     by : StandsIn x xs ⊎ StandsIn x ys → StandsIn x (y ∷ xs) ⊎ StandsIn x ys
     by (inl one) = inl (inr one)
@@ -54,14 +54,14 @@ AllSaid past v = (command : Command) → StandsIn command (answers_of v.queue) �
 
 -- no more answers wait
 said_on : (past said : List Saying) (v w : Channels) → answers_of w.queue ≡ answers_of v.queue → AllSaid past v → AllSaid (past ++ said) w
-said_on past said v w same all command is = stands_left (spoken command) past said (all command (subst (StandsIn command) same is))
+said_on past said v w same all command is = stands-left (spoken command) past said (all command (subst (StandsIn command) same is))
 
 -- ---- what the peer asks, and what it responds
 
 asked_said : (policy : Policy) (past : List Saying) (v u w : Channels) (one : Read) (identifier : ℕ) (response : Option Content) → WaitsSo v u identifier response → answers_of w.queue ≡ answers_of u.queue → AllSaid past v
     → AllSaid (past ++ (exchanged one (command_if identifier response) v ++ asked_between v w)) w
 asked_said policy past v u w one identifier response (inl same) follows_same all = said_on past (exchanged one (command_if identifier response) v ++ asked_between v w) v w (follows_same ∙ same) all
-asked_said policy past v u w one identifier response (inr (content, is, room, more)) follows_same all = λ command waits. by command (stands_either command (answers_of v.queue) (new ∷ []) (subst (StandsIn command) (follows_same ∙ more) waits))
+asked_said policy past v u w one identifier response (inr (content, is, room, more)) follows_same all = λ command waits. by command (stands-either command (answers_of v.queue) (new ∷ []) (subst (StandsIn command) (follows_same ∙ more) waits))
   where
     new : Command
     new = command_with identifier content
@@ -73,11 +73,11 @@ asked_said policy past v u w one identifier response (inr (content, is, room, mo
     spoken_now = ap (λ r. exchanged one (command_if identifier r) v) is ∙ ap (λ b. cond b (sayings.Command Into one ∷ spoken new ∷ []) []) room
 
     there : StandsIn (spoken new) said
-    there = stands_left (spoken new) (exchanged one (command_if identifier response) v) (asked_between v w) (subst (StandsIn (spoken new)) (sym spoken_now) (inr (inl refl)))
+    there = stands-left (spoken new) (exchanged one (command_if identifier response) v) (asked_between v w) (subst (StandsIn (spoken new)) (sym spoken_now) (inr (inl refl)))
 
     by : (command : Command) → StandsIn command (answers_of v.queue) ⊎ StandsIn command (new ∷ []) → StandsIn (spoken command) (past ++ said)
-    by command (inl old) = stands_left (spoken command) past said (all command old)
-    by command (inr (inl same)) = stands_right (spoken command) past said (subst (λ c. StandsIn (spoken c) said) same there)
+    by command (inl old) = stands-left (spoken command) past said (all command old)
+    by command (inr (inl same)) = stands-right (spoken command) past said (subst (λ c. StandsIn (spoken c) said) same there)
     by command (inr (inr none)) = elim none [ ]
 
 features_same : (identifier : ℕ) (given : Option ℕ) (v : Channels) → answers_of (hears_features identifier given v).queue ≡ answers_of v.queue
@@ -139,7 +139,7 @@ given_counted v errands.Features = refl
 
 given_said : (past said : List Saying) (v : Channels) (queue : List Queued) → v.queue ≡ queue → AllSaid past v → AllSaid (past ++ said) (queue_given queue v)
 given_said past said v [] is all = said_on past said v (held_given (find gives v.held) v) (ap answers_of (given_held v (find gives v.held))) all
-given_said past said v (Answer command ∷ behind) is all = λ other waits. stands_left (spoken other) past said (all other (subst (λ q. StandsIn other (answers_of q)) (sym is) (inr waits)))
+given_said past said v (Answer command ∷ behind) is all = λ other waits. stands-left (spoken other) past said (all other (subst (λ q. StandsIn other (answers_of q)) (sym is) (inr waits)))
 given_said past said v (Ask errand ∷ behind) is all =
     let u : Channels = record v { queue = behind } in
     said_on past said v (counted errand u) (ap answers_of (given_counted u errand) ∙ sym (ap answers_of is)) all

@@ -13,4 +13,5 @@ pub mod Armed
 pub mod Acceptance
 pub mod Ends
 pub mod Signals
+pub mod Belonging
 pub mod Tries

@@ -11,6 +11,7 @@ ghost use Rattle.channel_laws.specs.Laws.{ChannelsAreRead, EndpointsAreNew};
 ghost use Rattle.channel_laws.specs.Pairs.{EachEndRuns};
 ghost use Rattle.channel_laws.specs.Repeats.{RepeatsAreAnswered};
 ghost use Rattle.channel_laws.specs.Sdus.{SdusAreRead};
+ghost use Rattle.channel_laws.specs.Belonging.{ChannelsBelong};
 ghost use Rattle.channel_laws.specs.Signals.{AnswersAreSaid};
 ghost use Rattle.channel_laws.specs.Tries.{FiringsAloneRepeat, FiringsAreCounted, TriesAreKept};
 
@@ -100,6 +101,12 @@ pub fn sends_behind_acceptance()
 /// Each answer that waits to be given stands in the own talk of its host, so one that is given was said before.
 pub fn answers_are_said()
     ensures { AnswersAreSaid }
+{}
+
+/// Whatever a link loses, repeats and damages: a channel of one end was granted by it where the other asked for it with the
+/// same PSM, or was asked for by it and granted by the other, each with its own endpoint.
+pub fn channels_belong()
+    ensures { ChannelsBelong }
 {}
 
 /// A host gives a request that waits for its answer at most as often as it tries, and once where it tries less.

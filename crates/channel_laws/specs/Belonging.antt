@@ -1,0 +1,57 @@
+-- That a channel of one end of a link belongs to one of the other (Core 5.1, Volume 3 Part A, 4.2 and 4.3).
+use Rattle.std.specs.Prelude.{ℕ, ◌≡◌, ◌==◌, false, List, [], ◌∷◌, drop, Option, Some, None, Ok, ◌⊎◌}
+use Rattle.acl_fragments.specs.Pieces.{channel_of}
+use Rattle.capture.specs.Histories.{EachAfter}
+use Rattle.l2cap_signal.specs.Commands.{connection_request, connection_response}
+use Rattle.l2cap_signal.specs.Reading.{answers}
+use Rattle.link_talk.specs.declared.channel.Channel.{Channel}
+use Rattle.link_talk.specs.Sayings.{Saying}
+use Rattle.link_talk.specs.Channels.{Entry, reading}
+use Rattle.channel_model.specs.Policies.{Policy}
+use Rattle.channel_model.specs.Giving.{Given, Signal, Whole, Framed, next_given}
+use Rattle.channel_laws.specs.OwnTalk.{spoken, command_with}
+use Rattle.channel_laws.specs.Views.{read_at}
+use Rattle.channel_laws.specs.Pairs.{End, Happening, Acts, Puts, Takes, Repeats, Loses, Damages, Turn, pair_of}
+use Rattle.channel_laws.specs.Ends.{end_at}
+use Rattle.channel_laws.specs.Signals.{StandsIn}
+
+-- ---- what is read of what is under way
+
+-- a command that is given is read as that command, and anything else is none
+abbrev pub IsReadAs : Option Given → List ℕ → Type 0
+IsReadAs None pdu = Unit {0}
+IsReadAs (Some (Signal command)) pdu = answers (drop 4 pdu) ≡ Ok command ∷ []
+IsReadAs (Some (Whole peer sdu)) pdu = (channel_of pdu == 0x0001) ≡ false
+IsReadAs (Some (Framed peer frame)) pdu = (channel_of pdu == 0x0001) ≡ false
+
+-- and what is damaged is no command
+abbrev pub IsRead : Happening → End → Type 0
+IsRead (Acts occurrence) end' = Unit {0}
+IsRead (Puts pdu) end' = IsReadAs (next_given end'.run.value) pdu
+IsRead Takes end' = Unit {0}
+IsRead Repeats end' = Unit {0}
+IsRead Loses end' = Unit {0}
+IsRead (Damages pdu) end' = (channel_of pdu == 0x0001) ≡ false
+
+abbrev pub AreRead : (near far : Policy) → List Turn → Type 0
+AreRead near far turns = EachAfter (λ past turn. IsRead turn.happening (end_at turn.side (pair_of near far past))) [] turns
+
+-- ---- what a host said
+
+-- it asked for a channel, with its endpoint
+abbrev pub HasAsked : List Saying → (psm own : ℕ) → Type 0
+HasAsked said psm own = (identifier : ℕ) × StandsIn (spoken (command_with identifier (connection_request psm own))) said
+
+-- it granted one, with its endpoint and the peer's
+abbrev pub HasGranted : List Saying → (own peer : ℕ) → Type 0
+HasGranted said own peer = (identifier : ℕ) × (status : ℕ) × StandsIn (spoken (command_with identifier (connection_response own peer 0 status))) said
+
+-- one of two ends asked for it, and the other granted it
+abbrev pub Belongs : (mine other : List Saying) → Channel → Type 0
+Belongs mine other channel = (HasGranted mine channel.own channel.peer × HasAsked other channel.psm channel.peer) ⊎ (HasAsked mine channel.psm channel.own × HasGranted other channel.peer channel.own)
+
+-- Whatever the link loses, repeats and damages: each channel of one end was granted by it where the other asked for it with the
+-- same PSM, or was asked for by it with its PSM and granted by the other, with the endpoints that the two have of it.
+abbrev pub ChannelsBelong : Type 0
+ChannelsBelong = (near far : Policy) (turns : List Turn) → AreRead near far turns → (own : ℕ) (entry : Entry) → read_at own (reading (pair_of near far turns).near.run.said).entries ≡ Some entry
+    → Belongs (pair_of near far turns).near.run.said (pair_of near far turns).far.run.said entry.channel
