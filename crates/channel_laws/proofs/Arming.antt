@@ -22,6 +22,7 @@ use Rattle.channel_laws.specs.Frames.{AreUttered, HoldsFrames}
 use Rattle.channel_laws.specs.Armed.{asks_services, services_wait, ArmedIsWhatWaits}
 use Rattle.channel_laws.specs.Awaited.{asks_for_channel, asks_for_end, is_at, channel_waits, end_waits}
 use Rattle.channel_laws.specs.Views.{peer_of, life_of, is_own, read_at}
+use Rattle.channel_laws.proofs.Both.{both-true}
 use Rattle.channel_laws.proofs.Entries.{any-found, read-own}
 use Rattle.channel_laws.proofs.Sound.{ReadsBy, Reads, Sound}
 use Rattle.channel_laws.proofs.Running.{all-sound}
@@ -38,10 +39,6 @@ both_ways false false there back = refl
 either : (a b : Bool) → (a || b) ≡ true → (a ≡ true) ⊎ (b ≡ true)
 either true b is = inl refl
 either false b is = inr is
-
-and_both : (a b : Bool) → (a && b) ≡ true → (a ≡ true) × (b ≡ true)
-and_both true b is = (refl, is)
-and_both false b is = cc
 
 left : (a b : Bool) → a ≡ true → (a || b) ≡ true
 left a b is = ap (λ t. t || b) is
@@ -99,7 +96,7 @@ call_armed policy party list one known found is = by one.wanted refl
     run = run_of policy list
 
     by : (wanted : Option Wanted) → one.wanted ≡ wanted → armed run.value ≡ true
-    by None none = let never : true ≡ false = sym (and_both (went Out one) (wants (reading run.said) one.identifier one.wanted) is).1 ∙ ap (wants (reading run.said) one.identifier) none in absurd cc
+    by None none = let never : true ≡ false = sym (both-true (went Out one) (wants (reading run.said) one.identifier one.wanted) is).1 ∙ ap (wants (reading run.said) one.identifier) none in absurd cc
     by (Some wanted) some =
         let named : has_source wanted.source one.wanted ≡ true = ap (has_source wanted.source) some ∙ eqb-same wanted.source in
         let waits_here : channel_waits wanted.source (reading run.said) ≡ true =
@@ -149,7 +146,7 @@ entry_armed policy party list own entry known found is = by (either (waits_for_e
     by : (waits_for_end entry.life ≡ true) ⊎ ((is_there entry.life && on_channel party said entry.channel) ≡ true) → (armed run.value ≡ true) ⊎ (asks_services party said entry ≡ true)
     by (inl ends) = inl (armed_at run.value own (held_at own run.value) refl asks_for_end end_armed (sym (requests-are_awaited policy list own).end_is ∙ (ap end_waits found ∙ ends)))
     by (inr waits) =
-        let (there, busy) = and_both (is_there entry.life) (on_channel party said entry.channel) waits in
+        let (there, busy) = both-true (is_there entry.life) (on_channel party said entry.channel) waits in
         held_on (held_at own run.value) refl (subst (Reads policy (held_at own run.value)) found (known.sound.core.reads own)) there busy
 
 waits_there : (policy : Policy) (party : Party) (list : List Occurrence) → Known policy party list → waits party (run_of policy list).said ≡ true → (armed (run_of policy list).value || services_wait party (run_of policy list).said) ≡ true
@@ -203,7 +200,7 @@ armed_waits policy party list held (Requested request) known at is armed_so =
     let run : Run = run_of policy list in
     let here : channel_waits held.own (reading run.said) ≡ true = (requests-are_awaited policy list held.own).channel_is ∙ (ap (is_at asks_for_channel) at ∙ ap asks_for_channel is) in
     calls_wait party run.said (implied (λ x. has_source held.own x.wanted && call_waits (reading run.said) x) (call_waits (reading run.said))
-    (λ x so. (and_both (has_source held.own x.wanted) (call_waits (reading run.said) x) so).1) (reading run.said).requests.calls here)
+    (λ x so. (both-true (has_source held.own x.wanted) (call_waits (reading run.said) x) so).1) (reading run.said).requests.calls here)
 armed_waits policy party list held (Connected peer setup) known at is armed_so =
     let run : Run = run_of policy list in
     let reads : ReadsBy policy held (Some peer) (read_at held.own (reading run.said).entries) =
@@ -246,7 +243,7 @@ armed_back policy party list known is = by (either (armed run.value) (services_w
       where
         entry_so : (entry : Entry) → asks_services party run.said entry ≡ true → entry_waits party run.said entry ≡ true
         entry_so entry so =
-            let (there, asks) = and_both (is_there entry.life) (query_waits party run.said entry.channel) so in
+            let (there, asks) = both-true (is_there entry.life) (query_waits party run.said entry.channel) so in
             right (waits_for_end entry.life) (is_there entry.life && on_channel party run.said entry.channel)
             (ap (λ t. t && on_channel party run.said entry.channel) there
             ∙ right (options_wait party run.said entry.channel) (frames_wait party run.said entry.channel || query_waits party run.said entry.channel) (right (frames_wait party run.said entry.channel) (query_waits party run.said entry.channel) asks))

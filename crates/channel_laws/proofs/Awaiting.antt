@@ -16,6 +16,7 @@ use Rattle.channel_model.proofs.Lookups.{own_of, found-has, any-finds, eqb-same}
 use Rattle.channel_laws.specs.Views.{peer_of, life_of, read_at}
 use Rattle.channel_laws.specs.Runs.{Run, run_of}
 use Rattle.channel_laws.specs.Awaited.{asks_for_channel, asks_for_end, is_at, channel_waits, end_waits, RequestsAreAwaited}
+use Rattle.channel_laws.proofs.Both.{both-true}
 use Rattle.channel_laws.proofs.Sound.{ReadsBy, Reads, wanted_by, WantsAt, Wants, IsPlaced, requested-unread, Sound}
 use Rattle.channel_laws.proofs.Running.{all-sound}
 
@@ -25,10 +26,6 @@ both_ways : (a b : Bool) → (a ≡ true → b ≡ true) → (b ≡ true → a �
 both_ways true b there back = sym (there refl)
 both_ways false true there back = back refl
 both_ways false false there back = refl
-
-both_true : (a b : Bool) → (a && b) ≡ true → (a ≡ true) × (b ≡ true)
-both_true true b is = (refl, is)
-both_true false b is = cc
 
 none_of : {X : Type 0} (p : X → Bool) (xs : List X) → list_any p xs ≡ false → find p xs ≡ None
 none_of p [] is = refl
@@ -87,11 +84,11 @@ still_waits read identifier own one failed given is = by one.wanted refl
   where
     by : (wanted : Option Wanted) → one.wanted ≡ wanted → waits_at own read one ≡ true
     by None none =
-        let parts = both_true (went Out one) (is_call identifier own one) is in
-        let never : true ≡ false = sym (both_true (eqb one.identifier identifier) (has_source own one.wanted) parts.1).1 ∙ ap (has_source own) none in absurd cc
+        let parts = both-true (went Out one) (is_call identifier own one) is in
+        let never : true ≡ false = sym (both-true (eqb one.identifier identifier) (has_source own one.wanted) parts.1).1 ∙ ap (has_source own) none in absurd cc
     by (Some wanted) some =
-        let parts = both_true (went Out one) (is_call identifier own one) is in
-        let named = both_true (eqb one.identifier identifier) (has_source own one.wanted) parts.1 in
+        let parts = both-true (went Out one) (is_call identifier own one) is in
+        let named = both-true (eqb one.identifier identifier) (has_source own one.wanted) parts.1 in
         let source : wanted.source ≡ own = eqb-true wanted.source own (sym (ap (has_source own) some) ∙ named.1) in
         let number : one.identifier ≡ identifier = eqb-true one.identifier identifier named.0 in
         ap (λ t. t && call_waits read one) named.1
@@ -115,12 +112,12 @@ is_waiting : (read : Reading) (own : ℕ) (one : Call) → find (waits_at own re
 is_waiting read own one found is = by one.wanted refl
   where
     by : (wanted : Option Wanted) → one.wanted ≡ wanted → Waiting read own one.identifier
-    by None none = let never : true ≡ false = sym (both_true (has_source own one.wanted) (call_waits read one) is).0 ∙ ap (has_source own) none in absurd cc
+    by None none = let never : true ≡ false = sym (both-true (has_source own one.wanted) (call_waits read one) is).0 ∙ ap (has_source own) none in absurd cc
     by (Some wanted) some =
-        let parts = both_true (has_source own one.wanted) (call_waits read one) is in
+        let parts = both-true (has_source own one.wanted) (call_waits read one) is in
         let source : wanted.source ≡ own = eqb-true wanted.source own (sym (ap (has_source own) some) ∙ parts.0) in
-        let out = both_true (went Out one) (wants read one.identifier one.wanted) parts.1 in
-        let wanting = both_true (not (has_failed read.requests one.identifier wanted.source)) (not (list_any (is_given wanted.source) read.entries)) (sym (ap (wants read one.identifier) some) ∙ out.1) in
+        let out = both-true (went Out one) (wants read one.identifier one.wanted) parts.1 in
+        let wanting = both-true (not (has_failed read.requests one.identifier wanted.source)) (not (list_any (is_given wanted.source) read.entries)) (sym (ap (wants read one.identifier) some) ∙ out.1) in
         record {
           called = any-other (waits_at own read) (is_own_call one.identifier own) read.requests.calls one found
               (ap (λ t. t && is_call one.identifier own one) out.0 ∙ (ap (λ t. t && has_source own one.wanted) (eqb-same one.identifier) ∙ parts.0));

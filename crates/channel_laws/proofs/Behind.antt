@@ -28,6 +28,7 @@ use Rattle.channel_laws.specs.Sdus.{StatesFrame}
 use Rattle.channel_laws.specs.Frames.{IsSpelled, IsUttered, AreUttered}
 use Rattle.channel_laws.specs.Acceptance.{IsAccepted, SendsBehindAcceptance}
 use Rattle.channel_laws.specs.Views.{read_at}
+use Rattle.channel_laws.proofs.Both.{and-right}
 use Rattle.channel_laws.proofs.Entries.{read-own}
 use Rattle.channel_laws.proofs.Sound.{Sound}
 use Rattle.channel_laws.proofs.Keeping.{HeldKeeps}
@@ -35,7 +36,7 @@ use Rattle.channel_laws.proofs.Signalling.{is_carried, IsBare, bare-asked, bare-
 use Rattle.channel_laws.proofs.Options.{options-are_awaited}
 use Rattle.channel_laws.proofs.Passing.{CarrierPasses, Passed, passing-gives}
 use Rattle.channel_laws.proofs.Passages.{spelled-frame}
-use Rattle.channel_laws.proofs.Holding.{frames_on, kept-setup, IsRead, is-read, set-is, and-right}
+use Rattle.channel_laws.proofs.Holding.{frames_on, kept-setup, IsRead, is-read, set-is}
 use Rattle.channel_laws.proofs.Outgoing.{open-stated, gives-none, gives-by}
 use Rattle.channel_laws.proofs.Running.{all-sound}
 use Rattle.channel_laws.proofs.Frames.{RunPasses, run-passes}

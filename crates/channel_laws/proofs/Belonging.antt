@@ -5,15 +5,14 @@ use Rattle.std.proofs.lemmas.List.Sums.{fold-append}
 use Rattle.acl_fragments.specs.Pieces.{channel_of}
 use Rattle.capture.specs.declared.flow.Flow.TheVariants.{Out, Into}
 use Rattle.capture.specs.Histories.{EachAfter}
-use Rattle.l2cap_signal.specs.Commands.{Content, Command, reject, connection_request, connection_response, configuration_request, configuration_response, disconnection_request, disconnection_response, echo_request, echo_response, information_request, information_response}
+use Rattle.l2cap_signal.specs.Commands.{Command, connection_request, connection_response, disconnection_request, information_request}
 use Rattle.l2cap_signal.specs.Reading.{Answer as Read, answers}
-use Rattle.l2cap_config.specs.Writing.{written}
 use Rattle.link_talk.specs.Sayings.{Saying, Carried, GaveUp}
 use Rattle.link_talk.specs.Sayings as sayings
 use Rattle.link_talk.specs.Channels.{reading}
 use Rattle.channel_model.specs.declared.errand.Errand.{Errand}
 use Rattle.channel_model.specs.declared.errand.Errand.TheVariants as errands
-use Rattle.channel_model.specs.Value.{Request, Queued, Answer, Ask, Stage, Requested, Connected, Leaving, Closing, Crossed, Own, Unasked, Asking, Granted, Carrier, Plain, Retransmitting, Held, Channels}
+use Rattle.channel_model.specs.Value.{Request, Queued, Answer, Ask, Stage, Requested, Connected, Leaving, Closing, Crossed, Carrier, Plain, Retransmitting, Held, Channels}
 use Rattle.channel_model.specs.Policies.{Policy}
 use Rattle.channel_model.specs.Changing.{held_at}
 use Rattle.channel_model.specs.Calls.{has_fcs, connected, asks_features, disconnected}
@@ -21,19 +20,19 @@ use Rattle.channel_model.specs.Carrying.{takes}
 use Rattle.channel_model.specs.Following.{can_say}
 use Rattle.channel_model.specs.Hearing.{hears_command}
 use Rattle.channel_model.specs.Timing.{times_held, times_end, times_features}
-use Rattle.channel_model.specs.Giving.{Given, Signal, Whole, Framed, command_of, connection_at, configuration_by, configuration_at, disconnection_at, on_held, features_command, some_carrier_gives, stage_gives, gives, held_gives, queue_gives, next_given}
+use Rattle.channel_model.specs.Giving.{Given, Signal, Whole, Framed, command_of, some_carrier_gives, stage_gives, gives, held_gives, queue_gives, next_given}
 use Rattle.ertm_model.specs.Giving.{next_frame}
 use Rattle.channel_laws.specs.OwnTalk.{spoken, command_with, exchanged, reply_to, asked_between, said_with, said_with_all}
 use Rattle.channel_laws.specs.Runs.{Occurrence, Comes, Connects, AsksFeatures, Disconnects, Sends, Gives, Fires, Tells, features_given_up, said_again, said_on_firing, said_by_channel, fired_channel, said_by_channels, said_by_carrier, said_as, said_in, Run, run_of}
 use Rattle.channel_laws.specs.Pairs.{End, Pair, new_pair, Happening, Acts, Puts, Takes, Repeats, Loses, Damages, is_alone, occurs, with_near, puts, let_go, takes_first, repeats_first, loses_first, damages_first, happens_near, Side, Near, Far, turned, Turn, happens_at, pair_after, pair_of}
 use Rattle.channel_laws.specs.Ends.{end_at}
 use Rattle.channel_laws.specs.Signals.{StandsIn}
-use Rattle.channel_laws.specs.Belonging.{IsReadAs, IsRead, Belongs, ChannelsBelong}
+use Rattle.channel_laws.specs.Belonging.{IsReadAs, IsRead, AreRead, is_pledge, PledgesWereSaid, Belongs, ChannelsBelong}
 use Rattle.channel_laws.proofs.Sound.{Wants, WantsAt, wanted_by}
 use Rattle.channel_laws.proofs.Running.{all-sound}
-use Rattle.channel_laws.proofs.Words.{Words, words-asked, words-again, words-left, words-firing}
+use Rattle.channel_laws.proofs.Words.{Words, words-errand, words-asked, words-again, words-left, words-firing}
 use Rattle.channel_laws.proofs.Saying.{stands-left, stands-either, answers-are_said}
-use Rattle.channel_laws.proofs.Origins.{AskedBy, GrantedBy, Origin, answered-asked, entries-from}
+use Rattle.channel_laws.proofs.Origins.{Origin, answered-asked, entries-from}
 use Rattle.channel_laws.proofs.Pairing.{each-end_runs}
 
 -- ---- what a host hears
@@ -59,7 +58,7 @@ own_words : (c : Command) (w : Channels) → Words w (IsDeaf c)
 own_words c w = record {
   none = λ is. is;
   both = deaf_both c;
-  calls = λ identifier psm own. deaf_said c (command_with identifier (connection_request psm own));
+  calls = λ own held request at is. deaf_said c (command_with request.identifier (connection_request held.psm held.own));
   wishes = λ own peer held setup request options at has to is. deaf_said c _;
   ends = λ identifier peer own. deaf_said c (command_with identifier (disconnection_request peer own));
   asks = λ request is. deaf_said c (command_with request.identifier (information_request 2));
@@ -162,109 +161,47 @@ heard_in policy Tells v c heard = heard
 
 -- ---- what a host gives
 
--- a request for a channel was said, and so was a grant
-abbrev Backed : List Saying → Content → Type 0
-Backed said (reject reason rest) = Unit {0}
-Backed said (connection_request psm source) = AskedBy Out said psm source
-Backed said (connection_response destination source answer status) = answer ≡ 0 → GrantedBy Out said destination source
-Backed said (configuration_request destination flags options) = Unit {0}
-Backed said (configuration_response source flags answer options) = Unit {0}
-Backed said (disconnection_request destination source) = Unit {0}
-Backed said (disconnection_response destination source) = Unit {0}
-Backed said (echo_request octets) = Unit {0}
-Backed said (echo_response octets) = Unit {0}
-Backed said (information_request kind) = Unit {0}
-Backed said (information_response kind answer rest) = Unit {0}
+-- a pledge was said
+abbrev Backed : List Saying → Command → Type 0
+Backed said c = is_pledge c.content ≡ true → StandsIn (spoken c) said
 
-backed_more : (said more : List Saying) (content : Content) → Backed said content → Backed (said ++ more) content
-backed_more said more (reject reason rest) is = tt
-backed_more said more (connection_request psm source) (identifier, stands) = (identifier, stands-left _ said more stands)
-backed_more said more (connection_response destination source answer status) is = λ zero. let (identifier, state, stands) = is zero in (identifier, state, stands-left _ said more stands)
-backed_more said more (configuration_request destination flags options) is = tt
-backed_more said more (configuration_response source flags answer options) is = tt
-backed_more said more (disconnection_request destination source) is = tt
-backed_more said more (disconnection_response destination source) is = tt
-backed_more said more (echo_request octets) is = tt
-backed_more said more (echo_response octets) is = tt
-backed_more said more (information_request kind) is = tt
-backed_more said more (information_response kind answer rest) is = tt
+backed_more : (said more : List Saying) (c : Command) → Backed said c → Backed (said ++ more) c
+backed_more said more c is = λ pledge. stands-left (spoken c) said more (is pledge)
 
-said_backed : (said : List Saying) (identifier : ℕ) (content : Content) → StandsIn (spoken (command_with identifier content)) said → Backed said content
-said_backed said identifier (reject reason rest) is = tt
-said_backed said identifier (connection_request psm source) is = (identifier, is)
-said_backed said identifier (connection_response destination source answer status) is = λ zero. (identifier, status, subst (λ n. StandsIn (spoken (command_with identifier (connection_response destination source n status))) said) zero is)
-said_backed said identifier (configuration_request destination flags options) is = tt
-said_backed said identifier (configuration_response source flags answer options) is = tt
-said_backed said identifier (disconnection_request destination source) is = tt
-said_backed said identifier (disconnection_response destination source) is = tt
-said_backed said identifier (echo_request octets) is = tt
-said_backed said identifier (echo_response octets) is = tt
-said_backed said identifier (information_request kind) is = tt
-said_backed said identifier (information_response kind answer rest) is = tt
+-- all of a list that is pledged was said
+abbrev AllBacked : (said : List Saying) → List Saying → Type 0
+AllBacked said list = (c : Command) → StandsIn (spoken c) list → Backed said c
 
--- an own request for a channel
-ask_backed : (said : List Saying) (v : Channels) (errand : Errand) (c : Command) → ((own : ℕ) → Wants (reading said).requests (held_at own v)) → command_of errand v ≡ Some c → Backed said c.content
-ask_backed said v (errands.Connection own) c wants is = at (held_at own v) (wants own) is
+one_backed : (said : List Saying) (d : Command) → Backed said d → AllBacked said (spoken d ∷ [])
+one_backed said d is c (inl same) = let it : d ≡ c = cc in subst (Backed said) it is
+one_backed said d is c (inr none) = elim none [ ]
+
+-- own requests for channels were said
+own_backed : (said : List Saying) (v : Channels) → ((own : ℕ) → Wants (reading said).requests (held_at own v)) → Words v (AllBacked said)
+own_backed said v wants = record {
+  none = λ c is. elim is [ ];
+  both = both;
+  calls = λ own held request at is.
+      let want : WantsAt (reading said).requests held held.stage = subst (Wants (reading said).requests) at (wants own) in
+      let awaits = subst (WantsAt (reading said).requests held) is want in
+      one_backed said (command_with request.identifier (connection_request held.psm held.own)) (λ pledge. answered-asked said Out request.identifier held.own (wanted_by held.psm held.own) awaits.0);
+  wishes = λ own peer held setup request options at has to is. one_backed said _ (λ pledge. cc);
+  ends = λ identifier peer own. one_backed said (command_with identifier (disconnection_request peer own)) (λ pledge. cc);
+  asks = λ request is. one_backed said (command_with request.identifier (information_request 2)) (λ pledge. cc);
+  lets_call = λ identifier own. lets (sayings.Connection identifier own);
+  lets_end = λ own peer. lets (sayings.Disconnection own peer);
+}
   where
-    at : (held : Option Held) → Wants (reading said).requests held → on_held (λ h. connection_at h.stage h) held ≡ Some c → Backed said c.content
-    at None want is = cc
-    at (Some held) want is = by held.stage want is
+    both : (xs ys : List Saying) → AllBacked said xs → AllBacked said ys → AllBacked said (xs ++ ys)
+    both xs ys one other c is = by (stands-either (spoken c) xs ys is)
       where
-        by : (stage : Stage) → WantsAt (reading said).requests held stage → connection_at stage held ≡ Some c → Backed said c.content
-        by (Requested request) want is =
-            let asked : Command = command_with request.identifier (connection_request held.psm held.own) in
-            let same : asked ≡ c = cc in
-            subst (λ (d : Command). Backed said d.content) same (answered-asked said Out request.identifier held.own (wanted_by held.psm held.own) want.0)
-        by (Connected peer setup) want is = cc
-        by (Leaving peer setup request) want is = cc
-        by (Closing peer request) want is = cc
-        by (Crossed peer request) want is = cc
-ask_backed said v (errands.Configuration own) c wants is = at (held_at own v) is
-  where
-    asks : (own : Own) (peer : ℕ) → configuration_by own peer ≡ Some c → Backed said c.content
-    asks Unasked peer is = cc
-    asks (Asking request options) peer is =
-        let asked : Command = command_with request.identifier (configuration_request peer 0 (written options)) in
-        let same : asked ≡ c = cc in
-        subst (λ (d : Command). Backed said d.content) same tt
-    asks Granted peer is = cc
+        by : StandsIn (spoken c) xs ⊎ StandsIn (spoken c) ys → Backed said c
+        by (inl left) = one c left
+        by (inr right) = other c right
 
-    at : (held : Option Held) → on_held (λ h. configuration_at h.stage) held ≡ Some c → Backed said c.content
-    at None is = cc
-    at (Some held) is = by held.stage is
-      where
-        by : (stage : Stage) → configuration_at stage ≡ Some c → Backed said c.content
-        by (Requested request) is = cc
-        by (Connected peer setup) is = asks setup.own peer is
-        by (Leaving peer setup request) is = asks setup.own peer is
-        by (Closing peer request) is = cc
-        by (Crossed peer request) is = cc
-ask_backed said v (errands.Disconnection own) c wants is = at (held_at own v) is
-  where
-    at : (held : Option Held) → on_held (λ h. disconnection_at h.stage h) held ≡ Some c → Backed said c.content
-    at None is = cc
-    at (Some held) is = by held.stage is
-      where
-        ends : (identifier peer : ℕ) → (let asked : Command = command_with identifier (disconnection_request peer held.own) in Some asked ≡ Some c) → Backed said c.content
-        ends identifier peer is =
-            let asked : Command = command_with identifier (disconnection_request peer held.own) in
-            let same : asked ≡ c = cc in
-            subst (λ (d : Command). Backed said d.content) same tt
-
-        by : (stage : Stage) → disconnection_at stage held ≡ Some c → Backed said c.content
-        by (Requested request) is = cc
-        by (Connected peer setup) is = cc
-        by (Leaving peer setup request) is = ends request.identifier peer is
-        by (Closing peer request) is = ends request.identifier peer is
-        by (Crossed peer request) is = ends request.identifier peer is
-ask_backed said v errands.Features c wants is = at v.features is
-  where
-    at : (features : Option Request) → features_command features ≡ Some c → Backed said c.content
-    at None is = cc
-    at (Some request) is =
-        let asked : Command = command_with request.identifier (information_request 2) in
-        let same : asked ≡ c = cc in
-        subst (λ (d : Command). Backed said d.content) same tt
+    lets : (forgone : _) → AllBacked said (GaveUp forgone ∷ [])
+    lets forgone c (inl same) = cc
+    lets forgone c (inr none) = elim none [ ]
 
 -- what a channel gives is no command
 no_signal : (held : Option Held) (c : Command) → held_gives held ≡ Some (Signal c) → ⊥
@@ -288,43 +225,45 @@ no_signal (Some held) c is = by held.stage is
     by (Closing peer request) is = cc
     by (Crossed peer request) is = cc
 
-given_backed : (policy : Policy) (list : List Occurrence) (c : Command) → next_given (run_of policy list).value ≡ Some (Signal c) → Backed (run_of policy list).said c.content
+given_backed : (policy : Policy) (list : List Occurrence) (c : Command) → next_given (run_of policy list).value ≡ Some (Signal c) → Backed (run_of policy list).said c
 given_backed policy list c = by run.value.queue refl
   where
     run : Run
     run = run_of policy list
 
-    asked : (errand : Errand) (found : Option Command) → command_of errand run.value ≡ found → option_map Signal found ≡ Some (Signal c) → Backed run.said c.content
+    asked : (errand : Errand) (found : Option Command) → command_of errand run.value ≡ found → option_map Signal found ≡ Some (Signal c) → Backed run.said c
     asked errand None at is = cc
-    asked errand (Some d) at is = let same : d ≡ c = cc in ask_backed run.said run.value errand c (all-sound policy list).kept.wants (at ∙ ap Some same)
+    asked errand (Some d) at is = 
+        let same : d ≡ c = cc in
+        words-errand run.value (AllBacked run.said) (own_backed run.said run.value (all-sound policy list).kept.wants) errand c (subst (λ (found : Option Command). StandsIn (spoken c) (map spoken (option_to_list found))) (sym (at ∙ ap Some same)) (inl refl))
 
-    by : (queue : List Queued) → run.value.queue ≡ queue → queue_gives queue run.value ≡ Some (Signal c) → Backed run.said c.content
+    by : (queue : List Queued) → run.value.queue ≡ queue → queue_gives queue run.value ≡ Some (Signal c) → Backed run.said c
     by [] at is = absurd (no_signal (find gives run.value.held) c is)
     by (Answer d ∷ behind) at is =
         let same : d ≡ c = cc in
-        said_backed run.said c.identifier c.content (answers-are_said policy list c (subst (StandsIn (Answer c)) (sym at) (inl (ap Answer same))))
+        λ pledge. answers-are_said policy list c (subst (StandsIn (Answer c)) (sym at) (inl (ap Answer same)))
     by (Ask errand ∷ behind) at is = asked errand (command_of errand run.value) refl is
 
 -- ---- both ends
 
 -- what one end heard, and what is under way to it, the other said
 record Believes (end' : End) (other : List Saying) : Type 0 where
-  heard : (c : Command) → Hears c end'.run.said → Backed other c.content
-  coming : (pdu : List ℕ) → StandsIn pdu end'.coming → (c : Command) → Brings pdu c → Backed other c.content
+  heard : (c : Command) → Hears c end'.run.said → Backed other c
+  coming : (pdu : List ℕ) → StandsIn pdu end'.coming → (c : Command) → Brings pdu c → Backed other c
 
 more_said : (end' : End) (other more : List Saying) → Believes end' other → Believes end' (other ++ more)
 more_said end' other more believes = record {
-  heard = λ c is. backed_more other more c.content (believes.heard c is);
-  coming = λ pdu is c brings. backed_more other more c.content (believes.coming pdu is c brings);
+  heard = λ c is. backed_more other more c (believes.heard c is);
+  coming = λ pdu is c brings. backed_more other more c (believes.coming pdu is c brings);
 }
 
-more_heard : (end' : End) (other : List Saying) (more : Occurrence) → ((c : Command) → Causes more c → Backed other c.content) → Believes end' other → Believes (occurs more end') other
+more_heard : (end' : End) (other : List Saying) (more : Occurrence) → ((c : Command) → Causes more c → Backed other c) → Believes end' other → Believes (occurs more end') other
 more_heard end' other more causes believes = record { heard = heard; coming = believes.coming }
   where
-    heard : (c : Command) → Hears c (end'.run.said ++ said_in end'.policy more end'.run.value) → Backed other c.content
+    heard : (c : Command) → Hears c (end'.run.said ++ said_in end'.policy more end'.run.value) → Backed other c
     heard c is = by (stands-either (sayings.Command Into (Ok c)) end'.run.said (said_in end'.policy more end'.run.value) is)
       where
-        by : Hears c end'.run.said ⊎ Hears c (said_in end'.policy more end'.run.value) → Backed other c.content
+        by : Hears c end'.run.said ⊎ Hears c (said_in end'.policy more end'.run.value) → Backed other c
         by (inl old) = believes.heard c old
         by (inr new) = causes c (heard_in end'.policy more end'.run.value c new)
 
@@ -336,7 +275,7 @@ record BothBelieve (pair : Pair) : Type 0 where
   far : Believes pair.far pair.near.run.said
 
 -- something occurs at the near end
-one_occurs : (pair : Pair) (end' : End) (more : Occurrence) → end'.run ≡ pair.near.run → Believes end' pair.far.run.said → ((c : Command) → Causes more c → Backed pair.far.run.said c.content) → BothBelieve pair
+one_occurs : (pair : Pair) (end' : End) (more : Occurrence) → end'.run ≡ pair.near.run → Believes end' pair.far.run.said → ((c : Command) → Causes more c → Backed pair.far.run.said c) → BothBelieve pair
     → BothBelieve (with_near (occurs more end') pair)
 one_occurs pair end' more run_is believes causes both = record {
   near = more_heard end' pair.far.run.said more causes believes;
@@ -377,7 +316,7 @@ damages_believe pair other (pdu ∷ coming) apart is both = by (has_fcs (channel
     by false = let_believe pair coming pdu is both
 
 -- what is given is read of it
-reads_given : (said : List Saying) (given : Given) (pdu : List ℕ) → ((c : Command) → Some given ≡ Some (Signal c) → Backed said c.content) → IsReadAs (Some given) pdu → (c : Command) → Brings pdu c → Backed said c.content
+reads_given : (said : List Saying) (given : Given) (pdu : List ℕ) → ((c : Command) → Some given ≡ Some (Signal c) → Backed said c) → IsReadAs (Some given) pdu → (c : Command) → Brings pdu c → Backed said c
 reads_given said (Signal d) pdu backed read c brings = by (subst (λ (list : List Read). StandsIn (Ok c) list) read brings.1)
   where
     it : Read
@@ -386,7 +325,7 @@ reads_given said (Signal d) pdu backed read c brings = by (subst (λ (list : Lis
     only : List Read
     only = Ok d ∷ []
 
-    by : StandsIn it only → Backed said c.content
+    by : StandsIn it only → Backed said c
     by (inl same) = let it : d ≡ c = cc in backed c (ap (λ x. Some (Signal x)) it)
     by (inr none) = elim none [ ]
 reads_given said (Whole peer sdu) pdu backed read c brings = let never : true ≡ false = sym brings.0 ∙ read in absurd cc
@@ -399,21 +338,21 @@ puts_believe policy list pair pdu (Some given) run_is is read both = record { ne
     after : BothBelieve (with_near (occurs (Gives pdu) pair.near) pair)
     after = one_occurs pair pair.near (Gives pdu) refl both.near (λ c none. elim none [ ]) both
 
-    backed : (c : Command) → Some given ≡ Some (Signal c) → Backed pair.near.run.said c.content
-    backed c same = subst (λ (run : Run). Backed run.said c.content) (sym run_is) (given_backed policy list c (sym (ap (λ (run : Run). next_given run.value) run_is) ∙ (is ∙ same)))
+    backed : (c : Command) → Some given ≡ Some (Signal c) → Backed pair.near.run.said c
+    backed c same = subst (λ (run : Run). Backed run.said c) (sym run_is) (given_backed policy list c (sym (ap (λ (run : Run). next_given run.value) run_is) ∙ (is ∙ same)))
 
-    coming : (other : List ℕ) → StandsIn other (pair.far.coming ++ pdu ∷ []) → (c : Command) → Brings other c → Backed (pair.near.run.said ++ said_in pair.near.policy (Gives pdu) pair.near.run.value) c.content
+    coming : (other : List ℕ) → StandsIn other (pair.far.coming ++ pdu ∷ []) → (c : Command) → Brings other c → Backed (pair.near.run.said ++ said_in pair.near.policy (Gives pdu) pair.near.run.value) c
     coming other stands c brings = by (stands-either other pair.far.coming (pdu ∷ []) stands)
       where
-        by : StandsIn other pair.far.coming ⊎ StandsIn other (pdu ∷ []) → Backed (pair.near.run.said ++ said_in pair.near.policy (Gives pdu) pair.near.run.value) c.content
+        by : StandsIn other pair.far.coming ⊎ StandsIn other (pdu ∷ []) → Backed (pair.near.run.said ++ said_in pair.near.policy (Gives pdu) pair.near.run.value) c
         by (inl old) = after.far.coming other old c brings
-        by (inr (inl same)) = backed_more pair.near.run.said _ c.content (reads_given pair.near.run.said given pdu backed read c (subst (λ p. Brings p c) (sym same) brings))
+        by (inr (inl same)) = backed_more pair.near.run.said _ c (reads_given pair.near.run.said given pdu backed read c (subst (λ p. Brings p c) (sym same) brings))
         by (inr (inr none)) = elim none [ ]
 
 near_believes : (policy : Policy) (list : List Occurrence) (happening : Happening) (pair : Pair) → pair.near.run ≡ run_of policy list → IsRead happening pair.near → BothBelieve pair → BothBelieve (happens_near happening pair)
 near_believes policy list (Acts occurrence) pair run_is read both = by (is_alone occurrence) refl
   where
-    silent : (more : Occurrence) → is_alone more ≡ true → (c : Command) → Causes more c → Backed pair.far.run.said c.content
+    silent : (more : Occurrence) → is_alone more ≡ true → (c : Command) → Causes more c → Backed pair.far.run.said c
     silent (Comes pdu) alone c brings = cc
     silent (Connects psm) alone c none = elim none [ ]
     silent AsksFeatures alone c none = elim none [ ]
@@ -455,15 +394,18 @@ all_believe near far past (turn ∷ turns) (now, read) both =
 nothing_yet : (near far : Policy) → BothBelieve (new_pair near far)
 nothing_yet near far = record { near = record { heard = λ c is. elim is [ ]; coming = λ pdu is. elim is [ ] }; far = record { heard = λ c is. elim is [ ]; coming = λ pdu is. elim is [ ] } }
 
+all_from : (near far : Policy) (turns : List Turn) → AreRead near far turns → BothBelieve (pair_of near far turns)
+all_from near far turns read = all_believe near far [] turns read (nothing_yet near far)
+
+pub pledges-were_said : PledgesWereSaid
+pledges-were_said near far turns read command pledge heard = (all_from near far turns read).near.heard command heard pledge
+
 pub channels-belong : ChannelsBelong
 channels-belong near far turns read own entry found = by (entries-from pair.near.run.said own entry found)
   where
     pair : Pair
     pair = pair_of near far turns
 
-    both : BothBelieve pair
-    both = all_believe near far [] turns read (nothing_yet near far)
-
     by : Origin pair.near.run.said entry.channel → Belongs pair.near.run.said pair.far.run.said entry.channel
-    by (inl (granted, (identifier, asked))) = inl (granted, both.near.heard (command_with identifier (connection_request entry.channel.psm entry.channel.peer)) asked)
-    by (inr ((identifier, status, granted), asked)) = inr (asked, both.near.heard (command_with identifier (connection_response entry.channel.peer entry.channel.own 0 status)) granted refl)
+    by (identifier, status, inl (granted, asked)) = (identifier, status, inl (granted, pledges-were_said near far turns read (command_with identifier (connection_request entry.channel.psm entry.channel.peer)) refl asked))
+    by (identifier, status, inr (granted, asked)) = (identifier, status, inr (asked, pledges-were_said near far turns read (command_with identifier (connection_response entry.channel.peer entry.channel.own 0 status)) refl granted))

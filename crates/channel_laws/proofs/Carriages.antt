@@ -8,6 +8,7 @@ use Rattle.capture.specs.declared.flow.Flow.TheVariants.{Into}
 use Rattle.std.proofs.lemmas.Bool.{eqb-true}
 use Rattle.channel_model.proofs.Lookups.{eqb-same, eqb-away, and_off}
 use Rattle.channel_laws.specs.Views.{read_at}
+use Rattle.channel_laws.proofs.Both.{and-right}
 use Rattle.channel_laws.proofs.Entries.{read-own}
 use Rattle.link_talk.specs.declared.channel.Channel.{Channel}
 use Rattle.link_talk.specs.Sayings.{Saying, Carried}
@@ -57,10 +58,6 @@ carried-one counts channel said flow pdu entry found takes_it only = by (taker c
 
 -- ---- what comes in
 
-and_right : (a b : Bool) → (a && b) ≡ true → b ≡ true
-and_right true b is = is
-and_right false b is = cc
-
 -- for another endpoint
 pub into-else : (counts : Flow → Entry → Bool) (channel : Channel) (said : List Saying) (pdu : List ℕ) → eqb (channel_of pdu) channel.own ≡ false → carried counts channel said (Carried Into pdu) ≡ []
 into-else counts channel said pdu away = carried-none counts channel said Into pdu (by (read_at channel.own (reading said).entries) refl)
@@ -89,7 +86,7 @@ into-here counts channel said pdu same = by (read_at channel.own (reading said).
     on : (entry : Entry) → read_at channel.own (reading said).entries ≡ Some entry → (now : Bool) → counts Into entry ≡ now → carried counts channel said (Carried Into pdu) ≡ cond now (one ∷ []) []
     on entry is true now =
         carried-one counts channel said Into pdu entry is (ap (λ t. t && eqb entry.channel.own (channel_of pdu)) now ∙ mine entry is)
-        (λ other at takes. subst (λ n. eqb other.channel.own n ≡ true) (eqb-true (channel_of pdu) channel.own same) (and_right (counts Into other) (eqb other.channel.own (channel_of pdu)) takes))
+        (λ other at takes. subst (λ n. eqb other.channel.own n ≡ true) (eqb-true (channel_of pdu) channel.own same) (and-right (counts Into other) (eqb other.channel.own (channel_of pdu)) takes))
     on entry is false now = carried-none counts channel said Into pdu (ap (goes_over counts Into pdu) is ∙ ap (λ t. t && eqb entry.channel.own (channel_of pdu)) now)
 
     by : (found : Option Entry) → read_at channel.own (reading said).entries ≡ found → carried counts channel said (Carried Into pdu) ≡ cond (counted_in counts found) (one ∷ []) []

@@ -31,6 +31,7 @@ use Rattle.channel_model.proofs.Lookups.{own_of, found-has, found-placed, and_of
 use Rattle.channel_model.proofs.Going.{is_stated, staged}
 use Rattle.channel_model.proofs.Walking.{found-own, with-setup, with-found}
 use Rattle.channel_laws.specs.Views.{peer_of, life_of, asked_mode, carrier_mode, read_at}
+use Rattle.channel_laws.proofs.Both.{}
 use Rattle.channel_laws.proofs.Sound.{Agrees, AgreesIf, ReadsBy, Reads, Sound, requested-unread}
 use Rattle.channel_laws.proofs.CheckWords.{stated_mode}
 use Rattle.channel_laws.proofs.Keeping.{OfCarrier, StageKeeps, HeldKeeps, AllKeep}
@@ -109,10 +110,6 @@ pub set-is : (policy : Policy) (past : List Saying) (own : ℕ) (held : Held) (s
 set-is policy past own held setup r carrier is stated =
     ap (λ (m : Option Mode). is_some m && is_some r.entry.setup.accepted) (r.agrees.set_up.asked_is ∙ stated_mode (policy.wish held.psm) setup.own stated)
     ∙ ap (λ (m : Option Mode). is_some m) (r.agrees.set_up.accepted_is ∙ ap (option_map carrier_mode) is)
-
-pub and-right : (a b : Bool) → (a && b) ≡ true → b ≡ true
-and-right true b is = is
-and-right false b is = cc
 
 and_on : (b : Bool) → (b && true) ≡ b
 and_on true = refl

@@ -60,7 +60,7 @@ own_words : (w : Channels) → Words w (Leaves (asked_by w.features))
 own_words w = record {
   none = refl;
   both = leaves_both (asked_by w.features);
-  calls = λ identifier psm own. refl;
+  calls = λ own held request at is. refl;
   wishes = λ own peer held setup request options at has to is. refl;
   ends = λ identifier peer own. refl;
   asks = λ request is. sym (ap asked_by is);

@@ -1,3 +1,4 @@
+pub mod Both
 pub mod Entries
 pub mod Sound
 pub mod Steps

@@ -22,6 +22,7 @@ use Rattle.talk_laws.proofs.Passes.{from_end}
 use Rattle.channel_laws.specs.OwnTalk.{command_with}
 use Rattle.channel_laws.specs.Views.{read_at}
 use Rattle.channel_laws.specs.Signals.{StandsIn}
+use Rattle.channel_laws.proofs.Both.{both-true}
 use Rattle.channel_laws.proofs.Entries.{makes-fresh, read-after, read-append}
 use Rattle.channel_laws.proofs.Sound.{some-of_map}
 use Rattle.channel_laws.proofs.Saying.{stands-left, stands-right}
@@ -30,14 +31,11 @@ use Rattle.channel_laws.proofs.Conversing.{reading-on}
 -- ---- requests for channels
 
 -- a request that was said one way
-abbrev pub AskedBy : Flow → List Saying → (psm source : ℕ) → Type 0
-AskedBy flow said psm source = (identifier : ℕ) × StandsIn (Command flow (Ok (command_with identifier (connection_request psm source)))) said
-
-asked_more : (flow : Flow) (past : List Saying) (more : Saying) (psm source : ℕ) → AskedBy flow past psm source → AskedBy flow (past ++ more ∷ []) psm source
-asked_more flow past more psm source (identifier, stands) = (identifier, stands-left (Command flow (Ok (command_with identifier (connection_request psm source)))) past (more ∷ []) stands)
+abbrev pub Asked : Flow → (identifier psm source : ℕ) → List Saying → Type 0
+Asked flow identifier psm source said = StandsIn (Command flow (Ok (command_with identifier (connection_request psm source)))) said
 
 abbrev IsAsked : List Saying → Call → Type 0
-IsAsked past one = (wanted : Wanted) → one.wanted ≡ Some wanted → AskedBy one.flow past wanted.psm wanted.source
+IsAsked past one = (wanted : Wanted) → one.wanted ≡ Some wanted → Asked one.flow one.identifier wanted.psm wanted.source past
 
 some_wanted : (a b : Wanted) → Some a ≡ Some b → a ≡ b
 some_wanted a b is = cc
@@ -54,9 +52,9 @@ called_by past (Command flow (Ok command)) one is = by command.content refl is
         let it : Wanted = record { psm = psm; source = source } in
         let right : it ≡ wanted = some_wanted it wanted (ap (λ (c : Call). c.wanted) same ∙ wants) in
         let whole : command ≡ command_with command.identifier (connection_request psm source) = ap (λ c. command_with command.identifier c) is_c in
-        subst (λ (c : Call). AskedBy c.flow (past ++ Command flow (Ok command) ∷ []) wanted.psm wanted.source) same
-        (subst (λ (w : Wanted). AskedBy flow (past ++ Command flow (Ok command) ∷ []) w.psm w.source) right
-        (command.identifier, stands-right (Command flow (Ok (command_with command.identifier (connection_request psm source)))) past (Command flow (Ok command) ∷ []) (inl (ap (λ c. Command flow (Ok c)) whole))))
+        subst (λ (c : Call). Asked c.flow c.identifier wanted.psm wanted.source (past ++ Command flow (Ok command) ∷ [])) same
+        (subst (λ (w : Wanted). Asked flow command.identifier w.psm w.source (past ++ Command flow (Ok command) ∷ [])) right
+        (stands-right (Command flow (Ok (command_with command.identifier (connection_request psm source)))) past (Command flow (Ok command) ∷ []) (inl (ap (λ c. Command flow (Ok c)) whole))))
     by (connection_response destination source answer status) is_c made = cc
     by (configuration_request destination flags options) is_c made = cc
     by (configuration_response source flags answer options) is_c made = cc
@@ -102,7 +100,7 @@ all_called : (past : List Saying) (one : Call) → StandsIn one (reading past).r
 all_called past = from_end (λ said. (one : Call) → StandsIn one (reading said).requests.calls → IsAsked said one) (λ one stands. elim stands [ ]) step past
   where
     older : (said : List Saying) (more : Saying) (one : Call) → IsAsked said one → IsAsked (said ++ more ∷ []) one
-    older said more one asked wanted wants = asked_more one.flow said more wanted.psm wanted.source (asked wanted wants)
+    older said more one asked wanted wants = stands-left _ said (more ∷ []) (asked wanted wants)
 
     by : (said : List Saying) (more : Saying) (one : Call) (found : Option Call) → call (sense more) ≡ found → ((other : Call) → StandsIn other (reading said).requests.calls → IsAsked said other)
         → StandsIn one (option_to_list found ++ (reading said).requests.calls) → IsAsked (said ++ more ∷ []) one
@@ -115,9 +113,6 @@ all_called past = from_end (λ said. (one : Call) → StandsIn one (reading said
 
 -- ---- the request that is answered
 
-and_right : (a b : Bool) → (a && b) ≡ true → b ≡ true
-and_right true b is = is
-and_right false b is = cc
 
 -- a member that passes
 record Passes {X : Type 0} (passes : X → Bool) (xs : List X) (x : X) : Type 0 where
@@ -156,30 +151,31 @@ flow_is Into Out is = cc
 flow_is Into Into is = refl
 
 -- it was said, with the endpoint that the response names
-pub answered-asked : (past : List Saying) (flow : Flow) (identifier source : ℕ) (wanted : Wanted) → answered_call (reading past).requests flow identifier source ≡ Some wanted → AskedBy flow past wanted.psm source
+pub answered-asked : (past : List Saying) (flow : Flow) (identifier source : ℕ) (wanted : Wanted) → answered_call (reading past).requests flow identifier source ≡ Some wanted → Asked flow identifier wanted.psm source past
 answered-asked past flow identifier source wanted is = by (last_run (is_call identifier source) (filter (went flow) (reading past).requests.calls)) refl is
   where
-    by : (found : Option Call) → last_run (is_call identifier source) (filter (went flow) (reading past).requests.calls) ≡ found → call_wanted found ≡ Some wanted → AskedBy flow past wanted.psm source
+    by : (found : Option Call) → last_run (is_call identifier source) (filter (went flow) (reading past).requests.calls) ≡ found → call_wanted found ≡ Some wanted → Asked flow identifier wanted.psm source past
     by None found wants = cc
     by (Some one) found wants =
         let fits = last_passes (is_call identifier source) (filter (went flow) (reading past).requests.calls) one found in
         let kept = kept_stands (went flow) (reading past).requests.calls one fits.stands in
-        let named : has_source source one.wanted ≡ true = and_right (eqb one.identifier identifier) (has_source source one.wanted) fits.fits in
-        let same : wanted.source ≡ source = eqb-true wanted.source source (sym (ap (has_source source) wants) ∙ named) in
-        subst (λ n. AskedBy flow past wanted.psm n) same (subst (λ f. AskedBy f past wanted.psm wanted.source) (flow_is flow one.flow kept.fits) (all_called past one kept.stands wanted wants))
+        let named = both-true (eqb one.identifier identifier) (has_source source one.wanted) fits.fits in
+        subst (λ n. Asked flow n wanted.psm source past) (eqb-true one.identifier identifier named.0)
+        (subst (λ n. Asked flow one.identifier wanted.psm n past) (eqb-true wanted.source source (sym (ap (has_source source) wants) ∙ named.1))
+        (subst (λ f. Asked f one.identifier wanted.psm wanted.source past) (flow_is flow one.flow kept.fits) (all_called past one kept.stands wanted wants)))
 
 -- ---- a channel that comes to be
 
-abbrev pub GrantedBy : Flow → List Saying → (destination source : ℕ) → Type 0
-GrantedBy flow said destination source = (identifier : ℕ) × (status : ℕ) × StandsIn (Command flow (Ok (command_with identifier (connection_response destination source 0 status)))) said
+abbrev pub Granted : Flow → (identifier status destination source : ℕ) → List Saying → Type 0
+Granted flow identifier status destination source said = StandsIn (Command flow (Ok (command_with identifier (connection_response destination source 0 status)))) said
 
--- one side asked for it, and the other granted it
+-- one side asked for it, and the other's response to that granted it
 abbrev pub Origin : List Saying → Channel → Type 0
-Origin said channel = (GrantedBy Out said channel.own channel.peer × AskedBy Into said channel.psm channel.peer) ⊎ (GrantedBy Into said channel.peer channel.own × AskedBy Out said channel.psm channel.own)
+Origin said channel = (identifier : ℕ) × (status : ℕ) × ((Granted Out identifier status channel.own channel.peer said × Asked Into identifier channel.psm channel.peer said) ⊎ (Granted Into identifier status channel.peer channel.own said × Asked Out identifier channel.psm channel.own said))
 
 older_origin : (past : List Saying) (more : Saying) (channel : Channel) → Origin past channel → Origin (past ++ more ∷ []) channel
-older_origin past more channel (inl ((identifier, status, stands), asked)) = inl ((identifier, status, stands-left _ past (more ∷ []) stands), asked_more Into past more channel.psm channel.peer asked)
-older_origin past more channel (inr ((identifier, status, stands), asked)) = inr ((identifier, status, stands-left _ past (more ∷ []) stands), asked_more Out past more channel.psm channel.own asked)
+older_origin past more channel (identifier, status, inl (granted, asked)) = (identifier, status, inl (stands-left _ past (more ∷ []) granted, stands-left _ past (more ∷ []) asked))
+older_origin past more channel (identifier, status, inr (granted, asked)) = (identifier, status, inr (stands-left _ past (more ∷ []) granted, stands-left _ past (more ∷ []) asked))
 
 -- what a response grants
 granted_by : (past : List Saying) (own peer : ℕ) (wanted : Option Wanted) (channel : Channel) → made_by (granted own peer wanted) ≡ Some channel → (w : Wanted) × (wanted ≡ Some w) × (let new : Channel = record { psm = w.psm; own = own; peer = peer } in channel ≡ new)
@@ -193,7 +189,7 @@ made_out : (past : List Saying) (identifier destination source status : ℕ) (ch
 made_out past identifier destination source status channel is =
     let s : Saying = Command Out (Ok (command_with identifier (connection_response destination source 0 status))) in
     let (wanted, found, same) = granted_by past destination source (answered_call (reading past).requests Into identifier source) channel is in
-    subst (Origin (past ++ s ∷ [])) (sym same) (inl ((identifier, status, stands-right s past (s ∷ []) (inl refl)), asked_more Into past s wanted.psm source (answered-asked past Into identifier source wanted found)))
+    subst (Origin (past ++ s ∷ [])) (sym same) (identifier, status, inl (stands-right s past (s ∷ []) (inl refl), stands-left _ past (s ∷ []) (answered-asked past Into identifier source wanted found)))
 
 made_into : (past : List Saying) (identifier destination source status : ℕ) (channel : Channel) (refused : Bool) → made_by (cond refused Nothing (granted source destination (answered_call (reading past).requests Out identifier source))) ≡ Some channel
     → (let s : Saying = Command Into (Ok (command_with identifier (connection_response destination source 0 status))) in Origin (past ++ s ∷ []) channel)
@@ -201,7 +197,7 @@ made_into past identifier destination source status channel true is = cc
 made_into past identifier destination source status channel false is =
     let s : Saying = Command Into (Ok (command_with identifier (connection_response destination source 0 status))) in
     let (wanted, found, same) = granted_by past source destination (answered_call (reading past).requests Out identifier source) channel is in
-    subst (Origin (past ++ s ∷ [])) (sym same) (inr ((identifier, status, stands-right s past (s ∷ []) (inl refl)), asked_more Out past s wanted.psm source (answered-asked past Out identifier source wanted found)))
+    subst (Origin (past ++ s ∷ [])) (sym same) (identifier, status, inr (stands-right s past (s ∷ []) (inl refl), stands-left _ past (s ∷ []) (answered-asked past Out identifier source wanted found)))
 
 made_response : (past : List Saying) (flow : Flow) (identifier destination source answer status : ℕ) (channel : Channel) (zero high : Bool) → eqb answer 0 ≡ zero
     → made_by (cond (zero && high) (made (reading past).requests flow identifier destination source) Nothing) ≡ Some channel

@@ -29,13 +29,14 @@ use Rattle.channel_model.proofs.Walking.{found-own, with-setup}
 use Rattle.channel_laws.specs.Runs.{said_by_carrier, said_as, peer_at}
 use Rattle.channel_laws.specs.Frames.{IsSpelled}
 use Rattle.channel_laws.specs.Views.{peer_of}
+use Rattle.channel_laws.proofs.Both.{and-right}
 use Rattle.channel_laws.proofs.Sound.{Sound, at_each}
 use Rattle.channel_laws.proofs.Steps.{less-apart}
 use Rattle.channel_laws.proofs.Keeping.{StageKeeps, HeldKeeps, under}
 use Rattle.channel_laws.proofs.Incoming.{channel_at}
 use Rattle.channel_laws.proofs.Passing.{Passing, CarrierPasses, Passed, passing-submits, passing-gives}
 use Rattle.channel_laws.proofs.Passages.{GoesOut, out-other, out-own, spelled-frame}
-use Rattle.channel_laws.proofs.Holding.{frames_on, Pass, kept-setup, keeps-setup, IsRead, is-read, set-is, and-right}
+use Rattle.channel_laws.proofs.Holding.{frames_on, Pass, kept-setup, keeps-setup, IsRead, is-read, set-is}
 
 -- ---- one channel goes on
 

@@ -25,6 +25,7 @@ use Rattle.link_talk.proofs.Growing.{passages-grow}
 use Rattle.talk_laws.proofs.Owning.{alone, found_one}
 use Rattle.channel_laws.specs.Views.{read_at}
 use Rattle.channel_model.proofs.Lookups.{eqb-same}
+use Rattle.channel_laws.proofs.Both.{and-left, and-right}
 use Rattle.channel_laws.proofs.Carriages.{goes_over, carried-none, carried-one, into-else, counted_in, into-here}
 use Rattle.channel_laws.proofs.Signalling.{is_carried, IsBare}
 use Rattle.channel_laws.proofs.Passing.{heard_in}
@@ -86,22 +87,14 @@ pub record GoesOut (past : List Saying) (own peer : ℕ) : Type 0 where
   -- no other channel that is there has it
   pub only : (other : ℕ) (x : Entry) → read_at other (reading past).entries ≡ Some x → is_there x.life ≡ true → x.channel.peer ≡ peer → other ≡ own
 
-and_left : (a b : Bool) → (a && b) ≡ true → a ≡ true
-and_left true b is = refl
-and_left false b is = cc
-
-and_right : (a b : Bool) → (a && b) ≡ true → b ≡ true
-and_right true b is = is
-and_right false b is = cc
-
 pub out-other : (party : Party) (channel : Channel) (past : List Saying) (own peer : ℕ) (pdu : List ℕ) → GoesOut past own peer → channel_of pdu ≡ peer → eqb own channel.own ≡ false → frames_passed party channel (past ++ Carried Out pdu ∷ []) ≡ frames_passed party channel past
 out-other party channel past own peer pdu goes to away = none_more party channel past (Carried Out pdu) (carried-none is_passed channel past Out pdu (by (read_at channel.own (reading past).entries) refl))
   where
     on : (x : Entry) → read_at channel.own (reading past).entries ≡ Some x → (b : Bool) → takes_on_it is_passed Out (channel_of pdu) x ≡ b → b ≡ false
     on x is false now = refl
     on x is true now =
-        let there : is_there x.life ≡ true = and_right (is_set x.setup) (is_there x.life) (and_left (is_held x) (eqb x.channel.peer (channel_of pdu)) now) in
-        let same : x.channel.peer ≡ peer = eqb-true x.channel.peer (channel_of pdu) (and_right (is_held x) (eqb x.channel.peer (channel_of pdu)) now) ∙ to in
+        let there : is_there x.life ≡ true = and-right (is_set x.setup) (is_there x.life) (and-left (is_held x) (eqb x.channel.peer (channel_of pdu)) now) in
+        let same : x.channel.peer ≡ peer = eqb-true x.channel.peer (channel_of pdu) (and-right (is_held x) (eqb x.channel.peer (channel_of pdu)) now) ∙ to in
         let one : channel.own ≡ own = goes.only channel.own x is there same in
         let never : true ≡ false = sym (eqb-same own) ∙ (ap (eqb own) (sym one) ∙ away) in absurd cc
 
@@ -121,8 +114,8 @@ out-own party channel past peer pdu frame goes to is =
     only : (x : Entry) → taker is_passed Out pdu (reading past).entries ≡ Some x → takes_on_it is_passed Out (channel_of pdu) x ≡ true → is_of channel x ≡ true
     only x at now =
         let mine : read_at x.channel.own (reading past).entries ≡ Some x = found_one x.channel (takes_on_it is_passed Out (channel_of pdu)) (reading past).entries x (alone past) at (eqb-same x.channel.own) in
-        let there : is_there x.life ≡ true = and_right (is_set x.setup) (is_there x.life) (and_left (is_held x) (eqb x.channel.peer (channel_of pdu)) now) in
-        let same : x.channel.peer ≡ peer = eqb-true x.channel.peer (channel_of pdu) (and_right (is_held x) (eqb x.channel.peer (channel_of pdu)) now) ∙ to in
+        let there : is_there x.life ≡ true = and-right (is_set x.setup) (is_there x.life) (and-left (is_held x) (eqb x.channel.peer (channel_of pdu)) now) in
+        let same : x.channel.peer ≡ peer = eqb-true x.channel.peer (channel_of pdu) (and-right (is_held x) (eqb x.channel.peer (channel_of pdu)) now) ∙ to in
         ap (λ n. eqb n channel.own) (goes.only x.channel.own x mine there same) ∙ eqb-same channel.own
 
 -- ---- octets

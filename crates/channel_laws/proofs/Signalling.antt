@@ -42,7 +42,7 @@ own_words : (w : Channels) → Words w IsBare
 own_words w = record {
   none = refl;
   both = bare-append;
-  calls = λ identifier psm own. refl;
+  calls = λ own held request at is. refl;
   wishes = λ own peer held setup request options at has to is. refl;
   ends = λ identifier peer own. refl;
   asks = λ request is. refl;

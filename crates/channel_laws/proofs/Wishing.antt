@@ -252,7 +252,7 @@ pub own-words : (party : Party) (channel : Channel) (w : Channels) → Words w (
 own-words party channel w = record {
   none = mild-none party channel w;
   both = mild-both party channel w;
-  calls = λ identifier psm own. mild-one party channel w (spoken (command_with identifier (connection_request psm own))) (λ asked. refl) (λ past entry. refl);
+  calls = λ own held request at is. mild-one party channel w (spoken (command_with request.identifier (connection_request held.psm held.own))) (λ asked. refl) (λ past entry. refl);
   wishes = λ own peer held setup request options at has to is. let (talks, asks) = setup_wishes held.stage setup peer request options has to is in mild_wish party channel w own peer held request (written options) at talks asks;
   ends = λ identifier peer own. mild-one party channel w (spoken (command_with identifier (disconnection_request peer own))) (λ asked. refl) (λ past entry. refl);
   asks = λ request is. mild-one party channel w (spoken (command_with request.identifier (information_request 2))) (λ asked. refl) (λ past entry. refl);

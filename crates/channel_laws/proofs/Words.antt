@@ -19,7 +19,7 @@ use Rattle.channel_laws.specs.Views.{peer_of}
 pub record Words (w : Channels) (P : List Saying → Type 0) : Type 0 where
   pub none : P []
   pub both : (xs ys : List Saying) → P xs → P ys → P (xs ++ ys)
-  pub calls : (identifier psm own : ℕ) → P (spoken (command_with identifier (connection_request psm own)) ∷ [])
+  pub calls : (own : ℕ) (held : Held) (request : Request) → held_at own w ≡ Some held → held.stage ≡ Requested request → P (spoken (command_with request.identifier (connection_request held.psm held.own)) ∷ [])
   pub wishes : (own peer : ℕ) (held : Held) (setup : Setup) (request : Request) (options : Options) → held_at own w ≡ Some held → setup_of held.stage ≡ Some setup → peer_of held.stage ≡ Some peer → setup.own ≡ Asking request options
       → P (spoken (command_with request.identifier (configuration_request peer 0 (written options))) ∷ [])
   pub ends : (identifier peer own : ℕ) → P (spoken (command_with identifier (disconnection_request peer own)) ∷ [])
@@ -33,16 +33,16 @@ words_if w P words false said holds = words.none
 
 -- ---- own requests
 
-words_call : (w : Channels) (P : List Saying → Type 0) → Words w P → (held : Option Held) → P (map spoken (option_to_list (on_held (λ h. connection_at h.stage h) held)))
-words_call w P words None = words.none
-words_call w P words (Some held) = by held.stage
+words_call : (w : Channels) (P : List Saying → Type 0) → Words w P → (own : ℕ) (held : Option Held) → held_at own w ≡ held → P (map spoken (option_to_list (on_held (λ h. connection_at h.stage h) held)))
+words_call w P words own None at = words.none
+words_call w P words own (Some held) at = by held.stage refl
   where
-    by : (stage : Stage) → P (map spoken (option_to_list (connection_at stage held)))
-    by (Requested request) = words.calls request.identifier held.psm held.own
-    by (Connected peer setup) = words.none
-    by (Leaving peer setup request) = words.none
-    by (Closing peer request) = words.none
-    by (Crossed peer request) = words.none
+    by : (stage : Stage) → held.stage ≡ stage → P (map spoken (option_to_list (connection_at stage held)))
+    by (Requested request) is = words.calls own held request at is
+    by (Connected peer setup) is = words.none
+    by (Leaving peer setup request) is = words.none
+    by (Closing peer request) is = words.none
+    by (Crossed peer request) is = words.none
 
 words_wish : (w : Channels) (P : List Saying → Type 0) → Words w P → (own : ℕ) (held : Option Held) → held_at own w ≡ held → P (map spoken (option_to_list (on_held (λ h. configuration_at h.stage) held)))
 words_wish w P words own None at = words.none
@@ -75,25 +75,25 @@ words_features : (w : Channels) (P : List Saying → Type 0) → Words w P → (
 words_features w P words None is = words.none
 words_features w P words (Some request) is = words.asks request is
 
-words_errand : (w : Channels) (P : List Saying → Type 0) → Words w P → (errand : Errand) → P (said_of (Some errand) w)
-words_errand w P words (errands.Connection own) = words_call w P words (held_at own w)
-words_errand w P words (errands.Configuration own) = words_wish w P words own (held_at own w) refl
-words_errand w P words (errands.Disconnection own) = words_end w P words (held_at own w)
-words_errand w P words errands.Features = words_features w P words w.features refl
+pub words-errand : (w : Channels) (P : List Saying → Type 0) → Words w P → (errand : Errand) → P (said_of (Some errand) w)
+words-errand w P words (errands.Connection own) = words_call w P words own (held_at own w) refl
+words-errand w P words (errands.Configuration own) = words_wish w P words own (held_at own w) refl
+words-errand w P words (errands.Disconnection own) = words_end w P words (held_at own w)
+words-errand w P words errands.Features = words_features w P words w.features refl
 
 pub words-asked : (w : Channels) (P : List Saying → Type 0) → Words w P → (v : Channels) → P (asked_between v w)
 words-asked w P words v = by (eqb w.identifier v.identifier)
   where
     last : (errand : Option Errand) → P (said_of errand w)
     last None = words.none
-    last (Some errand) = words_errand w P words errand
+    last (Some errand) = words-errand w P words errand
 
     by : (same : Bool) → P (cond same [] (said_of (newest w.queue) w))
     by true = words.none
     by false = last (newest w.queue)
 
 pub words-again : (w : Channels) (P : List Saying → Type 0) → Words w P → (errand : Errand) (v : Channels) → P (said_again errand v w)
-words-again w P words errand v = words_if w P words _ (said_of (Some errand) w) (words_errand w P words errand)
+words-again w P words errand v = words_if w P words _ (said_of (Some errand) w) (words-errand w P words errand)
 
 -- ---- what is given up
 

@@ -1,11 +1,13 @@
 -- That a channel of one end of a link belongs to one of the other (Core 5.1, Volume 3 Part A, 4.2 and 4.3).
-use Rattle.std.specs.Prelude.{ℕ, ◌≡◌, ◌==◌, false, List, [], ◌∷◌, drop, Option, Some, None, Ok, ◌⊎◌}
+use Rattle.std.specs.Prelude.{ℕ, ◌≡◌, ◌==◌, Bool, true, false, List, [], ◌∷◌, drop, Option, Some, None, Ok, ◌⊎◌}
 use Rattle.acl_fragments.specs.Pieces.{channel_of}
 use Rattle.capture.specs.Histories.{EachAfter}
-use Rattle.l2cap_signal.specs.Commands.{connection_request, connection_response}
+use Rattle.capture.specs.declared.flow.Flow.TheVariants.{Into}
+use Rattle.l2cap_signal.specs.Commands.{Content, Command, reject, connection_request, connection_response, configuration_request, configuration_response, disconnection_request, disconnection_response, echo_request, echo_response, information_request, information_response}
 use Rattle.l2cap_signal.specs.Reading.{answers}
 use Rattle.link_talk.specs.declared.channel.Channel.{Channel}
 use Rattle.link_talk.specs.Sayings.{Saying}
+use Rattle.link_talk.specs.Sayings as sayings
 use Rattle.link_talk.specs.Channels.{Entry, reading}
 use Rattle.channel_model.specs.Policies.{Policy}
 use Rattle.channel_model.specs.Giving.{Given, Signal, Whole, Framed, next_given}
@@ -36,19 +38,41 @@ IsRead (Damages pdu) end' = (channel_of pdu == 0x0001) ≡ false
 abbrev pub AreRead : (near far : Policy) → List Turn → Type 0
 AreRead near far turns = EachAfter (λ past turn. IsRead turn.happening (end_at turn.side (pair_of near far past))) [] turns
 
--- ---- what a host said
+-- ---- what was said
 
--- it asked for a channel, with its endpoint
-abbrev pub HasAsked : List Saying → (psm own : ℕ) → Type 0
-HasAsked said psm own = (identifier : ℕ) × StandsIn (spoken (command_with identifier (connection_request psm own))) said
+-- a response, or a request for a channel
+abbrev pub is_pledge : Content → Bool
+is_pledge (reject reason rest) = true
+is_pledge (connection_request psm source) = true
+is_pledge (connection_response destination source answer status) = true
+is_pledge (configuration_request destination flags options) = false
+is_pledge (configuration_response source flags answer options) = true
+is_pledge (disconnection_request destination source) = false
+is_pledge (disconnection_response destination source) = true
+is_pledge (echo_request octets) = false
+is_pledge (echo_response octets) = true
+is_pledge (information_request kind) = false
+is_pledge (information_response kind answer rest) = true
+
+-- Whatever the link loses, repeats and damages: each response, and each request for a channel, that one end heard the other
+-- said, with the same identifier.
+abbrev pub PledgesWereSaid : Type 0
+PledgesWereSaid = (near far : Policy) (turns : List Turn) → AreRead near far turns → (command : Command) → is_pledge command.content ≡ true → StandsIn (sayings.Command Into (Ok command)) (pair_of near far turns).near.run.said
+    → StandsIn (spoken command) (pair_of near far turns).far.run.said
+
+-- ---- channels
+
+-- a host asked for a channel, with its endpoint
+abbrev pub HasAsked : (identifier psm own : ℕ) → List Saying → Type 0
+HasAsked identifier psm own said = StandsIn (spoken (command_with identifier (connection_request psm own))) said
 
 -- it granted one, with its endpoint and the peer's
-abbrev pub HasGranted : List Saying → (own peer : ℕ) → Type 0
-HasGranted said own peer = (identifier : ℕ) × (status : ℕ) × StandsIn (spoken (command_with identifier (connection_response own peer 0 status))) said
+abbrev pub HasGranted : (identifier status own peer : ℕ) → List Saying → Type 0
+HasGranted identifier status own peer said = StandsIn (spoken (command_with identifier (connection_response own peer 0 status))) said
 
--- one of two ends asked for it, and the other granted it
+-- one of two ends asked for it, and the other's response to that granted it
 abbrev pub Belongs : (mine other : List Saying) → Channel → Type 0
-Belongs mine other channel = (HasGranted mine channel.own channel.peer × HasAsked other channel.psm channel.peer) ⊎ (HasAsked mine channel.psm channel.own × HasGranted other channel.peer channel.own)
+Belongs mine other channel = (identifier : ℕ) × (status : ℕ) × ((HasGranted identifier status channel.own channel.peer mine × HasAsked identifier channel.psm channel.peer other) ⊎ (HasAsked identifier channel.psm channel.own mine × HasGranted identifier status channel.peer channel.own other))
 
 -- Whatever the link loses, repeats and damages: each channel of one end was granted by it where the other asked for it with the
 -- same PSM, or was asked for by it with its PSM and granted by the other, with the endpoints that the two have of it.

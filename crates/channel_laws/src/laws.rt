@@ -11,7 +11,7 @@ ghost use Rattle.channel_laws.specs.Laws.{ChannelsAreRead, EndpointsAreNew};
 ghost use Rattle.channel_laws.specs.Pairs.{EachEndRuns};
 ghost use Rattle.channel_laws.specs.Repeats.{RepeatsAreAnswered};
 ghost use Rattle.channel_laws.specs.Sdus.{SdusAreRead};
-ghost use Rattle.channel_laws.specs.Belonging.{ChannelsBelong};
+ghost use Rattle.channel_laws.specs.Belonging.{PledgesWereSaid, ChannelsBelong};
 ghost use Rattle.channel_laws.specs.Signals.{AnswersAreSaid};
 ghost use Rattle.channel_laws.specs.Tries.{FiringsAloneRepeat, FiringsAreCounted, TriesAreKept};
 
@@ -103,8 +103,13 @@ pub fn answers_are_said()
     ensures { AnswersAreSaid }
 {}
 
+/// Whatever a link loses, repeats and damages: each response, and each request for a channel, that one end heard the other said.
+pub fn pledges_were_said()
+    ensures { PledgesWereSaid }
+{}
+
 /// Whatever a link loses, repeats and damages: a channel of one end was granted by it where the other asked for it with the
-/// same PSM, or was asked for by it and granted by the other, each with its own endpoint.
+/// same PSM, or was asked for by it and granted by the other's response to that, each with its own endpoint.
 pub fn channels_belong()
     ensures { ChannelsBelong }
 {}
