@@ -27,7 +27,7 @@ use Rattle.channel_laws.specs.Runs.{Occurrence, Comes, Connects, AsksFeatures, D
 use Rattle.channel_laws.specs.Pairs.{End, Pair, new_pair, Happening, Acts, Puts, Takes, Repeats, Loses, Damages, is_alone, occurs, with_near, puts, let_go, takes_first, repeats_first, loses_first, damages_first, happens_near, Side, Near, Far, turned, Turn, happens_at, pair_after, pair_of}
 use Rattle.channel_laws.specs.Ends.{end_at}
 use Rattle.channel_laws.specs.Signals.{StandsIn}
-use Rattle.channel_laws.specs.Belonging.{IsReadAs, IsRead, AreRead, is_pledge, PledgesWereSaid, Belongs, ChannelsBelong}
+use Rattle.channel_laws.specs.Belonging.{IsReadAs, IsRead, AreRead, said_at, is_pledge, PledgesWereSaid, Belongs, ChannelsBelong}
 use Rattle.channel_laws.proofs.Sound.{Wants, WantsAt, wanted_by}
 use Rattle.channel_laws.proofs.Running.{all-sound}
 use Rattle.channel_laws.proofs.Words.{Words, words-errand, words-asked, words-again, words-left, words-firing}
@@ -398,14 +398,15 @@ all_from : (near far : Policy) (turns : List Turn) → AreRead near far turns �
 all_from near far turns read = all_believe near far [] turns read (nothing_yet near far)
 
 pub pledges-were_said : PledgesWereSaid
-pledges-were_said near far turns read command pledge heard = (all_from near far turns read).near.heard command heard pledge
+pledges-were_said near far turns read Near command pledge heard = (all_from near far turns read).near.heard command heard pledge
+pledges-were_said near far turns read Far command pledge heard = (all_from near far turns read).far.heard command heard pledge
 
 pub channels-belong : ChannelsBelong
-channels-belong near far turns read own entry found = by (entries-from pair.near.run.said own entry found)
+channels-belong near far turns read side own entry found = by (entries-from mine own entry found)
   where
-    pair : Pair
-    pair = pair_of near far turns
+    mine : List Saying
+    mine = said_at side (pair_of near far turns)
 
-    by : Origin pair.near.run.said entry.channel → Belongs pair.near.run.said pair.far.run.said entry.channel
-    by (identifier, status, inl (granted, asked)) = (identifier, status, inl (granted, pledges-were_said near far turns read (command_with identifier (connection_request entry.channel.psm entry.channel.peer)) refl asked))
-    by (identifier, status, inr (granted, asked)) = (identifier, status, inr (asked, pledges-were_said near far turns read (command_with identifier (connection_response entry.channel.peer entry.channel.own 0 status)) refl granted))
+    by : Origin mine entry.channel → Belongs mine (said_at side (turned (pair_of near far turns))) entry.channel
+    by (identifier, status, inl (granted, asked)) = (identifier, status, inl (granted, pledges-were_said near far turns read side (command_with identifier (connection_request entry.channel.psm entry.channel.peer)) refl asked))
+    by (identifier, status, inr (granted, asked)) = (identifier, status, inr (asked, pledges-were_said near far turns read side (command_with identifier (connection_response entry.channel.peer entry.channel.own 0 status)) refl granted))

@@ -13,7 +13,7 @@ use Rattle.channel_model.specs.Policies.{Policy}
 use Rattle.channel_model.specs.Giving.{Given, Signal, Whole, Framed, next_given}
 use Rattle.channel_laws.specs.OwnTalk.{spoken, command_with}
 use Rattle.channel_laws.specs.Views.{read_at}
-use Rattle.channel_laws.specs.Pairs.{End, Happening, Acts, Puts, Takes, Repeats, Loses, Damages, Turn, pair_of}
+use Rattle.channel_laws.specs.Pairs.{End, Pair, Happening, Acts, Puts, Takes, Repeats, Loses, Damages, Side, turned, Turn, pair_of}
 use Rattle.channel_laws.specs.Ends.{end_at}
 use Rattle.channel_laws.specs.Signals.{StandsIn}
 
@@ -40,6 +40,10 @@ AreRead near far turns = EachAfter (λ past turn. IsRead turn.happening (end_at 
 
 -- ---- what was said
 
+-- at one end, and of the turned pair at the other
+abbrev pub said_at : Side → Pair → List Saying
+said_at side pair = (end_at side pair).run.said
+
 -- a response, or a request for a channel
 abbrev pub is_pledge : Content → Bool
 is_pledge (reject reason rest) = true
@@ -57,8 +61,8 @@ is_pledge (information_response kind answer rest) = true
 -- Whatever the link loses, repeats and damages: each response, and each request for a channel, that one end heard the other
 -- said, with the same identifier.
 abbrev pub PledgesWereSaid : Type 0
-PledgesWereSaid = (near far : Policy) (turns : List Turn) → AreRead near far turns → (command : Command) → is_pledge command.content ≡ true → StandsIn (sayings.Command Into (Ok command)) (pair_of near far turns).near.run.said
-    → StandsIn (spoken command) (pair_of near far turns).far.run.said
+PledgesWereSaid = (near far : Policy) (turns : List Turn) → AreRead near far turns → (side : Side) (command : Command) → is_pledge command.content ≡ true → StandsIn (sayings.Command Into (Ok command)) (said_at side (pair_of near far turns))
+    → StandsIn (spoken command) (said_at side (turned (pair_of near far turns)))
 
 -- ---- channels
 
@@ -77,5 +81,5 @@ Belongs mine other channel = (identifier : ℕ) × (status : ℕ) × ((HasGrante
 -- Whatever the link loses, repeats and damages: each channel of one end was granted by it where the other asked for it with the
 -- same PSM, or was asked for by it with its PSM and granted by the other, with the endpoints that the two have of it.
 abbrev pub ChannelsBelong : Type 0
-ChannelsBelong = (near far : Policy) (turns : List Turn) → AreRead near far turns → (own : ℕ) (entry : Entry) → read_at own (reading (pair_of near far turns).near.run.said).entries ≡ Some entry
-    → Belongs (pair_of near far turns).near.run.said (pair_of near far turns).far.run.said entry.channel
+ChannelsBelong = (near far : Policy) (turns : List Turn) → AreRead near far turns → (side : Side) (own : ℕ) (entry : Entry) → read_at own (reading (said_at side (pair_of near far turns))).entries ≡ Some entry
+    → Belongs (said_at side (pair_of near far turns)) (said_at side (turned (pair_of near far turns))) entry.channel
