@@ -233,7 +233,7 @@ given_backed policy list c = by run.value.queue refl
 
     asked : (errand : Errand) (found : Option Command) → command_of errand run.value ≡ found → option_map Signal found ≡ Some (Signal c) → Backed run.said c
     asked errand None at is = cc
-    asked errand (Some d) at is = 
+    asked errand (Some d) at is =
         let same : d ≡ c = cc in
         words-errand run.value (AllBacked run.said) (own_backed run.said run.value (all-sound policy list).kept.wants) errand c (subst (λ (found : Option Command). StandsIn (spoken c) (map spoken (option_to_list found))) (sym (at ∙ ap Some same)) (inl refl))
 

@@ -68,3 +68,4 @@ pub mod Options
 pub mod Arming
 pub mod Behind
 pub mod Belonging
+pub mod Uttering

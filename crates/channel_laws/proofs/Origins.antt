@@ -113,7 +113,6 @@ all_called past = from_end (λ said. (one : Call) → StandsIn one (reading said
 
 -- ---- the request that is answered
 
-
 -- a member that passes
 record Passes {X : Type 0} (passes : X → Bool) (xs : List X) (x : X) : Type 0 where
   stands : StandsIn x xs

@@ -1,16 +1,16 @@
 -- That a channel of one end of a link belongs to one of the other (Core 5.1, Volume 3 Part A, 4.2 and 4.3).
-use Rattle.std.specs.Prelude.{ℕ, ◌≡◌, ◌==◌, Bool, true, false, List, [], ◌∷◌, drop, Option, Some, None, Ok, ◌⊎◌}
+use Rattle.std.specs.Prelude.{ℕ, ◌≡◌, ◌<◌, ◌≤◌, ◌==◌, Bool, true, false, length, List, [], ◌∷◌, drop, Option, Some, None, Ok, ◌⊎◌}
 use Rattle.acl_fragments.specs.Pieces.{channel_of}
 use Rattle.capture.specs.Histories.{EachAfter}
 use Rattle.capture.specs.declared.flow.Flow.TheVariants.{Into}
-use Rattle.l2cap_signal.specs.Commands.{Content, Command, reject, connection_request, connection_response, configuration_request, configuration_response, disconnection_request, disconnection_response, echo_request, echo_response, information_request, information_response}
+use Rattle.l2cap_signal.specs.Commands.{Content, Command, reject, connection_request, connection_response, configuration_request, configuration_response, disconnection_request, disconnection_response, echo_request, echo_response, information_request, information_response, spelling, IsCommand}
 use Rattle.l2cap_signal.specs.Reading.{answers}
 use Rattle.link_talk.specs.declared.channel.Channel.{Channel}
 use Rattle.link_talk.specs.Sayings.{Saying}
 use Rattle.link_talk.specs.Sayings as sayings
 use Rattle.link_talk.specs.Channels.{Entry, reading}
 use Rattle.channel_model.specs.Policies.{Policy}
-use Rattle.channel_model.specs.Giving.{Given, Signal, Whole, Framed, next_given}
+use Rattle.channel_model.specs.Giving.{Given, Signal, Whole, Framed, IsPdu, next_given}
 use Rattle.channel_laws.specs.OwnTalk.{spoken, command_with}
 use Rattle.channel_laws.specs.Views.{read_at}
 use Rattle.channel_laws.specs.Pairs.{End, Pair, Happening, Acts, Puts, Takes, Repeats, Loses, Damages, Side, turned, Turn, pair_of}
@@ -25,6 +25,17 @@ IsReadAs None pdu = Unit {0}
 IsReadAs (Some (Signal command)) pdu = answers (drop 4 pdu) ≡ Ok command ∷ []
 IsReadAs (Some (Whole peer sdu)) pdu = (channel_of pdu == 0x0001) ≡ false
 IsReadAs (Some (Framed peer frame)) pdu = (channel_of pdu == 0x0001) ≡ false
+
+-- what is given is fit for a link: a command has a spelling, which is no longer than what is heard of one payload, and all else
+-- has a channel of its own
+abbrev pub IsFit : Given → Type 0
+IsFit (Signal command) = IsCommand command × (length (spelling command) ≤ 672)
+IsFit (Whole peer sdu) = (peer < 65536) × ((peer == 0x0001) ≡ false)
+IsFit (Framed peer frame) = (peer == 0x0001) ≡ false
+
+-- What is fit for a link is read as what it is, of its octets.
+abbrev pub UtteredIsRead : Type 0
+UtteredIsRead = (given : Given) (pdu : List ℕ) → IsFit given → IsPdu given pdu → IsReadAs (Some given) pdu
 
 -- and what is damaged is no command
 abbrev pub IsRead : Happening → End → Type 0

@@ -11,7 +11,7 @@ ghost use Rattle.channel_laws.specs.Laws.{ChannelsAreRead, EndpointsAreNew};
 ghost use Rattle.channel_laws.specs.Pairs.{EachEndRuns};
 ghost use Rattle.channel_laws.specs.Repeats.{RepeatsAreAnswered};
 ghost use Rattle.channel_laws.specs.Sdus.{SdusAreRead};
-ghost use Rattle.channel_laws.specs.Belonging.{PledgesWereSaid, ChannelsBelong};
+ghost use Rattle.channel_laws.specs.Belonging.{UtteredIsRead, PledgesWereSaid, ChannelsBelong};
 ghost use Rattle.channel_laws.specs.Signals.{AnswersAreSaid};
 ghost use Rattle.channel_laws.specs.Tries.{FiringsAloneRepeat, FiringsAreCounted, TriesAreKept};
 
@@ -101,6 +101,11 @@ pub fn sends_behind_acceptance()
 /// Each answer that waits to be given stands in the own talk of its host, so one that is given was said before.
 pub fn answers_are_said()
     ensures { AnswersAreSaid }
+{}
+
+/// The octets of what is given are read as what it is, where it is fit for a link.
+pub fn uttered_is_read()
+    ensures { UtteredIsRead }
 {}
 
 /// Whatever a link loses, repeats and damages: each response, and each request for a channel, that one end heard the other said.
