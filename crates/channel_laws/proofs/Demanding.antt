@@ -18,7 +18,7 @@ use Rattle.channel_model.specs.Closing.{closes, closes_at, peer_closes_at, ends_
 use Rattle.channel_model.specs.Following.{with_channel, follows_disconnection}
 use Rattle.channel_model.specs.Giving.{own_given, connection_given, configuration_given, disconnection_given, stage_given, counted, gives, carrier_given, carrier_spent, held_given, queue_given, after_given}
 use Rattle.channel_model.specs.Responses.{hears_end}
-use Rattle.channel_model.specs.Carrying.{reason_of, settles_machine, machine_heard, read_by, carries}
+use Rattle.channel_model.specs.Carrying.{reason_of, settles_machine}
 use Rattle.channel_model.specs.Timing.{fires, times_carrier, times_setup, times_stage, times_held, loses_end, times_end_at, times_end}
 use Rattle.channel_model.specs.Calls.{can_connect, connected, asks_features, disconnected_at, disconnected_held, disconnected, sends_setup, sends_on, sends_held, sends, carrier_with}
 use Rattle.channel_model.proofs.Lookups.{own_of, Distinct, found-distinct, found-placed, find-placed, find-others, find-gone, find-append}
@@ -167,11 +167,6 @@ sends-rest own sdu v = sent_held v own (held_at own v) sdu refl
 pub settles-rests : (v : Channels) (closed : Option ErtmReason) (machine : Ertm) (held : Held) (setup : Setup) → find (has_own held.own) v.held ≡ Some held → setup_of held.stage ≡ Some setup → Rests v (settles_machine closed machine held setup v)
 settles-rests v None machine held setup found is = setup-rests v (settles_machine None machine held setup v) held setup (record setup { carrier = Some (Retransmitting machine) }) found is refl refl
 settles-rests v (Some reason) machine held setup found is = closes_rests v held (reason_of reason) held.stage found
-
-pub carries-rests : (v : Channels) (carrier : Carrier) (pdu : List ℕ) (held : Held) (setup : Setup) → find (has_own held.own) v.held ≡ Some held → setup_of held.stage ≡ Some setup → Rests v (carries carrier pdu held setup v)
-carries-rests v (Plain agreed waiting) pdu held setup found is = same-rests v v refl
-carries-rests v (Retransmitting machine) pdu held setup found is =
-    let after : Ertm = machine_heard (read_by machine pdu) machine in settles-rests v after.closed after held setup found is
 
 -- ---- the timer
 

@@ -10,8 +10,8 @@ use Rattle.channel_model.specs.Value.{Stage, Requested, Connected, Leaving, Clos
 use Rattle.channel_model.specs.Policies.{Policy}
 use Rattle.channel_model.specs.Changing.{held_at}
 use Rattle.channel_model.specs.Configuring.{Verdict, NoChannel, TooLate, Unreadable, Incomplete, Judged, verdict}
-use Rattle.channel_model.specs.Answers.{remembered, with_remembered, not_understood, judged_answer, configuration_answer, disconnection_by, disconnection_answer, answer_to}
-use Rattle.channel_laws.specs.OwnTalk.{response_by, response_malformed}
+use Rattle.channel_model.specs.Answers.{remembered, with_remembered, judged_answer, configuration_answer, disconnection_by, disconnection_answer, answer_to}
+use Rattle.channel_laws.specs.OwnTalk.{response_by}
 
 abbrev pub is_response : Content → Bool
 is_response (reject reason rest) = true
@@ -111,7 +111,3 @@ answer-reply policy (information_request kind) v = by (eqb kind 2) (eqb kind 3)
     by false true = refl
     by false false = refl
 answer-reply policy (information_response kind answer rest) v = tt
-
-pub malformed-reply : (kind : Option RequestKind) (identifier : ℕ) (v : Channels) → Replies v.memory → IsReply (response_malformed kind identifier v)
-malformed-reply None identifier v replies = refl
-malformed-reply (Some kind) identifier v replies = reply-by (remembered kind v.memory) identifier (Some not_understood) (replied kind v.memory replies) refl
