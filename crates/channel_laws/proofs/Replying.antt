@@ -11,7 +11,6 @@ use Rattle.channel_model.specs.Policies.{Policy}
 use Rattle.channel_model.specs.Changing.{held_at}
 use Rattle.channel_model.specs.Configuring.{Verdict, NoChannel, TooLate, Unreadable, Incomplete, Judged, verdict}
 use Rattle.channel_model.specs.Answers.{remembered, with_remembered, judged_answer, configuration_answer, disconnection_by, disconnection_answer, answer_to}
-use Rattle.channel_laws.specs.OwnTalk.{response_by}
 
 abbrev pub is_response : Content → Bool
 is_response (reject reason rest) = true
@@ -58,14 +57,6 @@ replies-with kinds.Echo last memory now r = record { connection = r.connection; 
 replies-with kinds.Information last memory now r = record { connection = r.connection; configuration = r.configuration; disconnection = r.disconnection; echo = r.echo; information = now }
 
 -- ---- what is answered
-
-pub reply-by : (last : Option Remembered) (identifier : ℕ) (fresh : Option Content) → IsReplied last → IsReply fresh → IsReply (response_by last identifier fresh)
-reply-by None identifier fresh is now = now
-reply-by (Some last) identifier fresh is now = by (eqb last.identifier identifier)
-  where
-    by : (same : Bool) → IsReply (cond same last.response fresh)
-    by true = is
-    by false = now
 
 judged_reply : (answer : ConfigAnswer) (peer : ℕ) (options : Options) → is_response (judged_answer answer peer options) ≡ true
 judged_reply (Accept given) peer options = refl
