@@ -50,11 +50,6 @@ asked-one v w errand command is last says =
 
 -- ---- the end is asked for
 
--- what the request says
-pub says-disconnection : (w : Channels) (own : ℕ) (after : Held) (peer : ℕ) (request : Request) → find (has_own own) w.held ≡ Some after → after.own ≡ own → disconnection_at after.stage after ≡ Some (command_with request.identifier (disconnection_request peer own))
-    → command_of (Disconnection own) w ≡ Some (command_with request.identifier (disconnection_request peer own))
-says-disconnection w own after peer request at own_is says = ap (on_held (λ held. disconnection_at held.stage held)) at ∙ says
-
 -- a channel whose end was asked for is closed without a word
 silent-closing : (policy : Policy) (r : Reading) (v w : Channels) (held : Held) (peer : ℕ) (setup : Setup) (request : Request) → held.stage ≡ Leaving peer setup request → find (has_own held.own) v.held ≡ Some held
     → w.held ≡ map (in_place_of (let after : Held = record held { stage = Closing peer request } in after)) v.held → w.next ≡ v.next → w.memory ≡ v.memory → Sound policy r v → Sound policy r w

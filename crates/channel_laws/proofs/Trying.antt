@@ -100,12 +100,6 @@ same-tame v = still-tame v v refl refl (λ e. omega arith)
 abbrev pub Here : (after before : ℕ) → (now was : Option Request) → Type 0
 Here after before now was = (r : Request) → now ≡ Some r → By after before was r
 
-pub here-none : (after before : ℕ) (was : Option Request) → Here after before None was
-here-none after before was r is = cc
-
-pub here-same : (after before : ℕ) (now was : Option Request) → now ≡ was → after ≤ before → Here after before now was
-here-same after before now was same less r is = inr (r, sym same ∙ is, omega (arith, less))
-
 -- a channel goes on to a stage
 pub record Goes (v w : Channels) (held : Held) (stage : Stage) : Type 0 where
   pub found : find (has_own held.own) v.held ≡ Some held
