@@ -8,5 +8,6 @@ mod Settling
 mod Reacting
 mod Turned
 pub mod Standing
+mod Hearing
 mod Runs
 mod Closing

@@ -68,11 +68,11 @@ stands_then U V RA RB words old new a a' b b' shelf shelf' inbox inbox' trace tr
 }
 
 -- what is noted aside, it is a run of the pure world
-runs_of : {S T G H : Type 0} (U : Upper S G) (V : Upper T H) (happenings : List Happening) (old new : Moment S T) → Plays U V happenings old new → Runs U V happenings (world_at old) (world_at new)
+pub runs_of : {S T G H : Type 0} (U : Upper S G) (V : Upper T H) (happenings : List Happening) (old new : Moment S T) → Plays U V happenings old new → Runs U V happenings (world_at old) (world_at new)
 runs_of U V [] old new same = ap world_at same
 runs_of U V (happening ∷ happenings) old new (mid, happens, plays) = (world_at mid, happens.does, runs_of U V happenings mid new plays)
 
-sizes_of : (size count : ℕ) → IsSize size → IsCount count → AreSizes size count
+pub sizes_of : (size count : ℕ) → IsSize size → IsCount count → AreSizes size count
 sizes_of size count (long, short) (some, few) = record { long = long; some = some; size_fits = omega arith; count_fits = omega arith }
 
 pub at_rest :

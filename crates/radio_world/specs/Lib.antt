@@ -5,3 +5,4 @@ pub mod Scenes
 pub mod Turning
 pub mod Standing
 pub mod Both
+pub mod Measures

@@ -3,7 +3,7 @@
 ghost use Rattle.std.specs.Prelude.{◌≡◌, ◌<◌, [], false, true, Ok, OnOk, OnErr};
 ghost use Rattle.radio_air.specs.Radio.{after_offer};
 ghost use Rattle.radio_world.specs.Leaving.{in_radio};
-ghost use Rattle.radio_world.specs.Halves.{Goes, IsStillIn, IsSaidFirst, StaysPut, comes_count};
+ghost use Rattle.radio_world.specs.Halves.{Goes, IsStillIn, IsSaidFirst, MayAllBeHeard, StaysPut, comes_count};
 
 use crate::fault::WorldFault;
 use crate::feeding::hand_over;
@@ -54,6 +54,7 @@ impl Medium {
     ) -> Result<bool, WorldFault>
         requires side { H.side ≡ side }
         requires none_held { H.held host.old ≡ [] }
+        requires heard { MayAllBeHeard H.machine side self.old (H.station host.old) }
         requires sound { H.is_sound host.old port.old }
         ensures goes { OnOk result (Goes H.machine side H.answers self.old self.new (H.station host.old) (H.station host.new) port.old port.new (T.content trace.old) (T.content trace.new)) }
         ensures still { result ≡ Ok false → IsStillIn side self.old × (self.new ≡ self.old) × (H.station host.new ≡ H.station host.old) }
@@ -90,6 +91,7 @@ impl Medium {
     ) -> Result<bool, WorldFault>
         requires side { H.side ≡ side }
         requires none_held { H.held host.old ≡ [] }
+        requires heard { MayAllBeHeard H.machine side self.old (H.station host.old) }
         requires sound { H.is_sound host.old port.old }
         ensures goes { OnOk result (Goes H.machine side H.answers self.old self.new (H.station host.old) (H.station host.new) port.old port.new (T.content trace.old) (T.content trace.new)) }
         ensures still { OnOk result (IsStillIn side self.new) }
@@ -123,6 +125,7 @@ impl Medium {
     ) -> Result<bool, WorldFault>
         requires side { H.side ≡ side }
         requires none_held { H.held host.old ≡ [] }
+        requires heard { MayAllBeHeard H.machine side self.old (H.station host.old) }
         requires sound { H.is_sound host.old port.old }
         ensures goes { OnOk result (Goes H.machine side H.answers self.old self.new (H.station host.old) (H.station host.new) port.old port.new (T.content trace.old) (T.content trace.new)) }
         ensures still { OnOk result (IsStillIn side self.new) }

@@ -5,6 +5,7 @@ ghost use Rattle.push_script.specs.Names.{utf16_length};
 ghost use Rattle.push_terms.specs.declared.word.Side.{Side};
 ghost use Rattle.world_model.specs.Machines.{Upper, TimerFired, Cancelled, Opening};
 ghost use Rattle.world_model.specs.Stations.{IsStopped, told};
+ghost use Rattle.radio_world.specs.Measures.{IsMostOf};
 ghost use Rattle.radio_world.specs.Hosts.{Asking, answering, order_octets, AreSent, Reacts, GoesOn, Hears, JoinAnswers};
 
 use bt_base::NoMemory;
@@ -115,7 +116,7 @@ pub trait Client<P>: Host<P> {
 }
 
 /// A host that notes how far it came with what its channels limit.
-pub trait Measured {
+pub trait Measured<P>: Host<P> {
     /// The most frames of one enhanced channel that were sent and not acknowledged, so far.
     ghost frames_sent: { Self → ℕ };
 
@@ -129,6 +130,11 @@ pub trait Measured {
     /// How many credits of an RFCOMM channel it held at most.
     fn greatest_credits(&self) -> u16
         ensures { result ≡ credits_held self.now };
+
+    /// Its machine notes them at each hearing and at each saying.
+    ghost frames_noted: { IsMostOf Self.Host.machine Self.Host.station frames_sent };
+
+    ghost credits_noted: { IsMostOf Self.Host.machine Self.Host.station credits_held };
 }
 
 /// A host that stores objects.

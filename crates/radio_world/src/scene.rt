@@ -7,8 +7,9 @@ ghost use Rattle.capture.specs.Entries.{Ended, entry_octets};
 ghost use Rattle.radio_air.specs.Radio.{is_apart, is_quiet};
 ghost use Rattle.world_model.specs.Pushes.{next_name, one_ended};
 ghost use Rattle.radio_world.specs.Hosts.{answering};
-ghost use Rattle.radio_world.specs.Halves.{Goes, IsStillIn, StaysPut};
+ghost use Rattle.radio_world.specs.Halves.{Goes, IsStillIn, MayAllBeHeard, StaysPut};
 ghost use Rattle.radio_world.specs.Scenes.{stage, moment, world_at, may_end, Advances, Begins, Ends};
+ghost use Rattle.radio_world.specs.Standing.{IsReached};
 ghost use Rattle.world_model.specs.Worlds.{IsSettled};
 
 use crate::fault::WorldFault;
@@ -116,6 +117,7 @@ impl Scene {
     ) -> Result<bool, WorldFault>
         requires side { H.side ≡ side }
         requires none_held { H.held host.old ≡ [] }
+        requires heard { MayAllBeHeard H.machine side self.old.medium (H.station host.old) }
         requires sound { H.is_sound host.old port.old }
         ensures goes { OnOk result (Goes H.machine side H.answers self.old.medium self.new.medium (H.station host.old) (H.station host.new) port.old port.new (T.content trace.old) (T.content trace.new)) }
         ensures scene { OnOk result ((self.new.pushes ≡ self.old.pushes) × (self.new.turned ≡ self.old.turned)) }
@@ -129,6 +131,7 @@ impl Scene {
     }
 
     /// A round: the next push begins, all moves, and a push may end. False where nothing happened.
+    /// It needs what a run of the pure world led to.
     fn round<P, A: Client<P>, Q, B: Host<Q>, T: Sink>(
         &mut self,
         a: &mut A,
@@ -137,6 +140,7 @@ impl Scene {
         inbox: &mut Q,
         trace: &mut T,
     ) -> Result<bool, WorldFault>
+        requires reached { (rest_a : List A.Host.Answer) (rest_b : List B.Answer) → IsReached A.Host.machine B.machine (moment self.old (answering rest_a (A.Host.station a.old)) (answering rest_b (B.station b.old))) }
         requires sides { (A.Host.side ≡ sides.A) × (B.side ≡ sides.B) }
         requires none_held { (A.Host.held a.old ≡ []) × (B.held b.old ≡ []) }
         requires sound { A.Host.is_sound a.old shelf.old × B.is_sound b.old inbox.old }
@@ -152,7 +156,8 @@ impl Scene {
         Ok(began | moved_a | moved_b | ended)
     }
 
-    /// Rounds, until in one nothing happens: then all is settled.
+    /// Rounds, until in one nothing happens: then all is settled. It needs what a run of the pure world
+    /// led to.
     pub(crate) fn settle<P, A: Client<P>, Q, B: Host<Q>, T: Sink>(
         &mut self,
         a: &mut A,
@@ -161,6 +166,7 @@ impl Scene {
         inbox: &mut Q,
         trace: &mut T,
     ) -> Result<(), WorldFault>
+        requires reached { (rest_a : List A.Host.Answer) (rest_b : List B.Answer) → IsReached A.Host.machine B.machine (moment self.old (answering rest_a (A.Host.station a.old)) (answering rest_b (B.station b.old))) }
         requires sides { (A.Host.side ≡ sides.A) × (B.side ≡ sides.B) }
         requires none_held { (A.Host.held a.old ≡ []) × (B.held b.old ≡ []) }
         requires sound { A.Host.is_sound a.old shelf.old × B.is_sound b.old inbox.old }

@@ -82,10 +82,10 @@ impl<A: Drop, B: Drop> World<A, B> {
     }
 
     /// The greatest numbers that were reached so far. Those of the buffers stand still at 65,535.
-    pub fn peaks(&self) -> Peaks
+    pub fn peaks<P, Q>(&self) -> Peaks
     where
-        A: Measured,
-        B: Measured,
+        A: Measured<P>,
+        B: Measured<Q>,
         ensures buffers_a { result.buffers_a ≡ min self.now.scene.medium.peak_a 65535 }
         ensures buffers_b { result.buffers_b ≡ min self.now.scene.medium.peak_b 65535 }
         ensures windows { (result.window_a ≡ A.frames_sent self.now.a) × (result.window_b ≡ B.frames_sent self.now.b) }

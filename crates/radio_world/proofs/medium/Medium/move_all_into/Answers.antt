@@ -1,5 +1,6 @@
 use Rattle.std.proofs.Common.{refl}
 use Rattle.radio_world.proofs.Moving.{goes_none, goes_then}
+use Rattle.radio_world.proofs.Hearing.{heard_then}
 use Rattle.radio_world.proofs.medium.Medium.move_all_into.Goals as goal
 
 pub loop-moved-init : goal.loop-moved-init
@@ -10,6 +11,12 @@ loop-moved-init g c =
       c.requires.none_held,
       c.requires.sound,
     )
+
+pub move_into-requires-clause-heard : goal.move_into-requires-clause-heard
+move_into-requires-clause-heard g c =
+    let host = g.H.Host in
+    heard_then host.machine c.args.side host.answers c.args.self.now c.loop-moved.self (host.station c.args.host.now) (host.station c.loop-moved.host) c.args.port.now c.loop-moved.port
+    (g.T.Sink.content c.args.trace.now) (g.T.Sink.content c.loop-moved.trace) c.loop-moved.invariant.0 c.requires.heard
 
 pub loop-moved-preserved : goal.loop-moved-preserved
 loop-moved-preserved g c =

@@ -7,7 +7,41 @@ use Rattle.world_model.specs.Stations.{IsStopped}
 use Rattle.world_model.specs.Worlds.{IsSettled}
 use Rattle.radio_world.proofs.Advancing.{advances_then, begun_or_not, exchanged_a, exchanged_b, ended_or_not}
 use Rattle.radio_world.proofs.Settling.{settles}
+use Rattle.radio_world.proofs.Standing.{reached_then}
+use Rattle.radio_world.proofs.Hearing.{a_hears, b_hears}
 use Rattle.radio_world.proofs.scene.Scene.round.Goals as goal
+
+pub exchange-requires-clause-heard : goal.exchange-requires-clause-heard
+exchange-requires-clause-heard g c =
+    let one = g.A.Host in
+    let two = g.B.Host in
+    let joins_a = g.met.A.Host.joins in
+    let joins_b = g.met.B.Host.joins in
+    let content = g.T.Sink.content in
+    let began = begun_or_not one.machine two.machine one.answers two.answers c.in_ok-began.began c.args.self.now c.begin.new.self (one.station c.args.a.now) (one.station c.begin.new.a) (two.station c.args.b.now)
+    c.args.shelf.now c.begin.new.shelf c.args.inbox.now (content c.args.trace.now) (content c.begin.new.trace) joins_a joins_b
+    (λ is. subst (λ (side : Side). Begins one.machine side one.answers c.args.self.now c.begin.new.self (one.station c.args.a.now) (one.station c.begin.new.a) c.args.shelf.now c.begin.new.shelf (content c.args.trace.now) (content c.begin.new.trace))
+    c.requires.sides.0 (c.in_ok-began.ensures.begins (ap Ok is)))
+    (λ is. let same = c.in_ok-began.ensures.none (ap Ok is) in (same.0, ap one.station same.1, same.2, same.3)) in
+    a_hears one.machine two.machine c.begin.new.self (one.station c.begin.new.a) (two.station c.args.b.now)
+    (reached_then one.machine two.machine one.answers two.answers [] _ _ began c.requires.reached)
+
+pub exchange-requires-2-clause-heard : goal.exchange-requires-2-clause-heard
+exchange-requires-2-clause-heard g c =
+    let one = g.A.Host in
+    let two = g.B.Host in
+    let joins_a = g.met.A.Host.joins in
+    let joins_b = g.met.B.Host.joins in
+    let content = g.T.Sink.content in
+    let began = begun_or_not one.machine two.machine one.answers two.answers c.in_ok-began.began c.args.self.now c.begin.new.self (one.station c.args.a.now) (one.station c.begin.new.a) (two.station c.args.b.now)
+    c.args.shelf.now c.begin.new.shelf c.args.inbox.now (content c.args.trace.now) (content c.begin.new.trace) joins_a joins_b
+    (λ is. subst (λ (side : Side). Begins one.machine side one.answers c.args.self.now c.begin.new.self (one.station c.args.a.now) (one.station c.begin.new.a) c.args.shelf.now c.begin.new.shelf (content c.args.trace.now) (content c.begin.new.trace))
+    c.requires.sides.0 (c.in_ok-began.ensures.begins (ap Ok is)))
+    (λ is. let same = c.in_ok-began.ensures.none (ap Ok is) in (same.0, ap one.station same.1, same.2, same.3)) in
+    let moved_a = exchanged_a one.machine two.machine one.answers two.answers c.begin.new.self c.exchange.new.self (one.station c.begin.new.a) (one.station c.exchange.new.host) (two.station c.args.b.now)
+    c.begin.new.shelf c.exchange.new.port c.args.inbox.now (content c.begin.new.trace) (content c.exchange.new.trace) joins_b c.in_ok-moved_a.ensures.scene c.in_ok-moved_a.ensures.goes in
+    b_hears one.machine two.machine c.exchange.new.self (one.station c.exchange.new.host) (two.station c.args.b.now)
+    (reached_then one.machine two.machine one.answers two.answers [] _ _ moved_a (reached_then one.machine two.machine one.answers two.answers [] _ _ began c.requires.reached))
 
 pub returns-clause-advances : goal.returns-clause-advances
 returns-clause-advances g c =

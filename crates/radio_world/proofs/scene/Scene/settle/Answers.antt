@@ -1,5 +1,6 @@
 use Rattle.std.proofs.Common.{[], Ok, ap}
 use Rattle.radio_world.proofs.Advancing.{advances_none, advances_then}
+use Rattle.radio_world.proofs.Standing.{reached_then}
 use Rattle.radio_world.proofs.scene.Scene.settle.Goals as goal
 
 pub loop-init : goal.loop-init
@@ -7,6 +8,12 @@ loop-init g c =
     let one = g.A.Host in
     let two = g.B.Host in
     (advances_none one.machine two.machine one.answers two.answers _ g.met.A.Host.joins g.met.B.Host.joins, c.requires.none_held, c.requires.sound)
+
+pub round-requires-clause-reached : goal.round-requires-clause-reached
+round-requires-clause-reached g c =
+    let one = g.A.Host in
+    let two = g.B.Host in
+    reached_then one.machine two.machine one.answers two.answers [] _ _ c.loop.invariant.0 c.requires.reached
 
 pub loop-preserved : goal.loop-preserved
 loop-preserved g c =

@@ -1,6 +1,6 @@
 use Rattle.std.proofs.Common.{[], ◌∷◌, ◌∙◌}
 use Rattle.radio_world.proofs.Advancing.{advances_then}
-use Rattle.radio_world.proofs.Standing.{at_rest, stands_quiet, stands_then}
+use Rattle.radio_world.proofs.Standing.{at_rest, reached_then, stands_quiet, stands_then}
 use Rattle.radio_world.proofs.scene.Scene.turn_found.Goals as goal
 
 pub do_word-requires-clause-rest : goal.do_word-requires-clause-rest
@@ -20,6 +20,12 @@ do_word-requires-clause-few g c = c.is_count_full.ensures.room c.if-is_count_ful
 
 pub settle-requires-clause-none_held : goal.settle-requires-clause-none_held
 settle-requires-clause-none_held g c = (c.in_ok-do_word.ensures.held.0 ∙ c.requires.none_held.0, c.in_ok-do_word.ensures.held.1 ∙ c.requires.none_held.1)
+
+pub settle-requires-clause-reached : goal.settle-requires-clause-reached
+settle-requires-clause-reached g c =
+    let one = g.A.Host in
+    let two = g.B.Host in
+    reached_then one.machine two.machine one.answers two.answers (c.args.word ∷ []) _ _ c.in_ok-do_word.ensures.advances c.requires.stands.reached
 
 pub returns-clause-advances : goal.returns-clause-advances
 returns-clause-advances g c =
