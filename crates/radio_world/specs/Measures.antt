@@ -10,8 +10,8 @@ pub record NotesMost {S G : Type 0} (U : Upper S G) (held most : S → ℕ) : Ty
   pub says : (s : S) (pdu : List ℕ) (after : S) → U.next s ≡ Some (pdu, after) → most after ≡ max (most s) (held after)
 
 -- what a host tells is the greatest of what its machine held so far, whatever its ports answer from now on
-pub record IsMostOf {S G H : Type 0} (U : Upper S G) (station : H → Asking S G) (told : H → ℕ) : Type 0 where
+pub record IsMostOf {S G H P : Type 0} (U : Upper S G) (station : H → P → Asking S G) (told : H → ℕ) : Type 0 where
   pub held : S → ℕ
   pub most : S → ℕ
   pub notes : NotesMost U held most
-  pub told_is : (host : H) (rest : List G) → told host ≡ most ((station host).upper rest)
+  pub told_is : (host : H) (port : P) (rest : List G) → told host ≡ most ((station host port).upper rest)

@@ -29,8 +29,8 @@ impl Medium {
     ) -> Result<bool, WorldFault>
         requires side { H.side ≡ side }
         requires sound { H.is_sound host.old port.now }
-        ensures goes { OnOk result (Goes H.machine side H.answers self.old self.new (H.station host.old) (H.station host.new) port.now port.now (T.content trace.old) (T.content trace.new)) }
-        ensures none { result ≡ Ok false → (H.station host.old).out ≡ [] × (self.new ≡ self.old) × (H.station host.new ≡ H.station host.old) }
+        ensures goes { OnOk result (Goes H.machine side H.answers self.old self.new (H.station host.old port.now) (H.station host.new port.now) port.now port.now (T.content trace.old) (T.content trace.new)) }
+        ensures none { result ≡ Ok false → (H.station host.old port.now).out ≡ [] × (self.new ≡ self.old) × (H.station host.new port.now ≡ H.station host.old port.now) }
         ensures held { OnOk result (H.held host.new ≡ H.held host.old) }
         ensures sound { OnOk result (H.is_sound host.new port.now) }
     {
@@ -54,11 +54,11 @@ impl Medium {
     ) -> Result<bool, WorldFault>
         requires side { H.side ≡ side }
         requires none_held { H.held host.old ≡ [] }
-        requires heard { MayAllBeHeard H.machine side self.old (H.station host.old) }
+        requires heard { MayAllBeHeard H.machine side self.old (H.station host.old port.old) }
         requires sound { H.is_sound host.old port.old }
-        ensures goes { OnOk result (Goes H.machine side H.answers self.old self.new (H.station host.old) (H.station host.new) port.old port.new (T.content trace.old) (T.content trace.new)) }
-        ensures still { result ≡ Ok false → IsStillIn side self.old × (self.new ≡ self.old) × (H.station host.new ≡ H.station host.old) }
-        ensures said { OnErr result (IsSaidFirst side self.old.radio (H.station host.old) (H.station host.new) port.old port.new (T.content trace.old) (T.content trace.new)) }
+        ensures goes { OnOk result (Goes H.machine side H.answers self.old self.new (H.station host.old port.old) (H.station host.new port.new) port.old port.new (T.content trace.old) (T.content trace.new)) }
+        ensures still { result ≡ Ok false → IsStillIn side self.old × (self.new ≡ self.old) × (H.station host.new port.new ≡ H.station host.old port.old) }
+        ensures said { OnErr result (IsSaidFirst side self.old.radio (H.station host.old port.old) (H.station host.new port.new) port.old port.new (T.content trace.old) (T.content trace.new)) }
         ensures shorter { result ≡ Ok true → comes_count side self.new < comes_count side self.old }
         ensures none_held { OnOk result (H.held host.new ≡ []) }
         ensures sound { OnOk result (H.is_sound host.new port.new) }
@@ -91,11 +91,11 @@ impl Medium {
     ) -> Result<bool, WorldFault>
         requires side { H.side ≡ side }
         requires none_held { H.held host.old ≡ [] }
-        requires heard { MayAllBeHeard H.machine side self.old (H.station host.old) }
+        requires heard { MayAllBeHeard H.machine side self.old (H.station host.old port.old) }
         requires sound { H.is_sound host.old port.old }
-        ensures goes { OnOk result (Goes H.machine side H.answers self.old self.new (H.station host.old) (H.station host.new) port.old port.new (T.content trace.old) (T.content trace.new)) }
+        ensures goes { OnOk result (Goes H.machine side H.answers self.old self.new (H.station host.old port.old) (H.station host.new port.new) port.old port.new (T.content trace.old) (T.content trace.new)) }
         ensures still { OnOk result (IsStillIn side self.new) }
-        ensures none { result ≡ Ok false → (self.new ≡ self.old) × (H.station host.new ≡ H.station host.old) }
+        ensures none { result ≡ Ok false → (self.new ≡ self.old) × (H.station host.new port.new ≡ H.station host.old port.old) }
         ensures none_held { OnOk result (H.held host.new ≡ []) }
         ensures sound { OnOk result (H.is_sound host.new port.new) }
     {
@@ -125,11 +125,11 @@ impl Medium {
     ) -> Result<bool, WorldFault>
         requires side { H.side ≡ side }
         requires none_held { H.held host.old ≡ [] }
-        requires heard { MayAllBeHeard H.machine side self.old (H.station host.old) }
+        requires heard { MayAllBeHeard H.machine side self.old (H.station host.old port.old) }
         requires sound { H.is_sound host.old port.old }
-        ensures goes { OnOk result (Goes H.machine side H.answers self.old self.new (H.station host.old) (H.station host.new) port.old port.new (T.content trace.old) (T.content trace.new)) }
+        ensures goes { OnOk result (Goes H.machine side H.answers self.old self.new (H.station host.old port.old) (H.station host.new port.new) port.old port.new (T.content trace.old) (T.content trace.new)) }
         ensures still { OnOk result (IsStillIn side self.new) }
-        ensures none { result ≡ Ok false → StaysPut side self.old self.new (H.station host.old) (H.station host.new) }
+        ensures none { result ≡ Ok false → StaysPut side self.old self.new (H.station host.old port.old) (H.station host.new port.new) }
         ensures none_held { OnOk result (H.held host.new ≡ []) }
         ensures sound { OnOk result (H.is_sound host.new port.new) }
     {

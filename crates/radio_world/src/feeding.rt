@@ -18,7 +18,7 @@ pub(crate) fn hand_over<P, H: Host<P>>(
     requires some { 1 ≤ chunk }
     requires none_held { H.held host.old ≡ [] }
     requires sound { H.is_sound host.old port.old }
-    ensures hears { OnOk result ((coming : Coming) → MayBeHeard (H.station host.old) coming → IsPacket acl_limit (coming_packet H.side coming) → octets.now ≡ spelling (coming_packet H.side coming) → Reacts H.machine H.side H.answers (hears_coming H.machine H.side coming) (H.station host.old) (H.station host.new) port.old port.new × (H.held host.new ≡ [])) }
+    ensures hears { OnOk result ((coming : Coming) → MayBeHeard (H.station host.old port.old) coming → IsPacket acl_limit (coming_packet H.side coming) → octets.now ≡ spelling (coming_packet H.side coming) → Reacts H.machine H.side H.answers (hears_coming H.machine H.side coming) (H.station host.old port.old) (H.station host.new port.new) port.old port.new × (H.held host.new ≡ [])) }
     ensures sound { OnOk result (H.is_sound host.new port.new) }
 {
     let mut rest = octets;

@@ -33,12 +33,12 @@ impl Scene {
         inbox: &mut Q,
         trace: &mut T,
     ) -> Result<(), WorldFault>
-        requires reached { (rest_a : List A.Host.Answer) (rest_b : List B.Answer) → IsReached A.Host.machine B.machine (moment self.old (answering rest_a (A.Host.station a.old)) (answering rest_b (B.station b.old))) }
+        requires reached { (rest_a : List A.Host.Answer) (rest_b : List B.Answer) → IsReached A.Host.machine B.machine (moment self.old (answering rest_a (A.Host.station a.old shelf.old)) (answering rest_b (B.station b.old inbox.old))) }
         requires sides { (A.Host.side ≡ sides.A) × (B.side ≡ sides.B) }
         requires none_held { (A.Host.held a.old ≡ []) × (B.held b.old ≡ []) }
         requires sound { A.Host.is_sound a.old shelf.old × B.is_sound b.old inbox.old }
-        ensures advances { OnOk result (Advances A.Host.machine B.machine A.Host.answers B.answers [] (stage self.old (A.Host.station a.old) (B.station b.old) shelf.old inbox.old (T.content trace.old)) (stage self.new (A.Host.station a.new) (B.station b.new) shelf.new inbox.new (T.content trace.new))) }
-        ensures stands { OnOk result (Stands A.Host.machine B.machine self.new (A.Host.station a.new) (B.station b.new)) }
+        ensures advances { OnOk result (Advances A.Host.machine B.machine A.Host.answers B.answers [] (stage self.old (A.Host.station a.old shelf.old) (B.station b.old inbox.old) shelf.old inbox.old (T.content trace.old)) (stage self.new (A.Host.station a.new shelf.new) (B.station b.new inbox.new) shelf.new inbox.new (T.content trace.new))) }
+        ensures stands { OnOk result (Stands A.Host.machine B.machine self.new (A.Host.station a.new shelf.new) (B.station b.new inbox.new)) }
         ensures none_held { OnOk result ((A.Host.held a.new ≡ []) × (B.held b.new ≡ [])) }
         ensures sound { OnOk result (A.Host.is_sound a.new shelf.new × B.is_sound b.new inbox.new) }
     {
@@ -81,14 +81,14 @@ impl Scene {
         trace: &mut T,
     ) -> Result<(), WorldFault>
         requires orderly { AreOrderly A.Host.machine B.machine }
-        requires stands { Stands A.Host.machine B.machine self.old (A.Host.station a.old) (B.station b.old) }
-        requires finds { (rest_a : List A.Host.Answer) (rest_b : List B.Answer) → can_be_done A.Host.machine B.machine (found word self.old.medium.radio) self.old.pushes ((A.Host.station a.old).upper rest_a) ((B.station b.old).upper rest_b) ≡ true }
+        requires stands { Stands A.Host.machine B.machine self.old (A.Host.station a.old shelf.old) (B.station b.old inbox.old) }
+        requires finds { (rest_a : List A.Host.Answer) (rest_b : List B.Answer) → can_be_done A.Host.machine B.machine (found word self.old.medium.radio) self.old.pushes ((A.Host.station a.old shelf.old).upper rest_a) ((B.station b.old inbox.old).upper rest_b) ≡ true }
         requires word { IsWord word }
         requires sides { (A.Host.side ≡ sides.A) × (B.side ≡ sides.B) }
         requires none_held { (A.Host.held a.old ≡ []) × (B.held b.old ≡ []) }
         requires sound { A.Host.is_sound a.old shelf.old × B.is_sound b.old inbox.old }
-        ensures advances { OnOk result (Advances A.Host.machine B.machine A.Host.answers B.answers (word ∷ []) (stage self.old (A.Host.station a.old) (B.station b.old) shelf.old inbox.old (T.content trace.old)) (stage self.new (A.Host.station a.new) (B.station b.new) shelf.new inbox.new (T.content trace.new))) }
-        ensures stands { OnOk result (Stands A.Host.machine B.machine self.new (A.Host.station a.new) (B.station b.new)) }
+        ensures advances { OnOk result (Advances A.Host.machine B.machine A.Host.answers B.answers (word ∷ []) (stage self.old (A.Host.station a.old shelf.old) (B.station b.old inbox.old) shelf.old inbox.old (T.content trace.old)) (stage self.new (A.Host.station a.new shelf.new) (B.station b.new inbox.new) shelf.new inbox.new (T.content trace.new))) }
+        ensures stands { OnOk result (Stands A.Host.machine B.machine self.new (A.Host.station a.new shelf.new) (B.station b.new inbox.new)) }
         ensures none_held { OnOk result ((A.Host.held a.new ≡ []) × (B.held b.new ≡ [])) }
         ensures sound { OnOk result (A.Host.is_sound a.new shelf.new × B.is_sound b.new inbox.new) }
     {
@@ -117,13 +117,13 @@ impl Scene {
         trace: &mut T,
     ) -> Result<(), WorldFault>
         requires orderly { AreOrderly A.Host.machine B.machine }
-        requires stands { Stands A.Host.machine B.machine self.old (A.Host.station a.old) (B.station b.old) }
+        requires stands { Stands A.Host.machine B.machine self.old (A.Host.station a.old shelf.old) (B.station b.old inbox.old) }
         requires word { IsWord word }
         requires sides { (A.Host.side ≡ sides.A) × (B.side ≡ sides.B) }
         requires none_held { (A.Host.held a.old ≡ []) × (B.held b.old ≡ []) }
         requires sound { A.Host.is_sound a.old shelf.old × B.is_sound b.old inbox.old }
-        ensures turns { OnOk result (Advances A.Host.machine B.machine A.Host.answers B.answers (replicate count word) (stage self.old (A.Host.station a.old) (B.station b.old) shelf.old inbox.old (T.content trace.old)) (stage self.new (A.Host.station a.new) (B.station b.new) shelf.new inbox.new (T.content trace.new))) }
-        ensures stands { OnOk result (Stands A.Host.machine B.machine self.new (A.Host.station a.new) (B.station b.new)) }
+        ensures turns { OnOk result (Advances A.Host.machine B.machine A.Host.answers B.answers (replicate count word) (stage self.old (A.Host.station a.old shelf.old) (B.station b.old inbox.old) shelf.old inbox.old (T.content trace.old)) (stage self.new (A.Host.station a.new shelf.new) (B.station b.new inbox.new) shelf.new inbox.new (T.content trace.new))) }
+        ensures stands { OnOk result (Stands A.Host.machine B.machine self.new (A.Host.station a.new shelf.new) (B.station b.new inbox.new)) }
         ensures none_held { OnOk result ((A.Host.held a.new ≡ []) × (B.held b.new ≡ [])) }
         ensures sound { OnOk result (A.Host.is_sound a.new shelf.new × B.is_sound b.new inbox.new) }
     {
@@ -148,12 +148,12 @@ impl Scene {
         trace: &mut T,
     ) -> Result<(), WorldFault>
         requires orderly { AreOrderly A.Host.machine B.machine }
-        requires stands { Stands A.Host.machine B.machine self.old (A.Host.station a.old) (B.station b.old) }
+        requires stands { Stands A.Host.machine B.machine self.old (A.Host.station a.old shelf.old) (B.station b.old inbox.old) }
         requires sides { (A.Host.side ≡ sides.A) × (B.side ≡ sides.B) }
         requires none_held { (A.Host.held a.old ≡ []) × (B.held b.old ≡ []) }
         requires sound { A.Host.is_sound a.old shelf.old × B.is_sound b.old inbox.old }
-        ensures turns { OnOk result (Advances A.Host.machine B.machine A.Host.answers B.answers (words_of script.now) (stage self.old (A.Host.station a.old) (B.station b.old) shelf.old inbox.old (T.content trace.old)) (stage self.new (A.Host.station a.new) (B.station b.new) shelf.new inbox.new (T.content trace.new))) }
-        ensures stands { OnOk result (Stands A.Host.machine B.machine self.new (A.Host.station a.new) (B.station b.new)) }
+        ensures turns { OnOk result (Advances A.Host.machine B.machine A.Host.answers B.answers (words_of script.now) (stage self.old (A.Host.station a.old shelf.old) (B.station b.old inbox.old) shelf.old inbox.old (T.content trace.old)) (stage self.new (A.Host.station a.new shelf.new) (B.station b.new inbox.new) shelf.new inbox.new (T.content trace.new))) }
+        ensures stands { OnOk result (Stands A.Host.machine B.machine self.new (A.Host.station a.new shelf.new) (B.station b.new inbox.new)) }
         ensures none_held { OnOk result ((A.Host.held a.new ≡ []) × (B.held b.new ≡ [])) }
         ensures sound { OnOk result (A.Host.is_sound a.new shelf.new × B.is_sound b.new inbox.new) }
     {

@@ -116,12 +116,12 @@ impl<A: Drop, B: Drop> World<A, B> {
     where
         A: Client<P>,
         B: Host<Q>,
-        requires reached { (rest_a : List A.Host.Answer) (rest_b : List B.Answer) → IsReached A.Host.machine B.machine (moment self.old.scene (answering rest_a (A.Host.station self.old.a)) (answering rest_b (B.station self.old.b))) }
+        requires reached { (rest_a : List A.Host.Answer) (rest_b : List B.Answer) → IsReached A.Host.machine B.machine (moment self.old.scene (answering rest_a (A.Host.station self.old.a shelf.old)) (answering rest_b (B.station self.old.b inbox.old))) }
         requires sides { (A.Host.side ≡ sides.A) × (B.side ≡ sides.B) }
         requires none_held { (A.Host.held self.old.a ≡ []) × (B.held self.old.b ≡ []) }
         requires sound { A.Host.is_sound self.old.a shelf.old × B.is_sound self.old.b inbox.old }
-        ensures advances { OnOk result (Advances A.Host.machine B.machine A.Host.answers B.answers [] (stage self.old.scene (A.Host.station self.old.a) (B.station self.old.b) shelf.old inbox.old (T.content trace.old)) (stage self.new.scene (A.Host.station self.new.a) (B.station self.new.b) shelf.new inbox.new (T.content trace.new))) }
-        ensures stands { OnOk result (Stands A.Host.machine B.machine self.new.scene (A.Host.station self.new.a) (B.station self.new.b)) }
+        ensures advances { OnOk result (Advances A.Host.machine B.machine A.Host.answers B.answers [] (stage self.old.scene (A.Host.station self.old.a shelf.old) (B.station self.old.b inbox.old) shelf.old inbox.old (T.content trace.old)) (stage self.new.scene (A.Host.station self.new.a shelf.new) (B.station self.new.b inbox.new) shelf.new inbox.new (T.content trace.new))) }
+        ensures stands { OnOk result (Stands A.Host.machine B.machine self.new.scene (A.Host.station self.new.a shelf.new) (B.station self.new.b inbox.new)) }
         ensures none_held { OnOk result ((A.Host.held self.new.a ≡ []) × (B.held self.new.b ≡ [])) }
         ensures sound { OnOk result (A.Host.is_sound self.new.a shelf.new × B.is_sound self.new.b inbox.new) }
     {
@@ -149,13 +149,13 @@ impl<A: Drop, B: Drop> World<A, B> {
         A: Client<P>,
         B: Host<Q>,
         requires orderly { AreOrderly A.Host.machine B.machine }
-        requires stands { Stands A.Host.machine B.machine self.old.scene (A.Host.station self.old.a) (B.station self.old.b) }
+        requires stands { Stands A.Host.machine B.machine self.old.scene (A.Host.station self.old.a shelf.old) (B.station self.old.b inbox.old) }
         requires word { IsWord word }
         requires sides { (A.Host.side ≡ sides.A) × (B.side ≡ sides.B) }
         requires none_held { (A.Host.held self.old.a ≡ []) × (B.held self.old.b ≡ []) }
         requires sound { A.Host.is_sound self.old.a shelf.old × B.is_sound self.old.b inbox.old }
-        ensures turns { OnOk result (Advances A.Host.machine B.machine A.Host.answers B.answers (word ∷ []) (stage self.old.scene (A.Host.station self.old.a) (B.station self.old.b) shelf.old inbox.old (T.content trace.old)) (stage self.new.scene (A.Host.station self.new.a) (B.station self.new.b) shelf.new inbox.new (T.content trace.new))) }
-        ensures stands { OnOk result (Stands A.Host.machine B.machine self.new.scene (A.Host.station self.new.a) (B.station self.new.b)) }
+        ensures turns { OnOk result (Advances A.Host.machine B.machine A.Host.answers B.answers (word ∷ []) (stage self.old.scene (A.Host.station self.old.a shelf.old) (B.station self.old.b inbox.old) shelf.old inbox.old (T.content trace.old)) (stage self.new.scene (A.Host.station self.new.a shelf.new) (B.station self.new.b inbox.new) shelf.new inbox.new (T.content trace.new))) }
+        ensures stands { OnOk result (Stands A.Host.machine B.machine self.new.scene (A.Host.station self.new.a shelf.new) (B.station self.new.b inbox.new)) }
         ensures none_held { OnOk result ((A.Host.held self.new.a ≡ []) × (B.held self.new.b ≡ [])) }
         ensures sound { OnOk result (A.Host.is_sound self.new.a shelf.new × B.is_sound self.new.b inbox.new) }
     {
@@ -177,12 +177,12 @@ impl<A: Drop, B: Drop> World<A, B> {
         A: Client<P>,
         B: Host<Q>,
         requires orderly { AreOrderly A.Host.machine B.machine }
-        requires stands { Stands A.Host.machine B.machine self.old.scene (A.Host.station self.old.a) (B.station self.old.b) }
+        requires stands { Stands A.Host.machine B.machine self.old.scene (A.Host.station self.old.a shelf.old) (B.station self.old.b inbox.old) }
         requires sides { (A.Host.side ≡ sides.A) × (B.side ≡ sides.B) }
         requires none_held { (A.Host.held self.old.a ≡ []) × (B.held self.old.b ≡ []) }
         requires sound { A.Host.is_sound self.old.a shelf.old × B.is_sound self.old.b inbox.old }
-        ensures turns { OnOk result (Advances A.Host.machine B.machine A.Host.answers B.answers (words_of script.now) (stage self.old.scene (A.Host.station self.old.a) (B.station self.old.b) shelf.old inbox.old (T.content trace.old)) (stage self.new.scene (A.Host.station self.new.a) (B.station self.new.b) shelf.new inbox.new (T.content trace.new))) }
-        ensures stands { OnOk result (Stands A.Host.machine B.machine self.new.scene (A.Host.station self.new.a) (B.station self.new.b)) }
+        ensures turns { OnOk result (Advances A.Host.machine B.machine A.Host.answers B.answers (words_of script.now) (stage self.old.scene (A.Host.station self.old.a shelf.old) (B.station self.old.b inbox.old) shelf.old inbox.old (T.content trace.old)) (stage self.new.scene (A.Host.station self.new.a shelf.new) (B.station self.new.b inbox.new) shelf.new inbox.new (T.content trace.new))) }
+        ensures stands { OnOk result (Stands A.Host.machine B.machine self.new.scene (A.Host.station self.new.a shelf.new) (B.station self.new.b inbox.new)) }
         ensures none_held { OnOk result ((A.Host.held self.new.a ≡ []) × (B.held self.new.b ≡ [])) }
         ensures sound { OnOk result (A.Host.is_sound self.new.a shelf.new × B.is_sound self.new.b inbox.new) }
     {
@@ -197,9 +197,9 @@ impl<A: Drop, B: Drop> World<A, B> {
     pub fn finish<P, T: Sink>(&mut self, trace: &mut T, _shelf: &P) -> Result<(), WorldFault>
     where
         A: Client<P>,
-        ensures outcomes { OnOk result ((rest : List A.Host.Answer) → self.new.scene.pushes.outcomes ≡ all_outcomes (last_ended (A.Host.machine.outcome ((A.Host.station self.old.a).upper rest)) self.old.scene.pushes)) }
+        ensures outcomes { OnOk result ((rest : List A.Host.Answer) → self.new.scene.pushes.outcomes ≡ all_outcomes (last_ended (A.Host.machine.outcome ((A.Host.station self.old.a _shelf.now).upper rest)) self.old.scene.pushes)) }
         ensures each { OnOk result (length self.new.scene.pushes.outcomes ≡ length self.old.scene.pushes.names) }
-        ensures written { OnOk result ((rest : List A.Host.Answer) → T.content trace.new ≡ gained (T.content trace.old) (capture_octets (last_entries (A.Host.machine.outcome ((A.Host.station self.old.a).upper rest)) self.old.scene.pushes))) }
+        ensures written { OnOk result ((rest : List A.Host.Answer) → T.content trace.new ≡ gained (T.content trace.old) (capture_octets (last_entries (A.Host.machine.outcome ((A.Host.station self.old.a _shelf.now).upper rest)) self.old.scene.pushes))) }
         ensures hosts { (self.new.a ≡ self.old.a) × (self.new.b ≡ self.old.b) }
         ensures medium { OnOk result (self.new.scene.medium ≡ self.old.scene.medium) }
     {

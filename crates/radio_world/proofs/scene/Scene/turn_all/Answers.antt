@@ -23,8 +23,8 @@ loop-i-preserved g c =
     let one = g.A.Host in
     let two = g.B.Host in
     let content = g.T.Sink.content in (
-      subst (λ (words : List Word). Advances one.machine two.machine one.answers two.answers words (stage c.args.self.now (one.station c.args.a.now) (two.station c.args.b.now) c.args.shelf.now c.args.inbox.now (content c.args.trace.now))
-          (stage c.turn_times.new.self (one.station c.turn_times.new.a) (two.station c.turn_times.new.b) c.turn_times.new.shelf c.turn_times.new.inbox (content c.turn_times.new.trace)))
+      subst (λ (words : List Word). Advances one.machine two.machine one.answers two.answers words (stage c.args.self.now (one.station c.args.a.now c.args.shelf.now) (two.station c.args.b.now c.args.inbox.now) c.args.shelf.now c.args.inbox.now (content c.args.trace.now))
+          (stage c.turn_times.new.self (one.station c.turn_times.new.a c.turn_times.new.shelf) (two.station c.turn_times.new.b c.turn_times.new.inbox) c.turn_times.new.shelf c.turn_times.new.inbox (content c.turn_times.new.trace)))
           (run_more c.args.script.now c.loop-i.i c.in-Some.count c.in-Some.word (sym c.at.ensures ∙ c.in-Some.is))
           (advances_then one.machine two.machine one.answers two.answers (words_of (take c.loop-i.i c.args.script.now)) (replicate c.in-Some.count c.in-Some.word) _ _ _ g.met.A.Host.joins g.met.B.Host.joins c.loop-i.invariant.0 c.in_ok-turn_times.ensures.turns),
       c.in_ok-turn_times.ensures.stands,
