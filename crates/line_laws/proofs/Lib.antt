@@ -1,0 +1,5 @@
+pub mod Reading
+pub mod Sending
+pub mod Seeing
+pub mod Coming
+pub mod Stopping
