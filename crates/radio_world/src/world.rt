@@ -1,6 +1,8 @@
 //! The simulated world: two hosts, their controllers and the air between them.
 
-ghost use Rattle.std.specs.Prelude.{◌≡◌, ◌∷◌, [], List, length, min, IfOk, OnOk};
+ghost use Rattle.std.specs.Prelude.{◌≡◌, ◌∷◌, ◌++◌, [], List, length, min, slice_get, IfOk, OnOk};
+ghost use Rattle.std.specs.Option.{option_map};
+ghost use Rattle.radio_air.specs.Radio.{frames};
 ghost use Rattle.bt_base.specs.Streams.{gained};
 ghost use Rattle.push_script.specs.Runs.{IsWord};
 ghost use Rattle.capture.specs.Air.{words_of};
@@ -18,7 +20,7 @@ use crate::ordering::Pushes;
 use crate::scene::Scene;
 use bt_base::{NoMemory, Sink};
 use push_script::{Runs, Scenario};
-use push_terms::{Outcome, Peaks, Word};
+use push_terms::{Outcome, Peaks, Way, Word};
 use std::alloc::Global;
 use std::marker::Model;
 
@@ -99,6 +101,14 @@ impl<A: Drop, B: Drop> World<A, B> {
             credits_a: self.a.greatest_credits(),
             credits_b: self.b.greatest_credits(),
         }
+    }
+
+    /// The frame that waits first in a direction, in two parts that follow one another. `None` exactly
+    /// where none waits. It may be asked after a fault as well.
+    pub fn front(&self, way: Way) -> Option<(&[u8], &[u8])>
+        ensures { option_map (λ parts. parts.0.now ++ parts.1.now) result ≡ slice_get (frames way self.now.scene.medium.radio) 0 }
+    {
+        self.scene.medium.radio.front(way)
     }
 
     /// Lets both hosts start and begins the first push: all moves that can. It comes once and first.
