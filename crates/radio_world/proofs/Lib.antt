@@ -9,5 +9,6 @@ mod Reacting
 mod Turned
 pub mod Standing
 mod Hearing
+mod Blaming
 mod Runs
 mod Closing

@@ -6,3 +6,4 @@ pub mod Turning
 pub mod Standing
 pub mod Both
 pub mod Measures
+pub mod Causes

@@ -4,13 +4,14 @@ ghost use Rattle.std.specs.Prelude.{◌≡◌, ◌<◌, [], false, true, Ok, OnO
 ghost use Rattle.radio_air.specs.Radio.{after_offer};
 ghost use Rattle.radio_world.specs.Leaving.{in_radio};
 ghost use Rattle.radio_world.specs.Halves.{Goes, IsStillIn, IsSaidFirst, MayAllBeHeard, StaysPut, comes_count};
+ghost use Rattle.radio_world.specs.Causes.{Blames};
 
 use crate::fault::WorldFault;
 use crate::feeding::hand_over;
 use crate::host::Host;
 use crate::medium::{ACL_LIMIT, Medium};
 use crate::recording::record;
-use bt_base::Sink;
+use bt_base::{NoMemory, Sink};
 use capture::{Entry, Flow};
 use h4_framing::{Leading, first};
 use push_terms::Side;
@@ -33,6 +34,7 @@ impl Medium {
         ensures none { result ≡ Ok false → (H.station host.old port.now).out ≡ [] × (self.new ≡ self.old) × (H.station host.new port.now ≡ H.station host.old port.now) }
         ensures held { OnOk result (H.held host.new ≡ H.held host.old) }
         ensures sound { OnOk result (H.is_sound host.new port.now) }
+        ensures blames { Blames (T.faults trace.old) (T.faults trace.new) result }
     {
         let offered = host.out();
         let count = offered.len();
@@ -62,6 +64,7 @@ impl Medium {
         ensures shorter { result ≡ Ok true → comes_count side self.new < comes_count side self.old }
         ensures none_held { OnOk result (H.held host.new ≡ []) }
         ensures sound { OnOk result (H.is_sound host.new port.new) }
+        ensures blames { Blames (T.faults trace.old) (T.faults trace.new) result }
     {
         let mut room = [0; LONGEST_UNIT];
         let Some(n) = self.radio.hand(side, &mut room) else {
@@ -98,6 +101,7 @@ impl Medium {
         ensures none { result ≡ Ok false → (self.new ≡ self.old) × (H.station host.new port.new ≡ H.station host.old port.old) }
         ensures none_held { OnOk result (H.held host.new ≡ []) }
         ensures sound { OnOk result (H.is_sound host.new port.new) }
+        ensures blames { Blames (T.faults trace.old) (T.faults trace.new) result }
     {
         let mut moved = false;
         while self.move_into(side, host, port, trace)? {
@@ -107,7 +111,7 @@ impl Medium {
     }
 
     /// A controller gives back the packets of its host that it took.
-    fn give_back(&mut self, side: Side) -> Result<(), WorldFault>
+    fn give_back(&mut self, side: Side) -> Result<(), NoMemory>
         ensures { OnOk result (self.new ≡ in_radio (after_offer side self.old.radio) self.old) }
     {
         self.radio.offered(side)?;
@@ -132,6 +136,7 @@ impl Medium {
         ensures none { result ≡ Ok false → StaysPut side self.old self.new (H.station host.old port.old) (H.station host.new port.new) }
         ensures none_held { OnOk result (H.held host.new ≡ []) }
         ensures sound { OnOk result (H.is_sound host.new port.new) }
+        ensures blames { Blames (T.faults trace.old) (T.faults trace.new) result }
     {
         let left = self.move_out(side, host, port, trace)?;
         self.give_back(side)?;

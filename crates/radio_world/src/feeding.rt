@@ -4,8 +4,8 @@ ghost use Rattle.std.specs.Prelude.{◌≡◌, ◌≤◌, [], OnOk};
 ghost use Rattle.h4_framing.specs.Packets.{spelling, IsPacket};
 ghost use Rattle.radio_world.specs.Hosts.{Coming, coming_packet, hears_coming, acl_limit, MayBeHeard, Reacts};
 
-use crate::fault::WorldFault;
 use crate::host::Host;
+use bt_base::NoMemory;
 
 /// Hands the octets of a packet to a host, at most `chunk` at a time: the host hears it, where it may
 /// come.
@@ -14,7 +14,7 @@ pub(crate) fn hand_over<P, H: Host<P>>(
     octets: &[u8],
     chunk: usize,
     port: &mut P,
-) -> Result<(), WorldFault>
+) -> Result<(), NoMemory>
     requires some { 1 ≤ chunk }
     requires none_held { H.held host.old ≡ [] }
     requires sound { H.is_sound host.old port.old }

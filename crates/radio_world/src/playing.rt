@@ -12,6 +12,7 @@ ghost use Rattle.radio_world.specs.Scenes.{stage, moment, Advances};
 ghost use Rattle.radio_air.specs.Radio.{found};
 ghost use Rattle.radio_world.specs.Turning.{can_be_done};
 ghost use Rattle.radio_world.specs.Standing.{IsReached, Stands, last_ended, last_entries, all_outcomes};
+ghost use Rattle.radio_world.specs.Causes.{Blames};
 
 use crate::fault::WorldFault;
 use crate::host::{Client, Host};
@@ -41,6 +42,7 @@ impl Scene {
         ensures stands { OnOk result (Stands A.Host.machine B.machine self.new (A.Host.station a.new shelf.new) (B.station b.new inbox.new)) }
         ensures none_held { OnOk result ((A.Host.held a.new ≡ []) × (B.held b.new ≡ [])) }
         ensures sound { OnOk result (A.Host.is_sound a.new shelf.new × B.is_sound b.new inbox.new) }
+        ensures blames { Blames (T.faults trace.old) (T.faults trace.new) result }
     {
         self.settle(a, shelf, b, inbox, trace)?;
         Ok(())
@@ -91,6 +93,7 @@ impl Scene {
         ensures stands { OnOk result (Stands A.Host.machine B.machine self.new (A.Host.station a.new shelf.new) (B.station b.new inbox.new)) }
         ensures none_held { OnOk result ((A.Host.held a.new ≡ []) × (B.held b.new ≡ [])) }
         ensures sound { OnOk result (A.Host.is_sound a.new shelf.new × B.is_sound b.new inbox.new) }
+        ensures blames { Blames (T.faults trace.old) (T.faults trace.new) result }
     {
         if self.is_count_full() {
             return Err(WorldFault::NoMemory);
@@ -126,6 +129,7 @@ impl Scene {
         ensures stands { OnOk result (Stands A.Host.machine B.machine self.new (A.Host.station a.new shelf.new) (B.station b.new inbox.new)) }
         ensures none_held { OnOk result ((A.Host.held a.new ≡ []) × (B.held b.new ≡ [])) }
         ensures sound { OnOk result (A.Host.is_sound a.new shelf.new × B.is_sound b.new inbox.new) }
+        ensures blames { Blames (T.faults trace.old) (T.faults trace.new) result }
     {
         for done in 0..count {
             if !self.finds(word, a, b) {
@@ -156,6 +160,7 @@ impl Scene {
         ensures stands { OnOk result (Stands A.Host.machine B.machine self.new (A.Host.station a.new shelf.new) (B.station b.new inbox.new)) }
         ensures none_held { OnOk result ((A.Host.held a.new ≡ []) × (B.held b.new ≡ [])) }
         ensures sound { OnOk result (A.Host.is_sound a.new shelf.new × B.is_sound b.new inbox.new) }
+        ensures blames { Blames (T.faults trace.old) (T.faults trace.new) result }
     {
         for i in 0..script.len() {
             let Some((count, word)) = script.at(i) else {
@@ -170,6 +175,7 @@ impl Scene {
     fn end_last<T: Sink>(&mut self, came: Option<Outcome>, trace: &mut T) -> Result<(), WorldFault>
         ensures scene { OnOk result (self.new ≡ record self.old { pushes = last_ended came self.old.pushes }) }
         ensures written { OnOk result (T.content trace.new ≡ gained (T.content trace.old) (capture_octets (last_entries came self.old.pushes))) }
+        ensures blames { Blames (T.faults trace.old) (T.faults trace.new) result }
     {
         if !self.pushes.going() {
             return Ok(());
@@ -190,6 +196,7 @@ impl Scene {
         ensures each { OnOk result (length self.new.pushes.outcomes ≡ length self.old.pushes.names) }
         ensures medium { OnOk result (self.new.medium ≡ self.old.medium) }
         ensures written { OnOk result (T.content trace.new ≡ gained (T.content trace.old) (capture_octets (last_entries came self.old.pushes))) }
+        ensures blames { Blames (T.faults trace.old) (T.faults trace.new) result }
     {
         self.end_last(came, trace)?;
         self.pushes.close();

@@ -11,6 +11,7 @@ ghost use Rattle.radio_world.specs.Halves.{Goes, IsStillIn, MayAllBeHeard, Stays
 ghost use Rattle.radio_world.specs.Scenes.{stage, moment, world_at, may_end, Advances, Begins, Ends};
 ghost use Rattle.radio_world.specs.Standing.{IsReached};
 ghost use Rattle.world_model.specs.Worlds.{IsSettled};
+ghost use Rattle.radio_world.specs.Causes.{Blames};
 
 use crate::fault::WorldFault;
 use crate::host::{Client, Host};
@@ -55,6 +56,7 @@ impl Scene {
         ensures none { result ≡ Ok false → (self.new ≡ self.old) × (a.new ≡ a.old) × (shelf.new ≡ shelf.old) × (T.content trace.new ≡ T.content trace.old) × ((rest : List A.Host.Answer) → A.Host.machine.is_idle ((A.Host.station a.old shelf.old).upper rest) ≡ true → next_name self.old.pushes ≡ None) }
         ensures held { OnOk result (A.Host.held a.new ≡ A.Host.held a.old) }
         ensures sound { OnOk result (A.Host.is_sound a.new shelf.new) }
+        ensures blames { Blames (T.faults trace.old) (T.faults trace.new) result }
     {
         if !a.idle() {
             return Ok(false);
@@ -73,6 +75,7 @@ impl Scene {
         requires { self.old.pushes.going ≡ true }
         ensures scene { OnOk result (self.new ≡ record self.old { pushes = one_ended outcome self.old.pushes }) }
         ensures written { OnOk result (T.content trace.new ≡ gained (T.content trace.old) (entry_octets (Ended self.old.pushes.begun outcome))) }
+        ensures blames { Blames (T.faults trace.old) (T.faults trace.new) result }
     {
         record(&Entry::Ended(self.pushes.begun(), outcome), trace)?;
         self.pushes.end(outcome);
@@ -96,6 +99,7 @@ impl Scene {
         ensures ends { result ≡ Ok true → (shelf : P) → Ends A.Host.machine self.old self.new (A.Host.station a.now shelf) (T.content trace.old) (T.content trace.new) }
         ensures none { result ≡ Ok false → (self.new ≡ self.old) × (T.content trace.new ≡ T.content trace.old) }
         ensures early { result ≡ Ok false → may_end self.old ≡ true → (shelf : P) (rest : List A.Host.Answer) → A.Host.machine.is_idle ((A.Host.station a.now shelf).upper rest) ≡ true → A.Host.machine.outcome ((A.Host.station a.now shelf).upper rest) ≡ None }
+        ensures blames { Blames (T.faults trace.old) (T.faults trace.new) result }
     {
         if !self.may_end() || !a.idle() {
             return Ok(false);
@@ -125,6 +129,7 @@ impl Scene {
         ensures none { result ≡ Ok false → StaysPut side self.old.medium self.new.medium (H.station host.old port.old) (H.station host.new port.new) }
         ensures none_held { OnOk result (H.held host.new ≡ []) }
         ensures sound { OnOk result (H.is_sound host.new port.new) }
+        ensures blames { Blames (T.faults trace.old) (T.faults trace.new) result }
     {
         let moved = self.medium.exchange(side, host, port, trace)?;
         Ok(moved)
@@ -148,6 +153,7 @@ impl Scene {
         ensures settled { result ≡ Ok false → (rest_a : List A.Host.Answer) (rest_b : List B.Answer) → IsSettled A.Host.machine B.machine (world_at (moment self.new (answering rest_a (A.Host.station a.new shelf.new)) (answering rest_b (B.station b.new inbox.new)))) }
         ensures none_held { OnOk result ((A.Host.held a.new ≡ []) × (B.held b.new ≡ [])) }
         ensures sound { OnOk result (A.Host.is_sound a.new shelf.new × B.is_sound b.new inbox.new) }
+        ensures blames { Blames (T.faults trace.old) (T.faults trace.new) result }
     {
         let began = self.begin(a, shelf, trace)?;
         let moved_a = self.exchange(Side::A, a, shelf, trace)?;
@@ -174,6 +180,7 @@ impl Scene {
         ensures settled { OnOk result ((rest_a : List A.Host.Answer) (rest_b : List B.Answer) → IsSettled A.Host.machine B.machine (world_at (moment self.new (answering rest_a (A.Host.station a.new shelf.new)) (answering rest_b (B.station b.new inbox.new))))) }
         ensures none_held { OnOk result ((A.Host.held a.new ≡ []) × (B.held b.new ≡ [])) }
         ensures sound { OnOk result (A.Host.is_sound a.new shelf.new × B.is_sound b.new inbox.new) }
+        ensures blames { Blames (T.faults trace.old) (T.faults trace.new) result }
     {
         for _ in 0..MOST_ROUNDS {
             if !self.round(a, shelf, b, inbox, trace)? {

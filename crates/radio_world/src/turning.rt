@@ -12,6 +12,7 @@ ghost use Rattle.radio_world.specs.Hosts.{answering, Reacts};
 ghost use Rattle.radio_world.specs.Leaving.{in_radio};
 ghost use Rattle.radio_world.specs.Scenes.{stage, moment, world_at, Advances};
 ghost use Rattle.radio_world.specs.Turning.{can_be_done, fires, cancels, done_by, is_checked};
+ghost use Rattle.radio_world.specs.Causes.{Blames};
 
 use crate::fault::WorldFault;
 use crate::host::{Client, Host};
@@ -173,6 +174,7 @@ impl Scene {
         requires few { self.old.turned + 1 < 2 ^ 64 }
         ensures scene { OnOk result (self.new ≡ record self.old { medium = in_radio (after_deed checked (found word self.old.medium.radio) self.old.medium.radio) self.old.medium; turned = self.old.turned + 1 }) }
         ensures written { OnOk result (T.content trace.new ≡ gained (T.content trace.old) (entry_octets (Acted (self.old.turned + 1) word))) }
+        ensures blames { Blames (T.faults trace.old) (T.faults trace.new) result }
     {
         let ordinal = self.turned + 1;
         record(&Entry::Acted { ordinal, word }, trace)?;
@@ -203,6 +205,7 @@ impl Scene {
         ensures advances { OnOk result (Advances A.Host.machine B.machine A.Host.answers B.answers (word ∷ []) (stage self.old (A.Host.station a.old shelf.old) (B.station b.old inbox.old) shelf.old inbox.old (T.content trace.old)) (stage self.new (A.Host.station a.new shelf.new) (B.station b.new inbox.new) shelf.new inbox.new (T.content trace.new))) }
         ensures held { OnOk result ((A.Host.held a.new ≡ A.Host.held a.old) × (B.held b.new ≡ B.held b.old)) }
         ensures sound { OnOk result (A.Host.is_sound a.new shelf.new × B.is_sound b.new inbox.new) }
+        ensures blames { Blames (T.faults trace.old) (T.faults trace.new) result }
     {
         let deed = self.found(word);
         let checked = self.is_checked(deed, a, b);

@@ -12,6 +12,7 @@ ghost use Rattle.rest_laws.specs.Premises.{AreOrderly};
 ghost use Rattle.radio_world.specs.Hosts.{answering};
 ghost use Rattle.radio_world.specs.Scenes.{first_scene, stage, moment, Advances};
 ghost use Rattle.radio_world.specs.Standing.{IsReached, Stands, last_ended, last_entries, all_outcomes};
+ghost use Rattle.radio_world.specs.Causes.{Blames};
 
 use crate::fault::WorldFault;
 use crate::host::{Client, Host, Keeps, Measured};
@@ -134,6 +135,7 @@ impl<A: Drop, B: Drop> World<A, B> {
         ensures stands { OnOk result (Stands A.Host.machine B.machine self.new.scene (A.Host.station self.new.a shelf.new) (B.station self.new.b inbox.new)) }
         ensures none_held { OnOk result ((A.Host.held self.new.a ≡ []) × (B.held self.new.b ≡ [])) }
         ensures sound { OnOk result (A.Host.is_sound self.new.a shelf.new × B.is_sound self.new.b inbox.new) }
+        ensures blames { Blames (T.faults trace.old) (T.faults trace.new) result }
     {
         self.scene
             .start(&mut self.a, shelf, &mut self.b, inbox, trace)?;
@@ -168,6 +170,7 @@ impl<A: Drop, B: Drop> World<A, B> {
         ensures stands { OnOk result (Stands A.Host.machine B.machine self.new.scene (A.Host.station self.new.a shelf.new) (B.station self.new.b inbox.new)) }
         ensures none_held { OnOk result ((A.Host.held self.new.a ≡ []) × (B.held self.new.b ≡ [])) }
         ensures sound { OnOk result (A.Host.is_sound self.new.a shelf.new × B.is_sound self.new.b inbox.new) }
+        ensures blames { Blames (T.faults trace.old) (T.faults trace.new) result }
     {
         self.scene
             .turn_times(1, word, &mut self.a, shelf, &mut self.b, inbox, trace)?;
@@ -195,6 +198,7 @@ impl<A: Drop, B: Drop> World<A, B> {
         ensures stands { OnOk result (Stands A.Host.machine B.machine self.new.scene (A.Host.station self.new.a shelf.new) (B.station self.new.b inbox.new)) }
         ensures none_held { OnOk result ((A.Host.held self.new.a ≡ []) × (B.held self.new.b ≡ [])) }
         ensures sound { OnOk result (A.Host.is_sound self.new.a shelf.new × B.is_sound self.new.b inbox.new) }
+        ensures blames { Blames (T.faults trace.old) (T.faults trace.new) result }
     {
         self.scene
             .turn_all(script, &mut self.a, shelf, &mut self.b, inbox, trace)?;
@@ -212,6 +216,7 @@ impl<A: Drop, B: Drop> World<A, B> {
         ensures written { OnOk result ((rest : List A.Host.Answer) → T.content trace.new ≡ gained (T.content trace.old) (capture_octets (last_entries (A.Host.machine.outcome ((A.Host.station self.old.a _shelf.now).upper rest)) self.old.scene.pushes))) }
         ensures hosts { (self.new.a ≡ self.old.a) × (self.new.b ≡ self.old.b) }
         ensures medium { OnOk result (self.new.scene.medium ≡ self.old.scene.medium) }
+        ensures blames { Blames (T.faults trace.old) (T.faults trace.new) result }
     {
         let came = self.a.outcome();
         self.scene.finish(came, trace)?;

@@ -1,4 +1,4 @@
-use Rattle.std.proofs.Common.{refl}
+use Rattle.std.proofs.Common.{refl, arith}
 use Rattle.radio_world.proofs.Moving.{goes_none, goes_then}
 use Rattle.radio_world.proofs.Hearing.{heard_then}
 use Rattle.radio_world.proofs.medium.Medium.move_all_into.Goals as goal
@@ -10,6 +10,7 @@ loop-moved-init g c =
       λ none. (refl, refl),
       c.requires.none_held,
       c.requires.sound,
+      omega arith,
     )
 
 pub move_into-requires-clause-heard : goal.move_into-requires-clause-heard
@@ -27,6 +28,7 @@ loop-moved-preserved g c =
       λ none. absurd cc,
       c.in_ok-move_into.ensures.none_held,
       c.in_ok-move_into.ensures.sound,
+      omega (arith, c.loop-moved.invariant.4, c.move_into.ensures.blames.stays),
     )
 
 pub returns-clause-goes : goal.returns-clause-goes

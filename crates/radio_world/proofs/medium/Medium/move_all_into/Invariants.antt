@@ -1,4 +1,4 @@
-use Rattle.std.proofs.Common.{◌≡◌, false, []}
+use Rattle.std.proofs.Common.{◌≡◌, ◌≤◌, false, []}
 use Rattle.radio_world.specs.Halves.{Goes, comes_count}
 use Rattle.radio_world.proofs.medium.Medium.move_all_into.Given as goal
 
@@ -9,6 +9,7 @@ invariant-loop-moved g l =
     × (l.moved ≡ false → (l.self ≡ l.fn.self) × (host.station l.host l.port ≡ host.station l.fn.host l.fn.port))
     × (host.held l.host ≡ [])
     × host.is_sound l.host l.port
+    × (g.T.Sink.faults l.fn.trace ≤ g.T.Sink.faults l.trace)
 
 abbrev pub decreases-loop-moved : goal.decreases-loop-moved
 decreases-loop-moved g l = comes_count l.side l.self

@@ -1,4 +1,4 @@
-use Rattle.std.proofs.Common.{◌≡◌, []}
+use Rattle.std.proofs.Common.{◌≡◌, ◌≤◌, []}
 use Rattle.radio_world.specs.Scenes.{stage, Advances}
 use Rattle.radio_world.proofs.scene.Scene.settle.Given as goal
 
@@ -10,3 +10,4 @@ invariant-loop g l =
     (stage l.self (one.station l.a l.shelf) (two.station l.b l.inbox) l.shelf l.inbox (g.T.Sink.content l.trace))
     × ((one.held l.a ≡ []) × (two.held l.b ≡ []))
     × (one.is_sound l.a l.shelf × two.is_sound l.b l.inbox)
+    × (g.T.Sink.faults l.fn.trace ≤ g.T.Sink.faults l.trace)

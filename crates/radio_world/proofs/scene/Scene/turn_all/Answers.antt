@@ -1,4 +1,4 @@
-use Rattle.std.proofs.Common.{List, take, replicate, sym, subst, ◌∙◌}
+use Rattle.std.proofs.Common.{List, take, replicate, sym, subst, ◌∙◌, arith}
 use Rattle.push_terms.specs.declared.word.Word.{Word}
 use Rattle.capture.specs.Air.{words_of}
 use Rattle.radio_world.specs.Scenes.{stage, Advances}
@@ -10,7 +10,7 @@ pub loop-i-init : goal.loop-i-init
 loop-i-init g c =
     let one = g.A.Host in
     let two = g.B.Host in
-    (advances_none one.machine two.machine one.answers two.answers _ g.met.A.Host.joins g.met.B.Host.joins, c.requires.stands, c.requires.none_held, c.requires.sound)
+    (advances_none one.machine two.machine one.answers two.answers _ g.met.A.Host.joins g.met.B.Host.joins, c.requires.stands, c.requires.none_held, c.requires.sound, omega arith)
 
 pub unreachable-requires : goal.unreachable-requires
 unreachable-requires g c = none_beyond c.args.script.now c.loop-i.i c.len-i-end.result c.len-i-end.ensures.count c.loop-i-test.true (sym c.at.ensures ∙ c.in_default.is)
@@ -30,4 +30,5 @@ loop-i-preserved g c =
       c.in_ok-turn_times.ensures.stands,
       c.in_ok-turn_times.ensures.none_held,
       c.in_ok-turn_times.ensures.sound,
+      omega (arith, c.loop-i.invariant.4, c.turn_times.ensures.blames.stays),
     )

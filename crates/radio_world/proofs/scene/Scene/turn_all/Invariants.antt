@@ -1,4 +1,4 @@
-use Rattle.std.proofs.Common.{◌≡◌, [], take}
+use Rattle.std.proofs.Common.{◌≡◌, ◌≤◌, [], take}
 use Rattle.capture.specs.Air.{words_of}
 use Rattle.radio_world.specs.Scenes.{stage, Advances}
 use Rattle.radio_world.specs.Standing.{Stands}
@@ -13,3 +13,4 @@ invariant-loop-i g l =
     × Stands one.machine two.machine l.self (one.station l.a l.shelf) (two.station l.b l.inbox)
     × ((one.held l.a ≡ []) × (two.held l.b ≡ []))
     × (one.is_sound l.a l.shelf × two.is_sound l.b l.inbox)
+    × (g.T.Sink.faults l.fn.trace ≤ g.T.Sink.faults l.trace)

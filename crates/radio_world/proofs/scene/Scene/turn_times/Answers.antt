@@ -1,4 +1,4 @@
-use Rattle.std.proofs.Common.{rules, ◌<◌, ◌+◌, ◌-◌, List, [], ◌∷◌, replicate, sym, subst, ◌∙◌}
+use Rattle.std.proofs.Common.{rules, ◌<◌, ◌+◌, ◌-◌, List, [], ◌∷◌, replicate, sym, subst, ◌∙◌, arith}
 use Rattle.push_terms.specs.declared.word.Word.{Word}
 use Rattle.radio_world.specs.Scenes.{stage, Advances}
 use Rattle.radio_world.proofs.Advancing.{advances_none, advances_then}
@@ -10,7 +10,7 @@ pub loop-done-init : goal.loop-done-init
 loop-done-init g c =
     let one = g.A.Host in
     let two = g.B.Host in
-    (advances_none one.machine two.machine one.answers two.answers _ g.met.A.Host.joins g.met.B.Host.joins, c.requires.stands, c.requires.none_held, c.requires.sound)
+    (advances_none one.machine two.machine one.answers two.answers _ g.met.A.Host.joins g.met.B.Host.joins, c.requires.stands, c.requires.none_held, c.requires.sound, omega arith)
 
 pub finds-requires : goal.finds-requires
 finds-requires g c =
@@ -32,6 +32,7 @@ loop-done-preserved g c =
       c.in_ok-turn_found.ensures.stands,
       c.in_ok-turn_found.ensures.none_held,
       c.in_ok-turn_found.ensures.sound,
+      omega (arith, c.loop-done.invariant.4, c.turn_found.ensures.blames.stays),
     )
 
 pub returns-then-not-finds-clause-turns : goal.returns-then-not-finds-clause-turns

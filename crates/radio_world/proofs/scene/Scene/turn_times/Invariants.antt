@@ -1,4 +1,4 @@
-use Rattle.std.proofs.Common.{◌≡◌, [], replicate}
+use Rattle.std.proofs.Common.{◌≡◌, ◌≤◌, [], replicate}
 use Rattle.radio_world.specs.Scenes.{stage, Advances}
 use Rattle.radio_world.specs.Standing.{Stands}
 use Rattle.radio_world.proofs.scene.Scene.turn_times.Given as goal
@@ -12,3 +12,4 @@ invariant-loop-done g l =
     × Stands one.machine two.machine l.self (one.station l.a l.shelf) (two.station l.b l.inbox)
     × ((one.held l.a ≡ []) × (two.held l.b ≡ []))
     × (one.is_sound l.a l.shelf × two.is_sound l.b l.inbox)
+    × (g.T.Sink.faults l.fn.trace ≤ g.T.Sink.faults l.trace)
