@@ -1,6 +1,7 @@
 //! The way back: each run of turns is the run of some world, for every two machines. So no law of runs is empty.
 #![tactic(auto)]
 
+ghost use Rattle.turn_runs.specs.Embedding.{RestIsOfLess, RunsAreOfLess};
 ghost use Rattle.turn_runs.specs.Laws.{TurnsArePlayed};
 ghost use Rattle.world_model.specs.Machines.{Upper};
 
@@ -9,4 +10,16 @@ ghost use Rattle.world_model.specs.Machines.{Upper};
 #[tactic(auto, using(crate::proofs::Playing::turns_are_played))]
 pub fn turns_are_worlds<S, T, G, H>()
     ensures { (U : Upper S G) (V : Upper T H) → TurnsArePlayed U V }
+{}
+
+/// Where a machine is another one that keeps something more, what happens in its world happens in the world of the other.
+#[tactic(auto, using(crate::proofs::Embedding::runs_are_of_less))]
+pub fn runs_are_of_less<S, M, T, N, G, H>()
+    ensures { (embed_a : S → M) (embed_b : T → N) (U : Upper S G) (U' : Upper M G) (V : Upper T H) (V' : Upper N H) → RunsAreOfLess embed_a embed_b U U' V V' }
+{}
+
+/// And it is at rest where that is.
+#[tactic(auto, using(crate::proofs::Embedding::rest_is_of_less))]
+pub fn rest_is_of_less<S, M, T, N, G, H>()
+    ensures { (embed_a : S → M) (embed_b : T → N) (U : Upper S G) (U' : Upper M G) (V : Upper T H) (V' : Upper N H) → RestIsOfLess embed_a embed_b U U' V V' }
 {}
