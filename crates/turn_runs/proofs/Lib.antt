@@ -6,3 +6,4 @@ pub mod Linking
 pub mod Starting
 pub mod Turning
 pub mod Playing
+pub mod Breaking

@@ -1,6 +1,7 @@
 //! The way back: each run of turns is the run of some world, for every two machines. So no law of runs is empty.
 #![tactic(auto)]
 
+ghost use Rattle.turn_runs.specs.Breaking.{FrontsAreRuns, WrittenIsHappened};
 ghost use Rattle.turn_runs.specs.Laws.{TurnsArePlayed};
 ghost use Rattle.world_model.specs.Machines.{Upper};
 
@@ -9,4 +10,17 @@ ghost use Rattle.world_model.specs.Machines.{Upper};
 #[tactic(auto, using(crate::proofs::Playing::turns_are_played))]
 pub fn turns_are_worlds<S, T, G, H>()
     ensures { (U : Upper S G) (V : Upper T H) → TurnsArePlayed U V }
+{}
+
+/// A run that broke off with an entry written, and its packet not heard or half heard, is one more happening: so early ends need no
+/// laws of their own.
+#[tactic(auto, using(crate::proofs::Breaking::written_is_happened))]
+pub fn written_entries_happen<S, T, G, H>()
+    ensures { (U : Upper S G) (V : Upper T H) → WrittenIsHappened U V }
+{}
+
+/// And each front of a capture, wherever it was cut, is the capture of a run.
+#[tactic(auto, using(crate::proofs::Breaking::fronts_are_runs))]
+pub fn fronts_are_captures<S, T, G, H>()
+    ensures { (U : Upper S G) (V : Upper T H) → FrontsAreRuns U V }
 {}
