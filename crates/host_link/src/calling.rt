@@ -1,7 +1,8 @@
-//! Whether a host asks for a link.
+//! Whether a host asks for a link, and whether it may ask for the end of one.
 
 ghost use Rattle.std.specs.Prelude.{◌≡◌, ◌||◌};
 ghost use Rattle.std.specs.List.{list_any};
+ghost use Rattle.host_link.specs.Calling.{may_end};
 ghost use Rattle.host_link.specs.HostCommands.{asks};
 
 use crate::host_link::HostLink;
@@ -13,5 +14,13 @@ impl HostLink {
         ensures { result ≡ (self.now.asked || list_any asks self.now.commands.waiting) }
     {
         self.asked || self.commands.has_call()
+    }
+
+    /// Whether the end of the link that is up may be asked for: it was not, and no Disconnect of a
+    /// link before waits to be put out (7.1.6).
+    pub fn may_end(&self) -> bool
+        ensures { result ≡ may_end self.now }
+    {
+        self.link.is_some() && !self.ending && !self.commands.has_end()
     }
 }

@@ -2,6 +2,7 @@
 
 ghost use Rattle.std.specs.Prelude.{◌≡◌, [], None, ◌≤◌, length};
 ghost use Rattle.host_link.specs.HostCommands.{start_commands, accepts, asks, opcode};
+ghost use Rattle.host_link.specs.Calling.{ends};
 ghost use Rattle.host_link.specs.CommandFlows.{with_command, next_command, after_command, awaits, stated, answered};
 ghost use Rattle.std.specs.List.{list_any};
 
@@ -101,6 +102,13 @@ impl CommandFlow {
         ensures { result ≡ list_any asks self.now.waiting }
     {
         self.waiting.as_slice().iter().any(|command| command.asks())
+    }
+
+    /// Whether a command waits that ends a link.
+    pub fn has_end(&self) -> bool
+        ensures { result ≡ list_any ends self.now.waiting }
+    {
+        self.waiting.as_slice().iter().any(|command| command.ends())
     }
 
     /// The controller says how many commands it takes.

@@ -44,7 +44,7 @@ makes_efforts : {S G : Type 0} (U : Upper S G) (side : Side) (efforts : List Eff
 makes_efforts U side [] old new makes = makes
 makes_efforts U side (effort ∷ efforts) old new (mid, does, makes) = (mid, does, makes_efforts U side efforts mid new makes)
 
-goes_as_seen : {S G : Type 0} (U : Upper S G) (side : Side) (efforts : List Effort) (old : Station S) (upper : S) (line : Line) → SaysOctets U → MaySend side old → Strives U side 0 efforts old upper line → GoesAsSeen U side efforts old upper line
+pub goes_as_seen : {S G : Type 0} (U : Upper S G) (side : Side) (efforts : List Effort) (old : Station S) (upper : S) (line : Line) → SaysOctets U → MaySend side old → Strives U side 0 efforts old upper line → GoesAsSeen U side efforts old upper line
 goes_as_seen {S} U side efforts old upper line octets sends strives =
     let there = station_seen side line strives.after strives.is_station (efforts_keep U side efforts old strives.after octets strives.makes sends) in
     record {

@@ -1,5 +1,5 @@
 -- A host in code that has done all that it can.
-use Rattle.std.proofs.Common.{◌≡◌, ℕ, suc, ◌&&◌, ◌==◌, not, nat_lt, Bool, true, false, List, [], ◌∷◌, length, map, Option, Some, None, is_none, is_some, refl, sym, ap, ap₂, subst, ◌∙◌, arith}
+use Rattle.std.proofs.Common.{◌≡◌, ℕ, suc, ◌&&◌, ◌||◌, ◌==◌, not, nat_lt, Bool, true, false, List, [], ◌∷◌, length, map, Option, Some, None, is_none, is_some, refl, sym, ap, ap₂, subst, ◌∙◌, arith}
 use Rattle.std.proofs.lemmas.Bool.{lt-ltb, ne_eqb}
 use Rattle.acl_fragments.specs.Pieces.{Piece}
 use Rattle.acl_credits.specs.Ledgers.{packets_of}
@@ -12,8 +12,10 @@ use Rattle.world_model.specs.Machines.{Upper}
 use Rattle.world_model.specs.Stations.{Order, Station, Taking, Putting, Asking, Leaving, Commanding, Takes, Puts, Commands}
 use Rattle.station_laws.specs.Seen.{IsHostOf, order_of}
 use Rattle.station_laws.proofs.Stopping.{pieces_stop, commands_stop}
-use Rattle.line_laws.specs.Seeing.{seen, IsSpent}
+use Rattle.host_link.specs.Calling.{may_end}
+use Rattle.line_laws.specs.Seeing.{seen, is_asking, IsSpent}
 use Rattle.line_laws.specs.Laws.{SpentHostsStop}
+use Rattle.line_laws.proofs.Linking.{same_asking, same_ending}
 
 some_is : {X : Type 0} (o : Option X) (x : X) → o ≡ Some x → is_some o ≡ true
 some_is o x is = ap is_some is
@@ -64,7 +66,13 @@ commands_not {S} U side upper line next host spent none commands =
 pub spent_hosts_stop : {S G : Type 0} (U : Upper S G) → SpentHostsStop U
 spent_hosts_stop U side upper line is spent none Taking next does = takes_not U side upper line next spent none does
 spent_hosts_stop U side upper line is spent none Putting next does = puts_not U side upper line next spent none does
-spent_hosts_stop U A upper line is spent none Asking next does = let both : true ≡ false = sym (spent.calls does.wants does.off does.unasked) ∙ does.none_waits in cc
+spent_hosts_stop U A upper line is spent none Asking next does =
+    let asking : is_asking line ≡ false = ap₂ (λ (x y : Bool). x || y) does.unasked (sym (same_asking line.commands.waiting) ∙ does.none_waits) in
+    let both : true ≡ false = sym (spent.calls does.wants does.off) ∙ asking in
+    cc
 spent_hosts_stop U B upper line is spent none Asking next does = does
-spent_hosts_stop U side upper line is spent none Leaving next does = let both : true ≡ false = sym (spent.ends does.handle does.link does.none_waits does.none_next does.leaves) ∙ does.unended in cc
+spent_hosts_stop U side upper line is spent none Leaving next does =
+    let may : may_end line ≡ true = ap₂ (λ (x y : Bool). x && y) (some_is line.link does.handle does.link) (ap₂ (λ (x y : Bool). not x && not y) does.unended (sym (same_ending line.commands.waiting) ∙ does.none_ends)) in
+    let both : true ≡ false = sym may ∙ spent.ends does.none_waits does.none_next does.leaves in
+    cc
 spent_hosts_stop U side upper line is spent none Commanding next does = commands_not U side upper line next is.host spent none does

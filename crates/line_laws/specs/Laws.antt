@@ -1,20 +1,22 @@
 -- What a host in code over `host_link` is to the world (this project's own).
-use Rattle.std.specs.Prelude.{ℕ, ◌≡◌, List, [], ◌∷◌}
+use Rattle.std.specs.Prelude.{ℕ, ◌≡◌, true, false, List, [], ◌∷◌, None}
 use Rattle.bt_base.specs.Numbers.{IsHandle}
 use Rattle.acl_fragments.specs.Pieces.{Piece}
 use Rattle.push_terms.specs.declared.word.Side.{Side}
-use Rattle.radio_air.specs.Controllers.{Answer, answer_packet, piece_packet}
+use Rattle.push_terms.specs.declared.word.Side.TheVariants.{A, B}
+use Rattle.radio_air.specs.Controllers.{Answer, answer_packet, piece_packet, address}
 use Rattle.host_link.specs.Lines.{Line}
-use Rattle.host_link.specs.PuttingOut.{started}
+use Rattle.host_link.specs.Calling.{may_end}
+use Rattle.host_link.specs.PuttingOut.{connecting, leaving, started}
 use Rattle.host_link.specs.Hearing.{heard}
 use Rattle.world_model.specs.Machines.{Upper}
-use Rattle.world_model.specs.Stations.{Order, Station, Effort, Commanding, first_station, hears_answer, hears_piece, IsStopped}
+use Rattle.world_model.specs.Stations.{Order, Station, Effort, Asking, Leaving, Commanding, first_station, hears_answer, hears_piece, IsStopped}
 use Rattle.station_laws.specs.Seen.{role_of}
 use Rattle.station_laws.specs.Coming.{MayCome}
 use Rattle.station_laws.specs.Striving.{Strives}
 use Rattle.radio_world.specs.Hosts.{order_octets, AreSent, MakesEfforts}
 use Rattle.line_laws.specs.Reading.{orders_in}
-use Rattle.line_laws.specs.Seeing.{seen, SaysOctets, IsSeen, IsSpent}
+use Rattle.line_laws.specs.Seeing.{seen, SaysOctets, is_asking, IsSeen, IsSpent}
 
 -- orders are read off their octets
 abbrev pub OrdersAreRead : Type 0
@@ -32,6 +34,18 @@ StationsAreSeen U = (side : Side) → SaysOctets U → GoesAsSeen U side (Comman
 abbrev pub StrivesAreSeen : {S G : Type 0} → Upper S G → Type 0
 StrivesAreSeen {S} U =
     (side : Side) (efforts : List Effort) (upper after : S) (old new : Line) → SaysOctets U → IsSeen side upper old → Strives U side 0 efforts (seen upper old) after new → GoesAsSeen U side efforts (seen upper old) after new
+
+-- host a asks for its link where it wants one, none is up, and it does not ask already
+abbrev pub CallsAreSeen : {S G : Type 0} → Upper S G → Type 0
+CallsAreSeen {S} U =
+    (upper : S) (line : Line) → SaysOctets U → IsSeen A upper line → U.wants_link upper ≡ true → line.link ≡ None → is_asking line ≡ false
+    → GoesAsSeen U A (Asking ∷ []) (seen upper line) upper (connecting (address B) line)
+
+-- a host ends its link where it leaves it, all is said, and it may end it
+abbrev pub EndsAreSeen : {S G : Type 0} → Upper S G → Type 0
+EndsAreSeen {S} U =
+    (side : Side) (upper : S) (line : Line) → SaysOctets U → IsSeen side upper line → line.pieces ≡ [] → U.next upper ≡ None → U.leaves_link upper ≡ true → may_end line ≡ true
+    → GoesAsSeen U side (Leaving ∷ []) (seen upper line) upper (leaving line.link line)
 
 -- what comes to it
 pub record HearsAsSeen {S : Type 0} (side : Side) (station : Station S) (line : Line) : Type 0 where

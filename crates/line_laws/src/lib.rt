@@ -2,7 +2,7 @@
 //! and where it has done all that it can its station has stopped.
 #![tactic(auto)]
 
-ghost use Rattle.line_laws.specs.Laws.{OrdersAreRead, StationsAreSeen, StrivesAreSeen, HeardIsSeen, TakenIsSeen, SpentHostsStop};
+ghost use Rattle.line_laws.specs.Laws.{CallsAreSeen, EndsAreSeen, OrdersAreRead, StationsAreSeen, StrivesAreSeen, HeardIsSeen, TakenIsSeen, SpentHostsStop};
 ghost use Rattle.world_model.specs.Machines.{Upper};
 
 /// The orders that a host may put out are read off their octets.
@@ -17,7 +17,13 @@ pub fn stations_are_seen<S, G>()
     ensures strives { (U : Upper S G) → StrivesAreSeen U }
 {}
 
-/// So is what it makes of what comes to it, and of what its controller took.
+/// Where it may ask for a link, or for its end, it does so as its station does.
+pub fn links_are_seen<S, G>()
+    ensures calls { (U : Upper S G) → CallsAreSeen U }
+    ensures ends { (U : Upper S G) → EndsAreSeen U }
+{}
+
+/// What it makes of what comes to it, and of what its controller took, is what its octets say.
 #[tactic(auto, using(crate::proofs::Coming::taken_is_seen))]
 pub fn what_comes_is_seen<S, G>()
     ensures heard { (U : Upper S G) → HeardIsSeen U }

@@ -7,3 +7,4 @@ pub mod Starting
 pub mod Turning
 pub mod Playing
 pub mod Embedding
+pub mod Breaking
