@@ -13,7 +13,8 @@ use Rattle.radio_world.specs.Hosts.{Asking, answering, Coming, Part, Told, MayBe
 use Rattle.radio_world.specs.Leaving.{Medium}
 use Rattle.radio_world.specs.Halves.{Half, Motion, happenings_of, MakesAll, half_of, Goes, ComesFirst, NextMayBeHeard, MayAllBeHeard}
 use Rattle.radio_world.specs.Scenes.{Scene, Moment, moment, world_at, Plays}
-use Rattle.radio_world.specs.Standing.{IsReached}
+use Rattle.radio_world.specs.Standing.{starting, first_moment, IsReached}
+use Rattle.radio_world.proofs.Starting.{runs_from}
 use Rattle.radio_world.proofs.Moving.{makes_then}
 use Rattle.radio_world.proofs.Lifting.{plays_a, plays_b}
 use Rattle.radio_world.proofs.Advancing.{plays_then}
@@ -39,8 +40,12 @@ comes_by side radio station next handle (Told answer) (rest, none, owed_are) = n
 
 all_come : {S T G H : Type 0} (U : Upper S G) (V : Upper T H) (at new : Moment S T) (happenings : List _) → IsReached U V at → Plays U V happenings at new → AllMayCome (world_at new)
 all_come U V at new happenings reached plays =
-    worlds_answer U V reached.size reached.count reached.names (reached.happenings ++ happenings) (world_at new) (sizes_of reached.size reached.count reached.sized reached.counted)
-    (runs_of U V (reached.happenings ++ happenings) _ new (plays_then U V reached.happenings happenings _ at new reached.plays plays))
+    let s = reached.first_a in
+    let t = reached.first_b in
+    let first = first_moment (starting s U) (starting t V) reached.size reached.count reached.names in
+    worlds_answer (starting s U) (starting t V) reached.size reached.count reached.names (reached.happenings ++ happenings) (world_at new) (sizes_of reached.size reached.count reached.sized reached.counted)
+    (runs_from U V s t (reached.happenings ++ happenings) (world_at first) (world_at new)
+    (runs_of U V (reached.happenings ++ happenings) first new (plays_then U V reached.happenings happenings first at new reached.plays plays)))
 
 -- ---- whatever happens from where a run led
 

@@ -7,6 +7,7 @@ mod Advancing
 mod Settling
 mod Reacting
 mod Turned
+mod Starting
 pub mod Standing
 mod Hearing
 mod Blaming

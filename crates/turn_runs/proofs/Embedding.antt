@@ -82,10 +82,10 @@ module _ {S S' G : Type 0} (embed : S → S') (U : Upper S G) (U' : Upper S' G) 
 
   -- ---- by itself
 
-  abbrev EffortBack : Side → Effort → Station S → Station S' → Type 0
+  abbrev pub EffortBack : Side → Effort → Station S → Station S' → Type 0
   EffortBack side effort old new = (mid : Station S) × (new ≡ station_as embed mid) × MakesEffort U side effort old mid
 
-  effort_back : (side : Side) (effort : Effort) (old : Station S) (new : Station S') → MakesEffort U' side effort (station_as embed old) new → EffortBack side effort old new
+  pub effort_back : (side : Side) (effort : Effort) (old : Station S) (new : Station S') → MakesEffort U' side effort (station_as embed old) new → EffortBack side effort old new
   effort_back side Taking old new t =
       let back = next_back old.upper t.pdu t.after t.next in
       let mid : Station S = record old { upper = back.0; pieces = cut old.size First t.pdu } in
