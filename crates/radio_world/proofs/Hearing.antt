@@ -1,17 +1,16 @@
 -- What comes to a host in a run may be heard.
-use Rattle.std.proofs.Common.{◌≡◌, ℕ, List, [], ◌∷◌, ◌++◌, Option, refl, sym, subst, arith}
+use Rattle.std.proofs.Common.{ℕ, List, [], ◌++◌, Option, refl, sym, subst}
 use Rattle.bt_base.specs.Numbers.{IsHandle}
 use Rattle.push_terms.specs.declared.word.Side.{Side}
 use Rattle.push_terms.specs.declared.word.Side.TheVariants.{A, B}
 use Rattle.radio_air.specs.Radio.{Radio, controller}
 use Rattle.world_model.specs.Machines.{Upper}
 use Rattle.world_model.specs.Stations.{Station}
-use Rattle.world_model.specs.Worlds.{World}
 use Rattle.station_laws.specs.WorldLaws.{NextMayCome, AllMayCome}
 use Rattle.station_laws.proofs.Running.{worlds_answer}
 use Rattle.radio_world.specs.Hosts.{Asking, answering, Coming, Part, Told, MayBeHeard}
 use Rattle.radio_world.specs.Leaving.{Medium}
-use Rattle.radio_world.specs.Halves.{Half, Motion, happenings_of, MakesAll, half_of, Goes, ComesFirst, NextMayBeHeard, MayAllBeHeard}
+use Rattle.radio_world.specs.Halves.{happenings_of, half_of, Goes, ComesFirst, MayAllBeHeard}
 use Rattle.radio_world.specs.Scenes.{Scene, Moment, moment, world_at, Plays}
 use Rattle.radio_world.specs.Standing.{starting, first_moment, IsReached}
 use Rattle.radio_world.proofs.Starting.{runs_from}
