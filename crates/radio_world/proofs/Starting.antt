@@ -7,8 +7,8 @@ use Rattle.world_model.specs.Stations.{Station, IsStopped}
 use Rattle.world_model.specs.Worlds.{World, Happening, Runs, IsSettled, IsAtRest}
 use Rattle.turn_laws.specs.Premises.{Idles}
 use Rattle.rest_laws.specs.Premises.{AsksOnce, AreOrderly}
-use Rattle.turn_runs.specs.Embedding.{said_as, Embeds}
-use Rattle.turn_runs.proofs.Embedding.{effort_back, runs_are_of_less, rest_is_of_less}
+use Rattle.run_laws.specs.Embedding.{said_as, Embeds}
+use Rattle.run_laws.proofs.Embedding.{effort_back, runs_are_of_less, rest_is_of_less}
 use Rattle.radio_world.specs.Standing.{starting}
 
 said_same : {S : Type 0} (said : Option (List ℕ × S)) → said ≡ said_as (λ s. s) said

@@ -13,9 +13,9 @@ use Rattle.world_model.specs.Stations.{Order, ReadBuffers, ReadAddress, Scan, op
 use Rattle.world_model.specs.Stations as orders
 use Rattle.world_model.specs.Worlds.{World, Tries, Departure, Answering, first_world}
 use Rattle.station_laws.specs.WorldLaws.{AreSizes}
-use Rattle.turn_runs.proofs.Owning.{Own, own, Goes, goes_none, goes_then, goes_on}
-use Rattle.turn_runs.proofs.Speaking.{one_of, station_of}
-use Rattle.turn_runs.proofs.Calm.{Shape, room, buffers, put, calm}
+use Rattle.run_laws.proofs.Owning.{Own, own, Goes, goes_none, goes_then, goes_on}
+use Rattle.run_laws.proofs.Speaking.{one_of, station_of}
+use Rattle.run_laws.proofs.Calm.{Shape, room, buffers, put, calm}
 
 -- ---- what Read Buffer Size returns
 

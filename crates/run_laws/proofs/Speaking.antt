@@ -13,7 +13,7 @@ use Rattle.turn_laws.specs.Premises.{IsFrame, SaysFrames}
 use Rattle.turn_laws.proofs.Joining.{completions, held_behind, cut_comes}
 use Rattle.turn_laws.proofs.Departing.{with_piece_is}
 use Rattle.turn_laws.proofs.Saying.{all_said_none, all_said_some}
-use Rattle.turn_runs.proofs.Owning.{Own, own, Trying, Sending, Returning, Hearing, Comes, stays, comes_then}
+use Rattle.run_laws.proofs.Owning.{Own, own, Trying, Sending, Returning, Hearing, Comes, stays, comes_then}
 
 -- ---- where nothing is under way but these pieces
 

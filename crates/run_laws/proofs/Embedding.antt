@@ -16,7 +16,7 @@ use Rattle.world_model.specs.Pushes.{Pushes, one_begun, one_ended}
 use Rattle.world_model.specs.Turns.{IsCalm, FindsNothing}
 use Rattle.world_model.specs.Stations.{Order, Page, Accept, End, Data, Station, opcode, asks, longest_pdu, Takes, Puts, Asks, Leaves, Commands, Effort, Taking, Putting, Asking, Leaving, Commanding, MakesEffort, gives, holds, hears_each, is_handle, hears_piece, answered, learns, may_accept, after_answer, event_in, upper_told, hears_answer, told}
 use Rattle.world_model.specs.Worlds.{World, Happening, Tries, Departure, GivingBack, Piecemeal, Answering, Turns, Misses, Opens, Closes, after_order, IsStill, IsAtRest, fired, checks, Acts, one_turned, Does, Runs}
-use Rattle.turn_runs.specs.Embedding.{said_as, Embeds, station_as, world_as, RunsAreOfLess, RestIsOfLess}
+use Rattle.run_laws.specs.Embedding.{said_as, Embeds, station_as, world_as, RunsAreOfLess, RestIsOfLess}
 
 -- ---- what it says
 

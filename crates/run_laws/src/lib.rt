@@ -1,9 +1,9 @@
 //! The way back: each run of turns is the run of some world, for every two machines. So no law of runs is empty.
 #![tactic(auto)]
 
-ghost use Rattle.turn_runs.specs.Embedding.{RestIsOfLess, RunsAreOfLess};
-ghost use Rattle.turn_runs.specs.Breaking.{FrontsAreRuns, WrittenIsHappened};
-ghost use Rattle.turn_runs.specs.Laws.{TurnsArePlayed};
+ghost use Rattle.run_laws.specs.Embedding.{RestIsOfLess, RunsAreOfLess};
+ghost use Rattle.run_laws.specs.Breaking.{FrontsAreRuns, WrittenIsHappened};
+ghost use Rattle.run_laws.specs.Laws.{TurnsArePlayed};
 ghost use Rattle.world_model.specs.Machines.{Upper};
 
 /// Whatever the machines, a run of turns in which both hosts say all that they have to say is the run of some world, with the same

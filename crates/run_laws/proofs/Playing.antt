@@ -21,12 +21,12 @@ use Rattle.turn_laws.specs.Premises.{SaysFrames}
 use Rattle.turn_laws.proofs.Wiring.{AllFrames}
 use Rattle.turn_laws.proofs.Wording.{finds_frame}
 use Rattle.station_laws.specs.WorldLaws.{AreSizes}
-use Rattle.turn_runs.specs.Laws.{PassesWhole, rises_in, rises, TurnsArePlayed}
-use Rattle.turn_runs.proofs.Owning.{Goes, goes_none, goes_then}
-use Rattle.turn_runs.proofs.Calm.{Shape, phase_of, calm, calm_pair, Fits, fits, Fine, fine_speaks, speaks_a, speaks_b}
-use Rattle.turn_runs.proofs.Starting.{begun, it_starts}
-use Rattle.turn_runs.proofs.Linking.{cleared, linked, a_falls, b_falls, it_rises}
-use Rattle.turn_runs.proofs.Turning.{rests, finds_same, turns, together_is, one_more, stays_frames, receives_fine, pieces_of, heard_a, heard_b, meets_ab, meets_ba, breaks_on, link_breaks}
+use Rattle.run_laws.specs.Laws.{PassesWhole, rises_in, rises, TurnsArePlayed}
+use Rattle.run_laws.proofs.Owning.{Goes, goes_none, goes_then}
+use Rattle.run_laws.proofs.Calm.{Shape, phase_of, calm, calm_pair, Fits, fits, Fine, fine_speaks, speaks_a, speaks_b}
+use Rattle.run_laws.proofs.Starting.{begun, it_starts}
+use Rattle.run_laws.proofs.Linking.{cleared, linked, a_falls, b_falls, it_rises}
+use Rattle.run_laws.proofs.Turning.{rests, finds_same, turns, together_is, one_more, stays_frames, receives_fine, pieces_of, heard_a, heard_b, meets_ab, meets_ba, breaks_on, link_breaks}
 
 -- ---- between two turns
 

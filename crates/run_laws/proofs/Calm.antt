@@ -14,8 +14,8 @@ use Rattle.turn_laws.specs.Premises.{SaysFrames}
 use Rattle.turn_laws.proofs.Wiring.{AllFrames}
 use Rattle.turn_laws.proofs.Saying.{drain_none, drain_some, all_said_none, all_said_some}
 use Rattle.station_laws.specs.WorldLaws.{AreSizes}
-use Rattle.turn_runs.proofs.Owning.{Own, own, Goes, goes_none, goes_a, goes_b}
-use Rattle.turn_runs.proofs.Speaking.{one_of, station_of, Place, speaks_all}
+use Rattle.run_laws.proofs.Owning.{Own, own, Goes, goes_none, goes_a, goes_b}
+use Rattle.run_laws.proofs.Speaking.{one_of, station_of, Place, speaks_all}
 
 -- ---- worlds
 

@@ -10,9 +10,9 @@ use Rattle.world_model.specs.Machines.{Up, Down, Linked, Upper}
 use Rattle.world_model.specs.Pushes.{Pushes}
 use Rattle.world_model.specs.Stations.{Page, Accept, End, opcode, Station, Asking, Leaving, Commanding, hears_answer, upper_told}
 use Rattle.world_model.specs.Worlds.{World, Tries, Departure, Answering}
-use Rattle.turn_runs.proofs.Owning.{Own, own, Hearing, Comes, Goes, goes_none, goes_then, goes_on, goes_a, goes_b}
-use Rattle.turn_runs.proofs.Speaking.{one_of, station_of, Place}
-use Rattle.turn_runs.proofs.Calm.{Shape, room, buffers, at_a, at_b, put, calm}
+use Rattle.run_laws.proofs.Owning.{Own, own, Hearing, Comes, Goes, goes_none, goes_then, goes_on, goes_a, goes_b}
+use Rattle.run_laws.proofs.Speaking.{one_of, station_of, Place}
+use Rattle.run_laws.proofs.Calm.{Shape, room, buffers, at_a, at_b, put, calm}
 
 -- ---- it goes down
 

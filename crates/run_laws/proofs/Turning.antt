@@ -23,10 +23,10 @@ use Rattle.world_model.specs.Worlds.{World, Turns, IsAtRest, Acts, one_turned}
 use Rattle.turn_laws.specs.Premises.{IsFrame, SaysFrames}
 use Rattle.turn_laws.proofs.Joining.{held_behind, KeepsHeader, meets_as}
 use Rattle.turn_laws.proofs.Wiring.{AllFrames}
-use Rattle.turn_runs.proofs.Owning.{Goes, goes_none, goes_then, goes_a, goes_b}
-use Rattle.turn_runs.proofs.Hearing.{hears_all}
-use Rattle.turn_runs.proofs.Linking.{cleared, both_told}
-use Rattle.turn_runs.proofs.Calm.{Shape, link_of, phase_of, at_a, at_b, calm, Fits, Fine, fine_speaks, speaks_a, speaks_b}
+use Rattle.run_laws.proofs.Owning.{Goes, goes_none, goes_then, goes_a, goes_b}
+use Rattle.run_laws.proofs.Hearing.{hears_all}
+use Rattle.run_laws.proofs.Linking.{cleared, both_told}
+use Rattle.run_laws.proofs.Calm.{Shape, link_of, phase_of, at_a, at_b, calm, Fits, Fine, fine_speaks, speaks_a, speaks_b}
 
 -- ---- at rest
 

@@ -6,8 +6,8 @@ use Rattle.push_terms.specs.declared.word.Side.{Side}
 use Rattle.world_model.specs.Machines.{Upper}
 use Rattle.world_model.specs.Stations.{Station, longest_pdu, gives, holds, hears_each, hears_piece}
 use Rattle.turn_laws.proofs.Joining.{completions, held_behind}
-use Rattle.turn_runs.proofs.Owning.{Own, own, Piecing, Comes, stays, comes_then}
-use Rattle.turn_runs.proofs.Speaking.{one_of, station_of, Place}
+use Rattle.run_laws.proofs.Owning.{Own, own, Piecing, Comes, stays, comes_then}
+use Rattle.run_laws.proofs.Speaking.{one_of, station_of, Place}
 
 -- with these pieces on their way to it
 abbrev pub hearing : {S : Type 0} → Place → S → List ℕ → List (List ℕ) → List Piece → Own S

@@ -10,7 +10,7 @@ use Rattle.radio_air.specs.declared.deed.Deed.TheVariants.{Nothing, Meets, Fires
 use Rattle.radio_air.specs.Radio.{found}
 use Rattle.world_model.specs.Machines.{Upper}
 use Rattle.world_model.specs.Worlds.{World, Happening, Tries, Departure, GivingBack, Piecemeal, Answering, Turns, Misses, Opens, Closes, Acts, Does, Runs, one_turned, entries_of, all_entries, first_world}
-use Rattle.turn_runs.specs.Breaking.{MayAct, IsWritten, WrittenIsHappened, FrontsAreRuns}
+use Rattle.run_laws.specs.Breaking.{MayAct, IsWritten, WrittenIsHappened, FrontsAreRuns}
 
 -- ---- what was written happens
 
