@@ -1,5 +1,5 @@
 -- The profile of a server: its sessions and replies, its inbox, and the channels that its clients use (Object Push Profile 1.2, 4.3).
-use Rattle.std.specs.Prelude.{ℕ, Bool, true, false, List, [], ◌++◌, Option, Some, None, if◌then◌else◌}
+use Rattle.std.specs.Prelude.{ℕ, Bool, true, false, List, [], Option, Some, None, if◌then◌else◌}
 use Rattle.bt_base.specs.declared.settings.Settings.{Settings}
 use Rattle.bt_base.specs.Objects.{Contents}
 use Rattle.channel_model.specs.declared.event.ChannelEvent.{ChannelEvent}
@@ -89,7 +89,7 @@ next_stride channels serving = let server = lends serving.server in takes (lent_
 -- ---- all of it
 
 abbrev pub with_answers : List Circumstance → ServerProfile → ServerProfile
-with_answers circumstances serving = record serving { inbox = record { content = serving.inbox.content; answers = serving.inbox.answers ++ answers_in circumstances } }
+with_answers circumstances serving = record serving { inbox = record { content = serving.inbox.content; answers = answers_in circumstances } }
 
 -- its inbox holds that at first; it pushes nothing, and nothing of its own waits for the timer
 abbrev pub server_profile : Settings → Option Contents → Profile ServerProfile
