@@ -127,7 +127,7 @@ going channels pushing = record { channels = channels; profile = pushing; more =
 abbrev pub submits : Option ℕ → Payload → Channels → ClientProfile → Stride ClientProfile
 submits None payload channels pushing = waiting channels pushing
 submits (Some own) payload channels pushing =
-    if takes_sdu own channels then waiting (sends own (sdu_of payload) channels) (record pushing { submitted = Some own }) else waiting channels pushing
+    if takes_sdu own (sdu_of payload) channels then waiting (sends own (sdu_of payload) channels) (record pushing { submitted = Some own }) else waiting channels pushing
 
 abbrev pub closes : Option ℕ → Channels → Channels
 closes None channels = channels

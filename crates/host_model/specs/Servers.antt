@@ -76,7 +76,7 @@ waiting channels server serving = record { channels = channels; profile = record
 abbrev pub submits : Option ℕ → Lent → Channels → Server → ServerProfile → Stride ServerProfile
 submits None lent channels server serving = waiting channels server serving
 submits (Some own) lent channels server serving =
-    if takes_sdu own channels then record { channels = sends own (sdu_of lent.payload) channels; profile = record serving { server = stepped server }; more = true }
+    if takes_sdu own (sdu_of lent.payload) channels then record { channels = sends own (sdu_of lent.payload) channels; profile = record serving { server = stepped server }; more = true }
     else waiting channels server serving
 
 abbrev pub takes : Option Lent → Channels → Server → ServerProfile → Stride ServerProfile

@@ -1,11 +1,14 @@
 //! Whether a link has a PDU to give.
 
-ghost use Rattle.std.specs.Prelude.{◌≡◌, is_some, slice_get, option_map};
+ghost use Rattle.std.specs.Prelude.{◌≡◌, true, is_some, length, slice_get, option_map};
 ghost use Rattle.std.specs.List.{list_any};
 ghost use Rattle.channel_model.specs.declared.errand.Errand.TheVariants as errands;
 ghost use Rattle.channel_model.specs.Changing.{held_at};
+ghost use Rattle.channel_model.specs.Calls.{sends};
 ghost use Rattle.channel_model.specs.Giving.{gives, next_given, command_of};
 ghost use Rattle.l2cap_channels.specs.Given.{command_at, place_command};
+ghost use Rattle.l2cap_channels.specs.Machine.{with_channels};
+ghost use Rattle.l2cap_channels.specs.Sending.{takes};
 
 use crate::channels::Channels;
 use crate::place::Place;
@@ -108,5 +111,30 @@ impl Channels {
             Some(Queued::Answer(_, _)) => true,
             Some(Queued::Ask(errand)) => self.is_asking(*errand),
         }
+    }
+
+    /// Whether an SDU of so many octets would be taken for the channel of an own endpoint: it is open, the
+    /// peer takes one as long, and none waits.
+    pub fn takes(&self, own: u16, size: usize) -> bool
+        ensures { result ≡ takes own size self.now.channels }
+    {
+        let Some(at) = self.place_of(own) else {
+            return false;
+        };
+        let Some(mtu) = self.places[at].peer_mtu() else {
+            return false;
+        };
+        size <= usize::from(mtu) && !self.places[at].waits()
+    }
+
+    /// Takes an SDU for the channel of an own endpoint. It needs that it would be taken.
+    pub fn put_sdu(&mut self, own: u16, sdu: &[u8])
+        requires { takes own (length sdu.now) self.old.channels ≡ true }
+        ensures { self.new ≡ with_channels self.old (sends own sdu.now self.old.channels) }
+    {
+        let Some(at) = self.place_of(own) else {
+            return;
+        };
+        self.send_at(at, sdu);
     }
 }
