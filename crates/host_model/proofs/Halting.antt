@@ -175,7 +175,7 @@ module _ (settings : Settings) where
   after_stride count host stride true is low more =
       let new = record host { channels = stride.channels; profile = stride.profile } in
       let first = low refl in
-      let rest = all_low stride.channels stride.channels.events stride.profile in
+      let rest = all_low settings stride.channels stride.channels.events stride.profile in
       more (strides (client_profile settings) stride host) (omega (arith, first, rest))
   after_stride count host stride false is low more = refl
 

@@ -1,5 +1,5 @@
 -- What a profile keeps in whatever its host does and hears.
-use Rattle.std.proofs.Common.{subst, ◌≡◌, ℕ, zero, suc, Bool, true, false, List, [], ◌∷◌, Option, Some, None, fold, is_some, if◌then◌else◌}
+use Rattle.std.proofs.Common.{subst, ◌≡◌, ℕ, zero, suc, Bool, true, false, List, [], ◌∷◌, Option, Some, None, is_some, if◌then◌else◌}
 use Rattle.acl_fragments.specs.Pieces.{channel_of}
 use Rattle.channel_model.specs.declared.event.ChannelEvent.{ChannelEvent}
 use Rattle.channel_model.specs.Value.{Channels}
@@ -12,7 +12,7 @@ use Rattle.world_model.specs.Machines.{News, Linked, Up, Down, Failed, Heard, Ti
 use Rattle.host_model.specs.Circumstances.{Circumstance}
 use Rattle.host_model.specs.Pdus.{pdu_of, is_frame}
 use Rattle.host_model.specs.Profiles.{Stride, Profile}
-use Rattle.host_model.specs.Hosts.{Host, drives, driven, goes_by, strides, settles, tells_events, handed, hears_news, told, ready, hear, after_said, says, next, with_channels, most_steps}
+use Rattle.host_model.specs.Hosts.{Host, drives, driven, goes_by, strides, settles, tells_each, tells_events, handed, hears_news, told, ready, hear, after_said, says, next, with_channels, most_steps}
 
 pub record Keeps {P : Type 0} (A : Profile P) (K : P → Type 0) : Type 0 where
   pub given : (circumstances : List Circumstance) (p : P) → K p → K (A.given circumstances p)
@@ -26,9 +26,10 @@ abbrev pub KeepsNews : {P : Type 0} (A : Profile P) (K : P → Type 0) → News 
 KeepsNews {P} A K news = (circumstances : List Circumstance) (p : P) → K p → K (A.told circumstances news p)
 
 module _ {P : Type 0} (A : Profile P) (K : P → Type 0) (keeps : Keeps A K) where
-  each : (channels : Channels) (events : List ChannelEvent) (p : P) → K p → K (fold (λ profile event. A.happened event channels profile) p events)
+  each : (channels : Channels) (events : List ChannelEvent) (p : P) → K p → K (tells_each A events channels p)
   each channels [] p kept = kept
-  each channels (event ∷ events) p kept = each channels events (A.happened event channels p) (keeps.happened event channels p kept)
+  each channels (event ∷ events) p kept =
+      let now = record channels { events = events } in each now events (A.happened event now p) (keeps.happened event now p kept)
 
   pub tells : (host : Host P) → K host.profile → K (tells_events A host).profile
   tells host kept = each host.channels host.channels.events host.profile kept

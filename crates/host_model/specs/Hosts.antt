@@ -1,8 +1,9 @@
 -- A host above its line, as a value: the channels of its link and its profile. What it hears goes to the channels first. Behind each
 -- thing that it hears or says its profile is asked for steps, until the channels have a PDU or the profile waits; what it says is the
 -- channels' next PDU (this project's own).
-use Rattle.std.specs.Prelude.{ℕ, zero, suc, ◌^◌, List, [], fold, Option, Some, None, is_some, if◌then◌else◌}
+use Rattle.std.specs.Prelude.{ℕ, zero, suc, ◌^◌, List, [], ◌∷◌, Option, Some, None, is_some, if◌then◌else◌}
 use Rattle.acl_fragments.specs.Pieces.{channel_of}
+use Rattle.channel_model.specs.declared.event.ChannelEvent.{ChannelEvent}
 use Rattle.channel_model.specs.Value.{Channels, no_channels}
 use Rattle.channel_model.specs.Calls.{link_up, link_down}
 use Rattle.channel_model.specs.Carrying.{Up as Handed, Nothing, Received}
@@ -31,11 +32,16 @@ first_host profile = record { channels = no_channels; profile = profile.first; m
 abbrev pub with_channels : {P : Type 0} → Channels → Host P → Host P
 with_channels channels host = record host { channels = channels }
 
--- the profile is told what happened to the channels, one thing after the other
+-- the profile is told what happened to the channels, one thing after the other, as each of them is taken from the channels
+abbrev pub tells_each : {P : Type 0} → Profile P → List ChannelEvent → Channels → P → P
+tells_each A [] channels profile = profile
+tells_each A (event ∷ events) channels profile =
+    tells_each A events (record channels { events = events }) (A.happened event (record channels { events = events }) profile)
+
 abbrev pub tells_events : {P : Type 0} → Profile P → Host P → Host P
 tells_events A host = record host {
   channels = record (host.channels) { events = [] };
-  profile = fold (λ profile event. A.happened event host.channels profile) host.profile host.channels.events;
+  profile = tells_each A host.channels.events host.channels host.profile;
 }
 
 -- ---- what it does by itself
