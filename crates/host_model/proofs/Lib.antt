@@ -7,3 +7,4 @@ pub mod Worked
 pub mod Stopping
 pub mod Ending
 pub mod Halting
+pub mod Single

@@ -48,10 +48,10 @@ number_small (false ∷ bits) = let is = pow-suc 2 (length bits) in let small = 
 check_long : (octets : List ℕ) → length (l2cap_check octets) ≡ 16
 check_long octets = ap length (l2cap.check_is_kept octets) ∙ length-kept_all l2cap.low_part (zeros 16) (bits_of octets) refl
 
-word_fits : (octets : List ℕ) → number_of (l2cap_check octets) < 2 ^ 16
+pub word_fits : (octets : List ℕ) → number_of (l2cap_check octets) < 2 ^ 16
 word_fits octets = subst (λ (k : ℕ). number_of (l2cap_check octets) < 2 ^ k) (check_long octets) (number_small (l2cap_check octets))
 
-word_is : (octets : List ℕ) → low_bits 16 (number_of (l2cap_check octets)) ≡ l2cap_check octets
+pub word_is : (octets : List ℕ) → low_bits 16 (number_of (l2cap_check octets)) ≡ l2cap_check octets
 word_is octets = ap (λ (k : ℕ). low_bits k (number_of (l2cap_check octets))) (sym (check_long octets)) ∙ number_bits (l2cap_check octets)
 
 frame_spells : (peer : ℕ) (frame : PlainFrame) → Fits peer frame → Spells peer frame (frame_octets peer frame)
@@ -78,10 +78,10 @@ pdus (Framed peer frame) fits = frame_spells peer frame fits
 octet_long : (octets : List ℕ) → length (rfcomm_check octets) ≡ 8
 octet_long octets = length-map (rfcomm_rest octets) not ∙ ap length (rfcomm.rest_is_kept octets) ∙ length-kept_all rfcomm.low_part (replicate 8 true) (bits_of octets) refl
 
-octet_fits : (octets : List ℕ) → number_of (rfcomm_check octets) < 256
+pub octet_fits : (octets : List ℕ) → number_of (rfcomm_check octets) < 256
 octet_fits octets = subst (λ (k : ℕ). number_of (rfcomm_check octets) < 2 ^ k) (octet_long octets) (number_small (rfcomm_check octets))
 
-octet_is : (octets : List ℕ) → low_bits 8 (number_of (rfcomm_check octets)) ≡ rfcomm_check octets
+pub octet_is : (octets : List ℕ) → low_bits 8 (number_of (rfcomm_check octets)) ≡ rfcomm_check octets
 octet_is octets = ap (λ (k : ℕ). low_bits k (number_of (rfcomm_check octets))) (sym (octet_long octets)) ∙ number_bits (rfcomm_check octets)
 
 frames : (frame : mux.PlainFrame) → mux.IsFrame frame → length frame.octets < 2 ^ 15 → IsShortest frame (mux_octets frame)

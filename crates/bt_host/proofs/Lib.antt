@@ -1,0 +1,11 @@
+pub mod Calling
+pub mod Telling
+pub mod Driving
+pub mod Keeping
+pub mod Going
+pub mod Hearings
+pub mod Servers
+pub mod Sayings
+pub mod Reacting
+pub mod PieceReading
+pub mod Feeding

@@ -1,0 +1,9 @@
+use Rattle.std.proofs.Common.{rules}
+use Rattle.bt_host.specs.Serving.{profile_of, served_by, Asks, Lacks}
+use Rattle.bt_host.proofs.Feeding.{fed_host}
+use Rattle.bt_host.proofs.server_host.ServerHost.feed.Goals as goal
+
+pub returns-clause-feeds : goal.returns-clause-feeds
+returns-clause-feeds g c =
+    fed_host profile_of (Asks g.B.Inbox.shortages) (Lacks g.B.Inbox.shortages) (served_by g.B.Inbox.content) c.args.piece.now c.self.inside.framer c.feed_on-fed.new.framer c.self.inside.stack c.feed_on-fed.new.stack
+    c.self.inside.refusal c.err-self-inside.result c.args.self.now c.args.inbox.now c.feed_on-fed.new.port c.feed_on-fed.result c.self.view_is (search rules) (search rules) c.feed_on-fed.ensures.feeds

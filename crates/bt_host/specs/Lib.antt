@@ -1,0 +1,10 @@
+pub mod Calls
+pub mod Refusals
+pub mod Pieces
+pub mod Uppers
+pub mod Stacks
+pub mod Serving
+pub mod ServingLaws
+pub mod EndpointLists
+pub mod Shells
+pub mod Newness

@@ -1,0 +1,47 @@
+-- A host in code (this project's own).
+use Rattle.std.specs.Prelude.{ℕ, ◌≡◌, List, Option, None, Result, Ok, Err, MatchOption}
+use Rattle.h4_framing.specs.Framing.{Framing}
+use Rattle.h4_framing.specs.Packets.{Packet}
+use Rattle.host_model.specs.Circumstances.{Circumstance}
+use Rattle.host_model.specs.Profiles.{Profile}
+use Rattle.bt_host.specs.declared.feed_refusal.FeedRefusal.{FeedRefusal}
+use Rattle.bt_host.specs.declared.feed_refusal.FeedRefusal.TheVariants.{NoMemory}
+use Rattle.bt_host.specs.Refusals.{refusal_in}
+use Rattle.bt_host.specs.Pieces.{IsTaken, IsStopped}
+use Rattle.bt_host.specs.Stacks.{Stacked, standing, Moment, HearsAll, Reacts}
+
+-- how far it has come in what it was fed, its line and what stands above, and why it cannot go on
+pub record Shelled (E : Type 0) : Type 0 where
+  pub framing : Framing
+  pub stack : Stacked E
+  pub refusal : Option FeedRefusal
+
+-- all was taken, and the host heard the packets one after the other
+pub record Takes {E S P : Type 0} (A : Profile S) (Answers : P → List Circumstance → P → Type 0) (pushing : E → P → List Circumstance → S) (piece : List ℕ) (framing framing' : Framing) (old new : Moment E P) : Type 0 where
+  pub packets : List Packet
+  pub taken : IsTaken framing framing' piece packets
+  pub hears : HearsAll A Answers pushing packets old new
+
+-- the host heard the packets before the refusal one after the other
+pub record Stops {E S P : Type 0} (A : Profile S) (Answers : P → List Circumstance → P → Type 0) (pushing : E → P → List Circumstance → S) (piece : List ℕ) (framing framing' : Framing) (old new : Moment E P) (refusal : FeedRefusal) : Type 0 where
+  pub packets : List Packet
+  pub stopped : IsStopped framing framing' piece packets new.stack.line refusal
+  pub hears : HearsAll A Answers pushing packets old new
+
+abbrev pub Reads : {E S P : Type 0} → Profile S → (P → List Circumstance → P → Type 0) → (P → P → Type 0) → (E → P → List Circumstance → S) → List ℕ → (framing framing' : Framing) → (old new : Moment E P) → Result (Unit {0}) FeedRefusal → Type 0
+Reads A Answers Lacked pushing piece framing framing' old new (Ok done) = Takes A Answers pushing piece framing framing' old new
+Reads A Answers Lacked pushing piece framing framing' old new (Err NoMemory) = Lacked old.port new.port
+Reads A Answers Lacked pushing piece framing framing' old new (Err refusal) = Stops A Answers pushing piece framing framing' old new refusal
+
+-- What was held back goes out, and then the piece is heard.
+abbrev pub FeedsOn : {E S P : Type 0} → Profile S → (P → List Circumstance → P → Type 0) → (P → P → Type 0) → (E → P → List Circumstance → S) → List ℕ → (framing framing' : Framing) → (old new : Moment E P) → Result (Unit {0}) FeedRefusal → Type 0
+FeedsOn A Answers Lacked pushing piece framing framing' old new (Err NoMemory) = Lacked old.port new.port
+FeedsOn {E} {S} {P} A Answers Lacked pushing piece framing framing' old new result =
+    (mid : Moment E P) × Reacts A Answers (standing pushing old.port old.stack) (standing pushing mid.port mid.stack) old.port mid.port × Reads A Answers Lacked pushing piece framing framing' mid new result
+
+-- A piece is fed. A refusal is answered for good, and then nothing changes.
+abbrev pub Feeds : {E S P : Type 0} → Profile S → (P → List Circumstance → P → Type 0) → (P → P → Type 0) → (E → P → List Circumstance → S) → List ℕ → (old new : Shelled E) → (port port' : P) → Result (Unit {0}) FeedRefusal → Type 0
+Feeds A Answers Lacked pushing piece old new port port' result =
+    MatchOption old.refusal
+    (FeedsOn A Answers Lacked pushing piece old.framing new.framing (record { stack = old.stack; port = port }) (record { stack = new.stack; port = port' }) result × (new.refusal ≡ refusal_in result))
+    (λ refusal. (result ≡ Err refusal) × (new ≡ old) × (port' ≡ port))

@@ -1,0 +1,15 @@
+//! Both hosts of Object Push: octets of a controller in, octets for it out (Core 5.1, Volume 2 Part E and Volume 3 Part A;
+//! Object Push Profile 1.2).
+#![tactic(auto)]
+
+mod end;
+mod endpoints;
+mod feed_refusal;
+mod server_end;
+mod server_host;
+mod shell;
+mod stack;
+mod upper;
+
+pub use feed_refusal::FeedRefusal;
+pub use server_host::ServerHost;

@@ -1,0 +1,173 @@
+//! The host that receives objects.
+
+ghost use Rattle.std.specs.Prelude.{◌≡◌, IfOk};
+ghost use Rattle.bt_host.specs.Newness.{new_stack};
+
+use crate::feed_refusal::FeedRefusal;
+use crate::server_end::ServerEnd;
+use crate::shell::{ACL_LIMIT, feed_on};
+use crate::stack::{LONGEST_PDU, Stack};
+use crate::upper::Upper;
+use acl_credits::Ledger;
+use bt_base::{Inbox, NoMemory, Settings};
+use h4_framing::{Framer, H4Refusal};
+use host_link::{HostLink, Role};
+use l2cap_channels::Channels;
+use std::alloc::Global;
+use std::marker::Model;
+
+/// The host that receives objects and stores them in an inbox: octets of its controller in, octets for it out (Object Push
+/// Profile 1.2, 4.3).
+///
+/// A clause sees how far it has come in what it was fed, its line, its channels with the server above them, and why it cannot
+/// go on.
+#[derive(Drop)]
+pub struct ServerHost {
+    framer: Framer,
+    stack: Stack<ServerEnd>,
+    refusal: Option<FeedRefusal>,
+}
+
+impl Model for ServerHost {
+    ghost use Rattle.std.specs.Prelude.{◌≡◌, None, true};
+    ghost use Rattle.bt_host.specs.Refusals.{acl_limit};
+    ghost use Rattle.bt_host.specs.Serving.{Served};
+    ghost use Rattle.bt_host.specs.Shells.{Shelled};
+    ghost use Rattle.bt_host.specs.Uppers.{IsOf};
+
+    ghost Value = { Shelled Served };
+
+    ghost view = { λ host. record { framing = host.framer; stack = host.stack; refusal = host.refusal } };
+
+    ghost invariant = { λ host. (host.framer.limit ≡ acl_limit) × (host.refusal ≡ None → (host.framer.fault ≡ None) × IsOf true host.stack.upper) };
+}
+
+/// What stands above the line of a server before anything happened.
+fn new_stack(alloc: Global, settings: &Settings) -> Result<Stack<ServerEnd>, NoMemory>
+    ensures { IfOk result (λ stack. stack ≡ new_stack settings.now) }
+{
+    let upper = Upper {
+        channels: Channels::new(alloc, settings, true)?,
+        end: ServerEnd::new(alloc, settings)?,
+        may_say: 0,
+    };
+    Ok(Stack {
+        link: HostLink::new(alloc, Role::Server)?,
+        upper,
+        room: vec![in alloc; 0; LONGEST_PDU]?,
+    })
+}
+
+impl ServerHost {
+    ghost use Rattle.std.specs.Prelude.{◌≡◌, ◌≤◌, None, drop, length, IfOk, OnOk, OnErr};
+    ghost use Rattle.h4_framing.specs.Taking.{EndsWith};
+    ghost use Rattle.channel_model.specs.Calls as calls;
+    ghost use Rattle.world_model.specs.Machines.{TimerFired};
+    ghost use Rattle.host_model.specs.Hosts.{hear};
+    ghost use Rattle.bt_host.specs.Refusals.{fresh_framing};
+    ghost use Rattle.bt_host.specs.Uppers.{asking};
+    ghost use Rattle.bt_host.specs.Stacks.{standing, with_host, Reacts};
+    ghost use Rattle.bt_host.specs.Serving.{profile_of, served_by, Works, Asks, Lacks};
+    ghost use Rattle.bt_host.specs.Shells.{Feeds};
+
+    /// A server whose first command stands in `out`. It reserves all memory that it ever needs; `NoMemory` where that cannot
+    /// be had.
+    pub fn new(alloc: Global, settings: &Settings) -> Result<ServerHost, NoMemory>
+        ensures { IfOk result (λ host. host ≡ record { framing = fresh_framing; stack = new_stack settings.now; refusal = None }) }
+    {
+        Ok(ServerHost {
+            framer: Framer::new(alloc, ACL_LIMIT)?,
+            stack: new_stack(alloc, settings)?,
+            refusal: None,
+        })
+    }
+
+    /// Takes octets of the controller: what was held back before goes out, and then the host hears each packet that is whole
+    /// with this piece, and goes on. The rest is held.
+    ///
+    /// `Transport` where the octets are no packets, and `CommandFailed` and `BadBuffers` where a packet says so; what came
+    /// before it was heard. `NoMemory` where the inbox had none. After any of these the same is answered for good, and the
+    /// host stays as it is.
+    ///
+    /// It needs an inbox that has an object pending exactly where one is under way.
+    pub fn feed<B: Inbox>(&mut self, piece: &[u8], inbox: &mut B) -> Result<(), FeedRefusal>
+        requires works { self.old.refusal ≡ None → Works self.old.stack.upper.end (B.is_pending inbox.old) }
+        ensures feeds { Feeds (profile_of self.old.stack.upper.machine.settings) (Asks B.shortages) (Lacks B.shortages) (served_by B.content) piece.now self.old self.new inbox.old inbox.new result }
+        ensures works { OnOk result (Works self.new.stack.upper.end (B.is_pending inbox.new)) }
+    {
+        if let Some(refusal) = self.refusal {
+            return Err(refusal);
+        }
+        let fed = feed_on(&mut self.framer, &mut self.stack, piece, inbox);
+        self.refusal = fed.err();
+        fed
+    }
+
+    /// The timer fires: requests that wait for their responses are given once more, or given up. `NoMemory` where the inbox
+    /// had none, and then the host goes on no more. It needs a host that refused nothing.
+    pub fn on_timer<B: Inbox>(&mut self, inbox: &mut B) -> Result<(), NoMemory>
+        requires sound { self.old.refusal ≡ None }
+        requires works { Works self.old.stack.upper.end (B.is_pending inbox.old) }
+        ensures reacts { OnOk result (Reacts (profile_of self.old.stack.upper.machine.settings) (Asks B.shortages) (λ rest. with_host (hear (profile_of self.old.stack.upper.machine.settings) rest TimerFired (asking (served_by B.content) inbox.old self.old.stack.upper rest)) (standing (served_by B.content) inbox.old self.old.stack rest)) (standing (served_by B.content) inbox.new self.new.stack) inbox.old inbox.new) }
+        ensures sound { OnOk result (self.new.refusal ≡ None) }
+        ensures works { OnOk result (Works self.new.stack.upper.end (B.is_pending inbox.new)) }
+        ensures lacked { OnErr result (Lacks B.shortages inbox.old inbox.new) }
+    {
+        let Ok(()) = self.stack.fire(inbox) else {
+            self.refusal = Some(FeedRefusal::NoMemory);
+            return Err(NoMemory);
+        };
+        Ok(())
+    }
+
+    /// The octets for the controller, in their order.
+    pub fn out(&self) -> &[u8]
+        ensures { result.now ≡ self.now.stack.line.out }
+    {
+        self.stack.link().out()
+    }
+
+    /// The controller took the first `n` octets of `out`. It needs as many there.
+    pub fn taken(&mut self, n: usize)
+        requires { n ≤ length self.old.stack.line.out }
+        ensures { self.new ≡ record self.old { stack = record self.old.stack { line = record self.old.stack.line { out = drop n self.old.stack.line.out } } } }
+    {
+        self.stack.taken(n);
+    }
+
+    /// What the controller holds of the packets that went out.
+    pub fn ledger(&self) -> &Ledger
+        ensures { result.now ≡ self.now.stack.line.ledger }
+    {
+        self.stack.link().ledger()
+    }
+
+    /// The channels of its link.
+    pub fn channels(&self) -> &Channels
+        ensures { result.now ≡ self.now.stack.upper.machine }
+    {
+        self.stack.channels()
+    }
+
+    /// Whether an own request waits for its response, or the machine of a channel for its timer.
+    pub fn armed(&self) -> bool
+        ensures { result ≡ calls.armed self.now.stack.upper.machine.channels }
+    {
+        self.stack.channels().armed()
+    }
+
+    /// Whether its channel of that number has a check word.
+    pub fn has_fcs(&self, cid: u16) -> bool
+        ensures { result ≡ calls.has_fcs cid self.now.stack.upper.machine.channels }
+    {
+        self.stack.channels().has_fcs(cid)
+    }
+
+    /// What the end of the octets means here: `Truncated`, with the place of its first octet, where a packet is not whole.
+    /// After `Transport` it answers that refusal.
+    pub fn end(&self) -> Result<(), (H4Refusal, u64)>
+        ensures { EndsWith self.now.framing result }
+    {
+        self.framer.end()
+    }
+}
