@@ -1,0 +1,53 @@
+-- A host tells its profile all that its channels tell, one thing after the other.
+use Rattle.std.proofs.Common.{◌≡◌, ℕ, List, [], ◌∷◌, ◌++◌, map, fold, refl, sym, ap, ap₂, ◌∙◌, append_assoc}
+use Rattle.std.specs.List.{flat_map, filter_map}
+use Rattle.channel_model.specs.declared.event.ChannelEvent.{ChannelEvent}
+use Rattle.channel_model.specs.Value.{Channels}
+use Rattle.channel_model.specs.Policies.{Policy}
+use Rattle.channel_laws.specs.Runs.{Occurrence, value_after}
+use Rattle.channel_laws.specs.Runs as channels
+use Rattle.host_model.specs.Profiles.{Profile}
+use Rattle.host_model.specs.Hosts.{Host, tells_events}
+use Rattle.host_laws.specs.Calls.{values_after, outer}
+use Rattle.host_laws.specs.Feeds.{Feed, Happens, fed, all_fed, Tiding, Tells, tidings_in, tidings_of, tidings_with, tidings_from}
+use Rattle.host_laws.specs.Laws.{Grows}
+
+-- one occurrence for each event
+abbrev tellings : List ChannelEvent → List Occurrence
+tellings events = map (λ event. channels.Tells) events
+
+drained : (policy : Policy) (v : Channels) (events : List ChannelEvent) → (let w : Channels = record v { events = events } in let after : Channels = record v { events = [] } in values_after policy w (tellings events) ≡ after)
+drained policy v [] = refl
+drained policy v (event ∷ events) = drained policy v events
+
+tidings_drained : (policy : Policy) (v : Channels) (events : List ChannelEvent) → (let w : Channels = record v { events = events } in tidings_from policy w (tellings events) ≡ map Tells events)
+tidings_drained policy v [] = refl
+tidings_drained policy v (event ∷ events) = ap (λ (rest : List Tiding). Tells event ∷ rest) (tidings_drained policy v events)
+
+none_outer : (events : List ChannelEvent) → filter_map outer (tellings events) ≡ []
+none_outer [] = refl
+none_outer (event ∷ events) = none_outer events
+
+-- what the profile goes through
+abbrev happenings : Channels → List ChannelEvent → List Feed
+happenings v events = map (λ event. Happens event v) events
+
+each_fed : {P : Type 0} (A : Profile P) (v : Channels) (events : List ChannelEvent) (p : P) → fold (λ profile event. A.happened event v profile) p events ≡ all_fed A p (happenings v events)
+each_fed A v [] p = refl
+each_fed A v (event ∷ events) p = each_fed A v events (A.happened event v p)
+
+each_told : (v : Channels) (events : List ChannelEvent) → tidings_of (happenings v events) ≡ map Tells events
+each_told v [] = refl
+each_told v (event ∷ events) = ap (λ (rest : List Tiding). Tells event ∷ rest) (each_told v events)
+
+pub tells_grow : {P : Type 0} (A : Profile P) (host : Host P) → Grows A [] host (tells_events A host)
+tells_grow A host =
+    let v = host.channels in
+    record {
+      list = tellings v.events;
+      feeds = happenings v v.events;
+      channels_are = sym (drained A.policy v v.events);
+      profile_is = each_fed A v v.events host.profile;
+      tidings_are = each_told v v.events ∙ sym (tidings_drained A.policy v v.events);
+      acted_is = none_outer v.events;
+    }

@@ -1,0 +1,4 @@
+pub mod Draining
+pub mod Growing
+pub mod Links
+pub mod Asking

@@ -1,0 +1,141 @@
+-- A host on one link, and where its links begin and end.
+use Rattle.std.proofs.Common.{◌≡◌, ℕ, zero, suc, Bool, true, false, List, [], ◌∷◌, fold, find, Option, Some, None, is_some, refl, sym, ap, subst, ◌∙◌, if◌then◌else◌}
+use Rattle.std.specs.List.{AllByRecursion}
+use Rattle.acl_fragments.specs.Pieces.{channel_of}
+use Rattle.channel_model.specs.declared.errand.Errand.{Errand}
+use Rattle.channel_model.specs.declared.errand.Errand.TheVariants as errands
+use Rattle.channel_model.specs.declared.event.ChannelEvent.{ChannelEvent}
+use Rattle.channel_model.specs.Value.{Queued, Answer, Ask, Setup, Stage, Held, Channels, no_channels}
+use Rattle.channel_model.specs.Policies.{Policy}
+use Rattle.channel_model.specs.Changing.{held_at, setup_of}
+use Rattle.channel_model.specs.Timing.{timed_out}
+use Rattle.channel_model.specs.Giving.{Given, next_given, after_given, gives, carrier_spent, held_given, stage_given, connection_given, configuration_given, disconnection_given, counted, queue_given}
+use Rattle.channel_laws.specs.Runs.{Occurrence, Run, new_link, run_on, run_of, value_after}
+use Rattle.world_model.specs.Machines.{LinkEvent, Up, Down, News, Linked, Failed, Heard, TimerFired, Cancelled, Opening}
+use Rattle.host_model.specs.Circumstances.{Headway, Sending, Sent, Settled, Circumstance, headway_in}
+use Rattle.host_model.specs.Pdus.{pdu_of, is_frame}
+use Rattle.host_model.specs.Profiles.{Stride, Profile}
+use Rattle.host_model.specs.Hosts.{Host, first_host, settles, strides, goes_by, drives, most_steps, driven, brought, hears_news, ready, hear, says, next}
+use Rattle.host_laws.specs.Acts.{Act, Hears, Says, Does, Acting, StaysOnLink, from_act, from_acts}
+use Rattle.host_laws.specs.Calls.{Asks, values_after}
+use Rattle.host_laws.specs.Laws.{Grows, IsOnNewLink, LinksAreNew, OnLink, HostsRun}
+use Rattle.host_laws.proofs.Growing.{grows_none, grows_then, drives_grow, act_grows}
+
+-- ---- the channels of a run
+
+pub value_run : (policy : Policy) (list : List Occurrence) (run : Run) → (fold (run_on policy) run list).value ≡ values_after policy run.value list
+value_run policy [] run = refl
+value_run policy (more ∷ list) run = value_run policy list (run_on policy run more)
+
+-- ---- nothing is left to be told
+
+-- giving tells nothing
+stage_events : (f : Stage → Stage) (found : Option Held) (v : Channels) → (stage_given f found v).events ≡ v.events
+stage_events f None v = refl
+stage_events f (Some held) v = refl
+
+counted_events : (errand : Errand) (v : Channels) → (counted errand v).events ≡ v.events
+counted_events (errands.Connection own) v = stage_events connection_given (held_at own v) v
+counted_events (errands.Configuration own) v = stage_events configuration_given (held_at own v) v
+counted_events (errands.Disconnection own) v = stage_events disconnection_given (held_at own v) v
+counted_events errands.Features v = refl
+
+spent_events : (setup : Option Setup) (held : Held) (v : Channels) → (carrier_spent setup held v).events ≡ v.events
+spent_events None held v = refl
+spent_events (Some setup) held v = refl
+
+given_events : (found : Option Held) (v : Channels) → (held_given found v).events ≡ v.events
+given_events None v = refl
+given_events (Some held) v = spent_events (setup_of held.stage) held v
+
+queue_events : (queue : List Queued) (v : Channels) → (queue_given queue v).events ≡ v.events
+queue_events [] v = given_events (find gives v.held) v
+queue_events (Answer command ∷ behind) v = refl
+queue_events (Ask errand ∷ behind) v = let after : Channels = record v { queue = behind } in counted_events errand after
+
+abbrev pub IsTold : {P : Type 0} → Host P → Type 0
+IsTold host = host.channels.events ≡ []
+
+module _ {P : Type 0} (A : Profile P) where
+  strides_told : (more : Host P → Host P) (test : Bool) (stride : Stride P) (host : Host P) → ((next : Host P) → IsTold next → IsTold (more next)) → IsTold (if test then more (strides A stride host) else strides A stride host)
+  strides_told more true stride host goes = goes (strides A stride host) refl
+  strides_told more false stride host goes = refl
+
+  goes_told : (more : Host P → Host P) (test : Bool) (host : Host P) → ((next : Host P) → IsTold next → IsTold (more next)) → IsTold host → IsTold (if test then host else goes_by A more (A.steps host.channels host.profile) host)
+  goes_told more true host goes is = is
+  goes_told more false host goes is = let stride = A.steps host.channels host.profile in strides_told more stride.more stride host goes
+
+  pub drives_told : (count : ℕ) (host : Host P) → IsTold host → IsTold (drives A count host)
+  unfolding drives
+  drives_told zero host is = is
+  drives_told (suc count) host is = let now = settles A host in goes_told (λ next. drives A count next) (is_some (next_given now.channels)) now (λ next. drives_told count next) is
+
+  brought_told : (far : Headway) (host : Host P) → IsTold host → IsTold (brought A far host)
+  brought_told Sending host is = is
+  brought_told Sent host is = is
+  brought_told Settled host is = drives_told most_steps host is
+
+  heard_told : (circumstances : List Circumstance) (news : News) (host : Host P) → IsTold host → IsTold (hears_news A circumstances news host)
+  heard_told circumstances (Linked Up) host is = is
+  heard_told circumstances (Linked (Down reason)) host is = refl
+  heard_told circumstances (Failed status) host is = is
+  heard_told circumstances (Heard pdu) host is = refl
+  heard_told circumstances TimerFired host is = refl
+  heard_told circumstances Cancelled host is = is
+  heard_told circumstances (Opening name) host is = is
+
+  abbrev Says_told : Option (List ℕ × Host P) → Type 0
+  Says_told None = Unit {0}
+  Says_told (Some one) = IsTold one.1
+
+  frames_told : (test : Bool) (pdu : List ℕ) (host : Host P) → IsTold host → Says_told (if test then Some (pdu, host) else None)
+  frames_told true pdu host is = is
+  frames_told false pdu host is = tt
+
+  says_told : (given : Option Given) (count : ℕ) (host : Host P) → IsTold host → Says_told (says given count host)
+  says_told None count host is = tt
+  says_told (Some given) zero host is = tt
+  says_told (Some given) (suc count) host is =
+      let after : Host P = record host { channels = after_given host.channels; may_say = count } in
+      frames_told (is_frame (pdu_of given)) (pdu_of given) after (queue_events host.channels.queue host.channels ∙ is)
+
+  act_told : (act : Act) (old new : Host P) → Does A act old new → IsTold old → IsTold new
+  act_told (Hears circumstances news) old new does is =
+      subst (λ (host : Host P). IsTold host) (sym does) (heard_told circumstances news (ready A circumstances old) (brought_told (headway_in circumstances) old is))
+  act_told (Says pdu) old new does is = subst Says_told does (says_told (next_given (driven A old).channels) old.may_say (driven A old) (drives_told most_steps old is))
+
+  pub acts_told : (acts : List Act) (old new : Host P) → Acting A acts old new → IsTold old → IsTold new
+  acts_told [] old new same is = subst (λ (host : Host P). IsTold host) (sym same) is
+  acts_told (act ∷ acts) old new (mid, does, rest) is = acts_told acts mid new rest (act_told act old mid does is)
+
+  -- ---- links begin and end
+
+  linked_new : (circumstances : List Circumstance) (event : LinkEvent) (host : Host P) → IsTold host → IsOnNewLink (hears_news A circumstances (Linked event) host)
+  linked_new circumstances Up host is = ap (λ (events : List ChannelEvent). let v : Channels = record no_channels { events = events } in v) is
+  linked_new circumstances (Down reason) host is = refl
+
+  pub links_are_new : LinksAreNew A
+  links_are_new = record {
+    first = refl;
+    begins = λ acts host circumstances event acting.
+        linked_new circumstances event (ready A circumstances host) (brought_told (headway_in circumstances) host (acts_told acts (first_host A) host acting refl));
+  }
+
+  -- ---- on a link
+
+  pub acts_grow : Asks A → (acts : List Act) (old new : Host P) → AllByRecursion StaysOnLink acts → Acting A acts old new → Grows A (from_acts acts) old new
+  acts_grow asks [] old new stay same = subst (λ (host : Host P). Grows A [] old host) (sym same) (grows_none A old)
+  acts_grow asks (act ∷ acts) old new (stays, stay) (mid, does, rest) =
+      grows_then A (from_act act) (from_acts acts) old mid new (act_grows A asks act old mid stays does) (acts_grow asks acts mid new stay rest)
+
+  pub hosts_run : HostsRun A
+  hosts_run asks acts old new fresh stay acting =
+      let grows = acts_grow asks acts old new stay acting in
+      let told = acts_told acts old new acting (ap (λ (v : Channels). v.events) fresh) in
+      record {
+        grows = grows;
+        channels_run = grows.channels_are ∙ (ap (λ (v : Channels). values_after A.policy v grows.list) fresh ∙ sym (value_run A.policy grows.list new_link));
+        all_told = told;
+        drives = drives_grow A asks most_steps new;
+        all_told_then = drives_told most_steps new told;
+      }

@@ -1,0 +1,64 @@
+-- What a profile goes through (this project's own), and what of it its channels tell.
+use Rattle.std.specs.Prelude.{ℕ, List, [], ◌∷◌, ◌++◌, map, fold, Option, Some, None, option_to_list}
+use Rattle.std.specs.List.{flat_map}
+use Rattle.channel_model.specs.declared.event.ChannelEvent.{ChannelEvent}
+use Rattle.channel_model.specs.Value.{Channels}
+use Rattle.channel_model.specs.Policies.{Policy}
+use Rattle.channel_model.specs.Carrying.{Up, Nothing, Received}
+use Rattle.channel_laws.specs.Runs.{Occurrence, value_after, told_in, up_with}
+use Rattle.world_model.specs.Machines.{News}
+use Rattle.host_model.specs.Circumstances.{Circumstance}
+use Rattle.host_model.specs.Profiles.{Profile}
+
+pub data Feed : Type 0 where
+  -- it is given what its ports will answer, and news
+  Gifts : (circumstances : List Circumstance) → Feed
+  Learns : (circumstances : List Circumstance) (news : News) → Feed
+  -- an SDU of a channel, and what happened to the channels
+  Receives : (own psm : ℕ) (sdu : List ℕ) → Feed
+  Happens : (event : ChannelEvent) (channels : Channels) → Feed
+  -- the last PDU is out, and it is asked for a step
+  Sent : (channels : Channels) → Feed
+  Steps : (channels : Channels) → Feed
+
+abbrev pub fed : {P : Type 0} → Profile P → P → Feed → P
+fed A p (Gifts circumstances) = A.given circumstances p
+fed A p (Learns circumstances news) = A.told circumstances news p
+fed A p (Receives own psm sdu) = A.received own psm sdu p
+fed A p (Happens event channels) = A.happened event channels p
+fed A p (Sent channels) = A.sent channels p
+fed A p (Steps channels) = (A.steps channels p).profile
+
+abbrev pub all_fed : {P : Type 0} → Profile P → P → List Feed → P
+all_fed A p feeds = fold (fed A) p feeds
+
+-- ---- what channels tell
+
+-- an SDU of a channel, or what happened to one
+pub data Tiding : Type 0 where
+  Brings : (own psm : ℕ) (sdu : List ℕ) → Tiding
+  Tells : (event : ChannelEvent) → Tiding
+
+abbrev pub tidings_in : Feed → List Tiding
+tidings_in (Gifts circumstances) = []
+tidings_in (Learns circumstances news) = []
+tidings_in (Receives own psm sdu) = Brings own psm sdu ∷ []
+tidings_in (Happens event channels) = Tells event ∷ []
+tidings_in (Sent channels) = []
+tidings_in (Steps channels) = []
+
+-- what a profile was told of its channels
+abbrev pub tidings_of : List Feed → List Tiding
+tidings_of feeds = flat_map tidings_in feeds
+
+abbrev pub brought_by : Up → List Tiding
+brought_by Nothing = []
+brought_by (Received own psm sdu) = Brings own psm sdu ∷ []
+
+abbrev pub tidings_with : Occurrence → Channels → List Tiding
+tidings_with one v = brought_by (up_with one v) ++ map Tells (told_in one v)
+
+-- what channels tell with all that happens to them, in its order
+abbrev pub tidings_from : Policy → Channels → List Occurrence → List Tiding
+tidings_from policy v [] = []
+tidings_from policy v (one ∷ list) = tidings_with one v ++ tidings_from policy (value_after policy one v) list

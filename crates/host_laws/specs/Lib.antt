@@ -1,0 +1,4 @@
+pub mod Acts
+pub mod Calls
+pub mod Feeds
+pub mod Laws
