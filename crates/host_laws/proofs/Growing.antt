@@ -19,7 +19,7 @@ use Rattle.host_model.specs.Profiles.{Profile}
 use Rattle.host_model.specs.Hosts.{Host, with_channels, tells_events, settles, strides, goes_by, drives, most_steps, driven, brought, handed, told, hears_news, ready, hear, says, next}
 use Rattle.host_laws.specs.Acts.{Act, Hears, Says, Does, Acting, StaysOnLink, from_news, from_act, from_acts}
 use Rattle.host_laws.specs.Calls.{Call, Connect, AskFeatures, Disconnect, Send, Asks, from_call, values_after, outer}
-use Rattle.host_laws.specs.Feeds.{Feed, Gifts, Learns, Receives, fed, all_fed, Tiding, tidings_in, tidings_of, brought_by, tidings_with, tidings_from}
+use Rattle.host_laws.specs.Feeds.{Feed, Gifts, Learns, Receives, fed, all_fed, Tiding, tidings_by, tidings_in, tidings_of, brought_by, tidings_with, tidings_from}
 use Rattle.host_laws.specs.Feeds as feeds
 use Rattle.host_laws.specs.Laws.{Grows}
 use Rattle.host_laws.proofs.Draining.{tells_grow}
@@ -82,8 +82,8 @@ module _ {P : Type 0} (A : Profile P) where
   gives_grow : (pdu : List ℕ) (host : Host P) (count : ℕ) → (let after : Host P = record host { channels = after_given host.channels; may_say = count } in Grows A (Gives pdu ∷ []) host after)
   gives_grow pdu host count = record { list = Gives pdu ∷ []; feeds = []; channels_are = refl; profile_is = refl; tidings_are = refl; acted_is = refl }
 
-  learns_grow : (circumstances : List Circumstance) (news : News) (host : Host P) → Grows A [] host (told A circumstances news host)
-  learns_grow circumstances news host = feeds_grow host (Learns circumstances news) host.may_say refl
+  learns_grow : (circumstances : List Circumstance) (news : News) (host : Host P) → tidings_by news ≡ [] → Grows A [] host (told A circumstances news host)
+  learns_grow circumstances news host none = feeds_grow host (Learns circumstances news) host.may_say none
 
   -- ---- a step of its profile
 
@@ -151,16 +151,16 @@ module _ {P : Type 0} (A : Profile P) where
 
   hears_any : (circumstances : List Circumstance) (news : News) (host : Host P) → StaysOnLink (Hears circumstances news) → Grows A (from_news news) host (hears_news A circumstances news host)
   hears_any circumstances (Linked event) host stays = absurd stays
-  hears_any circumstances (Failed status) host stays = learns_grow circumstances (Failed status) host
+  hears_any circumstances (Failed status) host stays = learns_grow circumstances (Failed status) host refl
   hears_any circumstances (Heard pdu) host stays =
       let heard : Host P = record host { channels = channels.hears A.policy (channel_of pdu) pdu host.channels; profile = handed A (channels.up (channel_of pdu) pdu host.channels) host.profile } in
       grows_then (Comes pdu ∷ []) [] host heard (tells_events A heard) (comes_grow pdu host) (tells_grow A heard)
   hears_any circumstances TimerFired host stays =
       let fired = with_channels (timed_out A.policy host.channels) host in
       grows_then (Fires ∷ []) [] host fired (told A circumstances TimerFired (tells_events A fired)) (fires_grow host)
-      (grows_then [] [] fired (tells_events A fired) (told A circumstances TimerFired (tells_events A fired)) (tells_grow A fired) (learns_grow circumstances TimerFired (tells_events A fired)))
-  hears_any circumstances Cancelled host stays = learns_grow circumstances Cancelled host
-  hears_any circumstances (Opening name) host stays = learns_grow circumstances (Opening name) host
+      (grows_then [] [] fired (tells_events A fired) (told A circumstances TimerFired (tells_events A fired)) (tells_grow A fired) (learns_grow circumstances TimerFired (tells_events A fired) refl))
+  hears_any circumstances Cancelled host stays = learns_grow circumstances Cancelled host refl
+  hears_any circumstances (Opening name) host stays = learns_grow circumstances (Opening name) host refl
 
   hears_grow : Asks A → (circumstances : List Circumstance) (news : News) (host : Host P) → StaysOnLink (Hears circumstances news) → Grows A (from_news news) host (hear A circumstances news host)
   hears_grow asks circumstances news host stays =

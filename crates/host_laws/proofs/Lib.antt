@@ -2,3 +2,6 @@ pub mod Draining
 pub mod Growing
 pub mod Links
 pub mod Asking
+pub mod Telling
+pub mod Silence
+pub mod Profiles

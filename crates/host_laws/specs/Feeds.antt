@@ -6,7 +6,7 @@ use Rattle.channel_model.specs.Value.{Channels}
 use Rattle.channel_model.specs.Policies.{Policy}
 use Rattle.channel_model.specs.Carrying.{Up, Nothing, Received}
 use Rattle.channel_laws.specs.Runs.{Occurrence, value_after, told_in, up_with}
-use Rattle.world_model.specs.Machines.{News}
+use Rattle.world_model.specs.Machines.{LinkEvent, News, Linked, Failed, Heard, TimerFired, Cancelled, Opening}
 use Rattle.host_model.specs.Circumstances.{Circumstance}
 use Rattle.host_model.specs.Profiles.{Profile}
 
@@ -34,20 +34,29 @@ all_fed A p feeds = fold (fed A) p feeds
 
 -- ---- what channels tell
 
--- an SDU of a channel, or what happened to one
+-- an SDU of a channel, what happened to one, or that the link came up or went down
 pub data Tiding : Type 0 where
   Brings : (own psm : ℕ) (sdu : List ℕ) → Tiding
   Tells : (event : ChannelEvent) → Tiding
+  Turns : (event : LinkEvent) → Tiding
+
+abbrev pub tidings_by : News → List Tiding
+tidings_by (Linked event) = Turns event ∷ []
+tidings_by (Failed status) = []
+tidings_by (Heard pdu) = []
+tidings_by TimerFired = []
+tidings_by Cancelled = []
+tidings_by (Opening name) = []
 
 abbrev pub tidings_in : Feed → List Tiding
 tidings_in (Gifts circumstances) = []
-tidings_in (Learns circumstances news) = []
+tidings_in (Learns circumstances news) = tidings_by news
 tidings_in (Receives own psm sdu) = Brings own psm sdu ∷ []
 tidings_in (Happens event channels) = Tells event ∷ []
 tidings_in (Sent channels) = []
 tidings_in (Steps channels) = []
 
--- what a profile was told of its channels
+-- what a profile was told of its channels and its links
 abbrev pub tidings_of : List Feed → List Tiding
 tidings_of feeds = flat_map tidings_in feeds
 

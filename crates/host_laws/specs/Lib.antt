@@ -2,3 +2,4 @@ pub mod Acts
 pub mod Calls
 pub mod Feeds
 pub mod Laws
+pub mod Told

@@ -2,6 +2,7 @@
 
 ghost use Rattle.host_laws.specs.Calls.{HostsAsk};
 ghost use Rattle.host_laws.specs.Laws.{HostsRun, LinksAreNew};
+ghost use Rattle.host_laws.specs.Told.{AllSdusAreTold, ChecksAreRead, ProfilesAreTold};
 ghost use Rattle.host_model.specs.Profiles.{Profile};
 
 /// With each step of its profile a client or a server asks for one thing of its channels at most.
@@ -20,4 +21,25 @@ pub fn links_are_new<P>()
 #[tactic(auto, using(crate::proofs::Links::hosts_run))]
 pub fn hosts_run<P>()
     ensures { (A : Profile P) → HostsRun A }
+{}
+
+/// What a profile is told on a link is read off its host's own talk: each SDU is of a channel that is read, none comes
+/// behind the end of its channel, and a channel whose end was told is one that its host has closed.
+#[tactic(auto, using(crate::proofs::Profiles::profiles_are_told))]
+pub fn profiles_are_told<P>()
+    ensures { (A : Profile P) → ProfilesAreTold A }
+{}
+
+/// The SDUs that a profile is told of a channel are those that its host's own talk brings. Where the channel was
+/// closed by its machine, the PDU for which it was may bring one more.
+#[tactic(auto, using(crate::proofs::Profiles::all_sdus_are_told))]
+pub fn all_sdus_are_told<P>()
+    ensures { (A : Profile P) → AllSdusAreTold A }
+{}
+
+/// A host looks for a check word at an endpoint exactly where its own talk says that there is one, until its profile
+/// was told the end of the channel.
+#[tactic(auto, using(crate::proofs::Profiles::checks_are_read))]
+pub fn checks_are_read<P>()
+    ensures { (A : Profile P) → ChecksAreRead A }
 {}
