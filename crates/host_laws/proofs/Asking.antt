@@ -19,20 +19,20 @@ use Rattle.host_laws.specs.Calls.{Call, Connect, Disconnect, Send, Asks, HostsAs
 use Rattle.host_laws.specs.Calls as calls
 
 -- an SDU is sent where its channel takes one
-send_if : Bool → (own : ℕ) → Payload → Option Call
+abbrev send_if : Bool → (own : ℕ) → Payload → Option Call
 send_if taken own payload = if taken then Some (Send own (sdu_of payload)) else None
 
-sends_on : Channels → Payload → Option ℕ → Option Call
+abbrev sends_on : Channels → Payload → Option ℕ → Option Call
 sends_on v payload None = None
 sends_on v payload (Some own) = send_if (takes_sdu own v) own payload
 
 -- ---- a client
 
-closes_on : Option ℕ → Option Call
+abbrev closes_on : Option ℕ → Option Call
 closes_on None = None
 closes_on (Some own) = Some (Disconnect own)
 
-asked : Step → Channels → ClientProfile → Option Call
+abbrev asked : Step → Channels → ClientProfile → Option Call
 asked Wait v after = None
 asked MakeLink v after = None
 asked AskFeatures v after = Some calls.AskFeatures
@@ -75,7 +75,7 @@ clients_ask settings = record {
 
 -- ---- a server
 
-lent_call : Option Lent → Channels → ServerProfile → Option Call
+abbrev lent_call : Option Lent → Channels → ServerProfile → Option Call
 lent_call None v serving = None
 lent_call (Some lent) v serving = sends_on v lent.payload (endpoint_of lent.psm serving.endpoints)
 

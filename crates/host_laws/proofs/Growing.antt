@@ -17,6 +17,7 @@ use Rattle.host_model.specs.Circumstances.{Headway, Sending, Sent, Settled, Circ
 use Rattle.host_model.specs.Pdus.{pdu_of, is_frame}
 use Rattle.host_model.specs.Profiles.{Profile}
 use Rattle.host_model.specs.Hosts.{Host, with_channels, tells_events, settles, strides, goes_by, drives, most_steps, driven, brought, handed, told, hears_news, ready, hear, says, next}
+use Rattle.host_model.specs.Machines.{upper}
 use Rattle.host_laws.specs.Acts.{Act, Hears, Says, Does, Acting, StaysOnLink, from_news, from_act, from_acts}
 use Rattle.host_laws.specs.Calls.{Call, Connect, AskFeatures, Disconnect, Send, Asks, from_call, values_after, outer}
 use Rattle.host_laws.specs.Feeds.{Feed, Gifts, Learns, Receives, fed, all_fed, Tiding, tidings_by, tidings_in, tidings_of, brought_by, tidings_with, tidings_from}
@@ -56,7 +57,7 @@ module _ {P : Type 0} (A : Profile P) where
 
   -- ---- a PDU comes in
 
-  feeds_up : Handed → List Feed
+  abbrev feeds_up : Handed → List Feed
   feeds_up Nothing = []
   feeds_up (Received own psm sdu) = Receives own psm sdu ∷ []
 
@@ -182,6 +183,6 @@ module _ {P : Type 0} (A : Profile P) where
       let after : Host P = record host { channels = after_given host.channels; may_say = count } in
       frames_grow old (is_frame (pdu_of given)) (pdu_of given) after (grows_then [] (Gives (pdu_of given) ∷ []) old host after grows (gives_grow (pdu_of given) host count))
 
-  pub act_grows : Asks A → (act : Act) (old new : Host P) → StaysOnLink act → Does A act old new → Grows A (from_act act) old new
+  pub act_grows : Asks A → (act : Act Circumstance) (old new : Host P) → StaysOnLink act → Does (upper A) act old new → Grows A (from_act act) old new
   act_grows asks (Hears circumstances news) old new stays does = subst (λ (host : Host P). Grows A (from_news news) old host) (sym does) (hears_grow asks circumstances news old stays)
   act_grows asks (Says pdu) old new stays does = subst (Says_it old) does (says_grow old (next_given (driven A old).channels) old.may_say (driven A old) (drives_grow asks most_steps old))

@@ -1,4 +1,5 @@
 pub mod Draining
+pub mod Turning
 pub mod Growing
 pub mod Links
 pub mod Asking

@@ -16,6 +16,7 @@ use Rattle.host_model.specs.Circumstances.{Headway, Sending, Sent, Settled, Circ
 use Rattle.host_model.specs.Pdus.{pdu_of, is_frame}
 use Rattle.host_model.specs.Profiles.{Stride, Profile}
 use Rattle.host_model.specs.Hosts.{Host, first_host, settles, strides, goes_by, drives, most_steps, driven, brought, hears_news, ready, hear, says, next}
+use Rattle.host_model.specs.Machines.{upper}
 use Rattle.host_laws.specs.Acts.{Act, Hears, Says, Does, Acting, StaysOnLink, from_act, from_acts}
 use Rattle.host_laws.specs.Calls.{Asks, values_after}
 use Rattle.host_laws.specs.Laws.{Grows, IsOnNewLink, LinksAreNew, OnLink, HostsRun}
@@ -99,12 +100,12 @@ module _ {P : Type 0} (A : Profile P) where
       let after : Host P = record host { channels = after_given host.channels; may_say = count } in
       frames_told (is_frame (pdu_of given)) (pdu_of given) after (queue_events host.channels.queue host.channels ∙ is)
 
-  act_told : (act : Act) (old new : Host P) → Does A act old new → IsTold old → IsTold new
+  act_told : (act : Act Circumstance) (old new : Host P) → Does (upper A) act old new → IsTold old → IsTold new
   act_told (Hears circumstances news) old new does is =
       subst (λ (host : Host P). IsTold host) (sym does) (heard_told circumstances news (ready A circumstances old) (brought_told (headway_in circumstances) old is))
   act_told (Says pdu) old new does is = subst Says_told does (says_told (next_given (driven A old).channels) old.may_say (driven A old) (drives_told most_steps old is))
 
-  pub acts_told : (acts : List Act) (old new : Host P) → Acting A acts old new → IsTold old → IsTold new
+  pub acts_told : (acts : List (Act Circumstance)) (old new : Host P) → Acting (upper A) acts old new → IsTold old → IsTold new
   acts_told [] old new same is = subst (λ (host : Host P). IsTold host) (sym same) is
   acts_told (act ∷ acts) old new (mid, does, rest) is = acts_told acts mid new rest (act_told act old mid does is)
 
@@ -123,7 +124,7 @@ module _ {P : Type 0} (A : Profile P) where
 
   -- ---- on a link
 
-  pub acts_grow : Asks A → (acts : List Act) (old new : Host P) → AllByRecursion StaysOnLink acts → Acting A acts old new → Grows A (from_acts acts) old new
+  pub acts_grow : Asks A → (acts : List (Act Circumstance)) (old new : Host P) → AllByRecursion StaysOnLink acts → Acting (upper A) acts old new → Grows A (from_acts acts) old new
   acts_grow asks [] old new stay same = subst (λ (host : Host P). Grows A [] old host) (sym same) (grows_none A old)
   acts_grow asks (act ∷ acts) old new (stays, stay) (mid, does, rest) =
       grows_then A (from_act act) (from_acts acts) old mid new (act_grows A asks act old mid stays does) (acts_grow asks acts mid new stay rest)

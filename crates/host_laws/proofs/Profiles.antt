@@ -15,6 +15,7 @@ use Rattle.channel_laws.specs.Runs.{Occurrence, new_link, run_of, arisen}
 use Rattle.channel_laws.specs.Sdus.{IsHandedUp}
 use Rattle.channel_laws.proofs.CheckWords.{check_words-are_read}
 use Rattle.channel_laws.proofs.Incoming.{sdus-are_read}
+use Rattle.host_model.specs.Circumstances.{Circumstance}
 use Rattle.host_model.specs.Profiles.{Profile}
 use Rattle.host_model.specs.Hosts.{Host, driven}
 use Rattle.host_laws.specs.Acts.{Act}
@@ -29,14 +30,14 @@ use Rattle.host_laws.proofs.Links.{value_run}
 
 module _ {P : Type 0} (A : Profile P) where
   -- what was told is what the channels tell
-  told_is : (acts : List Act) (old new : Host P) (on : OnLink A acts old new) → IsOnNewLink old → told_on A acts old new on ≡ tidings_from A.policy no_channels on.grows.list
+  told_is : (acts : List (Act Circumstance)) (old new : Host P) (on : OnLink A acts old new) → IsOnNewLink old → told_on A acts old new on ≡ tidings_from A.policy no_channels on.grows.list
   told_is acts old new on fresh = on.grows.tidings_are ∙ ap (λ (v : Channels). tidings_from A.policy v on.grows.list) fresh
 
-  events_are : (acts : List Act) (old new : Host P) (on : OnLink A acts old new) → IsOnNewLink old → (run_of A.policy on.grows.list).told ≡ events_told (told_on A acts old new on)
+  events_are : (acts : List (Act Circumstance)) (old new : Host P) (on : OnLink A acts old new) → IsOnNewLink old → (run_of A.policy on.grows.list).told ≡ events_told (told_on A acts old new on)
   events_are acts old new on fresh = events_run A.policy on.grows.list ∙ ap events_told (sym (told_is acts old new on fresh))
 
   -- nothing is left to be told
-  arisen_are : (acts : List Act) (old new : Host P) (on : OnLink A acts old new) → IsOnNewLink old → arisen (run_of A.policy on.grows.list) ≡ events_told (told_on A acts old new on)
+  arisen_are : (acts : List (Act Circumstance)) (old new : Host P) (on : OnLink A acts old new) → IsOnNewLink old → arisen (run_of A.policy on.grows.list) ≡ events_told (told_on A acts old new on)
   arisen_are acts old new on fresh =
       ap₂ (λ (a b : List ChannelEvent). a ++ b) (events_are acts old new on fresh) (ap (λ (v : Channels). v.events) (sym on.channels_run) ∙ on.all_told) ∙ append-nil (events_told (told_on A acts old new on))
 
@@ -60,13 +61,13 @@ module _ {P : Type 0} (A : Profile P) where
 
   -- ---- as the host is once its profile waits
 
-  then_run : (acts : List Act) (old new : Host P) (on : OnLink A acts old new) → IsOnNewLink old → (driven A new).channels ≡ (run_of A.policy (on.grows.list ++ on.drives.list)).value
+  then_run : (acts : List (Act Circumstance)) (old new : Host P) (on : OnLink A acts old new) → IsOnNewLink old → (driven A new).channels ≡ (run_of A.policy (on.grows.list ++ on.drives.list)).value
   then_run acts old new on fresh =
       on.drives.channels_are
       ∙ (ap (λ (v : Channels). values_after A.policy v on.drives.list) (on.channels_run ∙ value_run A.policy on.grows.list new_link)
       ∙ (sym (fold-append _ no_channels on.grows.list on.drives.list) ∙ sym (value_run A.policy (on.grows.list ++ on.drives.list) new_link)))
 
-  then_told : (acts : List Act) (old new : Host P) (on : OnLink A acts old new) → IsOnNewLink old → told_then A acts old new on ≡ tidings_from A.policy no_channels (on.grows.list ++ on.drives.list)
+  then_told : (acts : List (Act Circumstance)) (old new : Host P) (on : OnLink A acts old new) → IsOnNewLink old → told_then A acts old new on ≡ tidings_from A.policy no_channels (on.grows.list ++ on.drives.list)
   then_told acts old new on fresh =
       ap₂ (λ (a b : List Tiding). a ++ b) (told_is acts old new on fresh)
       (on.drives.tidings_are ∙ ap (λ (v : Channels). tidings_from A.policy v on.drives.list) (on.channels_run ∙ value_run A.policy on.grows.list new_link))

@@ -7,6 +7,7 @@ use Rattle.world_model.specs.Machines.{LinkEvent, Linked}
 use Rattle.host_model.specs.Circumstances.{Circumstance}
 use Rattle.host_model.specs.Profiles.{Profile}
 use Rattle.host_model.specs.Hosts.{Host, first_host, driven, hear}
+use Rattle.host_model.specs.Machines.{upper}
 use Rattle.host_laws.specs.Acts.{Act, Acting, StaysOnLink, from_acts}
 use Rattle.host_laws.specs.Calls.{Asks, values_after, outer}
 use Rattle.host_laws.specs.Feeds.{Feed, all_fed, tidings_of, tidings_from}
@@ -29,12 +30,12 @@ IsOnNewLink host = host.channels ≡ no_channels
 -- A host is so at first and where its link comes up or goes down, whatever it did before.
 pub record LinksAreNew {P : Type 0} (A : Profile P) : Type 0 where
   pub first : IsOnNewLink (first_host A)
-  pub begins : (acts : List Act) (host : Host P) (circumstances : List Circumstance) (event : LinkEvent)
-      → Acting A acts (first_host A) host → IsOnNewLink (hear A circumstances (Linked event) host)
+  pub begins : (acts : List (Act Circumstance)) (host : Host P) (circumstances : List Circumstance) (event : LinkEvent)
+      → Acting (upper A) acts (first_host A) host → IsOnNewLink (hear A circumstances (Linked event) host)
 
 -- a host on its link: its channels are those of a run, of what it heard and said and what its profile asked for, and what they tell is
 -- told
-pub record OnLink {P : Type 0} (A : Profile P) (acts : List Act) (old new : Host P) : Type 0 where
+pub record OnLink {P : Type 0} (A : Profile P) (acts : List (Act Circumstance)) (old new : Host P) : Type 0 where
   pub grows : Grows A (from_acts acts) old new
   pub channels_run : new.channels ≡ (run_of A.policy grows.list).value
   pub all_told : new.channels.events ≡ []
@@ -44,4 +45,4 @@ pub record OnLink {P : Type 0} (A : Profile P) (acts : List Act) (old new : Host
 
 -- So it is on every link, for every profile, whatever its host hears and however far it comes with what it says.
 abbrev pub HostsRun : {P : Type 0} → Profile P → Type 0
-HostsRun {P} A = Asks A → (acts : List Act) (old new : Host P) → IsOnNewLink old → AllByRecursion StaysOnLink acts → Acting A acts old new → OnLink A acts old new
+HostsRun {P} A = Asks A → (acts : List (Act Circumstance)) (old new : Host P) → IsOnNewLink old → AllByRecursion StaysOnLink acts → Acting (upper A) acts old new → OnLink A acts old new

@@ -1,4 +1,5 @@
 pub mod Acts
+pub mod Turning
 pub mod Calls
 pub mod Feeds
 pub mod Laws

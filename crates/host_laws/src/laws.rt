@@ -3,7 +3,9 @@
 ghost use Rattle.host_laws.specs.Calls.{HostsAsk};
 ghost use Rattle.host_laws.specs.Laws.{HostsRun, LinksAreNew};
 ghost use Rattle.host_laws.specs.Told.{AllSdusAreTold, ChecksAreRead, ProfilesAreTold};
+ghost use Rattle.host_laws.specs.Turning.{TurnsAreActs};
 ghost use Rattle.host_model.specs.Profiles.{Profile};
+ghost use Rattle.world_model.specs.Machines.{Upper};
 
 /// With each step of its profile a client or a server asks for one thing of its channels at most.
 pub fn hosts_ask()
@@ -11,35 +13,36 @@ pub fn hosts_ask()
 {}
 
 /// A host has no channels at first, and where its link comes up or goes down.
-#[tactic(auto, using(crate::proofs::Links::links_are_new))]
 pub fn links_are_new<P>()
     ensures { (A : Profile P) → LinksAreNew A }
 {}
 
 /// On each link the channels of a host are those of a run of what it heard and said and of what its profile asked
 /// for, and its profile was told all that they tell, in its order: so all laws on channels hold of every host.
-#[tactic(auto, using(crate::proofs::Links::hosts_run))]
 pub fn hosts_run<P>()
     ensures { (A : Profile P) → HostsRun A }
 {}
 
 /// What a profile is told on a link is read off its host's own talk: each SDU is of a channel that is read, none comes
 /// behind the end of its channel, and a channel whose end was told is one that its host has closed.
-#[tactic(auto, using(crate::proofs::Profiles::profiles_are_told))]
 pub fn profiles_are_told<P>()
     ensures { (A : Profile P) → ProfilesAreTold A }
 {}
 
 /// The SDUs that a profile is told of a channel are those that its host's own talk brings. Where the channel was
 /// closed by its machine, the PDU for which it was may bring one more.
-#[tactic(auto, using(crate::proofs::Profiles::all_sdus_are_told))]
 pub fn all_sdus_are_told<P>()
     ensures { (A : Profile P) → AllSdusAreTold A }
 {}
 
 /// A host looks for a check word at an endpoint exactly where its own talk says that there is one, until its profile
 /// was told the end of the channel.
-#[tactic(auto, using(crate::proofs::Profiles::checks_are_read))]
 pub fn checks_are_read<P>()
     ensures { (A : Profile P) → ChecksAreRead A }
+{}
+
+/// What a host was told and said in a run of turns is what it heard and said by itself, one thing after the other: so all
+/// laws of one host hold of both hosts of a world.
+pub fn turns_are_acts<S, T, G, H>()
+    ensures { (U : Upper S G) (V : Upper T H) → TurnsAreActs U V }
 {}
