@@ -8,8 +8,8 @@ use Rattle.channel_laws.specs.Runs.{Occurrence, value_after}
 use Rattle.channel_laws.specs.Runs as channels
 use Rattle.host_model.specs.Profiles.{Profile}
 use Rattle.host_model.specs.Hosts.{Host, tells_events}
-use Rattle.host_laws.specs.Calls.{values_after, outer}
-use Rattle.host_laws.specs.Feeds.{Feed, Happens, fed, all_fed, Tiding, Tells, tidings_in, tidings_of, tidings_with, tidings_from}
+use Rattle.host_laws.specs.Calls.{Asks, values_after, asked, outer}
+use Rattle.host_laws.specs.Feeds.{Feed, Happens, fed, all_fed, asked_from, Tiding, Tells, tidings_in, tidings_of, tidings_with, tidings_from}
 use Rattle.host_laws.specs.Laws.{Grows}
 
 -- one occurrence for each event
@@ -28,20 +28,28 @@ none_outer : (events : List ChannelEvent) → filter_map outer (tellings events)
 none_outer [] = refl
 none_outer (event ∷ events) = none_outer events
 
+none_asked : (events : List ChannelEvent) → filter_map asked (tellings events) ≡ []
+none_asked [] = refl
+none_asked (event ∷ events) = none_asked events
+
 -- what the profile goes through
-abbrev happenings : Channels → List ChannelEvent → List Feed
+abbrev pub happenings : Channels → List ChannelEvent → List Feed
 happenings v events = map (λ event. Happens event v) events
 
-each_fed : {P : Type 0} (A : Profile P) (v : Channels) (events : List ChannelEvent) (p : P) → fold (λ profile event. A.happened event v profile) p events ≡ all_fed A p (happenings v events)
+pub each_fed : {P : Type 0} (A : Profile P) (v : Channels) (events : List ChannelEvent) (p : P) → fold (λ profile event. A.happened event v profile) p events ≡ all_fed A p (happenings v events)
 each_fed A v [] p = refl
 each_fed A v (event ∷ events) p = each_fed A v events (A.happened event v p)
 
-each_told : (v : Channels) (events : List ChannelEvent) → tidings_of (happenings v events) ≡ map Tells events
+pub each_told : (v : Channels) (events : List ChannelEvent) → tidings_of (happenings v events) ≡ map Tells events
 each_told v [] = refl
 each_told v (event ∷ events) = ap (λ (rest : List Tiding). Tells event ∷ rest) (each_told v events)
 
-pub tells_grow : {P : Type 0} (A : Profile P) (host : Host P) → Grows A [] host (tells_events A host)
-tells_grow A host =
+pub each_asked : {P : Type 0} (A : Profile P) (asks : Asks A) (v : Channels) (events : List ChannelEvent) (p : P) → asked_from A asks p (happenings v events) ≡ []
+each_asked A asks v [] p = refl
+each_asked A asks v (event ∷ events) p = each_asked A asks v events (A.happened event v p)
+
+pub tells_grow : {P : Type 0} (A : Profile P) (asks : Asks A) (host : Host P) → Grows A asks [] host (tells_events A host)
+tells_grow A asks host =
     let v = host.channels in
     record {
       list = tellings v.events;
@@ -49,5 +57,6 @@ tells_grow A host =
       channels_are = sym (drained A.policy v v.events);
       profile_is = each_fed A v v.events host.profile;
       tidings_are = each_told v v.events ∙ sym (tidings_drained A.policy v v.events);
+      asked_is = none_asked v.events ∙ sym (each_asked A asks v v.events host.profile);
       acted_is = none_outer v.events;
     }

@@ -19,8 +19,8 @@ use Rattle.host_model.specs.Profiles.{Profile}
 use Rattle.host_model.specs.Hosts.{Host, with_channels, tells_events, settles, strides, goes_by, drives, most_steps, driven, brought, handed, told, hears_news, ready, hear, says, next}
 use Rattle.host_model.specs.Machines.{upper}
 use Rattle.host_laws.specs.Acts.{Act, Hears, Says, Does, Acting, StaysOnLink, from_news, from_act, from_acts}
-use Rattle.host_laws.specs.Calls.{Call, Connect, AskFeatures, Disconnect, Send, Asks, from_call, values_after, outer}
-use Rattle.host_laws.specs.Feeds.{Feed, Gifts, Learns, Receives, fed, all_fed, Tiding, tidings_by, tidings_in, tidings_of, brought_by, tidings_with, tidings_from}
+use Rattle.host_laws.specs.Calls.{Call, Connect, AskFeatures, Disconnect, Send, Asks, from_call, values_after, asked, outer}
+use Rattle.host_laws.specs.Feeds.{Feed, Gifts, Learns, Receives, fed, all_fed, asked_with, asked_from, Tiding, tidings_by, tidings_in, tidings_of, brought_by, tidings_with, tidings_from}
 use Rattle.host_laws.specs.Feeds as feeds
 use Rattle.host_laws.specs.Laws.{Grows}
 use Rattle.host_laws.proofs.Draining.{tells_grow}
@@ -31,11 +31,17 @@ tidings-append policy v (x ∷ xs) ys =
     ap (λ (rest : List Tiding). tidings_with x v ++ rest) (tidings-append policy (value_after policy x v) xs ys)
     ∙ sym (append_assoc (tidings_with x v) (tidings_from policy (value_after policy x v) xs) (tidings_from policy (values_after policy v (x ∷ xs)) ys))
 
-module _ {P : Type 0} (A : Profile P) where
-  pub grows_none : (host : Host P) → Grows A [] host host
-  grows_none host = record { list = []; feeds = []; channels_are = refl; profile_is = refl; tidings_are = refl; acted_is = refl }
+asked-append : {P : Type 0} (A : Profile P) (asks : Asks A) (p : P) (xs ys : List Feed) → asked_from A asks p (xs ++ ys) ≡ asked_from A asks p xs ++ asked_from A asks (all_fed A p xs) ys
+asked-append A asks p [] ys = refl
+asked-append A asks p (x ∷ xs) ys =
+    ap (λ (rest : List Occurrence). asked_with A asks p x ++ rest) (asked-append A asks (fed A p x) xs ys)
+    ∙ sym (append_assoc (asked_with A asks p x) (asked_from A asks (fed A p x) xs) (asked_from A asks (all_fed A p (x ∷ xs)) ys))
 
-  pub grows_then : (xs ys : List Occurrence) (old mid new : Host P) → Grows A xs old mid → Grows A ys mid new → Grows A (xs ++ ys) old new
+module _ {P : Type 0} (A : Profile P) (asks : Asks A) where
+  pub grows_none : (host : Host P) → Grows A asks [] host host
+  grows_none host = record { list = []; feeds = []; channels_are = refl; profile_is = refl; tidings_are = refl; asked_is = refl; acted_is = refl }
+
+  pub grows_then : (xs ys : List Occurrence) (old mid new : Host P) → Grows A asks xs old mid → Grows A asks ys mid new → Grows A asks (xs ++ ys) old new
   grows_then xs ys old mid new one two = record {
     list = one.list ++ two.list;
     feeds = one.feeds ++ two.feeds;
@@ -45,15 +51,26 @@ module _ {P : Type 0} (A : Profile P) where
     tidings_are = flat_map-append tidings_in one.feeds two.feeds
         ∙ (ap₂ (λ (a b : List Tiding). a ++ b) one.tidings_are (two.tidings_are ∙ ap (λ v. tidings_from A.policy v two.list) one.channels_are)
         ∙ sym (tidings-append A.policy old.channels one.list two.list));
+    asked_is = filter_map-append asked one.list two.list
+        ∙ (ap₂ (λ (a b : List Occurrence). a ++ b) one.asked_is (two.asked_is ∙ ap (λ p. asked_from A asks p two.feeds) one.profile_is)
+        ∙ sym (asked-append A asks old.profile one.feeds two.feeds));
     acted_is = filter_map-append outer one.list two.list ∙ ap₂ (λ (a b : List Occurrence). a ++ b) one.acted_is two.acted_is;
   }
 
   -- the profile alone goes on
-  pub feeds_grow : (host : Host P) (feed : Feed) (count : ℕ) → tidings_in feed ≡ [] → (let after : Host P = record host { profile = fed A host.profile feed; may_say = count } in Grows A [] host after)
-  feeds_grow host feed count none = record { list = []; feeds = feed ∷ []; channels_are = refl; profile_is = refl; tidings_are = ap (λ (t : List Tiding). t ++ []) none; acted_is = refl }
+  pub feeds_grow : (host : Host P) (feed : Feed) (count : ℕ) → tidings_in feed ≡ [] → asked_with A asks host.profile feed ≡ [] → (let after : Host P = record host { profile = fed A host.profile feed; may_say = count } in Grows A asks [] host after)
+  feeds_grow host feed count none nothing = record {
+    list = [];
+    feeds = feed ∷ [];
+    channels_are = refl;
+    profile_is = refl;
+    tidings_are = ap (λ (t : List Tiding). t ++ []) none;
+    asked_is = sym (ap (λ (l : List Occurrence). l ++ []) nothing);
+    acted_is = refl;
+  }
 
-  pub settles_grow : (host : Host P) → Grows A [] host (settles A host)
-  settles_grow host = feeds_grow host (feeds.Sent host.channels) host.may_say refl
+  pub settles_grow : (host : Host P) → Grows A asks [] host (settles A host)
+  settles_grow host = feeds_grow host (feeds.Sent host.channels) host.may_say refl refl
 
   -- ---- a PDU comes in
 
@@ -69,22 +86,26 @@ module _ {P : Type 0} (A : Profile P) where
   told_up Nothing = refl
   told_up (Received own psm sdu) = refl
 
+  asked_up : (up : Handed) (p : P) → asked_from A asks p (feeds_up up) ≡ []
+  asked_up Nothing p = refl
+  asked_up (Received own psm sdu) p = refl
+
   pub comes_grow : (pdu : List ℕ) (host : Host P)
-      → (let after : Host P = record host { channels = channels.hears A.policy (channel_of pdu) pdu host.channels; profile = handed A (channels.up (channel_of pdu) pdu host.channels) host.profile } in Grows A (Comes pdu ∷ []) host after)
+      → (let after : Host P = record host { channels = channels.hears A.policy (channel_of pdu) pdu host.channels; profile = handed A (channels.up (channel_of pdu) pdu host.channels) host.profile } in Grows A asks (Comes pdu ∷ []) host after)
   comes_grow pdu host =
       let up = channels.up (channel_of pdu) pdu host.channels in
-      record { list = Comes pdu ∷ []; feeds = feeds_up up; channels_are = refl; profile_is = fed_up up host.profile; tidings_are = told_up up; acted_is = refl }
+      record { list = Comes pdu ∷ []; feeds = feeds_up up; channels_are = refl; profile_is = fed_up up host.profile; tidings_are = told_up up; asked_is = sym (asked_up up host.profile); acted_is = refl }
 
   -- ---- the timer fires, a PDU is given
 
-  fires_grow : (host : Host P) → Grows A (Fires ∷ []) host (with_channels (timed_out A.policy host.channels) host)
-  fires_grow host = record { list = Fires ∷ []; feeds = []; channels_are = refl; profile_is = refl; tidings_are = refl; acted_is = refl }
+  fires_grow : (host : Host P) → Grows A asks (Fires ∷ []) host (with_channels (timed_out A.policy host.channels) host)
+  fires_grow host = record { list = Fires ∷ []; feeds = []; channels_are = refl; profile_is = refl; tidings_are = refl; asked_is = refl; acted_is = refl }
 
-  gives_grow : (pdu : List ℕ) (host : Host P) (count : ℕ) → (let after : Host P = record host { channels = after_given host.channels; may_say = count } in Grows A (Gives pdu ∷ []) host after)
-  gives_grow pdu host count = record { list = Gives pdu ∷ []; feeds = []; channels_are = refl; profile_is = refl; tidings_are = refl; acted_is = refl }
+  gives_grow : (pdu : List ℕ) (host : Host P) (count : ℕ) → (let after : Host P = record host { channels = after_given host.channels; may_say = count } in Grows A asks (Gives pdu ∷ []) host after)
+  gives_grow pdu host count = record { list = Gives pdu ∷ []; feeds = []; channels_are = refl; profile_is = refl; tidings_are = refl; asked_is = refl; acted_is = refl }
 
-  learns_grow : (circumstances : List Circumstance) (news : News) (host : Host P) → tidings_by news ≡ [] → Grows A [] host (told A circumstances news host)
-  learns_grow circumstances news host none = feeds_grow host (Learns circumstances news) host.may_say none
+  learns_grow : (circumstances : List Circumstance) (news : News) (host : Host P) → tidings_by news ≡ [] → Grows A asks [] host (told A circumstances news host)
+  learns_grow circumstances news host none = feeds_grow host (Learns circumstances news) host.may_say none refl
 
   -- ---- a step of its profile
 
@@ -95,6 +116,13 @@ module _ {P : Type 0} (A : Profile P) where
   none_told (Some (Disconnect own)) v = refl
   none_told (Some (Send own sdu)) v = refl
 
+  call_asked : (call : Option Call) → filter_map asked (from_call call) ≡ from_call call ++ []
+  call_asked None = refl
+  call_asked (Some (Connect psm)) = refl
+  call_asked (Some AskFeatures) = refl
+  call_asked (Some (Disconnect own)) = refl
+  call_asked (Some (Send own sdu)) = refl
+
   none_acted : (call : Option Call) → filter_map outer (from_call call) ≡ []
   none_acted None = refl
   none_acted (Some (Connect psm)) = refl
@@ -102,87 +130,88 @@ module _ {P : Type 0} (A : Profile P) where
   none_acted (Some (Disconnect own)) = refl
   none_acted (Some (Send own sdu)) = refl
 
-  strides_grow : Asks A → (host : Host P) → Grows A [] host (strides A (A.steps host.channels host.profile) host)
-  strides_grow asks host =
+  strides_grow : (host : Host P) → Grows A asks [] host (strides A (A.steps host.channels host.profile) host)
+  strides_grow host =
       let stride = A.steps host.channels host.profile in
       let mid : Host P = record host { channels = stride.channels; profile = stride.profile } in
       let call = asks.call host.channels host.profile in
-      let steps : Grows A [] host mid = record {
+      let steps : Grows A asks [] host mid = record {
         list = from_call call;
         feeds = feeds.Steps host.channels ∷ [];
         channels_are = asks.steps_are host.channels host.profile;
         profile_is = refl;
         tidings_are = none_told call host.channels;
+        asked_is = call_asked call;
         acted_is = none_acted call;
       } in
-      grows_then [] [] host mid (strides A stride host) steps (tells_grow A mid)
+      grows_then [] [] host mid (strides A stride host) steps (tells_grow A asks mid)
 
   -- ---- all that it does by itself
 
-  strides_on : Asks A → (more : Host P → Host P) (test : Bool) (host : Host P) → ((next : Host P) → Grows A [] next (more next))
-      → (let after = strides A (A.steps host.channels host.profile) host in Grows A [] host (if test then more after else after))
-  strides_on asks more true host goes = let after = strides A (A.steps host.channels host.profile) host in grows_then [] [] host after (more after) (strides_grow asks host) (goes after)
-  strides_on asks more false host goes = strides_grow asks host
+  strides_on : (more : Host P → Host P) (test : Bool) (host : Host P) → ((next : Host P) → Grows A asks [] next (more next))
+      → (let after = strides A (A.steps host.channels host.profile) host in Grows A asks [] host (if test then more after else after))
+  strides_on more true host goes = let after = strides A (A.steps host.channels host.profile) host in grows_then [] [] host after (more after) (strides_grow host) (goes after)
+  strides_on more false host goes = strides_grow host
 
-  goes_on : Asks A → (more : Host P → Host P) (test : Bool) (host : Host P) → ((next : Host P) → Grows A [] next (more next))
-      → Grows A [] host (if test then host else goes_by A more (A.steps host.channels host.profile) host)
-  goes_on asks more true host goes = grows_none host
-  goes_on asks more false host goes = strides_on asks more (A.steps host.channels host.profile).more host goes
+  goes_on : (more : Host P → Host P) (test : Bool) (host : Host P) → ((next : Host P) → Grows A asks [] next (more next))
+      → Grows A asks [] host (if test then host else goes_by A more (A.steps host.channels host.profile) host)
+  goes_on more true host goes = grows_none host
+  goes_on more false host goes = strides_on more (A.steps host.channels host.profile).more host goes
 
-  pub drives_grow : Asks A → (count : ℕ) (host : Host P) → Grows A [] host (drives A count host)
+  pub drives_grow : (count : ℕ) (host : Host P) → Grows A asks [] host (drives A count host)
   unfolding drives
-  drives_grow asks zero host = settles_grow host
-  drives_grow asks (suc count) host =
+  drives_grow zero host = settles_grow host
+  drives_grow (suc count) host =
       let now = settles A host in
       let more = λ (next : Host P). drives A count next in
       let test = is_some (next_given now.channels) in
-      grows_then [] [] host now (if test then now else goes_by A more (A.steps now.channels now.profile) now) (settles_grow host) (goes_on asks more test now (λ next. drives_grow asks count next))
+      grows_then [] [] host now (if test then now else goes_by A more (A.steps now.channels now.profile) now) (settles_grow host) (goes_on more test now (λ next. drives_grow count next))
 
-  brings : Asks A → (far : Headway) (host : Host P) → Grows A [] host (brought A far host)
-  brings asks Sending host = grows_none host
-  brings asks Sent host = settles_grow host
-  brings asks Settled host = drives_grow asks most_steps host
+  brings : (far : Headway) (host : Host P) → Grows A asks [] host (brought A far host)
+  brings Sending host = grows_none host
+  brings Sent host = settles_grow host
+  brings Settled host = drives_grow most_steps host
 
-  readies : Asks A → (circumstances : List Circumstance) (host : Host P) → Grows A [] host (ready A circumstances host)
-  readies asks circumstances host =
+  pub readies : (circumstances : List Circumstance) (host : Host P) → Grows A asks [] host (ready A circumstances host)
+  readies circumstances host =
       let old = brought A (headway_in circumstances) host in
-      grows_then [] [] host old (ready A circumstances host) (brings asks (headway_in circumstances) host) (feeds_grow old (Gifts circumstances) (ready A circumstances host).may_say refl)
+      grows_then [] [] host old (ready A circumstances host) (brings (headway_in circumstances) host) (feeds_grow old (Gifts circumstances) (ready A circumstances host).may_say refl refl)
 
   -- ---- acts
 
-  hears_any : (circumstances : List Circumstance) (news : News) (host : Host P) → StaysOnLink (Hears circumstances news) → Grows A (from_news news) host (hears_news A circumstances news host)
+  hears_any : (circumstances : List Circumstance) (news : News) (host : Host P) → StaysOnLink (Hears circumstances news) → Grows A asks (from_news news) host (hears_news A circumstances news host)
   hears_any circumstances (Linked event) host stays = absurd stays
   hears_any circumstances (Failed status) host stays = learns_grow circumstances (Failed status) host refl
   hears_any circumstances (Heard pdu) host stays =
       let heard : Host P = record host { channels = channels.hears A.policy (channel_of pdu) pdu host.channels; profile = handed A (channels.up (channel_of pdu) pdu host.channels) host.profile } in
-      grows_then (Comes pdu ∷ []) [] host heard (tells_events A heard) (comes_grow pdu host) (tells_grow A heard)
+      grows_then (Comes pdu ∷ []) [] host heard (tells_events A heard) (comes_grow pdu host) (tells_grow A asks heard)
   hears_any circumstances TimerFired host stays =
       let fired = with_channels (timed_out A.policy host.channels) host in
       grows_then (Fires ∷ []) [] host fired (told A circumstances TimerFired (tells_events A fired)) (fires_grow host)
-      (grows_then [] [] fired (tells_events A fired) (told A circumstances TimerFired (tells_events A fired)) (tells_grow A fired) (learns_grow circumstances TimerFired (tells_events A fired) refl))
+      (grows_then [] [] fired (tells_events A fired) (told A circumstances TimerFired (tells_events A fired)) (tells_grow A asks fired) (learns_grow circumstances TimerFired (tells_events A fired) refl))
   hears_any circumstances Cancelled host stays = learns_grow circumstances Cancelled host refl
   hears_any circumstances (Opening name) host stays = learns_grow circumstances (Opening name) host refl
 
-  hears_grow : Asks A → (circumstances : List Circumstance) (news : News) (host : Host P) → StaysOnLink (Hears circumstances news) → Grows A (from_news news) host (hear A circumstances news host)
-  hears_grow asks circumstances news host stays =
-      grows_then [] (from_news news) host (ready A circumstances host) (hear A circumstances news host) (readies asks circumstances host) (hears_any circumstances news (ready A circumstances host) stays)
+  hears_grow : (circumstances : List Circumstance) (news : News) (host : Host P) → StaysOnLink (Hears circumstances news) → Grows A asks (from_news news) host (hear A circumstances news host)
+  hears_grow circumstances news host stays =
+      grows_then [] (from_news news) host (ready A circumstances host) (hear A circumstances news host) (readies circumstances host) (hears_any circumstances news (ready A circumstances host) stays)
 
   -- what follows from all that is said
   abbrev Says_it : Host P → Option (List ℕ × Host P) → Type 0
   Says_it host None = Unit {0}
-  Says_it host (Some one) = Grows A (Gives one.0 ∷ []) host one.1
+  Says_it host (Some one) = Grows A asks (Gives one.0 ∷ []) host one.1
 
-  frames_grow : (old : Host P) (test : Bool) (pdu : List ℕ) (host : Host P) → Grows A (Gives pdu ∷ []) old host → Says_it old (if test then Some (pdu, host) else None)
+  frames_grow : (old : Host P) (test : Bool) (pdu : List ℕ) (host : Host P) → Grows A asks (Gives pdu ∷ []) old host → Says_it old (if test then Some (pdu, host) else None)
   frames_grow old true pdu host grows = grows
   frames_grow old false pdu host grows = tt
 
-  says_grow : (old : Host P) (given : Option Given) (count : ℕ) (host : Host P) → Grows A [] old host → Says_it old (says given count host)
+  says_grow : (old : Host P) (given : Option Given) (count : ℕ) (host : Host P) → Grows A asks [] old host → Says_it old (says given count host)
   says_grow old None count host grows = tt
   says_grow old (Some given) zero host grows = tt
   says_grow old (Some given) (suc count) host grows =
       let after : Host P = record host { channels = after_given host.channels; may_say = count } in
       frames_grow old (is_frame (pdu_of given)) (pdu_of given) after (grows_then [] (Gives (pdu_of given) ∷ []) old host after grows (gives_grow (pdu_of given) host count))
 
-  pub act_grows : Asks A → (act : Act Circumstance) (old new : Host P) → StaysOnLink act → Does (upper A) act old new → Grows A (from_act act) old new
-  act_grows asks (Hears circumstances news) old new stays does = subst (λ (host : Host P). Grows A (from_news news) old host) (sym does) (hears_grow asks circumstances news old stays)
-  act_grows asks (Says pdu) old new stays does = subst (Says_it old) does (says_grow old (next_given (driven A old).channels) old.may_say (driven A old) (drives_grow asks most_steps old))
+  pub act_grows : (act : Act Circumstance) (old new : Host P) → StaysOnLink act → Does (upper A) act old new → Grows A asks (from_act act) old new
+  act_grows (Hears circumstances news) old new stays does = subst (λ (host : Host P). Grows A asks (from_news news) old host) (sym does) (hears_grow circumstances news old stays)
+  act_grows (Says pdu) old new stays does = subst (Says_it old) does (says_grow old (next_given (driven A old).channels) old.may_say (driven A old) (drives_grow most_steps old))

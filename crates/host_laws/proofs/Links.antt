@@ -71,12 +71,12 @@ module _ {P : Type 0} (A : Profile P) where
   drives_told zero host is = is
   drives_told (suc count) host is = let now = settles A host in goes_told (λ next. drives A count next) (is_some (next_given now.channels)) now (λ next. drives_told count next) is
 
-  brought_told : (far : Headway) (host : Host P) → IsTold host → IsTold (brought A far host)
+  pub brought_told : (far : Headway) (host : Host P) → IsTold host → IsTold (brought A far host)
   brought_told Sending host is = is
   brought_told Sent host is = is
   brought_told Settled host is = drives_told most_steps host is
 
-  heard_told : (circumstances : List Circumstance) (news : News) (host : Host P) → IsTold host → IsTold (hears_news A circumstances news host)
+  pub heard_told : (circumstances : List Circumstance) (news : News) (host : Host P) → IsTold host → IsTold (hears_news A circumstances news host)
   heard_told circumstances (Linked Up) host is = is
   heard_told circumstances (Linked (Down reason)) host is = refl
   heard_told circumstances (Failed status) host is = is
@@ -100,7 +100,7 @@ module _ {P : Type 0} (A : Profile P) where
       let after : Host P = record host { channels = after_given host.channels; may_say = count } in
       frames_told (is_frame (pdu_of given)) (pdu_of given) after (queue_events host.channels.queue host.channels ∙ is)
 
-  act_told : (act : Act Circumstance) (old new : Host P) → Does (upper A) act old new → IsTold old → IsTold new
+  pub act_told : (act : Act Circumstance) (old new : Host P) → Does (upper A) act old new → IsTold old → IsTold new
   act_told (Hears circumstances news) old new does is =
       subst (λ (host : Host P). IsTold host) (sym does) (heard_told circumstances news (ready A circumstances old) (brought_told (headway_in circumstances) old is))
   act_told (Says pdu) old new does is = subst Says_told does (says_told (next_given (driven A old).channels) old.may_say (driven A old) (drives_told most_steps old is))
@@ -111,7 +111,7 @@ module _ {P : Type 0} (A : Profile P) where
 
   -- ---- links begin and end
 
-  linked_new : (circumstances : List Circumstance) (event : LinkEvent) (host : Host P) → IsTold host → IsOnNewLink (hears_news A circumstances (Linked event) host)
+  pub linked_new : (circumstances : List Circumstance) (event : LinkEvent) (host : Host P) → IsTold host → IsOnNewLink (hears_news A circumstances (Linked event) host)
   linked_new circumstances Up host is = ap (λ (events : List ChannelEvent). let v : Channels = record no_channels { events = events } in v) is
   linked_new circumstances (Down reason) host is = refl
 
@@ -124,10 +124,10 @@ module _ {P : Type 0} (A : Profile P) where
 
   -- ---- on a link
 
-  pub acts_grow : Asks A → (acts : List (Act Circumstance)) (old new : Host P) → AllByRecursion StaysOnLink acts → Acting (upper A) acts old new → Grows A (from_acts acts) old new
-  acts_grow asks [] old new stay same = subst (λ (host : Host P). Grows A [] old host) (sym same) (grows_none A old)
+  pub acts_grow : (asks : Asks A) (acts : List (Act Circumstance)) (old new : Host P) → AllByRecursion StaysOnLink acts → Acting (upper A) acts old new → Grows A asks (from_acts acts) old new
+  acts_grow asks [] old new stay same = subst (λ (host : Host P). Grows A asks [] old host) (sym same) (grows_none A asks old)
   acts_grow asks (act ∷ acts) old new (stays, stay) (mid, does, rest) =
-      grows_then A (from_act act) (from_acts acts) old mid new (act_grows A asks act old mid stays does) (acts_grow asks acts mid new stay rest)
+      grows_then A asks (from_act act) (from_acts acts) old mid new (act_grows A asks act old mid stays does) (acts_grow asks acts mid new stay rest)
 
   pub hosts_run : HostsRun A
   hosts_run asks acts old new fresh stay acting =

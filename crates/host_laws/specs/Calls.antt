@@ -39,7 +39,20 @@ pub record HostsAsk : Type 0 where
   pub clients : (settings : Settings) → Asks (client_profile settings)
   pub servers : (settings : Settings) (content : Option Contents) → Asks (server_profile settings content)
 
--- the host hears this, or says it, itself: neither is it asked for by its profile nor told to it
+-- ---- whose doing an occurrence is
+
+-- the profile asked for it
+abbrev pub asked : Occurrence → Option Occurrence
+asked (Comes pdu) = None
+asked (Connects psm) = Some (Connects psm)
+asked AsksFeatures = Some AsksFeatures
+asked (Disconnects own) = Some (Disconnects own)
+asked (Sends own sdu) = Some (Sends own sdu)
+asked (Gives pdu) = None
+asked Fires = None
+asked Tells = None
+
+-- the host hears it, or says it
 abbrev pub outer : Occurrence → Option Occurrence
 outer (Comes pdu) = Some (Comes pdu)
 outer (Connects psm) = None

@@ -9,6 +9,7 @@ use Rattle.channel_laws.specs.Runs.{Occurrence, value_after, told_in, up_with}
 use Rattle.world_model.specs.Machines.{LinkEvent, News, Linked, Failed, Heard, TimerFired, Cancelled, Opening}
 use Rattle.host_model.specs.Circumstances.{Circumstance}
 use Rattle.host_model.specs.Profiles.{Profile}
+use Rattle.host_laws.specs.Calls.{Asks, from_call}
 
 pub data Feed : Type 0 where
   -- it is given what its ports will answer, and news
@@ -31,6 +32,21 @@ fed A p (Steps channels) = (A.steps channels p).profile
 
 abbrev pub all_fed : {P : Type 0} → Profile P → P → List Feed → P
 all_fed A p feeds = fold (fed A) p feeds
+
+-- ---- what it asks for
+
+abbrev pub asked_with : {P : Type 0} (A : Profile P) → Asks A → P → Feed → List Occurrence
+asked_with A asks p (Gifts circumstances) = []
+asked_with A asks p (Learns circumstances news) = []
+asked_with A asks p (Receives own psm sdu) = []
+asked_with A asks p (Happens event channels) = []
+asked_with A asks p (Sent channels) = []
+asked_with A asks p (Steps channels) = from_call (asks.call channels p)
+
+-- what a profile asks of its channels with all its steps
+abbrev pub asked_from : {P : Type 0} (A : Profile P) → Asks A → P → List Feed → List Occurrence
+asked_from A asks p [] = []
+asked_from A asks p (feed ∷ feeds) = asked_with A asks p feed ++ asked_from A asks (fed A p feed) feeds
 
 -- ---- what channels tell
 

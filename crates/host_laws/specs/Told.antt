@@ -20,6 +20,7 @@ use Rattle.host_model.specs.Profiles.{Profile}
 use Rattle.host_model.specs.Hosts.{Host}
 use Rattle.host_model.specs.Machines.{upper}
 use Rattle.host_laws.specs.Acts.{Act}
+use Rattle.host_laws.specs.Calls.{Asks}
 use Rattle.host_laws.specs.Feeds.{Tiding, Brings, Tells, Turns, tidings_of}
 use Rattle.host_laws.specs.Laws.{Grows, IsOnNewLink, OnLink}
 
@@ -72,30 +73,30 @@ SdusAreTold party said tidings =
 -- ---- the laws
 
 -- the own talk of a host on its link, and what its profile was told there
-abbrev pub own_talk : {P : Type 0} (A : Profile P) (acts : List (Act Circumstance)) (old new : Host P) → OnLink A acts old new → List Saying
-own_talk A acts old new on = (run_of A.policy on.grows.list).said
+abbrev pub own_talk : {P : Type 0} (A : Profile P) (asks : Asks A) (acts : List (Act Circumstance)) (old new : Host P) → OnLink A asks acts old new → List Saying
+own_talk A asks acts old new on = (run_of A.policy on.grows.list).said
 
-abbrev pub told_on : {P : Type 0} (A : Profile P) (acts : List (Act Circumstance)) (old new : Host P) → OnLink A acts old new → List Tiding
-told_on A acts old new on = tidings_of on.grows.feeds
+abbrev pub told_on : {P : Type 0} (A : Profile P) (asks : Asks A) (acts : List (Act Circumstance)) (old new : Host P) → OnLink A asks acts old new → List Tiding
+told_on A asks acts old new on = tidings_of on.grows.feeds
 
 abbrev pub ProfilesAreTold : {P : Type 0} → Profile P → Type 0
-ProfilesAreTold {P} A = (acts : List (Act Circumstance)) (old new : Host P) (on : OnLink A acts old new) → IsOnNewLink old → IsTold (own_talk A acts old new on) (told_on A acts old new on)
+ProfilesAreTold {P} A = (asks : Asks A) (acts : List (Act Circumstance)) (old new : Host P) (on : OnLink A asks acts old new) → IsOnNewLink old → IsTold (own_talk A asks acts old new on) (told_on A asks acts old new on)
 
 abbrev pub AllSdusAreTold : {P : Type 0} → Profile P → Type 0
 AllSdusAreTold {P} A =
-    (party : Party) (acts : List (Act Circumstance)) (old new : Host P) (on : OnLink A acts old new) → IsOnNewLink old → StatesFrame A.policy party
-    → SdusAreTold party (own_talk A acts old new on) (told_on A acts old new on)
+    (asks : Asks A) (party : Party) (acts : List (Act Circumstance)) (old new : Host P) (on : OnLink A asks acts old new) → IsOnNewLink old → StatesFrame A.policy party
+    → SdusAreTold party (own_talk A asks acts old new on) (told_on A asks acts old new on)
 
 -- ---- check words
 
 -- its own talk once its profile waits, and what its profile was told then
-abbrev pub talk_then : {P : Type 0} (A : Profile P) (acts : List (Act Circumstance)) (old new : Host P) → OnLink A acts old new → List Saying
-talk_then A acts old new on = (run_of A.policy (on.grows.list ++ on.drives.list)).said
+abbrev pub talk_then : {P : Type 0} (A : Profile P) (asks : Asks A) (acts : List (Act Circumstance)) (old new : Host P) → OnLink A asks acts old new → List Saying
+talk_then A asks acts old new on = (run_of A.policy (on.grows.list ++ on.drives.list)).said
 
-abbrev pub told_then : {P : Type 0} (A : Profile P) (acts : List (Act Circumstance)) (old new : Host P) → OnLink A acts old new → List Tiding
-told_then A acts old new on = tidings_of on.grows.feeds ++ tidings_of on.drives.feeds
+abbrev pub told_then : {P : Type 0} (A : Profile P) (asks : Asks A) (acts : List (Act Circumstance)) (old new : Host P) → OnLink A asks acts old new → List Tiding
+told_then A asks acts old new on = tidings_of on.grows.feeds ++ tidings_of on.drives.feeds
 
 -- A host looks for a check word at an endpoint where its own talk says that there is one, until its profile was told the end of the channel.
 abbrev pub ChecksAreRead : {P : Type 0} → Profile P → Type 0
-ChecksAreRead {P} A = (acts : List (Act Circumstance)) (old new : Host P) (on : OnLink A acts old new) (own : ℕ) → IsOnNewLink old
-    → (upper A).has_check new own ≡ (has_check_word (talk_then A acts old new on) own && not (is_told_closed own (events_told (told_then A acts old new on))))
+ChecksAreRead {P} A = (asks : Asks A) (acts : List (Act Circumstance)) (old new : Host P) (on : OnLink A asks acts old new) (own : ℕ) → IsOnNewLink old
+    → (upper A).has_check new own ≡ (has_check_word (talk_then A asks acts old new on) own && not (is_told_closed own (events_told (told_then A asks acts old new on))))
