@@ -6,3 +6,4 @@ pub mod Asking
 pub mod Telling
 pub mod Silence
 pub mod Profiles
+pub mod Living

@@ -4,3 +4,4 @@ pub mod Calls
 pub mod Feeds
 pub mod Laws
 pub mod Told
+pub mod Lives

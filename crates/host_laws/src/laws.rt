@@ -2,6 +2,7 @@
 
 ghost use Rattle.host_laws.specs.Calls.{HostsAsk};
 ghost use Rattle.host_laws.specs.Laws.{HostsRun, LinksAreNew};
+ghost use Rattle.host_laws.specs.Lives.{HostsLive, HostsWait};
 ghost use Rattle.host_laws.specs.Told.{AllSdusAreTold, ChecksAreRead, ProfilesAreTold};
 ghost use Rattle.host_laws.specs.Turning.{TurnsAreActs};
 ghost use Rattle.host_model.specs.Profiles.{Profile};
@@ -45,4 +46,15 @@ pub fn checks_are_read<P>()
 /// laws of one host hold of both hosts of a world.
 pub fn turns_are_acts<S, T, G, H>()
     ensures { (U : Upper S G) (V : Upper T H) → TurnsAreActs U V }
+{}
+
+/// From its first moment on, over all its links, the channels of a host are those of a run on each, and its profile went
+/// through what they told, and was told where the link came up and went down.
+pub fn hosts_live<P>()
+    ensures { (A : Profile P) → HostsLive A }
+{}
+
+/// So it is of a host once its profile waits.
+pub fn hosts_wait<P>()
+    ensures { (A : Profile P) → HostsWait A }
 {}
