@@ -10,7 +10,7 @@ use Rattle.host_model.specs.Profiles.{Profile}
 use Rattle.host_model.specs.Hosts.{Host, tells_events}
 use Rattle.host_laws.specs.Calls.{Asks, values_after, asked, outer}
 use Rattle.host_laws.specs.Feeds.{Feed, Happens, fed, all_fed, asked_from, Tiding, Tells, tidings_in, tidings_of, tidings_with, tidings_from}
-use Rattle.host_laws.specs.Laws.{Grows}
+use Rattle.host_laws.proofs.Steps.{Grows}
 
 -- one occurrence for each event
 abbrev tellings : List ChannelEvent → List Occurrence

@@ -22,7 +22,7 @@ use Rattle.host_laws.specs.Acts.{Act, Hears, Says, Does, Acting, StaysOnLink, fr
 use Rattle.host_laws.specs.Calls.{Call, Connect, AskFeatures, Disconnect, Send, Asks, from_call, values_after, asked, outer}
 use Rattle.host_laws.specs.Feeds.{Feed, Gifts, Learns, Receives, fed, all_fed, asked_with, asked_from, Tiding, tidings_by, tidings_in, tidings_of, brought_by, tidings_with, tidings_from}
 use Rattle.host_laws.specs.Feeds as feeds
-use Rattle.host_laws.specs.Laws.{Grows}
+use Rattle.host_laws.proofs.Steps.{Grows}
 use Rattle.host_laws.proofs.Draining.{tells_grow}
 
 pub tidings-append : (policy : Policy) (v : Channels) (xs ys : List Occurrence) → tidings_from policy v (xs ++ ys) ≡ tidings_from policy v xs ++ tidings_from policy (values_after policy v xs) ys
@@ -31,7 +31,7 @@ tidings-append policy v (x ∷ xs) ys =
     ap (λ (rest : List Tiding). tidings_with x v ++ rest) (tidings-append policy (value_after policy x v) xs ys)
     ∙ sym (append_assoc (tidings_with x v) (tidings_from policy (value_after policy x v) xs) (tidings_from policy (values_after policy v (x ∷ xs)) ys))
 
-asked-append : {P : Type 0} (A : Profile P) (asks : Asks A) (p : P) (xs ys : List Feed) → asked_from A asks p (xs ++ ys) ≡ asked_from A asks p xs ++ asked_from A asks (all_fed A p xs) ys
+pub asked-append : {P : Type 0} (A : Profile P) (asks : Asks A) (p : P) (xs ys : List Feed) → asked_from A asks p (xs ++ ys) ≡ asked_from A asks p xs ++ asked_from A asks (all_fed A p xs) ys
 asked-append A asks p [] ys = refl
 asked-append A asks p (x ∷ xs) ys =
     ap (λ (rest : List Occurrence). asked_with A asks p x ++ rest) (asked-append A asks (fed A p x) xs ys)

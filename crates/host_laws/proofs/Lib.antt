@@ -1,9 +1,10 @@
+pub mod Steps
 pub mod Draining
 pub mod Turning
 pub mod Growing
 pub mod Links
 pub mod Asking
+pub mod Living
 pub mod Telling
 pub mod Silence
 pub mod Profiles
-pub mod Living

@@ -1,4 +1,4 @@
--- A host on one link, and where its links begin and end.
+-- The channels of a run, and that a host leaves nothing to be told.
 use Rattle.std.proofs.Common.{◌≡◌, ℕ, zero, suc, Bool, true, false, List, [], ◌∷◌, fold, find, Option, Some, None, is_some, refl, sym, ap, subst, ◌∙◌, if◌then◌else◌}
 use Rattle.std.specs.List.{AllByRecursion}
 use Rattle.acl_fragments.specs.Pieces.{channel_of}
@@ -19,7 +19,7 @@ use Rattle.host_model.specs.Hosts.{Host, first_host, settles, strides, goes_by, 
 use Rattle.host_model.specs.Machines.{upper}
 use Rattle.host_laws.specs.Acts.{Act, Hears, Says, Does, Acting, StaysOnLink, from_act, from_acts}
 use Rattle.host_laws.specs.Calls.{Asks, values_after}
-use Rattle.host_laws.specs.Laws.{Grows, IsOnNewLink, LinksAreNew, OnLink, HostsRun}
+use Rattle.host_laws.proofs.Steps.{Grows}
 use Rattle.host_laws.proofs.Growing.{grows_none, grows_then, drives_grow, act_grows}
 
 -- ---- the channels of a run
@@ -105,38 +105,8 @@ module _ {P : Type 0} (A : Profile P) where
       subst (λ (host : Host P). IsTold host) (sym does) (heard_told circumstances news (ready A circumstances old) (brought_told (headway_in circumstances) old is))
   act_told (Says pdu) old new does is = subst Says_told does (says_told (next_given (driven A old).channels) old.may_say (driven A old) (drives_told most_steps old is))
 
-  pub acts_told : (acts : List (Act Circumstance)) (old new : Host P) → Acting (upper A) acts old new → IsTold old → IsTold new
-  acts_told [] old new same is = subst (λ (host : Host P). IsTold host) (sym same) is
-  acts_told (act ∷ acts) old new (mid, does, rest) is = acts_told acts mid new rest (act_told act old mid does is)
-
   -- ---- links begin and end
 
-  pub linked_new : (circumstances : List Circumstance) (event : LinkEvent) (host : Host P) → IsTold host → IsOnNewLink (hears_news A circumstances (Linked event) host)
+  pub linked_new : (circumstances : List Circumstance) (event : LinkEvent) (host : Host P) → IsTold host → (hears_news A circumstances (Linked event) host).channels ≡ no_channels
   linked_new circumstances Up host is = ap (λ (events : List ChannelEvent). let v : Channels = record no_channels { events = events } in v) is
   linked_new circumstances (Down reason) host is = refl
-
-  pub links_are_new : LinksAreNew A
-  links_are_new = record {
-    first = refl;
-    begins = λ acts host circumstances event acting.
-        linked_new circumstances event (ready A circumstances host) (brought_told (headway_in circumstances) host (acts_told acts (first_host A) host acting refl));
-  }
-
-  -- ---- on a link
-
-  pub acts_grow : (asks : Asks A) (acts : List (Act Circumstance)) (old new : Host P) → AllByRecursion StaysOnLink acts → Acting (upper A) acts old new → Grows A asks (from_acts acts) old new
-  acts_grow asks [] old new stay same = subst (λ (host : Host P). Grows A asks [] old host) (sym same) (grows_none A asks old)
-  acts_grow asks (act ∷ acts) old new (stays, stay) (mid, does, rest) =
-      grows_then A asks (from_act act) (from_acts acts) old mid new (act_grows A asks act old mid stays does) (acts_grow asks acts mid new stay rest)
-
-  pub hosts_run : HostsRun A
-  hosts_run asks acts old new fresh stay acting =
-      let grows = acts_grow asks acts old new stay acting in
-      let told = acts_told acts old new acting (ap (λ (v : Channels). v.events) fresh) in
-      record {
-        grows = grows;
-        channels_run = grows.channels_are ∙ (ap (λ (v : Channels). values_after A.policy v grows.list) fresh ∙ sym (value_run A.policy grows.list new_link));
-        all_told = told;
-        drives = drives_grow A asks most_steps new;
-        all_told_then = drives_told most_steps new told;
-      }

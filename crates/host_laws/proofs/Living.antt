@@ -1,6 +1,6 @@
 -- A host over all its links.
 use Rattle.std.proofs.Common.{◌≡◌, ℕ, List, [], ◌∷◌, ◌++◌, map, fold, refl, sym, ap, ap₂, subst, ◌∙◌, append_assoc, append-nil}
-use Rattle.std.specs.List.{flat_map, filter_map}
+use Rattle.std.specs.List.{AllByRecursion, flat_map, filter_map}
 use Rattle.std.proofs.lemmas.List.{map-append}
 use Rattle.std.proofs.lemmas.List.Concat.{flat_map-append}
 use Rattle.std.proofs.lemmas.List.Elements.{filter_map-append}
@@ -16,12 +16,12 @@ use Rattle.host_model.specs.Profiles.{Profile}
 use Rattle.host_model.specs.Hosts.{Host, first_host, with_channels, tells_events, told, ready, hear, hears_news, driven, most_steps}
 use Rattle.host_model.specs.Machines.{upper}
 use Rattle.host_laws.specs.Acts.{Act, Hears, Says, Does, Acting, from_act}
-use Rattle.host_laws.specs.Calls.{Asks, values_after, outer}
-use Rattle.host_laws.specs.Feeds.{Feed, Learns, fed, all_fed, Tiding, Tells, Turns, tidings_in, tidings_of, tidings_from}
-use Rattle.host_laws.specs.Laws.{Grows}
-use Rattle.host_laws.specs.Lives.{Mark, Occurred, Turned, act_marks, Span, end_tidings, span_tidings, all_tidings, marks_on, span_marks, all_marks, Lives, HostsLive, HostsWait}
-use Rattle.host_laws.proofs.Draining.{happenings, each_fed, each_told}
-use Rattle.host_laws.proofs.Growing.{tidings-append, readies, drives_grow, act_grows}
+use Rattle.host_laws.specs.Calls.{Asks, values_after, asked, outer}
+use Rattle.host_laws.specs.Feeds.{Feed, Learns, fed, all_fed, asked_from, Tiding, Tells, Turns, tidings_in, tidings_of, tidings_from}
+use Rattle.host_laws.proofs.Steps.{Grows}
+use Rattle.host_laws.specs.Lives.{Mark, Occurred, Turned, act_marks, Span, end_tidings, span_tidings, all_tidings, marks_on, span_marks, all_marks, Lives, HostsRun, HostsWait}
+use Rattle.host_laws.proofs.Draining.{happenings, each_fed, each_told, each_asked}
+use Rattle.host_laws.proofs.Growing.{tidings-append, asked-append, readies, drives_grow, act_grows}
 use Rattle.host_laws.proofs.Links.{value_run, drives_told, brought_told, act_told, linked_new}
 
 tidings-both : (xs ys : List Feed) → tidings_of (xs ++ ys) ≡ tidings_of xs ++ tidings_of ys
@@ -30,9 +30,17 @@ tidings-both xs ys = flat_map-append tidings_in xs ys
 more_marks : (xs ys : List Occurrence) → marks_on (xs ++ ys) ≡ marks_on xs ++ marks_on ys
 more_marks xs ys = ap (map Occurred) (filter_map-append outer xs ys) ∙ map-append Occurred (filter_map outer xs) (filter_map outer ys)
 
+abbrev asked_in : List Span → List Occurrence
+asked_in spans = flat_map (λ (span : Span). filter_map asked span.list) spans
+
+spans_more : (policy : Policy) (spans : List Span) (span : Span) → AllByRecursion (λ (one : Span). (run_of policy one.list).value.events ≡ []) spans → (run_of policy span.list).value.events ≡ []
+    → AllByRecursion (λ (one : Span). (run_of policy one.list).value.events ≡ []) (spans ++ span ∷ [])
+spans_more policy [] span all is = (is, tt)
+spans_more policy (one ∷ spans) span all is = (all.0, spans_more policy spans span all.1 is)
+
 module _ {P : Type 0} (A : Profile P) (asks : Asks A) where
   first_lives : Lives A asks [] (first_host A)
-  first_lives = record { spans = []; now = []; feeds = []; channels_run = refl; all_told = refl; profile_is = refl; tidings_are = refl; marks_are = refl }
+  first_lives = record { spans = []; now = []; feeds = []; channels_run = refl; all_told = refl; spans_told = tt; profile_is = refl; tidings_are = refl; asked_are = refl; marks_are = refl }
 
   -- ---- on its link
 
@@ -47,11 +55,15 @@ module _ {P : Type 0} (A : Profile P) (asks : Asks A) where
             ∙ (ap (λ (v : Channels). values_after A.policy v grows.list) value
             ∙ (sym (fold-append _ no_channels lives.now grows.list) ∙ sym (value_run A.policy (lives.now ++ grows.list) new_link)));
         all_told = told;
+        spans_told = lives.spans_told;
         profile_is = grows.profile_is ∙ (ap (λ (p : P). all_fed A p grows.feeds) lives.profile_is ∙ sym (fold-append (fed A) A.first lives.feeds grows.feeds));
         tidings_are = tidings-both lives.feeds grows.feeds
             ∙ (ap₂ (λ (a b : List Tiding). a ++ b) lives.tidings_are (grows.tidings_are ∙ ap (λ (v : Channels). tidings_from A.policy v grows.list) value)
             ∙ (append_assoc (flat_map (span_tidings A.policy) lives.spans) (tidings_from A.policy no_channels lives.now) (tidings_from A.policy (values_after A.policy no_channels lives.now) grows.list)
             ∙ ap (λ (rest : List Tiding). flat_map (span_tidings A.policy) lives.spans ++ rest) (sym (tidings-append A.policy no_channels lives.now grows.list))));
+        asked_are = ap (λ (rest : List Occurrence). asked_in lives.spans ++ rest) (filter_map-append asked lives.now grows.list)
+            ∙ (sym (append_assoc (asked_in lives.spans) (filter_map asked lives.now) (filter_map asked grows.list))
+            ∙ (ap₂ (λ (a b : List Occurrence). a ++ b) lives.asked_are (grows.asked_is ∙ ap (λ (p : P). asked_from A asks p grows.feeds) lives.profile_is) ∙ sym (asked-append A asks A.first lives.feeds grows.feeds)));
         marks_are = ap (λ (rest : List Mark). flat_map span_marks lives.spans ++ rest) (more_marks lives.now grows.list)
             ∙ (sym (append_assoc (flat_map span_marks lives.spans) (marks_on lives.now) (marks_on grows.list))
             ∙ ap₂ (λ (a b : List Mark). a ++ b) lives.marks_are (ap (map Occurred) grows.acted_is));
@@ -72,6 +84,13 @@ module _ {P : Type 0} (A : Profile P) (asks : Asks A) where
       let news : List Feed = Learns circumstances (Linked (Down reason)) ∷ [] in
       tidings-both (happenings (link_down v) (link_down v).events) news ∙ ap (λ (told : List Tiding). told ++ Turns (Down reason) ∷ []) (each_told (link_down v) (link_down v).events)
 
+  none_asked : (event : LinkEvent) (v : Channels) (circumstances : List Circumstance) (p : P) → asked_from A asks p (at_end event v circumstances) ≡ []
+  none_asked Up v circumstances p = refl
+  none_asked (Down reason) v circumstances p =
+      let w = link_down v in
+      let news : List Feed = Learns circumstances (Linked (Down reason)) ∷ [] in
+      asked-append A asks p (happenings w w.events) news ∙ ap (λ (l : List Occurrence). l ++ []) (each_asked A asks w w.events p)
+
   end_fed : (event : LinkEvent) (circumstances : List Circumstance) (host : Host P) → (hears_news A circumstances (Linked event) host).profile ≡ all_fed A host.profile (at_end event host.channels circumstances)
   end_fed Up circumstances host = refl
   end_fed (Down reason) circumstances host =
@@ -91,12 +110,20 @@ module _ {P : Type 0} (A : Profile P) (asks : Asks A) where
         feeds = lives.feeds ++ news;
         channels_run = fresh;
         all_told = ap (λ (v : Channels). v.events) fresh;
+        spans_told = spans_more A.policy lives.spans span lives.spans_told (ap (λ (v : Channels). v.events) (sym lives.channels_run) ∙ lives.all_told);
         profile_is = end_fed event circumstances host ∙ (ap (λ (p : P). all_fed A p news) lives.profile_is ∙ sym (fold-append (fed A) A.first lives.feeds news));
         tidings_are = tidings-both lives.feeds news
             ∙ (ap₂ (λ (a b : List Tiding). a ++ b) lives.tidings_are (end_told event host.channels circumstances ∙ ap (end_tidings event) value)
             ∙ (append_assoc (flat_map (span_tidings A.policy) lives.spans) (tidings_from A.policy no_channels lives.now) (end_tidings event (values_after A.policy no_channels lives.now))
             ∙ (ap (λ (rest : List Tiding). flat_map (span_tidings A.policy) lives.spans ++ rest) (sym (append-nil (span_tidings A.policy span)))
             ∙ (sym (flat_map-append (span_tidings A.policy) lives.spans (span ∷ [])) ∙ sym (append-nil (flat_map (span_tidings A.policy) (lives.spans ++ span ∷ [])))))));
+        asked_are = append-nil (asked_in (lives.spans ++ span ∷ []))
+            ∙ (flat_map-append (λ (one : Span). filter_map asked one.list) lives.spans (span ∷ [])
+            ∙ (ap (λ (rest : List Occurrence). asked_in lives.spans ++ rest) (append-nil (filter_map asked lives.now))
+            ∙ (lives.asked_are
+            ∙ (sym (append-nil (asked_from A asks A.first lives.feeds))
+            ∙ (ap (λ (rest : List Occurrence). asked_from A asks A.first lives.feeds ++ rest) (sym (none_asked event host.channels circumstances (all_fed A A.first lives.feeds)))
+            ∙ sym (asked-append A asks A.first lives.feeds news))))));
         marks_are = append-nil (flat_map span_marks (lives.spans ++ span ∷ []))
             ∙ (flat_map-append span_marks lives.spans (span ∷ [])
             ∙ (ap (λ (rest : List Mark). flat_map span_marks lives.spans ++ rest) (append-nil (span_marks span))
@@ -139,8 +166,8 @@ module _ {P : Type 0} (A : Profile P) (asks : Asks A) where
       let lives = lives_from acts host acting in
       still (flat_map act_marks acts) host (driven A host) lives (drives_grow A asks most_steps host) (drives_told A most_steps host lives.all_told)
 
-pub hosts_live : {P : Type 0} (A : Profile P) → HostsLive A
-hosts_live A asks acts host acting = lives_from A asks acts host acting
+pub hosts_run : {P : Type 0} (A : Profile P) → HostsRun A
+hosts_run A asks acts host acting = lives_from A asks acts host acting
 
 pub hosts_wait : {P : Type 0} (A : Profile P) → HostsWait A
 hosts_wait A asks acts host acting = waits_from A asks acts host acting

@@ -1,84 +1,66 @@
--- What a profile is told on a link, and where its host looks for check words.
-use Rattle.std.proofs.Common.{◌≡◌, ℕ, List, [], ◌++◌, fold, not, ◌&&◌, true, refl, sym, ap, ap₂, subst, ◌∙◌, append-nil}
+-- What a profile is told on each link, and where its host looks for check words.
+use Rattle.std.proofs.Common.{◌≡◌, ℕ, List, [], ◌∷◌, ◌++◌, map, not, ◌&&◌, refl, sym, ap, ap₂, subst, ◌∙◌, append-nil}
 use Rattle.std.specs.List.{AllByRecursion}
-use Rattle.std.proofs.lemmas.List.Elements.{filter_map-append}
-use Rattle.std.proofs.lemmas.List.Sums.{fold-append}
 use Rattle.capture.specs.declared.flow.Flow.TheVariants.{Into}
-use Rattle.link_talk.specs.Channels.{reading}
+use Rattle.link_talk.specs.declared.party.Party.{Party}
 use Rattle.link_talk.specs.Sdus.{sdus}
 use Rattle.link_talk.specs.Waits.{has_check_word}
 use Rattle.channel_model.specs.declared.event.ChannelEvent.{ChannelEvent}
-use Rattle.channel_model.specs.Value.{Channels, no_channels}
+use Rattle.channel_model.specs.Value.{Channels}
+use Rattle.channel_model.specs.Policies.{Policy}
 use Rattle.channel_model.specs.Calls.{has_fcs}
 use Rattle.channel_model.specs.Telling.{is_told_closed, is_told_broken}
-use Rattle.channel_laws.specs.Runs.{Occurrence, new_link, run_of, arisen}
-use Rattle.channel_laws.specs.Sdus.{IsHandedUp}
+use Rattle.channel_laws.specs.Runs.{Occurrence, run_of, arisen}
+use Rattle.channel_laws.specs.Sdus.{StatesFrame, IsHandedUp}
 use Rattle.channel_laws.proofs.CheckWords.{check_words-are_read}
 use Rattle.channel_laws.proofs.Incoming.{sdus-are_read}
-use Rattle.host_model.specs.Circumstances.{Circumstance}
 use Rattle.host_model.specs.Profiles.{Profile}
 use Rattle.host_model.specs.Hosts.{Host, driven}
-use Rattle.host_laws.specs.Acts.{Act}
-use Rattle.host_laws.specs.Calls.{Asks, values_after}
-use Rattle.host_laws.specs.Feeds.{Tiding, tidings_of, tidings_from}
-use Rattle.host_laws.specs.Laws.{IsOnNewLink, OnLink}
-use Rattle.host_laws.specs.Told.{event_told, events_told, sdus_told, IsOfChannel, ProfilesAreTold, AllSdusAreTold, ChecksAreRead, told_on, told_then}
-use Rattle.host_laws.proofs.Growing.{tidings-append}
+use Rattle.host_laws.specs.Lives.{Span}
+use Rattle.host_laws.specs.Told.{events_told, sdus_told, told_on, IsToldOn, SdusAreToldOn, ProfilesAreTold, AllSdusAreTold, ChecksAreRead}
 use Rattle.host_laws.proofs.Telling.{events_run, sdus_run}
 use Rattle.host_laws.proofs.Silence.{ends-are_last, told-ended, channels-are_named}
-use Rattle.host_laws.proofs.Links.{value_run}
+
+is_told : (policy : Policy) (list : List Occurrence) → IsToldOn policy list
+is_told policy list = record {
+  channels_are = channels-are_named policy list;
+  ends_are_last = ends-are_last policy list;
+  ended = λ own closed. told-ended policy list own (ap (is_told_closed own) (events_run policy list) ∙ closed);
+}
+
+-- all that arose was told
+arisen_told : (policy : Policy) (list : List Occurrence) → (run_of policy list).value.events ≡ [] → arisen (run_of policy list) ≡ events_told (told_on policy list)
+arisen_told policy list none = ap₂ (λ (a b : List ChannelEvent). a ++ b) (events_run policy list) none ∙ append-nil (events_told (told_on policy list))
+
+sdus_so : (policy : Policy) (party : Party) (list : List Occurrence) → StatesFrame policy party → (run_of policy list).value.events ≡ [] → SdusAreToldOn policy party list
+sdus_so policy party list states none channel =
+    let read = sdus party channel Into (run_of policy list).said in
+    subst (λ (events : List ChannelEvent). IsHandedUp (is_told_broken channel.own events) (sdus_told channel.own (told_on policy list)) read) (arisen_told policy list none)
+    (subst (λ (up : List (List ℕ)). IsHandedUp (is_told_broken channel.own (arisen (run_of policy list))) up read) (sdus_run policy channel.own list) (sdus-are_read policy party list channel states))
+
+-- ---- on each link
+
+all_told : (policy : Policy) (spans : List Span) (now : List Occurrence) → AllByRecursion (IsToldOn policy) (map (λ (span : Span). span.list) spans ++ now ∷ [])
+all_told policy [] now = (is_told policy now, tt)
+all_told policy (span ∷ spans) now = (is_told policy span.list, all_told policy spans now)
+
+all_sdus : (policy : Policy) (party : Party) (spans : List Span) (now : List Occurrence) → StatesFrame policy party
+    → AllByRecursion (λ (span : Span). (run_of policy span.list).value.events ≡ []) spans → (run_of policy now).value.events ≡ []
+    → AllByRecursion (SdusAreToldOn policy party) (map (λ (span : Span). span.list) spans ++ now ∷ [])
+all_sdus policy party [] now states none last = (sdus_so policy party now states last, tt)
+all_sdus policy party (span ∷ spans) now states none last = (sdus_so policy party span.list states none.0, all_sdus policy party spans now states none.1 last)
 
 module _ {P : Type 0} (A : Profile P) where
-  -- what was told is what the channels tell
-  told_is : (asks : Asks A) (acts : List (Act Circumstance)) (old new : Host P) (on : OnLink A asks acts old new) → IsOnNewLink old → told_on A asks acts old new on ≡ tidings_from A.policy no_channels on.grows.list
-  told_is asks acts old new on fresh = on.grows.tidings_are ∙ ap (λ (v : Channels). tidings_from A.policy v on.grows.list) fresh
-
-  events_are : (asks : Asks A) (acts : List (Act Circumstance)) (old new : Host P) (on : OnLink A asks acts old new) → IsOnNewLink old → (run_of A.policy on.grows.list).told ≡ events_told (told_on A asks acts old new on)
-  events_are asks acts old new on fresh = events_run A.policy on.grows.list ∙ ap events_told (sym (told_is asks acts old new on fresh))
-
-  -- nothing is left to be told
-  arisen_are : (asks : Asks A) (acts : List (Act Circumstance)) (old new : Host P) (on : OnLink A asks acts old new) → IsOnNewLink old → arisen (run_of A.policy on.grows.list) ≡ events_told (told_on A asks acts old new on)
-  arisen_are asks acts old new on fresh =
-      ap₂ (λ (a b : List ChannelEvent). a ++ b) (events_are asks acts old new on fresh) (ap (λ (v : Channels). v.events) (sym on.channels_run) ∙ on.all_told) ∙ append-nil (events_told (told_on A asks acts old new on))
-
   pub profiles_are_told : ProfilesAreTold A
-  profiles_are_told asks acts old new on fresh =
-      let list = on.grows.list in
-      let told = told_is asks acts old new on fresh in
-      record {
-        channels_are = subst (AllByRecursion (IsOfChannel (reading (run_of A.policy list).said).entries)) (sym told) (channels-are_named A.policy list);
-        ends_are_last = λ own before after is. ends-are_last A.policy list own before after (sym told ∙ is);
-        ended = λ own closed. told-ended A.policy list own (ap (is_told_closed own) (events_are asks acts old new on fresh) ∙ closed);
-      }
+  profiles_are_told asks marks host lives = all_told A.policy lives.spans lives.now
 
   pub all_sdus_are_told : AllSdusAreTold A
-  all_sdus_are_told asks party acts old new on fresh states channel =
-      let list = on.grows.list in
-      let up = sdus_run A.policy channel.own list ∙ ap (sdus_told channel.own) (sym (told_is asks acts old new on fresh)) in
-      subst (λ (events : List ChannelEvent). IsHandedUp (is_told_broken channel.own events) (sdus_told channel.own (told_on A asks acts old new on)) (sdus party channel Into (run_of A.policy list).said)) (arisen_are asks acts old new on fresh)
-      (subst (λ (handed : List (List ℕ)). IsHandedUp (is_told_broken channel.own (arisen (run_of A.policy list))) handed (sdus party channel Into (run_of A.policy list).said)) up
-      (sdus-are_read A.policy party list channel states))
-
-  -- ---- as the host is once its profile waits
-
-  then_run : (asks : Asks A) (acts : List (Act Circumstance)) (old new : Host P) (on : OnLink A asks acts old new) → IsOnNewLink old → (driven A new).channels ≡ (run_of A.policy (on.grows.list ++ on.drives.list)).value
-  then_run asks acts old new on fresh =
-      on.drives.channels_are
-      ∙ (ap (λ (v : Channels). values_after A.policy v on.drives.list) (on.channels_run ∙ value_run A.policy on.grows.list new_link)
-      ∙ (sym (fold-append _ no_channels on.grows.list on.drives.list) ∙ sym (value_run A.policy (on.grows.list ++ on.drives.list) new_link)))
-
-  then_told : (asks : Asks A) (acts : List (Act Circumstance)) (old new : Host P) (on : OnLink A asks acts old new) → IsOnNewLink old → told_then A asks acts old new on ≡ tidings_from A.policy no_channels (on.grows.list ++ on.drives.list)
-  then_told asks acts old new on fresh =
-      ap₂ (λ (a b : List Tiding). a ++ b) (told_is asks acts old new on fresh)
-      (on.drives.tidings_are ∙ ap (λ (v : Channels). tidings_from A.policy v on.drives.list) (on.channels_run ∙ value_run A.policy on.grows.list new_link))
-      ∙ sym (tidings-append A.policy no_channels on.grows.list on.drives.list)
+  all_sdus_are_told party asks marks host lives states =
+      all_sdus A.policy party lives.spans lives.now states lives.spans_told (ap (λ (v : Channels). v.events) (sym lives.channels_run) ∙ lives.all_told)
 
   pub checks_are_read : ChecksAreRead A
-  checks_are_read asks acts old new on own fresh =
-      let list = on.grows.list ++ on.drives.list in
-      let run = run_of A.policy list in
-      let told : arisen run ≡ events_told (told_then A asks acts old new on) =
-          ap₂ (λ (a b : List ChannelEvent). a ++ b) (events_run A.policy list ∙ ap events_told (sym (then_told asks acts old new on fresh))) (ap (λ (v : Channels). v.events) (sym (then_run asks acts old new on fresh)) ∙ on.all_told_then)
-          ∙ append-nil (events_told (told_then A asks acts old new on)) in
-      ap (has_fcs own) (then_run asks acts old new on fresh)
-      ∙ (check_words-are_read A.policy list own ∙ ap (λ (events : List ChannelEvent). has_check_word run.said own && not (is_told_closed own events)) told)
+  checks_are_read asks marks host lives own =
+      let run = run_of A.policy lives.now in
+      let none : run.value.events ≡ [] = ap (λ (v : Channels). v.events) (sym lives.channels_run) ∙ lives.all_told in
+      ap (has_fcs own) lives.channels_run
+      ∙ (check_words-are_read A.policy lives.now own ∙ ap (λ (events : List ChannelEvent). has_check_word run.said own && not (is_told_closed own events)) (arisen_told A.policy lives.now none))

@@ -2,6 +2,5 @@ pub mod Acts
 pub mod Turning
 pub mod Calls
 pub mod Feeds
-pub mod Laws
-pub mod Told
 pub mod Lives
+pub mod Told

@@ -9,20 +9,19 @@ use Rattle.link_talk.specs.Channels.{Entry, is_alive, reading}
 use Rattle.link_talk.specs.Sdus.{sdus}
 use Rattle.link_talk.specs.Waits.{has_check_word}
 use Rattle.channel_model.specs.declared.event.ChannelEvent.{ChannelEvent}
-use Rattle.channel_model.specs.Calls.{has_fcs}
+use Rattle.channel_model.specs.Value.{no_channels}
+use Rattle.channel_model.specs.Policies.{Policy}
 use Rattle.channel_model.specs.Telling.{is_told_closed, is_told_broken}
-use Rattle.channel_laws.specs.Runs.{Run, run_of}
+use Rattle.channel_laws.specs.Runs.{Occurrence, run_of}
 use Rattle.channel_laws.specs.Views.{channel_by, read_at}
 use Rattle.channel_laws.specs.Sdus.{StatesFrame, IsHandedUp}
 use Rattle.channel_laws.specs.Endpoints.{IsOf}
-use Rattle.host_model.specs.Circumstances.{Circumstance}
 use Rattle.host_model.specs.Profiles.{Profile}
-use Rattle.host_model.specs.Hosts.{Host}
+use Rattle.host_model.specs.Hosts.{Host, driven}
 use Rattle.host_model.specs.Machines.{upper}
-use Rattle.host_laws.specs.Acts.{Act}
 use Rattle.host_laws.specs.Calls.{Asks}
-use Rattle.host_laws.specs.Feeds.{Tiding, Brings, Tells, Turns, tidings_of}
-use Rattle.host_laws.specs.Laws.{Grows, IsOnNewLink, OnLink}
+use Rattle.host_laws.specs.Feeds.{Tiding, Brings, Tells, Turns, tidings_from}
+use Rattle.host_laws.specs.Lives.{Mark, Lives, on_links}
 
 -- ---- of what was told
 
@@ -72,31 +71,27 @@ SdusAreTold party said tidings =
 
 -- ---- the laws
 
--- the own talk of a host on its link, and what its profile was told there
-abbrev pub own_talk : {P : Type 0} (A : Profile P) (asks : Asks A) (acts : List (Act Circumstance)) (old new : Host P) → OnLink A asks acts old new → List Saying
-own_talk A asks acts old new on = (run_of A.policy on.grows.list).said
+-- what channels tell with all that happened to them on a link
+abbrev pub told_on : Policy → List Occurrence → List Tiding
+told_on policy list = tidings_from policy no_channels list
 
-abbrev pub told_on : {P : Type 0} (A : Profile P) (asks : Asks A) (acts : List (Act Circumstance)) (old new : Host P) → OnLink A asks acts old new → List Tiding
-told_on A asks acts old new on = tidings_of on.grows.feeds
+abbrev pub IsToldOn : Policy → List Occurrence → Type 0
+IsToldOn policy list = IsTold (run_of policy list).said (told_on policy list)
 
+abbrev pub SdusAreToldOn : Policy → Party → List Occurrence → Type 0
+SdusAreToldOn policy party list = SdusAreTold party (run_of policy list).said (told_on policy list)
+
+-- What the profile of a host is told on each of its links.
 abbrev pub ProfilesAreTold : {P : Type 0} → Profile P → Type 0
-ProfilesAreTold {P} A = (asks : Asks A) (acts : List (Act Circumstance)) (old new : Host P) (on : OnLink A asks acts old new) → IsOnNewLink old → IsTold (own_talk A asks acts old new on) (told_on A asks acts old new on)
+ProfilesAreTold {P} A = (asks : Asks A) (marks : List Mark) (host : Host P) (lives : Lives A asks marks host) → AllByRecursion (IsToldOn A.policy) (on_links A asks marks host lives)
 
 abbrev pub AllSdusAreTold : {P : Type 0} → Profile P → Type 0
 AllSdusAreTold {P} A =
-    (asks : Asks A) (party : Party) (acts : List (Act Circumstance)) (old new : Host P) (on : OnLink A asks acts old new) → IsOnNewLink old → StatesFrame A.policy party
-    → SdusAreTold party (own_talk A asks acts old new on) (told_on A asks acts old new on)
+    (party : Party) (asks : Asks A) (marks : List Mark) (host : Host P) (lives : Lives A asks marks host) → StatesFrame A.policy party
+    → AllByRecursion (SdusAreToldOn A.policy party) (on_links A asks marks host lives)
 
--- ---- check words
-
--- its own talk once its profile waits, and what its profile was told then
-abbrev pub talk_then : {P : Type 0} (A : Profile P) (asks : Asks A) (acts : List (Act Circumstance)) (old new : Host P) → OnLink A asks acts old new → List Saying
-talk_then A asks acts old new on = (run_of A.policy (on.grows.list ++ on.drives.list)).said
-
-abbrev pub told_then : {P : Type 0} (A : Profile P) (asks : Asks A) (acts : List (Act Circumstance)) (old new : Host P) → OnLink A asks acts old new → List Tiding
-told_then A asks acts old new on = tidings_of on.grows.feeds ++ tidings_of on.drives.feeds
-
--- A host looks for a check word at an endpoint where its own talk says that there is one, until its profile was told the end of the channel.
+-- A host looks for a check word at an endpoint where its own talk says that there is one, until its profile was told the end of the
+-- channel. It is asked for that as it is once its profile waits.
 abbrev pub ChecksAreRead : {P : Type 0} → Profile P → Type 0
-ChecksAreRead {P} A = (asks : Asks A) (acts : List (Act Circumstance)) (old new : Host P) (on : OnLink A asks acts old new) (own : ℕ) → IsOnNewLink old
-    → (upper A).has_check new own ≡ (has_check_word (talk_then A asks acts old new on) own && not (is_told_closed own (events_told (told_then A asks acts old new on))))
+ChecksAreRead {P} A = (asks : Asks A) (marks : List Mark) (host : Host P) (lives : Lives A asks marks (driven A host)) (own : ℕ)
+    → (upper A).has_check host own ≡ (has_check_word (run_of A.policy lives.now).said own && not (is_told_closed own (events_told (told_on A.policy lives.now))))

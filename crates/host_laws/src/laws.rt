@@ -1,8 +1,7 @@
 //! Laws of a host above its line.
 
 ghost use Rattle.host_laws.specs.Calls.{HostsAsk};
-ghost use Rattle.host_laws.specs.Laws.{HostsRun, LinksAreNew};
-ghost use Rattle.host_laws.specs.Lives.{HostsLive, HostsWait};
+ghost use Rattle.host_laws.specs.Lives.{HostsRun, HostsWait};
 ghost use Rattle.host_laws.specs.Told.{AllSdusAreTold, ChecksAreRead, ProfilesAreTold};
 ghost use Rattle.host_laws.specs.Turning.{TurnsAreActs};
 ghost use Rattle.host_model.specs.Profiles.{Profile};
@@ -13,15 +12,16 @@ pub fn hosts_ask()
     ensures { HostsAsk }
 {}
 
-/// A host has no channels at first, and where its link comes up or goes down.
-pub fn links_are_new<P>()
-    ensures { (A : Profile P) → LinksAreNew A }
-{}
-
-/// On each link the channels of a host are those of a run of what it heard and said and of what its profile asked
-/// for, and its profile was told all that they tell, in its order: so all laws on channels hold of every host.
+/// From its first moment on, over all its links, the channels of a host are those of a run on each, of what it heard and
+/// said and of what its profile asked for; and its profile was told all that they tell, in its order, and where the link
+/// came up and went down. So all laws on channels hold of every host.
 pub fn hosts_run<P>()
     ensures { (A : Profile P) → HostsRun A }
+{}
+
+/// So it is of a host once its profile waits.
+pub fn hosts_wait<P>()
+    ensures { (A : Profile P) → HostsWait A }
 {}
 
 /// What a profile is told on a link is read off its host's own talk: each SDU is of a channel that is read, none comes
@@ -46,15 +46,4 @@ pub fn checks_are_read<P>()
 /// laws of one host hold of both hosts of a world.
 pub fn turns_are_acts<S, T, G, H>()
     ensures { (U : Upper S G) (V : Upper T H) → TurnsAreActs U V }
-{}
-
-/// From its first moment on, over all its links, the channels of a host are those of a run on each, and its profile went
-/// through what they told, and was told where the link came up and went down.
-pub fn hosts_live<P>()
-    ensures { (A : Profile P) → HostsLive A }
-{}
-
-/// So it is of a host once its profile waits.
-pub fn hosts_wait<P>()
-    ensures { (A : Profile P) → HostsWait A }
 {}

@@ -1,4 +1,4 @@
-use Rattle.host_laws.proofs.Links.{hosts_run}
+use Rattle.host_laws.proofs.Living.{hosts_run}
 use Rattle.host_laws.proofs.laws.hosts_run.Goals as goal
 
 pub returns : goal.returns
