@@ -5,6 +5,9 @@ pub mod Growing
 pub mod Links
 pub mod Asking
 pub mod Living
+pub mod Waiting
+pub mod Plain
+pub mod Adding
 pub mod Telling
 pub mod Silence
 pub mod Profiles

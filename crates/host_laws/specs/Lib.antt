@@ -4,3 +4,4 @@ pub mod Calls
 pub mod Feeds
 pub mod Lives
 pub mod Told
+pub mod Seen
