@@ -8,6 +8,7 @@ pub mod Living
 pub mod Waiting
 pub mod Plain
 pub mod Adding
+pub mod Replying
 pub mod Telling
 pub mod Silence
 pub mod Profiles

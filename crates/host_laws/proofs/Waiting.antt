@@ -13,24 +13,9 @@ use Rattle.channel_model.specs.Giving.{Given, Signal, Whole, Framed, connection_
 use Rattle.channel_model.proofs.Walking.{found-own}
 use Rattle.channel_model.proofs.Lookups.{own_of, Distinct, eqb-same, not_found, found-placed, find-placed}
 use Rattle.channel_laws.specs.OwnTalk.{spoken, said_of}
+use Rattle.host_laws.specs.Seen.{queued_said, waiting_in, IsDue, AllDue}
 
 -- ---- the queue
-
-abbrev pub queued_said : Queued → Channels → List Saying
-queued_said (Answer command) v = spoken command ∷ []
-queued_said (Ask errand) v = said_of (Some errand) v
-
-abbrev pub waiting_in : List Queued → Channels → List Saying
-waiting_in [] v = []
-waiting_in (one ∷ queue) v = queued_said one v ++ waiting_in queue v
-
--- its request waits for its response
-abbrev pub IsDue : Channels → Queued → Type 0
-IsDue v (Answer command) = Unit {0}
-IsDue v (Ask errand) = is_some (command_of errand v) ≡ true
-
-abbrev pub AllDue : List Queued → Channels → Type 0
-AllDue queue v = AllByRecursion (IsDue v) queue
 
 abbrev pub SameCommands : (v w : Channels) → Type 0
 SameCommands v w = (errand : Errand) → command_of errand w ≡ command_of errand v

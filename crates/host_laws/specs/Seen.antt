@@ -1,16 +1,17 @@
 -- When the own talk of a host on a link is what moved there: nothing waits in a host that hears something, and a PDU has one command
 -- (Core 5.1, Volume 3 Part A, 3.1 and 4).
-use Rattle.std.specs.Prelude.{ℕ, ◌≡◌, ◌≤◌, Bool, true, false, List, [], ◌∷◌, length, drop, filter, Option, Some, None}
-use Rattle.std.specs.List.{filter_map, flat_map}
+use Rattle.std.specs.Prelude.{ℕ, ◌≡◌, ◌≤◌, Bool, true, false, List, [], ◌∷◌, ◌++◌, length, drop, filter, is_some, Option, Some, None}
+use Rattle.std.specs.List.{AllByRecursion, filter_map, flat_map}
 use Rattle.acl_fragments.specs.Pieces.{channel_of}
 use Rattle.capture.specs.declared.flow.Flow.TheVariants.{Out, Into}
 use Rattle.capture.specs.Pdus.{Pdu}
 use Rattle.l2cap_signal.specs.Reading.{answers}
 use Rattle.link_talk.specs.Sayings.{Saying, Command, Carried, GaveUp, said_by}
-use Rattle.channel_model.specs.Value.{Channels, no_channels}
+use Rattle.channel_model.specs.Value.{Queued, Answer, Ask, Channels, no_channels}
+use Rattle.channel_model.specs.Timing.{timed_out}
 use Rattle.channel_model.specs.Policies.{Policy}
-use Rattle.channel_model.specs.Giving.{Given, Signal, Whole, Framed, next_given, headed}
-use Rattle.channel_laws.specs.OwnTalk.{spoken}
+use Rattle.channel_model.specs.Giving.{Given, Signal, Whole, Framed, next_given, command_of, headed}
+use Rattle.channel_laws.specs.OwnTalk.{spoken, said_of}
 use Rattle.channel_laws.specs.Runs.{Occurrence, Comes, Connects, AsksFeatures, Disconnects, Sends, Gives, Fires, Tells, said_in, value_after, run_of}
 
 -- ---- what moved
@@ -56,10 +57,28 @@ pub record IsGiven (v : Channels) (pdu : List ℕ) : Type 0 where
   pub is : next_given v ≡ Some given
   pub read : said_by (let gave : Pdu = record { flow = Out; octets = pdu } in gave) ≡ saying_of given pdu ∷ []
 
--- A firing says what waits to be given behind it. So it is but for a channel whose own options are asked for once more, and whose end
--- is given up with it.
-abbrev pub FiresPlainly : Policy → Channels → Type 0
-FiresPlainly policy v = (given : Channels) → ⊥
+-- what waits on the signalling channel, as it is said
+abbrev pub queued_said : Queued → Channels → List Saying
+queued_said (Answer command) v = spoken command ∷ []
+queued_said (Ask errand) v = said_of (Some errand) v
+
+abbrev pub waiting_in : List Queued → Channels → List Saying
+waiting_in [] v = []
+waiting_in (one ∷ queue) v = queued_said one v ++ waiting_in queue v
+
+-- each request that waits to be given waits for its response
+abbrev pub IsDue : Channels → Queued → Type 0
+IsDue v (Answer command) = Unit {0}
+IsDue v (Ask errand) = is_some (command_of errand v) ≡ true
+
+abbrev pub AllDue : List Queued → Channels → Type 0
+AllDue queue v = AllByRecursion (IsDue v) queue
+
+-- What a firing says waits to be given behind it. So it is but where the end of a channel is given up whose own options are asked for
+-- once more: that request is said, and not given.
+pub record FiresPlainly (policy : Policy) (v : Channels) : Type 0 where
+  pub waits : waiting_in (timed_out policy v).queue (timed_out policy v) ≡ spoken_of (said_in policy Fires v)
+  pub due : AllDue (timed_out policy v).queue (timed_out policy v)
 
 abbrev pub IsCalmAt : Policy → Occurrence → Channels → Type 0
 IsCalmAt policy (Comes pdu) v = IsQuiet v × (channel_of pdu ≡ 0x0001 → length (answers (drop 4 pdu)) ≤ 1)
