@@ -9,6 +9,7 @@ pub mod Waiting
 pub mod Plain
 pub mod Adding
 pub mod Replying
+pub mod Sending
 pub mod Telling
 pub mod Silence
 pub mod Profiles

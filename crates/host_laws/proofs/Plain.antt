@@ -142,16 +142,16 @@ none_whole (Some (Retransmitting machine)) peer is = by (next_frame machine)
     by None = refl
     by (Some frame) = refl
 
-stage_whole : (stage : Stage) → plain_setup (setup_of stage) ≡ false → whole_said (stage_gives stage) ≡ []
-stage_whole (Requested request) is = refl
-stage_whole (Connected peer setup) is = none_whole setup.carrier peer is
-stage_whole (Leaving peer setup request) is = none_whole setup.carrier peer is
-stage_whole (Closing peer request) is = refl
-stage_whole (Crossed peer request) is = refl
+pub stage-whole : (stage : Stage) → plain_setup (setup_of stage) ≡ false → whole_said (stage_gives stage) ≡ []
+stage-whole (Requested request) is = refl
+stage-whole (Connected peer setup) is = none_whole setup.carrier peer is
+stage-whole (Leaving peer setup request) is = none_whole setup.carrier peer is
+stage-whole (Closing peer request) is = refl
+stage-whole (Crossed peer request) is = refl
 
 pub none-whole : (v : Channels) → Distinct own_of v.held → NoPlain v → whole_said (held_gives (find gives v.held)) ≡ []
 none-whole v distinct none = by (find gives v.held) refl
   where
     by : (found : Option Held) → find gives v.held ≡ found → whole_said (held_gives found) ≡ []
     by None is = refl
-    by (Some held) is = stage_whole held.stage (sym (ap plain_at (found-distinct own_of gives v.held held distinct is)) ∙ none held.own)
+    by (Some held) is = stage-whole held.stage (sym (ap plain_at (found-distinct own_of gives v.held held distinct is)) ∙ none held.own)
