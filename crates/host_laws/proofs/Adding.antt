@@ -44,6 +44,9 @@ IsReply (Ask errand) = ⊥
 abbrev pub Replies : List Queued → Type 0
 Replies queue = AllByRecursion IsReply queue
 
+pub none-replies : (queue : List Queued) → queue ≡ [] → Replies queue
+none-replies queue none = subst (λ (q : List Queued). Replies q) (sym none) tt
+
 no_copies : (errand : Errand) (queue : List Queued) → Replies queue → filter (λ waiting. not (is_copy errand waiting)) queue ≡ queue
 no_copies errand [] all = refl
 no_copies errand (Answer command ∷ queue) all = ap (λ (rest : List Queued). Answer command ∷ rest) (no_copies errand queue all.1)

@@ -10,6 +10,7 @@ pub mod Plain
 pub mod Adding
 pub mod Replying
 pub mod Sending
+pub mod Moving
 pub mod Telling
 pub mod Silence
 pub mod Profiles

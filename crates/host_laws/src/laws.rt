@@ -2,6 +2,7 @@
 
 ghost use Rattle.host_laws.specs.Calls.{HostsAsk};
 ghost use Rattle.host_laws.specs.Lives.{HostsRun, HostsWait};
+ghost use Rattle.host_laws.specs.Seen.{OwnTalkMoves};
 ghost use Rattle.host_laws.specs.Told.{AllSdusAreTold, ChecksAreRead, ProfilesAreTold};
 ghost use Rattle.host_laws.specs.Turning.{TurnsAreActs};
 ghost use Rattle.host_model.specs.Profiles.{Profile};
@@ -46,4 +47,10 @@ pub fn checks_are_read<P>()
 /// laws of one host hold of both hosts of a world.
 pub fn turns_are_acts<S, T, G, H>()
     ensures { (U : Upper S G) (V : Upper T H) → TurnsAreActs U V }
+{}
+
+/// Where a host hears things in quiet, one command at a time, its own talk is what moved on its link, but for the requests
+/// that it gave up, which nobody hears.
+pub fn own_talk_moves()
+    ensures { OwnTalkMoves }
 {}
