@@ -50,7 +50,7 @@ open_at : (ends : Bool) (all others run run' : List PlainPacket) (last : Option 
 open_at true all others run run' last e f = e
 open_at false all others run run' last e f = f
 
-open-more : (run : List PlainPacket) (packets : List (Option PlainPacket)) (last : Option PlainPacket) → open_from run (packets ++ last ∷ []) ≡ open_from (open_from run packets) (last ∷ [])
+pub open-more : (run : List PlainPacket) (packets : List (Option PlainPacket)) (last : Option PlainPacket) → open_from run (packets ++ last ∷ []) ≡ open_from (open_from run packets) (last ∷ [])
 open-more run [] last = refl
 open-more run (None ∷ rest) last = open-more [] rest last
 open-more run (Some put ∷ rest) last = open_at (breaks (run_headers (run ++ put ∷ [])) || is_final put) _ _ _ _ last (open-more [] rest last) (open-more (run ++ put ∷ []) rest last)

@@ -1,0 +1,9 @@
+pub mod Sessions
+pub mod Services
+pub mod Readings
+pub mod Streams
+pub mod Listening
+pub mod Frames
+pub mod Servers
+pub mod Running
+pub mod Gaining

@@ -1,0 +1,61 @@
+-- What is read off one occurrence more.
+use Rattle.std.proofs.Common.{Bool, true, false, cond, ◌≡◌, ℕ, List, [], ◌∷◌, ◌++◌, length, drop, map, Option, Some, None, refl, sym, ap, ◌∙◌, append-nil}
+use Rattle.std.specs.List.{filter_map, cons_option}
+use Rattle.std.proofs.lemmas.Bool.{cond-true, cond-false}
+use Rattle.std.proofs.lemmas.List.{map-append}
+use Rattle.std.proofs.lemmas.List.Elements.{filter_map-append}
+use Rattle.bt_base.specs.Objects.{Object}
+use Rattle.obex_headers.specs.Packets.{PlainPacket}
+use Rattle.obex_headers.specs.Runs.{objects_from}
+use Rattle.obex_session.specs.Laws.{without_fault}
+use Rattle.obex_session.specs.Past.{put_heard, puts_heard, open_from}
+use Rattle.obex_session.proofs.PastLaws.{objects-more}
+use Rattle.link_talk.specs.Gains.{beyond}
+use Rattle.link_talk.specs.ObjectsHeard.{put_within, spelled_within}
+use Rattle.push_laws.specs.Occurrences.{Occurrence}
+use Rattle.push_laws.specs.Readings.{closes, since_from, since}
+
+-- ---- since the last closing
+
+since_more : (psm : ℕ) (kept past : List Occurrence) (one : Occurrence) → since_from psm kept (past ++ one ∷ []) ≡ cond (closes psm one) [] (since_from psm kept past ++ one ∷ [])
+since_more psm kept [] one = refl
+since_more psm kept (first ∷ past) one = since_more psm (cond (closes psm first) [] (kept ++ first ∷ [])) past one
+
+abbrev pub read : {Y : Type 0} → (Occurrence → Option Y) → ℕ → List Occurrence → List Y
+read view psm past = filter_map view (since psm past)
+
+pub read_more : {Y : Type 0} (view : Occurrence → Option Y) (psm : ℕ) (past : List Occurrence) (one : Occurrence) → closes psm one ≡ false → read view psm (past ++ one ∷ []) ≡ read view psm past ++ cons_option (view one) []
+read_more view psm past one on =
+    ap (filter_map view) (since_more psm [] past one ∙ cond-false _ _ _ on) ∙ filter_map-append view (since psm past) (one ∷ [])
+
+pub read_same : {Y : Type 0} (view : Occurrence → Option Y) (psm : ℕ) (past : List Occurrence) (one : Occurrence) → closes psm one ≡ false → view one ≡ None → read view psm (past ++ one ∷ []) ≡ read view psm past
+read_same view psm past one on none = read_more view psm past one on ∙ ap (λ o. read view psm past ++ cons_option o []) none ∙ append-nil (read view psm past)
+
+pub read_closed : {Y : Type 0} (view : Occurrence → Option Y) (psm : ℕ) (past : List Occurrence) (one : Occurrence) → closes psm one ≡ true → read view psm (past ++ one ∷ []) ≡ []
+read_closed view psm past one closed = ap (filter_map view) (since_more psm [] past one ∙ cond-true _ _ _ closed)
+
+-- ---- what a list has more
+
+pub drop_front : {X : Type 0} (xs ys : List X) → drop (length xs) (xs ++ ys) ≡ ys
+drop_front [] ys = refl
+drop_front (x ∷ xs) ys = drop_front xs ys
+
+pub drop_same : {X : Type 0} (xs : List X) → drop (length xs) xs ≡ []
+drop_same [] = refl
+drop_same (x ∷ xs) = drop_same xs
+
+-- ---- objects
+
+pub puts_same : (most : ℕ) (packets : List (List ℕ)) → puts_heard most (without_fault packets) ≡ map (put_within most) packets
+puts_same most [] = refl
+puts_same most (packet ∷ packets) = ap (λ ps. put_within most packet ∷ ps) (puts_same most packets)
+
+-- with a packet more
+pub objects_more : (most : ℕ) (packets : List (List ℕ)) (packet : List ℕ) → beyond (spelled_within most packets) (spelled_within most (packets ++ packet ∷ []))
+    ≡ objects_from (open_from [] (puts_heard most (without_fault packets))) (put_heard most (packet, false) ∷ [])
+objects_more most packets packet =
+    let before : List (Option PlainPacket) = map (put_within most) packets in
+    ap (λ ps. beyond (spelled_within most packets) (objects_from [] ps)) (map-append (put_within most) packets (packet ∷ []))
+    ∙ ap (beyond (spelled_within most packets)) (objects-more [] before (put_within most packet))
+    ∙ drop_front (spelled_within most packets) (objects_from (open_from [] before) (put_within most packet ∷ []))
+    ∙ ap (λ ps. objects_from (open_from [] ps) (put_within most packet ∷ [])) (sym (puts_same most packets))

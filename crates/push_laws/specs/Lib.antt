@@ -1,0 +1,5 @@
+pub mod Occurrences
+pub mod Readings
+pub mod Gains
+pub mod Premises
+pub mod Laws
