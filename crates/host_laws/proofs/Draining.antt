@@ -10,6 +10,7 @@ use Rattle.host_model.specs.Profiles.{Profile}
 use Rattle.host_model.specs.Hosts.{Host, tells_events}
 use Rattle.host_laws.specs.Calls.{Asks, values_after, asked, outer}
 use Rattle.host_laws.specs.Feeds.{Feed, Happens, fed, all_fed, asked_from, Tiding, Tells, tidings_in, tidings_of, tidings_with, tidings_from}
+use Rattle.host_laws.specs.Seen.{IsCalm}
 use Rattle.host_laws.proofs.Steps.{Grows}
 
 -- one occurrence for each event
@@ -48,8 +49,12 @@ pub each_asked : {P : Type 0} (A : Profile P) (asks : Asks A) (v : Channels) (ev
 each_asked A asks v [] p = refl
 each_asked A asks v (event ∷ events) p = each_asked A asks v events (A.happened event v p)
 
-pub tells_grow : {P : Type 0} (A : Profile P) (asks : Asks A) (host : Host P) → Grows A asks [] host (tells_events A host)
-tells_grow A asks host =
+calm_tellings : (policy : Policy) (v : Channels) (events : List ChannelEvent) → IsCalm policy v (tellings events)
+calm_tellings policy v [] = tt
+calm_tellings policy v (event ∷ events) = (tt, calm_tellings policy (value_after policy channels.Tells v) events)
+
+pub tells_grow : {P : Type 0} (A : Profile P) (asks : Asks A) (C : Type 0) (host : Host P) → Grows A asks C [] host (tells_events A host)
+tells_grow A asks C host =
     let v = host.channels in
     record {
       list = tellings v.events;
@@ -59,4 +64,5 @@ tells_grow A asks host =
       tidings_are = each_told v v.events ∙ sym (tidings_drained A.policy v v.events);
       asked_is = none_asked v.events ∙ sym (each_asked A asks v v.events host.profile);
       acted_is = none_outer v.events;
+      calm = λ c. calm_tellings A.policy v v.events;
     }

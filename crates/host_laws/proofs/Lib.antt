@@ -11,6 +11,8 @@ pub mod Adding
 pub mod Replying
 pub mod Sending
 pub mod Moving
+pub mod Calming
+pub mod Serving
 pub mod Telling
 pub mod Silence
 pub mod Profiles

@@ -44,7 +44,7 @@ module _ {P : Type 0} (A : Profile P) (asks : Asks A) where
 
   -- ---- on its link
 
-  goes_on : (marks : List Mark) (acted : List Occurrence) (old new : Host P) → Lives A asks marks old → Grows A asks acted old new → new.channels.events ≡ [] → Lives A asks (marks ++ map Occurred acted) new
+  goes_on : (marks : List Mark) (acted : List Occurrence) (old new : Host P) → Lives A asks marks old → Grows A asks ⊥ acted old new → new.channels.events ≡ [] → Lives A asks (marks ++ map Occurred acted) new
   goes_on marks acted old new lives grows told =
       let value : old.channels ≡ values_after A.policy no_channels lives.now = lives.channels_run ∙ value_run A.policy lives.now new_link in
       record {
@@ -69,7 +69,7 @@ module _ {P : Type 0} (A : Profile P) (asks : Asks A) where
             ∙ ap₂ (λ (a b : List Mark). a ++ b) lives.marks_are (ap (map Occurred) grows.acted_is));
       }
 
-  still : (marks : List Mark) (old new : Host P) → Lives A asks marks old → Grows A asks [] old new → new.channels.events ≡ [] → Lives A asks marks new
+  still : (marks : List Mark) (old new : Host P) → Lives A asks marks old → Grows A asks ⊥ [] old new → new.channels.events ≡ [] → Lives A asks marks new
   still marks old new lives grows told = subst (λ (m : List Mark). Lives A asks m new) (append-nil marks) (goes_on marks [] old new lives grows told)
 
   -- ---- its link comes up or goes down
@@ -138,20 +138,20 @@ module _ {P : Type 0} (A : Profile P) (asks : Asks A) where
   act_lives : (marks : List Mark) (act : Act Circumstance) (old new : Host P) → Lives A asks marks old → Does (upper A) act old new → Lives_on marks act new
   act_lives marks (Hears circumstances (Linked event)) old new lives does =
       let mid = ready A circumstances old in
-      let far = still marks old mid lives (readies A asks circumstances old) (brought_told A (headway_in circumstances) old lives.all_told) in
+      let far = still marks old mid lives (readies A asks ⊥ circumstances old) (brought_told A (headway_in circumstances) old lives.all_told) in
       subst (λ (host : Host P). Lives A asks (marks ++ Turned event ∷ []) host) (sym does) (turns_on marks event circumstances mid far)
   act_lives marks (Hears circumstances (Failed status)) old new lives does =
-      goes_on marks [] old new lives (act_grows A asks (Hears circumstances (Failed status)) old new tt does) (act_told A (Hears circumstances (Failed status)) old new does lives.all_told)
+      goes_on marks [] old new lives (act_grows A asks ⊥ (Hears circumstances (Failed status)) old new tt (λ never. absurd never) does) (act_told A (Hears circumstances (Failed status)) old new does lives.all_told)
   act_lives marks (Hears circumstances (Heard pdu)) old new lives does =
-      let act : Act Circumstance = Hears circumstances (Heard pdu) in goes_on marks (from_act act) old new lives (act_grows A asks act old new tt does) (act_told A act old new does lives.all_told)
+      let act : Act Circumstance = Hears circumstances (Heard pdu) in goes_on marks (from_act act) old new lives (act_grows A asks ⊥ act old new tt (λ never. absurd never) does) (act_told A act old new does lives.all_told)
   act_lives marks (Hears circumstances TimerFired) old new lives does =
-      let act : Act Circumstance = Hears circumstances TimerFired in goes_on marks (from_act act) old new lives (act_grows A asks act old new tt does) (act_told A act old new does lives.all_told)
+      let act : Act Circumstance = Hears circumstances TimerFired in goes_on marks (from_act act) old new lives (act_grows A asks ⊥ act old new tt (λ never. absurd never) does) (act_told A act old new does lives.all_told)
   act_lives marks (Hears circumstances Cancelled) old new lives does =
-      let act : Act Circumstance = Hears circumstances Cancelled in goes_on marks (from_act act) old new lives (act_grows A asks act old new tt does) (act_told A act old new does lives.all_told)
+      let act : Act Circumstance = Hears circumstances Cancelled in goes_on marks (from_act act) old new lives (act_grows A asks ⊥ act old new tt (λ never. absurd never) does) (act_told A act old new does lives.all_told)
   act_lives marks (Hears circumstances (Opening name)) old new lives does =
-      let act : Act Circumstance = Hears circumstances (Opening name) in goes_on marks (from_act act) old new lives (act_grows A asks act old new tt does) (act_told A act old new does lives.all_told)
+      let act : Act Circumstance = Hears circumstances (Opening name) in goes_on marks (from_act act) old new lives (act_grows A asks ⊥ act old new tt (λ never. absurd never) does) (act_told A act old new does lives.all_told)
   act_lives marks (Says pdu) old new lives does =
-      let act : Act Circumstance = Says pdu in goes_on marks (from_act act) old new lives (act_grows A asks act old new tt does) (act_told A act old new does lives.all_told)
+      let act : Act Circumstance = Says pdu in goes_on marks (from_act act) old new lives (act_grows A asks ⊥ act old new tt (λ never. absurd never) does) (act_told A act old new does lives.all_told)
 
   all_live : (marks : List Mark) (acts : List (Act Circumstance)) (old new : Host P) → Lives A asks marks old → Acting (upper A) acts old new → Lives A asks (marks ++ flat_map act_marks acts) new
   all_live marks [] old new lives same = subst (λ (host : Host P). Lives A asks (marks ++ []) host) (sym same) (subst (λ (m : List Mark). Lives A asks m old) (sym (append-nil marks)) lives)
@@ -164,7 +164,7 @@ module _ {P : Type 0} (A : Profile P) (asks : Asks A) where
   pub waits_from : (acts : List (Act Circumstance)) (host : Host P) → Acting (upper A) acts (first_host A) host → Lives A asks (flat_map act_marks acts) (driven A host)
   waits_from acts host acting =
       let lives = lives_from acts host acting in
-      still (flat_map act_marks acts) host (driven A host) lives (drives_grow A asks most_steps host) (drives_told A most_steps host lives.all_told)
+      still (flat_map act_marks acts) host (driven A host) lives (drives_grow A asks ⊥ most_steps host) (drives_told A most_steps host lives.all_told)
 
 pub hosts_run : {P : Type 0} (A : Profile P) → HostsRun A
 hosts_run A asks acts host acting = lives_from A asks acts host acting

@@ -5,3 +5,5 @@ pub mod Feeds
 pub mod Lives
 pub mod Told
 pub mod Seen
+pub mod Calm
+pub mod Serving

@@ -1,8 +1,10 @@
 //! Laws of a host above its line.
 
 ghost use Rattle.host_laws.specs.Calls.{HostsAsk};
+ghost use Rattle.host_laws.specs.Calm.{CalmHostsMove};
 ghost use Rattle.host_laws.specs.Lives.{HostsRun, HostsWait};
 ghost use Rattle.host_laws.specs.Seen.{OwnTalkMoves};
+ghost use Rattle.host_laws.specs.Serving.{HostsGain, ServersAreServed};
 ghost use Rattle.host_laws.specs.Told.{AllSdusAreTold, ChecksAreRead, ProfilesAreTold};
 ghost use Rattle.host_laws.specs.Turning.{TurnsAreActs};
 ghost use Rattle.host_model.specs.Profiles.{Profile};
@@ -53,4 +55,21 @@ pub fn turns_are_acts<S, T, G, H>()
 /// that it gave up, which nobody hears.
 pub fn own_talk_moves()
     ensures { OwnTalkMoves }
+{}
+
+/// So it is of every host that is calm on its link, whatever its profile: its own talk is what it heard and said there.
+pub fn calm_hosts_move<P>()
+    ensures { (A : Profile P) → CalmHostsMove A }
+{}
+
+/// The server of a host and its inbox are what they are of what happened to them over all links: what its profile was told,
+/// and what of its SDUs went out.
+pub fn servers_are_served()
+    ensures { ServersAreServed }
+{}
+
+/// The inbox of a host gains exactly the objects that the packets spell which its server was told, in the order of their last
+/// packets, where no call of the inbox fails, no request is ignored, and at most one transport has an object under way.
+pub fn hosts_gain()
+    ensures { HostsGain }
 {}

@@ -1,0 +1,55 @@
+-- A host that is calm on its link: nothing waits in it where it hears something, a PDU has one command, and what it says is read as it
+-- was meant (Core 5.1, Volume 3 Part A, 3.1 and 4).
+use Rattle.std.specs.Prelude.{ℕ, ◌≡◌, ◌≤◌, List, [], ◌∷◌, length, drop, Option, Some}
+use Rattle.std.specs.List.{AllByRecursion, filter_map}
+use Rattle.acl_fragments.specs.Pieces.{channel_of}
+use Rattle.capture.specs.declared.flow.Flow.TheVariants.{Out}
+use Rattle.capture.specs.Pdus.{Pdu}
+use Rattle.l2cap_signal.specs.Reading.{answers}
+use Rattle.link_talk.specs.Sayings.{said_by}
+use Rattle.channel_model.specs.Value.{Channels, no_channels}
+use Rattle.channel_model.specs.Policies.{Policy}
+use Rattle.channel_model.specs.Giving.{Given, next_given}
+use Rattle.channel_laws.specs.Runs.{Occurrence, run_of}
+use Rattle.world_model.specs.Machines.{News, Linked, Failed, Heard, TimerFired, Cancelled, Opening}
+use Rattle.host_model.specs.Circumstances.{Circumstance}
+use Rattle.host_model.specs.Profiles.{Profile}
+use Rattle.host_model.specs.Hosts.{Host, driven, ready}
+use Rattle.host_model.specs.Machines.{upper}
+use Rattle.host_laws.specs.Acts.{Act, Hears, Says, Does, Acting, StaysOnLink, from_acts}
+use Rattle.host_laws.specs.Calls.{Asks, outer}
+use Rattle.host_laws.specs.Seen.{spoken_of, moved, IsQuiet, saying_of, FiresPlainly}
+
+abbrev pub IsCalmNews : Policy → News → Channels → Type 0
+IsCalmNews policy (Linked event) v = Unit {0}
+IsCalmNews policy (Failed status) v = Unit {0}
+IsCalmNews policy (Heard pdu) v = IsQuiet v × (channel_of pdu ≡ 0x0001 → length (answers (drop 4 pdu)) ≤ 1)
+IsCalmNews policy TimerFired v = IsQuiet v × FiresPlainly policy v
+IsCalmNews policy Cancelled v = Unit {0}
+IsCalmNews policy (Opening name) v = Unit {0}
+
+-- what the host gives once its profile waits is read so
+abbrev pub IsReadFrom : {P : Type 0} → Profile P → List ℕ → Host P → Type 0
+IsReadFrom A pdu host = (given : Given) → next_given (driven A host).channels ≡ Some given → said_by (let gave : Pdu = record { flow = Out; octets = pdu } in gave) ≡ saying_of given pdu ∷ []
+
+abbrev pub IsCalmAct : {P : Type 0} → Profile P → Act Circumstance → Host P → Type 0
+IsCalmAct A (Hears circumstances news) host = IsCalmNews A.policy news (ready A circumstances host).channels
+IsCalmAct A (Says pdu) host = IsReadFrom A pdu host
+
+-- with each of its acts
+abbrev pub AreCalm : {P : Type 0} → Profile P → List (Act Circumstance) → Host P → Type 0
+AreCalm A [] host = Unit {0}
+AreCalm {P} A (act ∷ acts) host = IsCalmAct A act host × ((mid : Host P) → Does (upper A) act host mid → AreCalm A acts mid)
+
+-- its channels are those of a run of which the own talk is what moved, but for what was given up
+pub record Moves {P : Type 0} (A : Profile P) (acts : List (Act Circumstance)) (new : Host P) : Type 0 where
+  pub list : List Occurrence
+  pub channels_run : new.channels ≡ (run_of A.policy list).value
+  pub acted_is : filter_map outer list ≡ from_acts acts
+  pub talk_is : spoken_of (run_of A.policy list).said ≡ moved (from_acts acts)
+
+-- So it is of a host on a link of its own, for every profile, where it is calm and nothing waits at the end.
+abbrev pub CalmHostsMove : {P : Type 0} → Profile P → Type 0
+CalmHostsMove {P} A =
+    (asks : Asks A) (acts : List (Act Circumstance)) (old new : Host P) → old.channels ≡ no_channels → AllByRecursion StaysOnLink acts → Acting (upper A) acts old new → AreCalm A acts old
+    → IsQuiet new.channels → Moves A acts new
