@@ -13,6 +13,8 @@ pub mod Sending
 pub mod Moving
 pub mod Calming
 pub mod Serving
+pub mod OneWay
+pub mod OneCarrier
 pub mod Telling
 pub mod Silence
 pub mod Profiles

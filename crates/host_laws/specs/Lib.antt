@@ -7,3 +7,4 @@ pub mod Told
 pub mod Seen
 pub mod Calm
 pub mod Serving
+pub mod OneCarrier

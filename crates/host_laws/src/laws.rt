@@ -3,6 +3,7 @@
 ghost use Rattle.host_laws.specs.Calls.{HostsAsk};
 ghost use Rattle.host_laws.specs.Calm.{CalmHostsMove};
 ghost use Rattle.host_laws.specs.Lives.{HostsRun, HostsWait};
+ghost use Rattle.host_laws.specs.OneCarrier.{OneCarrierGains};
 ghost use Rattle.host_laws.specs.Seen.{OwnTalkMoves};
 ghost use Rattle.host_laws.specs.Serving.{HostsGain, ServersAreServed};
 ghost use Rattle.host_laws.specs.Told.{AllSdusAreTold, ChecksAreRead, ProfilesAreTold};
@@ -72,4 +73,10 @@ pub fn servers_are_served()
 /// packets, where no call of the inbox fails, no request is ignored, and at most one transport has an object under way.
 pub fn hosts_gain()
     ensures { HostsGain }
+{}
+
+/// The objects of a link on which one channel alone carries packets, over L2CAP or over RFCOMM, are those of that channel,
+/// for every talk.
+pub fn one_carrier_gains()
+    ensures { OneCarrierGains }
 {}
