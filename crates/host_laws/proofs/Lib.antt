@@ -15,6 +15,7 @@ pub mod Calming
 pub mod Serving
 pub mod OneWay
 pub mod OneCarrier
+pub mod Gains
 pub mod Telling
 pub mod Silence
 pub mod Profiles

@@ -8,3 +8,4 @@ pub mod Seen
 pub mod Calm
 pub mod Serving
 pub mod OneCarrier
+pub mod Gaining
