@@ -16,6 +16,7 @@ pub mod Serving
 pub mod OneWay
 pub mod OneCarrier
 pub mod Gains
+pub mod Gaining
 pub mod Telling
 pub mod Silence
 pub mod Profiles

@@ -32,8 +32,8 @@ is_told policy list = record {
 arisen_told : (policy : Policy) (list : List Occurrence) → (run_of policy list).value.events ≡ [] → arisen (run_of policy list) ≡ events_told (told_on policy list)
 arisen_told policy list none = ap₂ (λ (a b : List ChannelEvent). a ++ b) (events_run policy list) none ∙ append-nil (events_told (told_on policy list))
 
-sdus_so : (policy : Policy) (party : Party) (list : List Occurrence) → StatesFrame policy party → (run_of policy list).value.events ≡ [] → SdusAreToldOn policy party list
-sdus_so policy party list states none channel =
+pub sdus-so : (policy : Policy) (party : Party) (list : List Occurrence) → StatesFrame policy party → (run_of policy list).value.events ≡ [] → SdusAreToldOn policy party list
+sdus-so policy party list states none channel =
     let read = sdus party channel Into (run_of policy list).said in
     subst (λ (events : List ChannelEvent). IsHandedUp (is_told_broken channel.own events) (sdus_told channel.own (told_on policy list)) read) (arisen_told policy list none)
     (subst (λ (up : List (List ℕ)). IsHandedUp (is_told_broken channel.own (arisen (run_of policy list))) up read) (sdus_run policy channel.own list) (sdus-are_read policy party list channel states))
@@ -47,8 +47,8 @@ all_told policy (span ∷ spans) now = (is_told policy span.list, all_told polic
 all_sdus : (policy : Policy) (party : Party) (spans : List Span) (now : List Occurrence) → StatesFrame policy party
     → AllByRecursion (λ (span : Span). (run_of policy span.list).value.events ≡ []) spans → (run_of policy now).value.events ≡ []
     → AllByRecursion (SdusAreToldOn policy party) (map (λ (span : Span). span.list) spans ++ now ∷ [])
-all_sdus policy party [] now states none last = (sdus_so policy party now states last, tt)
-all_sdus policy party (span ∷ spans) now states none last = (sdus_so policy party span.list states none.0, all_sdus policy party spans now states none.1 last)
+all_sdus policy party [] now states none last = (sdus-so policy party now states last, tt)
+all_sdus policy party (span ∷ spans) now states none last = (sdus-so policy party span.list states none.0, all_sdus policy party spans now states none.1 last)
 
 module _ {P : Type 0} (A : Profile P) where
   pub profiles_are_told : ProfilesAreTold A

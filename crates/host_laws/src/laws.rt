@@ -2,6 +2,7 @@
 
 ghost use Rattle.host_laws.specs.Calls.{HostsAsk};
 ghost use Rattle.host_laws.specs.Calm.{CalmHostsMove};
+ghost use Rattle.host_laws.specs.Gaining.{HostsGainTalk};
 ghost use Rattle.host_laws.specs.Lives.{HostsRun, HostsWait};
 ghost use Rattle.host_laws.specs.OneCarrier.{OneCarrierGains};
 ghost use Rattle.host_laws.specs.Seen.{OwnTalkMoves};
@@ -79,4 +80,10 @@ pub fn hosts_gain()
 /// for every talk.
 pub fn one_carrier_gains()
     ensures { OneCarrierGains }
+{}
+
+/// Where one channel carries packets on each link, over L2CAP, the inbox of a host gains exactly the objects that its own
+/// talk spells over all its links, in their order, where no call of the inbox fails and no request is ignored.
+pub fn hosts_gain_talk()
+    ensures { HostsGainTalk }
 {}
