@@ -1,5 +1,5 @@
 -- From a host in which no request of its own waits to be given, a command or a call lets at most one wait.
-use Rattle.std.proofs.Common.{◌≡◌, ℕ, ◌+◌, List, [], ◌∷◌, ◌++◌, map, Bool, true, false, cond, not, eqb, find, filter, Option, Some, None, Result, Ok, Err, option_map, is_some, nat_le, refl, sym, ap, subst, ◌∙◌}
+use Rattle.std.proofs.Common.{◌≡◌, ℕ, List, [], ◌∷◌, ◌++◌, Bool, true, false, cond, not, eqb, find, filter, Option, Some, None, Result, Ok, Err, is_some, nat_le, refl, sym, ap, subst, ◌∙◌}
 use Rattle.std.specs.Option.{option_or}
 use Rattle.std.specs.List.{AllByRecursion}
 use Rattle.l2cap_signal.specs.Commands.{Content, reject, connection_request, connection_response, configuration_request, configuration_response, disconnection_request, disconnection_response, echo_request, echo_response, information_request, information_response}
@@ -21,13 +21,13 @@ use Rattle.channel_model.specs.declared.event.CloseReason.{CloseReason}
 use Rattle.channel_model.specs.declared.event.CloseReason.TheVariants.{NoAgreement, Refused, OwnClosed}
 use Rattle.channel_model.specs.Value.{Request, Queued, Answer, Ask, Own, Unasked, Asking, Granted, Carrier, Plain, Retransmitting, Setup, no_setup, Stage, Requested, Connected, Leaving, Closing, Crossed, Held, Channels}
 use Rattle.channel_model.specs.Policies.{Policy}
-use Rattle.channel_model.specs.Changing.{has_own, held_at, is_peer, in_place_of, setup_of, stage_with, with_setup, to_setup, to_stage, is_copy, is_copy_about, forgets, gone, tells}
+use Rattle.channel_model.specs.Changing.{has_own, held_at, is_peer, setup_of, stage_with, with_setup, to_setup, is_copy, is_copy_about, forgets, tells}
 use Rattle.channel_model.specs.Asking.{next_identifier, new_request, first_options, asks, asks_options}
-use Rattle.channel_model.specs.Closing.{closes, closes_at, peer_closes_at, ends_at, ends}
-use Rattle.channel_model.specs.Configuring.{Verdict, NoChannel, TooLate, Unreadable, Incomplete, Judged, verdict, accepted_setup, without_parts, accepts_with, refused_setup, refuses, follows_answer, follows_verdict, opens_if, granted_setup, grants}
+use Rattle.channel_model.specs.Closing.{closes, closes_at, peer_closes_at, ends_at}
+use Rattle.channel_model.specs.Configuring.{Verdict, NoChannel, TooLate, Unreadable, Incomplete, Judged, verdict, accepted_setup, accepts_with, refused_setup, follows_answer, follows_verdict, opens_if, granted_setup, grants}
 use Rattle.channel_model.specs.Answers.{connection_result}
-use Rattle.channel_model.specs.Following.{with_channel, follows_connection, follows_setup, follows_configuration, follows_disconnection, follows}
-use Rattle.channel_model.specs.Responses.{is_fresh_endpoint, connects, hears_connected, hears_grant_at, hears_grant, renewed_setup, renews, hears_settled, hears_options, is_asked, hears_response_on, hears_response, hears_end, has_identifier, hears_features}
+use Rattle.channel_model.specs.Following.{with_channel, follows_setup, follows_configuration, follows_disconnection, follows}
+use Rattle.channel_model.specs.Responses.{is_fresh_endpoint, connects, hears_connected, hears_grant_at, hears_grant, renewed_setup, hears_settled, hears_options, is_asked, hears_response_on, hears_response, hears_end, has_identifier, hears_features}
 use Rattle.channel_model.specs.Carrying.{reason_of, settles_machine, machine_heard, read_by, carries, is_taken_with, opens_with, takes_with, takes_on, takes_held, takes}
 use Rattle.channel_model.specs.Giving.{connection_at, configuration_at, disconnection_at, on_held, command_of}
 use Rattle.channel_model.specs.Calls.{can_connect, connected, asks_features, disconnected_at, disconnected_held, disconnected}

@@ -1,6 +1,6 @@
 -- A host tells its profile all that its channels tell, one thing after the other.
-use Rattle.std.proofs.Common.{◌≡◌, ℕ, List, [], ◌∷◌, ◌++◌, map, fold, refl, sym, ap, ap₂, ◌∙◌, append_assoc}
-use Rattle.std.specs.List.{flat_map, filter_map}
+use Rattle.std.proofs.Common.{◌≡◌, List, [], ◌∷◌, map, fold, refl, sym, ap, ◌∙◌}
+use Rattle.std.specs.List.{filter_map}
 use Rattle.channel_model.specs.declared.event.ChannelEvent.{ChannelEvent}
 use Rattle.channel_model.specs.Value.{Channels}
 use Rattle.channel_model.specs.Policies.{Policy}
@@ -9,7 +9,7 @@ use Rattle.channel_laws.specs.Runs as channels
 use Rattle.host_model.specs.Profiles.{Profile}
 use Rattle.host_model.specs.Hosts.{Host, tells_events}
 use Rattle.host_laws.specs.Calls.{Asks, values_after, asked, outer}
-use Rattle.host_laws.specs.Feeds.{Feed, Happens, fed, all_fed, asked_from, Tiding, Tells, tidings_in, tidings_of, tidings_with, tidings_from}
+use Rattle.host_laws.specs.Feeds.{Feed, Happens, all_fed, asked_from, Tiding, Tells, tidings_of, tidings_from}
 use Rattle.host_laws.specs.Seen.{IsCalm}
 use Rattle.host_laws.proofs.Steps.{Grows}
 

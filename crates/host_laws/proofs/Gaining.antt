@@ -1,5 +1,5 @@
 -- The inbox of a host gains what its own talk spells over all links.
-use Rattle.std.proofs.Common.{◌≡◌, ℕ, List, [], ◌∷◌, ◌++◌, map, fold, filter_map, find, Bool, true, false, cond, ◌||◌, ◌&&◌, eqb, Option, Some, None, ◌⊎◌, inl, inr, refl, sym, ap, ap₂, subst, ◌∙◌, append_assoc, append-nil}
+use Rattle.std.proofs.Common.{◌≡◌, ℕ, List, [], ◌∷◌, ◌++◌, map, find, Bool, true, false, cond, ◌||◌, ◌&&◌, eqb, Option, Some, None, inl, inr, refl, sym, ap, ap₂, subst, ◌∙◌, append_assoc, append-nil}
 use Rattle.std.specs.List.{AllByRecursion, flat_map, cons_option}
 use Rattle.std.proofs.lemmas.Bool.{eqb-true, eq-eqb}
 use Rattle.std.proofs.lemmas.List.{map-append}
@@ -7,7 +7,6 @@ use Rattle.std.proofs.lemmas.List.Concat.{flat_map-append}
 use Rattle.std.proofs.lemmas.List.Elements.{filter_map-append}
 use Rattle.std.proofs.lemmas.List.Sums.{fold-append}
 use Rattle.bt_base.specs.declared.settings.Settings.{Settings}
-use Rattle.bt_base.specs.declared.settings.Transport.TheVariants.{L2cap}
 use Rattle.bt_base.specs.Objects.{Object, Contents}
 use Rattle.capture.specs.declared.flow.Flow.TheVariants.{Into}
 use Rattle.link_talk.specs.declared.channel.Channel.{Channel}
@@ -26,7 +25,6 @@ use Rattle.channel_laws.specs.Runs.{Occurrence, value_after, told_in, up_with, n
 use Rattle.channel_laws.specs.Views.{channel_by, is_own, read_at}
 use Rattle.channel_laws.specs.Endpoints.{IsOf}
 use Rattle.channel_laws.specs.Sdus.{StatesFrame, IsHandedUp}
-use Rattle.push_model.specs.Client.{own_maximum}
 use Rattle.push_model.specs.Server.{Lent, lends, lent_sdu, object_psm}
 use Rattle.push_laws.specs.Occurrences as push
 use Rattle.world_model.specs.Machines.{LinkEvent, Up, Down, News, Linked, Failed, Heard, TimerFired, Cancelled, Opening}
@@ -36,11 +34,11 @@ use Rattle.host_model.specs.Endpoints.{endpoint_of, takes_sdu}
 use Rattle.host_model.specs.Pdus.{sdu_of}
 use Rattle.host_model.specs.Servers.{ServerProfile, is_told, server_profile}
 use Rattle.host_laws.specs.Calls.{values_after}
-use Rattle.host_laws.specs.Feeds.{Feed, Gifts, Learns, Receives, Happens, Sent, Steps, fed, Tiding, Brings, Tells, Turns, tidings_by, tidings_in, tidings_of, brought_by, tidings_with, tidings_from}
+use Rattle.host_laws.specs.Feeds.{Feed, Gifts, Learns, Receives, Happens, Sent, Steps, fed, Tiding, Brings, Tells, Turns, tidings_by, tidings_in, tidings_of, brought_by, tidings_from}
 use Rattle.host_laws.specs.Lives.{Span, end_tidings, span_tidings, all_tidings}
-use Rattle.host_laws.specs.OneCarrier.{IsFor, CarriesAlone}
+use Rattle.host_laws.specs.OneCarrier.{IsFor}
 use Rattle.host_laws.specs.Serving.{news_served, event_served, taken_by, lent_by, served_with, served_from}
-use Rattle.host_laws.specs.Told.{event_told, events_told, sdu_told, sdus_told, IsOfChannel, told_on}
+use Rattle.host_laws.specs.Told.{event_told, events_told, sdus_told, IsOfChannel, told_on}
 use Rattle.host_laws.specs.Gaining.{ClosesItself, OneObjectChannel, IsNoSdu, StartsBare, HostsGainTalk}
 use Rattle.host_laws.proofs.Links.{value_run}
 use Rattle.host_laws.proofs.Silence.{ends-are_last, channels-are_named}

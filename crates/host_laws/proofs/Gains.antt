@@ -1,12 +1,12 @@
 -- What a list of occurrences gains, with the packets since the last closing.
-use Rattle.std.proofs.Common.{◌≡◌, ℕ, zero, suc, List, [], ◌∷◌, ◌++◌, length, drop, map, fold, Bool, true, false, cond, eqb, Option, Some, None, refl, sym, ap, ap₂, subst, ◌∙◌, append_assoc, append-nil}
-use Rattle.std.specs.List.{AllByRecursion, flat_map, cons_option}
-use Rattle.std.proofs.lemmas.Bool.{eqb-true, eq-eqb}
+use Rattle.std.proofs.Common.{◌≡◌, ℕ, zero, suc, List, [], ◌∷◌, ◌++◌, length, drop, map, fold, Bool, true, false, cond, eqb, Some, None, refl, sym, ap, ap₂, ◌∙◌, append_assoc, append-nil}
+use Rattle.std.specs.List.{AllByRecursion, cons_option}
+use Rattle.std.proofs.lemmas.Bool.{eqb-true}
 use Rattle.std.proofs.lemmas.List.{map-append}
 use Rattle.bt_base.specs.declared.settings.Settings.{Settings}
 use Rattle.bt_base.specs.declared.settings.Transport.TheVariants.{L2cap, Rfcomm}
 use Rattle.bt_base.specs.Objects.{Object}
-use Rattle.capture.specs.Histories.{each_after, given_by}
+use Rattle.capture.specs.Histories.{each_after}
 use Rattle.rfcomm_frames.specs.ObexPackets.{obex_packets}
 use Rattle.rfcomm_frames.specs.UserChannel.{user_octets}
 use Rattle.rfcomm_frames.specs.Multiplexing.{Passed}
@@ -19,7 +19,7 @@ use Rattle.link_talk.specs.ObjectsHeard.{put_within, spelled_within}
 use Rattle.push_model.specs.Client.{own_maximum}
 use Rattle.push_model.specs.Server.{object_psm, rfcomm_psm}
 use Rattle.push_laws.specs.Occurrences.{Occurrence, Came, Went, Closed, LinkDown, Asked, Answering}
-use Rattle.push_laws.specs.Readings.{closes, came_on, passing, passed_by, user_dlci, packets_over}
+use Rattle.push_laws.specs.Readings.{came_on, passing, passed_by, user_dlci, packets_over}
 use Rattle.push_laws.specs.Gains.{objects_over, objects_with, objects}
 use Rattle.push_laws.proofs.Readings.{read, read_more, read_same, read_closed, drop_front, drop_same}
 use Rattle.host_laws.specs.Gaining.{IsDirect}

@@ -1,26 +1,21 @@
 -- The channels of a run, and that a host leaves nothing to be told.
 use Rattle.std.proofs.Common.{◌≡◌, ℕ, zero, suc, Bool, true, false, List, [], ◌∷◌, fold, find, Option, Some, None, is_some, refl, sym, ap, subst, ◌∙◌, if◌then◌else◌}
-use Rattle.std.specs.List.{AllByRecursion}
-use Rattle.acl_fragments.specs.Pieces.{channel_of}
 use Rattle.channel_model.specs.declared.errand.Errand.{Errand}
 use Rattle.channel_model.specs.declared.errand.Errand.TheVariants as errands
 use Rattle.channel_model.specs.declared.event.ChannelEvent.{ChannelEvent}
 use Rattle.channel_model.specs.Value.{Queued, Answer, Ask, Setup, Stage, Held, Channels, no_channels}
 use Rattle.channel_model.specs.Policies.{Policy}
 use Rattle.channel_model.specs.Changing.{held_at, setup_of}
-use Rattle.channel_model.specs.Timing.{timed_out}
 use Rattle.channel_model.specs.Giving.{Given, next_given, after_given, gives, carrier_spent, held_given, stage_given, connection_given, configuration_given, disconnection_given, counted, queue_given}
-use Rattle.channel_laws.specs.Runs.{Occurrence, Run, new_link, run_on, run_of, value_after}
+use Rattle.channel_laws.specs.Runs.{Occurrence, Run, run_on}
 use Rattle.world_model.specs.Machines.{LinkEvent, Up, Down, News, Linked, Failed, Heard, TimerFired, Cancelled, Opening}
 use Rattle.host_model.specs.Circumstances.{Headway, Sending, Sent, Settled, Circumstance, headway_in}
 use Rattle.host_model.specs.Pdus.{pdu_of, is_frame}
 use Rattle.host_model.specs.Profiles.{Stride, Profile}
-use Rattle.host_model.specs.Hosts.{Host, first_host, settles, strides, goes_by, drives, most_steps, driven, brought, hears_news, ready, hear, says, next}
+use Rattle.host_model.specs.Hosts.{Host, settles, strides, goes_by, drives, most_steps, driven, brought, hears_news, ready, says}
 use Rattle.host_model.specs.Machines.{upper}
-use Rattle.host_laws.specs.Acts.{Act, Hears, Says, Does, Acting, StaysOnLink, from_act, from_acts}
-use Rattle.host_laws.specs.Calls.{Asks, values_after}
-use Rattle.host_laws.proofs.Steps.{Grows}
-use Rattle.host_laws.proofs.Growing.{grows_none, grows_then, drives_grow, act_grows}
+use Rattle.host_laws.specs.Acts.{Act, Hears, Says, Does}
+use Rattle.host_laws.specs.Calls.{values_after}
 
 -- ---- the channels of a run
 

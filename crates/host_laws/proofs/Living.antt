@@ -1,25 +1,24 @@
 -- A host over all its links.
-use Rattle.std.proofs.Common.{◌≡◌, ℕ, List, [], ◌∷◌, ◌++◌, map, fold, refl, sym, ap, ap₂, subst, ◌∙◌, append_assoc, append-nil}
+use Rattle.std.proofs.Common.{◌≡◌, List, [], ◌∷◌, ◌++◌, map, refl, sym, ap, ap₂, subst, ◌∙◌, append_assoc, append-nil}
 use Rattle.std.specs.List.{AllByRecursion, flat_map, filter_map}
 use Rattle.std.proofs.lemmas.List.{map-append}
 use Rattle.std.proofs.lemmas.List.Concat.{flat_map-append}
 use Rattle.std.proofs.lemmas.List.Elements.{filter_map-append}
 use Rattle.std.proofs.lemmas.List.Sums.{fold-append}
-use Rattle.channel_model.specs.declared.event.ChannelEvent.{ChannelEvent}
 use Rattle.channel_model.specs.Value.{Channels, no_channels}
-use Rattle.channel_model.specs.Calls.{link_up, link_down}
+use Rattle.channel_model.specs.Calls.{link_down}
 use Rattle.channel_model.specs.Policies.{Policy}
 use Rattle.channel_laws.specs.Runs.{Occurrence, new_link, run_of}
-use Rattle.world_model.specs.Machines.{LinkEvent, Up, Down, News, Linked, Failed, Heard, TimerFired, Cancelled, Opening}
+use Rattle.world_model.specs.Machines.{LinkEvent, Up, Down, Linked, Failed, Heard, TimerFired, Cancelled, Opening}
 use Rattle.host_model.specs.Circumstances.{Circumstance, headway_in}
 use Rattle.host_model.specs.Profiles.{Profile}
-use Rattle.host_model.specs.Hosts.{Host, first_host, with_channels, tells_events, told, ready, hear, hears_news, driven, most_steps}
+use Rattle.host_model.specs.Hosts.{Host, first_host, told, ready, hears_news, driven, most_steps}
 use Rattle.host_model.specs.Machines.{upper}
 use Rattle.host_laws.specs.Acts.{Act, Hears, Says, Does, Acting, from_act}
 use Rattle.host_laws.specs.Calls.{Asks, values_after, asked, outer}
-use Rattle.host_laws.specs.Feeds.{Feed, Learns, fed, all_fed, asked_from, Tiding, Tells, Turns, tidings_in, tidings_of, tidings_from}
+use Rattle.host_laws.specs.Feeds.{Feed, Learns, fed, all_fed, asked_from, Tiding, Turns, tidings_in, tidings_of, tidings_from}
 use Rattle.host_laws.proofs.Steps.{Grows}
-use Rattle.host_laws.specs.Lives.{Mark, Occurred, Turned, act_marks, Span, end_tidings, span_tidings, all_tidings, marks_on, span_marks, all_marks, Lives, HostsRun, HostsWait}
+use Rattle.host_laws.specs.Lives.{Mark, Occurred, Turned, act_marks, Span, end_tidings, span_tidings, marks_on, span_marks, Lives, HostsRun, HostsWait}
 use Rattle.host_laws.proofs.Draining.{happenings, each_fed, each_told, each_asked}
 use Rattle.host_laws.proofs.Growing.{tidings-append, asked-append, readies, drives_grow, act_grows}
 use Rattle.host_laws.proofs.Links.{value_run, drives_told, brought_told, act_told, linked_new}

@@ -1,6 +1,6 @@
 -- The own talk of a host that is calm is what moved.
-use Rattle.std.proofs.Common.{◌≡◌, ℕ, zero, suc, ◌≤◌, List, [], ◌∷◌, ◌++◌, map, filter, fold, length, Bool, true, false, cond, eqb, find, drop, Option, Some, None, option_map, option_to_list, is_some, refl, sym, ap, ap₂, subst, ◌∙◌, append_assoc, append-nil, arith}
-use Rattle.std.specs.List.{AllByRecursion, filter_map, flat_map}
+use Rattle.std.proofs.Common.{◌≡◌, ℕ, ◌≤◌, List, [], ◌∷◌, ◌++◌, map, length, Bool, true, false, cond, eqb, find, drop, Option, Some, None, option_map, option_to_list, is_some, refl, sym, ap, ap₂, subst, ◌∙◌, append_assoc, append-nil, arith}
+use Rattle.std.specs.List.{filter_map, flat_map}
 use Rattle.std.proofs.lemmas.Bool.{eqb-true}
 use Rattle.std.proofs.lemmas.List.Concat.{flat_map-append}
 use Rattle.std.proofs.lemmas.List.Elements.{filter_map-append, filter-append}
@@ -20,22 +20,22 @@ use Rattle.channel_model.specs.Changing.{has_own, held_at, setup_of}
 use Rattle.channel_model.specs.Hearing.{hears_command, hears_commands}
 use Rattle.channel_model.specs.Carrying.{takes}
 use Rattle.channel_model.specs.Timing.{timed_out}
-use Rattle.channel_model.specs.Giving.{Given, Signal, Whole, Framed, command_of, carrier_given, carrier_gives, some_carrier_gives, stage_gives, gives, held_gives, queue_gives, carrier_spent, held_given, connection_given, configuration_given, disconnection_given, stage_given, queue_given, counted, next_given, after_given, headed}
+use Rattle.channel_model.specs.Giving.{Given, Signal, Whole, Framed, command_of, carrier_given, some_carrier_gives, stage_gives, gives, held_gives, queue_gives, carrier_spent, held_given, connection_given, configuration_given, disconnection_given, stage_given, queue_given, counted, next_given, after_given, headed}
 use Rattle.channel_model.specs.Calls.{connected, asks_features, disconnected, carrier_at, sends_on, sends_held, sends, after_event}
 use Rattle.channel_model.proofs.Lookups.{own_of, Distinct}
-use Rattle.channel_model.proofs.Walking.{commands-go, command-goes}
+use Rattle.channel_model.proofs.Walking.{commands-go}
 use Rattle.channel_model.proofs.Calling.{connected-goes, asks-features-goes, disconnected-goes, takes-goes, timed-goes, given-goes}
 use Rattle.ertm_model.specs.Giving.{next_frame}
 use Rattle.ertm_frames.specs.Frames.{PlainFrame}
-use Rattle.channel_laws.specs.OwnTalk.{spoken, reply_to, asked_between, said_of, said_with, said_with_all}
+use Rattle.channel_laws.specs.OwnTalk.{spoken, asked_between, said_of, said_with, said_with_all}
 use Rattle.channel_laws.specs.Runs.{Occurrence, Comes, Connects, AsksFeatures, Disconnects, Sends, Gives, Fires, Tells, forgone_at, forgone_between, given_up, peer_at, said_by_carrier, said_as, said_in, value_after, Run, new_link, run_on, run_of}
 use Rattle.channel_laws.proofs.Running.{all-sound}
-use Rattle.host_laws.specs.Seen.{is_spoken, spoken_of, pdu_of, moved, IsQuiet, saying_of, IsGiven, queued_said, waiting_in, IsDue, AllDue, FiresPlainly, IsCalmAt, IsCalm, OwnTalkMoves}
-use Rattle.host_laws.proofs.Waiting.{SameCommands, waiting-same, due-same, Unchanged, counted-same}
+use Rattle.host_laws.specs.Seen.{is_spoken, spoken_of, pdu_of, moved, IsQuiet, saying_of, IsGiven, waiting_in, AllDue, FiresPlainly, IsCalmAt, IsCalm, OwnTalkMoves}
+use Rattle.host_laws.proofs.Waiting.{SameCommands, waiting-same, due-same, counted-same}
 use Rattle.host_laws.proofs.Plain.{NoPlain, GoesPlain, StaysSent, walks-plain, plain_at, whole_said, none-whole}
 use Rattle.host_laws.proofs.Adding.{Adds, none-replies, connected-adds, features-asked, disconnected-adds, takes-adds}
-use Rattle.host_laws.proofs.Replying.{Asked, asked-so, Answered, command-heard}
-use Rattle.host_laws.proofs.Sending.{IsSent, Plainly, NoneWaits, OneWaits, sends-so}
+use Rattle.host_laws.proofs.Replying.{asked-so, command-heard}
+use Rattle.host_laws.proofs.Sending.{Plainly, NoneWaits, OneWaits, sends-so}
 
 -- ---- lists of sayings
 
@@ -356,7 +356,7 @@ event_plainly : (v : Channels) → Plainly v → Plainly (after_event v)
 event_plainly v (NoneWaits plain) = NoneWaits plain
 event_plainly v (OneWaits sent) =
     let same : (after_given (after_event v)).held ≡ (after_given v).held =
-        ap (λ q. (queue_given q (after_event v)).held) sent.queue_is ∙ (event_given (find gives v.held) v ∙ sym (ap (λ q. (queue_given q v).held) sent.queue_is)) in
+    ap (λ q. (queue_given q (after_event v)).held) sent.queue_is ∙ (event_given (find gives v.held) v ∙ sym (ap (λ q. (queue_given q v).held) sent.queue_is)) in
     OneWaits (record { queue_is = sent.queue_is; peer = sent.peer; sdu = sent.sdu; whole = sent.whole; after = λ own. ap (λ (hs : List Held). plain_at (find (has_own own) hs)) same ∙ sent.after own })
 
 tells_so : (seen said : List Saying) (v : Channels) → Seen seen said v → Seen (seen ++ []) (said ++ []) (after_event v)

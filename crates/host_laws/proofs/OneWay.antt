@@ -1,5 +1,5 @@
 -- Over L2CAP the packets that were heard on a channel are its SDUs.
-use Rattle.std.proofs.Common.{◌≡◌, ℕ, List, [], ◌∷◌, ◌++◌, length, drop, map, filter_map, refl, sym, ap, ap₂, ◌∙◌, append-nil}
+use Rattle.std.proofs.Common.{◌≡◌, ℕ, List, [], ◌∷◌, ◌++◌, map, refl, sym, ap, ap₂, ◌∙◌, append-nil}
 use Rattle.std.proofs.lemmas.List.Elements.{filter_map-append}
 use Rattle.capture.specs.declared.flow.Flow.{Flow}
 use Rattle.capture.specs.declared.flow.Flow.TheVariants.{Out, Into}
@@ -12,7 +12,7 @@ use Rattle.link_talk.specs.declared.party.Party.{Party}
 use Rattle.link_talk.specs.Sayings.{Saying}
 use Rattle.link_talk.specs.Gains.{beyond, gained}
 use Rattle.link_talk.specs.Carriages.{Carriage, one_way, pdus_of, stretch, mode_of}
-use Rattle.link_talk.specs.Sdus.{longest, sdus_by, sdus_of, sdus, Spoken, spoken_as, spoken_with, spoken, spoken_way, spoken_one_way}
+use Rattle.link_talk.specs.Sdus.{longest, sdus_by, sdus_of, sdus, spoken_as, spoken_with, spoken, spoken_way, spoken_one_way}
 use Rattle.link_talk.specs.Packets.{packets_heard}
 use Rattle.link_talk.proofs.Multiplexed.{over_l2cap, over_nothing}
 use Rattle.talk_laws.specs.Sdus.{heard_so_far, sdus_with}

@@ -1,5 +1,5 @@
 -- No SDU waits in basic mode, but one that was just sent.
-use Rattle.std.proofs.Common.{◌≡◌, ℕ, List, [], ◌∷◌, ◌++◌, Bool, true, false, cond, eqb, find, Option, Some, None, option_map, refl, sym, ap, subst, ◌∙◌, inl, inr}
+use Rattle.std.proofs.Common.{◌≡◌, ℕ, List, [], ◌∷◌, Bool, true, false, cond, eqb, find, Option, Some, None, option_map, refl, sym, ap, ◌∙◌, inl, inr}
 use Rattle.std.specs.Option.{option_or}
 use Rattle.l2cap_config.specs.declared.wish.Mode.{Mode}
 use Rattle.l2cap_config.specs.declared.wish.Mode.TheVariants.{Basic, Enhanced}
@@ -12,13 +12,12 @@ use Rattle.channel_model.specs.declared.event.ChannelEvent.{ChannelEvent}
 use Rattle.channel_model.specs.Value.{Carrier, Plain, Retransmitting, Setup, Stage, Requested, Connected, Leaving, Closing, Crossed, Held, Channels}
 use Rattle.channel_model.specs.Policies.{Policy}
 use Rattle.channel_model.specs.Changing.{has_own, held_at, setup_of, is_open}
-use Rattle.channel_model.specs.Configuring.{carrier_by, bounded_agreement, new_carrier}
-use Rattle.channel_model.specs.Giving.{Given, Signal, Whole, Framed, carrier_gives, some_carrier_gives, stage_gives, gives, held_gives, headed}
-use Rattle.ertm_model.specs.Value.{Ertm}
+use Rattle.channel_model.specs.Configuring.{carrier_by, bounded_agreement}
+use Rattle.channel_model.specs.Giving.{Given, Signal, Whole, Framed, some_carrier_gives, stage_gives, gives, held_gives, headed}
 use Rattle.ertm_model.specs.Giving.{next_frame}
 use Rattle.ertm_frames.specs.Frames.{PlainFrame}
 use Rattle.channel_model.proofs.Lookups.{own_of, Distinct, find-append, found-distinct}
-use Rattle.channel_model.proofs.Going.{IsAccepted, CarrierGoes, SetupGoes, StageGoes, staged, Moves, IsFirst, new_held, Walks}
+use Rattle.channel_model.proofs.Going.{IsAccepted, CarrierGoes, StageGoes, staged, Moves, IsFirst, new_held, Walks}
 use Rattle.channel_laws.proofs.Sound.{at_each}
 
 abbrev pub waits_plain : Carrier → Bool

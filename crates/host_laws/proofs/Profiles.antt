@@ -1,5 +1,5 @@
 -- What a profile is told on each link, and where its host looks for check words.
-use Rattle.std.proofs.Common.{◌≡◌, ℕ, List, [], ◌∷◌, ◌++◌, map, not, ◌&&◌, refl, sym, ap, ap₂, subst, ◌∙◌, append-nil}
+use Rattle.std.proofs.Common.{◌≡◌, ℕ, List, [], ◌∷◌, ◌++◌, map, not, ◌&&◌, sym, ap, ap₂, subst, ◌∙◌, append-nil}
 use Rattle.std.specs.List.{AllByRecursion}
 use Rattle.capture.specs.declared.flow.Flow.TheVariants.{Into}
 use Rattle.link_talk.specs.declared.party.Party.{Party}
@@ -15,7 +15,6 @@ use Rattle.channel_laws.specs.Sdus.{StatesFrame, IsHandedUp}
 use Rattle.channel_laws.proofs.CheckWords.{check_words-are_read}
 use Rattle.channel_laws.proofs.Incoming.{sdus-are_read}
 use Rattle.host_model.specs.Profiles.{Profile}
-use Rattle.host_model.specs.Hosts.{Host, driven}
 use Rattle.host_laws.specs.Lives.{Span}
 use Rattle.host_laws.specs.Told.{events_told, sdus_told, told_on, IsToldOn, SdusAreToldOn, ProfilesAreTold, AllSdusAreTold, ChecksAreRead}
 use Rattle.host_laws.proofs.Telling.{events_run, sdus_run}

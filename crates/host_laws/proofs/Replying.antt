@@ -1,6 +1,5 @@
 -- A command that is heard where nothing waits: what is said of it is what waits then.
-use Rattle.std.proofs.Common.{◌≡◌, ℕ, List, [], ◌∷◌, ◌++◌, map, filter, Bool, true, false, cond, eqb, Option, Some, None, Ok, Err, option_to_list, refl, sym, ap, subst, ◌∙◌, append-nil}
-use Rattle.std.specs.List.{AllByRecursion}
+use Rattle.std.proofs.Common.{◌≡◌, ℕ, List, [], ◌∷◌, ◌++◌, Bool, true, false, cond, eqb, Option, Some, None, Ok, Err, refl, sym, ap, subst, ◌∙◌, append-nil}
 use Rattle.capture.specs.declared.flow.Flow.TheVariants.{Into}
 use Rattle.l2cap_signal.specs.Commands.{Content, Command, reject, connection_request, connection_response, configuration_request, configuration_response, disconnection_request, disconnection_response, echo_request, echo_response, information_request, information_response}
 use Rattle.l2cap_signal.specs.Reading.{Answer as Read}
@@ -10,18 +9,17 @@ use Rattle.link_talk.specs.Sayings as sayings
 use Rattle.channel_model.specs.declared.errand.Errand.{Errand}
 use Rattle.channel_model.specs.declared.request_kind.RequestKind.{RequestKind}
 use Rattle.channel_model.specs.declared.request_kind.RequestKind.TheVariants as kinds
-use Rattle.channel_model.specs.Value.{Queued, Answer, Ask, Remembered, Channels}
+use Rattle.channel_model.specs.Value.{Queued, Ask, Remembered, Channels}
 use Rattle.channel_model.specs.Policies.{Policy}
 use Rattle.channel_model.specs.Changing.{held_at, answers}
 use Rattle.channel_model.specs.Asking.{next_identifier}
 use Rattle.channel_model.specs.Answers.{kind_of_code, remembered, not_understood, too_long, answer_to}
-use Rattle.channel_model.specs.Following.{remembers, says, can_say, hears_new, hears_again, hears_kind, hears_request, follows}
+use Rattle.channel_model.specs.Following.{remembers, says, hears_new, hears_again, hears_kind, hears_request, follows}
 use Rattle.channel_model.specs.Responses.{features_in}
-use Rattle.channel_model.specs.Hearing.{hears_content, hears_malformed, is_response_code, is_kind, hears_unread, hears_refused, hears_command}
-use Rattle.channel_model.specs.Giving.{command_of}
+use Rattle.channel_model.specs.Hearing.{hears_malformed, is_response_code, is_kind, hears_unread, hears_command}
 use Rattle.channel_model.proofs.Lookups.{eqb-same}
-use Rattle.channel_laws.specs.OwnTalk.{spoken, command_with, response_by, response_as, response_to, response_malformed, response_unread, command_if, reply_to, exchanged, newest, said_of, asked_between, said_with}
-use Rattle.channel_laws.proofs.Asking.{next-apart, newest-last}
+use Rattle.channel_laws.specs.OwnTalk.{spoken, command_with, response_by, response_as, response_malformed, response_unread, command_if, reply_to, exchanged, newest, said_of, asked_between}
+use Rattle.channel_laws.proofs.Asking.{next-apart}
 use Rattle.host_laws.specs.Seen.{waiting_in, AllDue}
 use Rattle.host_laws.proofs.Adding.{Replies, Adds, Stays, Demands, from-same, follows-adds, grant-adds, response-adds, end-adds, features-add}
 

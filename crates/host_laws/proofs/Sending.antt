@@ -1,5 +1,5 @@
 -- An SDU that is sent where nothing is to be given is what is given next.
-use Rattle.std.proofs.Common.{◌≡◌, ℕ, List, [], ◌∷◌, ◌++◌, map, Bool, true, false, cond, ◌&&◌, eqb, find, Option, Some, None, option_map, is_some, unwrap_or, refl, sym, ap, subst, ◌∙◌}
+use Rattle.std.proofs.Common.{◌≡◌, ℕ, List, [], ◌∷◌, map, Bool, true, false, cond, ◌&&◌, eqb, find, Option, Some, None, option_map, is_some, unwrap_or, refl, sym, ap, subst, ◌∙◌}
 use Rattle.capture.specs.declared.flow.Flow.TheVariants.{Out}
 use Rattle.l2cap_config.specs.declared.wish.Agreed.{Agreed}
 use Rattle.link_talk.specs.Sayings.{Saying, Carried}
@@ -10,13 +10,13 @@ use Rattle.ertm_frames.specs.Frames.{PlainFrame}
 use Rattle.channel_model.specs.Value.{Carrier, Plain, Retransmitting, Setup, Stage, Requested, Connected, Leaving, Closing, Crossed, Held, Channels}
 use Rattle.channel_model.specs.Changing.{has_own, held_at, in_place_of, is_open, is_granted, setup_of, stage_with, with_setup, to_setup}
 use Rattle.channel_model.specs.Giving.{Given, Whole, Framed, carrier_given, stage_gives, gives, held_gives, carrier_spent, held_given, queue_given, after_given, headed}
-use Rattle.channel_model.specs.Calls.{setup_on, carrier_if, open_carrier, carrier_at, carrier_with, sends_setup, sends_on, sends_held, sends}
-use Rattle.channel_model.proofs.Lookups.{own_of, eqb-same, found-placed, find-placed, not_found}
+use Rattle.channel_model.specs.Calls.{setup_on, carrier_if, open_carrier, carrier_at, carrier_with, sends_on, sends_held, sends}
+use Rattle.channel_model.proofs.Lookups.{found-placed, find-placed, not_found}
 use Rattle.channel_model.proofs.Walking.{found-own, with-setup}
 use Rattle.channel_laws.specs.Views.{peer_of}
 use Rattle.channel_laws.specs.Runs.{peer_at, said_by_carrier}
 use Rattle.channel_laws.proofs.Sound.{at_each}
-use Rattle.host_laws.proofs.Plain.{waits_plain, plain_carrier, plain_setup, plain_at, NoPlain, whole_said, stage-whole}
+use Rattle.host_laws.proofs.Plain.{plain_carrier, plain_setup, plain_at, NoPlain, whole_said, stage-whole}
 
 -- ---- one is put in place where none gives
 
@@ -111,7 +111,7 @@ sent_whole v held before after agreed sdu none silent plain found is carrier =
     let setup_is = with-setup held.stage before after is in
     let first = one_placed new held v.held (ap is_some whole.gives_it) silent found in
     let given : after_given w ≡ to_setup new spent w =
-        ap (λ queue. queue_given queue w) none ∙ (ap (λ h. held_given h w) first ∙ ap (λ s. carrier_spent s new w) setup_is) in
+    ap (λ queue. queue_given queue w) none ∙ (ap (λ h. held_given h w) first ∙ ap (λ s. carrier_spent s new w) setup_is) in
     record {
       said_is = ap (λ h. whole_said (held_gives h)) first ∙ (ap whole_said whole.gives_it ∙ ap (λ p. Carried Out (headed p sdu) ∷ []) (sym whole.peer_is));
       plainly = OneWaits (record {

@@ -6,7 +6,7 @@ use Rattle.channel_model.specs.declared.event.ChannelEvent.{ChannelEvent}
 use Rattle.channel_model.specs.declared.event.ChannelEvent.TheVariants as events
 use Rattle.channel_model.specs.Value.{Channels}
 use Rattle.channel_model.specs.Calls.{sends}
-use Rattle.push_model.specs.Server.{Reacted, Lent, Server, lends, lent_sdu, stepped, channel_down}
+use Rattle.push_model.specs.Server.{Reacted, Lent, lends, lent_sdu, stepped, channel_down}
 use Rattle.push_laws.specs.Occurrences.{Occurrence, done, all_done, begun}
 use Rattle.push_laws.specs.Occurrences as push
 use Rattle.push_laws.specs.Laws.{stored_in}

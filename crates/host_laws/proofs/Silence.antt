@@ -1,6 +1,6 @@
 -- Behind the end of a channel its host is told no SDU of it; and each SDU that it is told is of a channel that is read.
-use Rattle.std.proofs.Common.{◌≡◌, ℕ, List, [], ◌∷◌, ◌++◌, map, fold, Bool, true, false, cond, ◌||◌, eqb, find, Option, Some, None, option_map, refl, sym, ap, ap₂, subst, ◌∙◌, append_assoc, append-nil}
-use Rattle.std.specs.List.{AllByRecursion, list_any}
+use Rattle.std.proofs.Common.{◌≡◌, ℕ, List, [], ◌∷◌, ◌++◌, map, Bool, true, false, cond, ◌||◌, eqb, Option, Some, None, refl, sym, ap, ap₂, subst, ◌∙◌, append_assoc}
+use Rattle.std.specs.List.{AllByRecursion}
 use Rattle.std.proofs.lemmas.Bool.{eqb-true}
 use Rattle.std.proofs.lemmas.List.Sums.{fold-append}
 use Rattle.acl_fragments.specs.Pieces.{channel_of}
@@ -8,20 +8,20 @@ use Rattle.link_talk.specs.Channels.{Entry, is_alive, reading}
 use Rattle.channel_model.specs.declared.event.ChannelEvent.{ChannelEvent}
 use Rattle.channel_model.specs.Value.{Setup, Stage, Requested, Connected, Leaving, Closing, Crossed, Held, Channels, no_channels}
 use Rattle.channel_model.specs.Policies.{Policy}
-use Rattle.channel_model.specs.Changing.{has_own, held_at}
+use Rattle.channel_model.specs.Changing.{held_at}
 use Rattle.channel_model.specs.Carrying.{Up, Nothing, Received, sdu_at, up_by, up_on, up_at}
 use Rattle.channel_model.specs.Hearing.{up}
 use Rattle.channel_model.specs.Telling.{any_reason, closes_for, is_told_closed}
 use Rattle.channel_model.proofs.Walking.{found-own}
 use Rattle.channel_laws.specs.Runs.{Occurrence, Comes, Connects, AsksFeatures, Disconnects, Sends, Gives, Fires, Run, new_link, run_on, run_of, value_after, told_in, up_with}
 use Rattle.channel_laws.specs.Runs as runs
-use Rattle.channel_laws.specs.Views.{IsRead, IsReadBy, IsThere, channel_by, life_of, peer_of, read_at}
+use Rattle.channel_laws.specs.Views.{IsRead, IsReadBy, channel_by, life_of, peer_of, read_at}
 use Rattle.channel_laws.specs.Endpoints.{IsOf}
 use Rattle.channel_laws.proofs.Running.{along, channels-are_read}
 use Rattle.channel_laws.proofs.Telling.{HeldTold, StageTold, RunTold, nothing_told, one_told}
 use Rattle.channel_laws.proofs.Naming.{endpoints-name_one}
-use Rattle.host_laws.specs.Feeds.{Tiding, Brings, Tells, Turns, brought_by, tidings_with, tidings_from}
-use Rattle.host_laws.specs.Told.{event_told, events_told, sdu_told, sdus_told, IsEnded, IsOfChannel}
+use Rattle.host_laws.specs.Feeds.{Tiding, Brings, Tells, Turns, brought_by, tidings_from}
+use Rattle.host_laws.specs.Told.{events_told, sdus_told, IsEnded, IsOfChannel}
 
 -- ---- what is told of an end
 
@@ -116,7 +116,7 @@ silent_up run own (Received other psm sdu) told comes = (λ closed. by (eqb othe
     by false is closed = refl
     by true is closed =
         let at : is_told_closed own (run.told ++ run.value.events) ≡ false =
-            subst (λ n. is_told_closed n (run.told ++ run.value.events) ≡ false) (eqb-true other own is) (open_told psm other (held_at other run.value) (is_told_closed other (run.told ++ run.value.events)) comes (told.at other)) in
+        subst (λ n. is_told_closed n (run.told ++ run.value.events) ≡ false) (eqb-true other own is) (open_told psm other (held_at other run.value) (is_told_closed other (run.told ++ run.value.events)) comes (told.at other)) in
         let never : true ≡ false = sym (any_more own run.told run.value.events closed) ∙ at in
         absurd cc
 
@@ -136,7 +136,7 @@ silent_on policy own before [] = tt
 silent_on policy own before (one ∷ list) =
     let run = run_of policy before in
     let later : Silent own (is_told_closed own (run.told ++ told_in one run.value)) (tidings_from policy (value_after policy one run.value) list) =
-        subst (λ (r : Run). Silent own (is_told_closed own r.told) (tidings_from policy r.value list)) (run_more policy before one) (silent_on policy own (before ++ one ∷ []) list) in
+    subst (λ (r : Run). Silent own (is_told_closed own r.told) (tidings_from policy r.value list)) (run_more policy before one) (silent_on policy own (before ++ one ∷ []) list) in
     silent_with own (is_told_closed own run.told) (up_with one run.value) (told_in one run.value) (tidings_from policy (value_after policy one run.value) list)
     (silent_up run own (up_with one run.value) (all-told policy before) (comes_so run.value one))
     (subst (λ b. Silent own b (tidings_from policy (value_after policy one run.value) list)) (any_both own run.told (told_in one run.value)) later)
@@ -230,9 +230,9 @@ of_on policy before (one ∷ list) =
     let run = run_of policy before in
     let entries = (reading (run_of policy (before ++ one ∷ list)).said).entries in
     let later : AllByRecursion (IsOfChannel entries) (tidings_from policy (value_after policy one run.value) list) =
-        subst (λ (r : Run). AllByRecursion (IsOfChannel entries) (tidings_from policy r.value list)) (run_more policy before one)
-        (subst (λ (whole : List Occurrence). AllByRecursion (IsOfChannel (reading (run_of policy whole).said).entries) (tidings_from policy (run_of policy (before ++ one ∷ [])).value list)) (append_assoc before (one ∷ []) list)
-        (of_on policy (before ++ one ∷ []) list)) in
+    subst (λ (r : Run). AllByRecursion (IsOfChannel entries) (tidings_from policy r.value list)) (run_more policy before one)
+    (subst (λ (whole : List Occurrence). AllByRecursion (IsOfChannel (reading (run_of policy whole).said).entries) (tidings_from policy (run_of policy (before ++ one ∷ [])).value list)) (append_assoc before (one ∷ []) list)
+    (of_on policy (before ++ one ∷ []) list)) in
     of_with entries (up_with one run.value) (told_in one run.value) (tidings_from policy (value_after policy one run.value) list)
     (of_up policy before (one ∷ list) (up_with one run.value) (comes_so run.value one)) later
 

@@ -1,9 +1,8 @@
 -- A party of turns goes on by acts.
-use Rattle.std.proofs.Common.{◌≡◌, ℕ, zero, suc, Bool, true, false, List, [], ◌∷◌, ◌++◌, map, take, drop, Option, Some, None, refl, sym, ap, ap₂, subst, ◌∙◌, append-nil, take-append-drop, if◌then◌else◌}
+use Rattle.std.proofs.Common.{◌≡◌, ℕ, zero, suc, Bool, true, false, List, [], ◌∷◌, ◌++◌, map, take, drop, Option, Some, None, refl, sym, ap, ap₂, subst, ◌∙◌, take-append-drop, if◌then◌else◌}
 use Rattle.std.specs.List.{flat_map}
 use Rattle.std.proofs.lemmas.List.Concat.{flat_map-append}
 use Rattle.std.proofs.lemmas.List.{map-append}
-use Rattle.push_terms.specs.declared.outcome.Outcome.{Outcome}
 use Rattle.push_terms.specs.declared.word.Side.TheVariants.{A, B}
 use Rattle.push_terms.specs.declared.word.Way.TheVariants.{Ab, Ba}
 use Rattle.radio_air.specs.declared.deed.Deed as air
@@ -12,8 +11,8 @@ use Rattle.radio_air.specs.declared.fate.Fate.{Fate}
 use Rattle.radio_air.specs.Fates.{meets, comes_of}
 use Rattle.world_model.specs.Machines.{LinkEvent, Up, Down, News, Linked, Heard, TimerFired, Cancelled, Opening, Upper, said_next, drain, all_said, Breath, Whole, Short, Reaction}
 use Rattle.world_model.specs.Talks.{Talk, Told, Said, Unsent, Met, Done}
-use Rattle.world_model.specs.Turns.{Party, Pair, breathes, speaks_on, notes, hears, receives, event_heard, fires, with_queue, with_talk, Step, Turn, Idle, Rise, Fall, Began, Ended, Hands, Acts, found, Moves, Passes, first_pair}
-use Rattle.host_laws.specs.Acts.{Act, Hears, Says, Does, Acting}
+use Rattle.world_model.specs.Turns.{Party, Pair, breathes, speaks_on, notes, hears, receives, event_heard, with_queue, with_talk, Step, Turn, Idle, Rise, Fall, Began, Ended, Hands, Acts, found, Moves, Passes, first_pair}
+use Rattle.host_laws.specs.Acts.{Act, Hears, Says, Acting}
 use Rattle.host_laws.specs.Turning.{Deed, Spoke, deed_of, deeds_in, Behaves, BothBehave, TurnsAreActs}
 
 acting_then : {S G : Type 0} (U : Upper S G) (xs ys : List (Act G)) (old mid new : S) → Acting U xs old mid → Acting U ys mid new → Acting U (xs ++ ys) old new

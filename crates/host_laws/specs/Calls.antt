@@ -6,8 +6,8 @@ use Rattle.channel_model.specs.Value.{Channels}
 use Rattle.channel_model.specs.Policies.{Policy}
 use Rattle.channel_laws.specs.Runs.{Occurrence, Comes, Connects, AsksFeatures, Disconnects, Sends, Gives, Fires, Tells, value_after}
 use Rattle.host_model.specs.Profiles.{Profile}
-use Rattle.host_model.specs.Clients.{ClientProfile, client_profile}
-use Rattle.host_model.specs.Servers.{ServerProfile, server_profile}
+use Rattle.host_model.specs.Clients.{client_profile}
+use Rattle.host_model.specs.Servers.{server_profile}
 
 -- a channel, the peer's features, the end of a channel, or that an SDU is sent on one
 pub data Call : Type 0 where

@@ -1,6 +1,6 @@
 -- What the inbox of a server gains, read off its host's own talk: one object channel over L2CAP on each link (Object Push Profile 1.2, 4.3;
 -- IrOBEX 1.5, 3.4.3).
-use Rattle.std.specs.Prelude.{ℕ, ◌≡◌, true, false, List, [], ◌++◌, Option, Some, None}
+use Rattle.std.specs.Prelude.{◌≡◌, true, false, List, [], ◌++◌, Option, Some, None}
 use Rattle.std.specs.List.{AllByRecursion, flat_map}
 use Rattle.bt_base.specs.declared.settings.Settings.{Settings}
 use Rattle.bt_base.specs.declared.settings.Transport.TheVariants.{L2cap}

@@ -1,5 +1,5 @@
 -- A host from its first moment on, over all its links.
-use Rattle.std.specs.Prelude.{ℕ, ◌≡◌, List, [], ◌∷◌, ◌++◌, map}
+use Rattle.std.specs.Prelude.{◌≡◌, List, [], ◌∷◌, ◌++◌, map}
 use Rattle.std.specs.List.{AllByRecursion, flat_map, filter_map}
 use Rattle.channel_model.specs.Value.{Channels, no_channels}
 use Rattle.channel_model.specs.Calls.{link_down}

@@ -1,6 +1,5 @@
 -- What happens to the server of a host while its profile goes through what it does (Object Push Profile 1.2, 4.3).
 use Rattle.std.specs.Prelude.{ℕ, ◌≡◌, List, [], ◌∷◌, ◌++◌, Option, Some, None, if◌then◌else◌}
-use Rattle.std.specs.List.{flat_map}
 use Rattle.bt_base.specs.declared.settings.Settings.{Settings}
 use Rattle.bt_base.specs.Objects.{Object, Contents}
 use Rattle.channel_model.specs.declared.event.ChannelEvent.{ChannelEvent}

@@ -1,5 +1,5 @@
 -- What a profile is told on a link, as its host's own talk is read (Core 5.1, Volume 3 Part A, 3.1, 3.3 and 4).
-use Rattle.std.specs.Prelude.{ℕ, ◌≡◌, ◌==◌, ◌&&◌, not, Bool, true, false, List, [], ◌++◌, Option, Some, None, if◌then◌else◌}
+use Rattle.std.specs.Prelude.{ℕ, ◌≡◌, ◌==◌, ◌&&◌, not, true, false, List, [], ◌++◌, Option, Some, None, if◌then◌else◌}
 use Rattle.std.specs.List.{AllByRecursion, filter_map}
 use Rattle.capture.specs.declared.flow.Flow.TheVariants.{Into}
 use Rattle.link_talk.specs.declared.channel.Channel.{Channel}
