@@ -8,7 +8,7 @@ ghost use Rattle.host_laws.specs.OneCarrier.{OneCarrierGains};
 ghost use Rattle.host_laws.specs.Seen.{OwnTalkMoves};
 ghost use Rattle.host_laws.specs.Serving.{HostsGain, ServersAreServed};
 ghost use Rattle.host_laws.specs.Told.{AllSdusAreTold, ChecksAreRead, ProfilesAreTold};
-ghost use Rattle.host_laws.specs.Turning.{TurnsAreActs};
+ghost use Rattle.host_laws.specs.Turning.{LinksAreActs, TurnsAreActs};
 ghost use Rattle.host_model.specs.Profiles.{Profile};
 ghost use Rattle.world_model.specs.Machines.{Upper};
 
@@ -51,6 +51,11 @@ pub fn checks_are_read<P>()
 /// laws of one host hold of both hosts of a world.
 pub fn turns_are_acts<S, T, G, H>()
     ensures { (U : Upper S G) (V : Upper T H) → TurnsAreActs U V }
+{}
+
+/// And while a link is up, since it came up: then a host hears PDUs, and its timer fires, where it has said all.
+pub fn links_are_acts<S, T, G, H>()
+    ensures { (U : Upper S G) (V : Upper T H) → LinksAreActs U V }
 {}
 
 /// Where a host hears things in quiet, one command at a time, its own talk is what moved on its link, but for the requests
