@@ -43,9 +43,9 @@ calm-both : (policy : Policy) (v : Channels) (xs ys : List Occurrence) → IsCal
 calm-both policy v [] ys one two = two
 calm-both policy v (x ∷ xs) ys one two = (one.0, calm-both policy (value_after policy x v) xs ys one.1 two)
 
-none_some : {X : Type 0} (found : Option X) → is_some found ≡ false → found ≡ None
-none_some None is = refl
-none_some (Some x) is = cc
+pub none-some : {X : Type 0} (found : Option X) → is_some found ≡ false → found ≡ None
+none-some None is = refl
+none-some (Some x) is = cc
 
 module _ {P : Type 0} (A : Profile P) (asks : Asks A) (C : Type 0) where
   pub grows_none : (host : Host P) → Grows A asks C [] host host
@@ -176,7 +176,7 @@ module _ {P : Type 0} (A : Profile P) (asks : Asks A) (C : Type 0) where
   goes_on : (more : Host P → Host P) (test : Bool) (host : Host P) → is_some (next_given host.channels) ≡ test → ((next : Host P) → Grows A asks C [] next (more next))
       → Grows A asks C [] host (if test then host else goes_by A more (A.steps host.channels host.profile) host)
   goes_on more true host is goes = grows_none host
-  goes_on more false host is goes = strides_on more (A.steps host.channels host.profile).more host (none_some (next_given host.channels) is) goes
+  goes_on more false host is goes = strides_on more (A.steps host.channels host.profile).more host (none-some (next_given host.channels) is) goes
 
   pub drives_grow : (count : ℕ) (host : Host P) → Grows A asks C [] host (drives A count host)
   unfolding drives

@@ -12,6 +12,7 @@ pub mod Replying
 pub mod Sending
 pub mod Moving
 pub mod Calming
+pub mod Talking
 pub mod Serving
 pub mod OneWay
 pub mod OneCarrier

@@ -1,9 +1,9 @@
 -- A host that is calm on its link: nothing waits in it where it hears something, a PDU has one command, and what it says is read as it
 -- was meant (Core 5.1, Volume 3 Part A, 3.1 and 4).
-use Rattle.std.specs.Prelude.{ℕ, ◌≡◌, ◌≤◌, List, [], ◌∷◌, length, drop, Some}
-use Rattle.std.specs.List.{AllByRecursion, filter_map}
+use Rattle.std.specs.Prelude.{ℕ, ◌≡◌, ◌≤◌, List, [], ◌∷◌, length, drop, Option, Some, None}
+use Rattle.std.specs.List.{AllByRecursion, filter_map, flat_map}
 use Rattle.acl_fragments.specs.Pieces.{channel_of}
-use Rattle.capture.specs.declared.flow.Flow.TheVariants.{Out}
+use Rattle.capture.specs.declared.flow.Flow.TheVariants.{Out, Into}
 use Rattle.capture.specs.Pdus.{Pdu}
 use Rattle.l2cap_signal.specs.Reading.{answers}
 use Rattle.link_talk.specs.Sayings.{said_by}
@@ -11,12 +11,14 @@ use Rattle.channel_model.specs.Value.{Channels, no_channels}
 use Rattle.channel_model.specs.Policies.{Policy}
 use Rattle.channel_model.specs.Giving.{Given, next_given}
 use Rattle.channel_laws.specs.Runs.{Occurrence, run_of}
-use Rattle.world_model.specs.Machines.{News, Linked, Failed, Heard, TimerFired, Cancelled, Opening}
+use Rattle.world_model.specs.Machines.{Up, News, Linked, Failed, Heard, TimerFired, Cancelled, Opening}
+use Rattle.world_model.specs.Talks.{Talk, Told, Said, Unsent, Met, Done}
 use Rattle.host_model.specs.Circumstances.{Circumstance}
 use Rattle.host_model.specs.Profiles.{Profile}
-use Rattle.host_model.specs.Hosts.{Host, driven, ready}
+use Rattle.host_model.specs.Hosts.{Host, driven, ready, hear, next}
 use Rattle.host_model.specs.Machines.{upper}
 use Rattle.host_laws.specs.Acts.{Act, Hears, Says, Does, Acting, StaysOnLink, from_acts}
+use Rattle.host_laws.specs.Turning.{OnLink}
 use Rattle.host_laws.specs.Calls.{Asks, outer}
 use Rattle.host_laws.specs.Seen.{spoken_of, moved, IsQuiet, saying_of, FiresPlainly}
 
@@ -53,3 +55,51 @@ abbrev pub CalmHostsMove : {P : Type 0} → Profile P → Type 0
 CalmHostsMove {P} A =
     (asks : Asks A) (acts : List (Act Circumstance)) (old new : Host P) → old.channels ≡ no_channels → AllByRecursion StaysOnLink acts → Acting (upper A) acts old new → AreCalm A acts old
     → IsQuiet new.channels → Moves A acts new
+
+-- ---- in a world of turns
+
+-- where it has nothing to say, its channels have nothing to give: no bound on what it says holds a PDU back
+abbrev pub HoldsNothingBack : {P : Type 0} → Profile P → Host P → Type 0
+HoldsNothingBack A host = next A host ≡ None → next_given (driven A host).channels ≡ None
+
+abbrev pub IsGentleNews : {P : Type 0} → Profile P → List Circumstance → News → Host P → Type 0
+IsGentleNews A circumstances (Linked event) host = Unit {0}
+IsGentleNews A circumstances (Failed status) host = Unit {0}
+IsGentleNews A circumstances (Heard pdu) host = HoldsNothingBack A host × (channel_of pdu ≡ 0x0001 → length (answers (drop 4 pdu)) ≤ 1)
+IsGentleNews A circumstances TimerFired host = HoldsNothingBack A host × FiresPlainly A.policy (ready A circumstances host).channels
+IsGentleNews A circumstances Cancelled host = Unit {0}
+IsGentleNews A circumstances (Opening name) host = Unit {0}
+
+abbrev pub IsGentleAct : {P : Type 0} → Profile P → Act Circumstance → Host P → Type 0
+IsGentleAct A (Hears circumstances news) host = IsGentleNews A circumstances news host
+IsGentleAct A (Says pdu) host = IsReadFrom A pdu host
+
+-- what comes in has one command in a PDU, and what is said is read so
+abbrev pub AreGentle : {P : Type 0} → Profile P → List (Act Circumstance) → Host P → Type 0
+AreGentle A [] host = Unit {0}
+AreGentle {P} A (act ∷ acts) host = IsGentleAct A act host × ((mid : Host P) → Does (upper A) act host mid → AreGentle A acts mid)
+
+-- the PDUs that a host heard and said
+abbrev pub pdus_in : Talk → List Pdu
+pdus_in (Told (Linked event)) = []
+pdus_in (Told (Failed status)) = []
+pdus_in (Told (Heard pdu)) = record { flow = Into; octets = pdu } ∷ []
+pdus_in (Told TimerFired) = []
+pdus_in (Told Cancelled) = []
+pdus_in (Told (Opening name)) = []
+pdus_in (Said pdu) = record { flow = Out; octets = pdu } ∷ []
+pdus_in (Unsent pdu) = record { flow = Out; octets = pdu } ∷ []
+pdus_in (Met fate checked) = []
+pdus_in (Done outcome) = []
+
+-- its channels are those of a run of which the own talk is what was told and said since the link came up
+pub record TalksSo {P : Type 0} (A : Profile P) (since : List Talk) (now : Host P) : Type 0 where
+  pub list : List Occurrence
+  pub channels_run : now.channels ≡ (run_of A.policy list).value
+  pub talk_is : spoken_of (run_of A.policy list).said ≡ flat_map said_by (flat_map pdus_in since)
+
+-- So it is of a host on a link of a run of turns, where it has said all.
+abbrev pub HostsTalkInTurns : {P : Type 0} → Profile P → Type 0
+HostsTalkInTurns {P} A =
+    (asks : Asks A) (talk : List Talk) (now : Host P) (on : OnLink (upper A) talk now) → AreGentle A on.acts (hear A on.gifts (Linked Up) on.old) → next A now ≡ None → HoldsNothingBack A now
+    → TalksSo A on.since now

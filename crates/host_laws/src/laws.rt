@@ -1,7 +1,7 @@
 //! Laws of a host above its line.
 
 ghost use Rattle.host_laws.specs.Calls.{HostsAsk};
-ghost use Rattle.host_laws.specs.Calm.{CalmHostsMove};
+ghost use Rattle.host_laws.specs.Calm.{CalmHostsMove, HostsTalkInTurns};
 ghost use Rattle.host_laws.specs.Gaining.{HostsGainTalk};
 ghost use Rattle.host_laws.specs.Lives.{HostsRun, HostsWait};
 ghost use Rattle.host_laws.specs.OneCarrier.{OneCarrierGains};
@@ -67,6 +67,12 @@ pub fn own_talk_moves()
 /// So it is of every host that is calm on its link, whatever its profile: its own talk is what it heard and said there.
 pub fn calm_hosts_move<P>()
     ensures { (A : Profile P) → CalmHostsMove A }
+{}
+
+/// On a link of a run of turns, with one command in each PDU, the own talk of a host is what it was told and said since the
+/// link came up, but for what it gave up, wherever it has said all.
+pub fn hosts_talk_in_turns<P>()
+    ensures { (A : Profile P) → HostsTalkInTurns A }
 {}
 
 /// The server of a host and its inbox are what they are of what happened to them over all links: what its profile was told,

@@ -1,0 +1,103 @@
+-- On a link of a run of turns the own talk of a host is what it was told and said.
+use Rattle.std.proofs.Common.{◌≡◌, ℕ, zero, suc, Bool, true, false, List, [], ◌∷◌, ◌++◌, map, filter_map, Option, Some, None, is_some, refl, sym, ap, ap₂, ◌∙◌, if◌then◌else◌}
+use Rattle.std.specs.List.{flat_map}
+use Rattle.std.proofs.lemmas.List.Concat.{flat_map-append}
+use Rattle.std.proofs.lemmas.List.Elements.{filter_map-append}
+use Rattle.capture.specs.declared.flow.Flow.TheVariants.{Out, Into}
+use Rattle.capture.specs.Pdus.{Pdu}
+use Rattle.link_talk.specs.Sayings.{said_by}
+use Rattle.channel_model.specs.Value.{Channels, no_channels}
+use Rattle.channel_model.specs.Giving.{next_given}
+use Rattle.world_model.specs.Machines.{Up, News, Linked, Failed, Heard, TimerFired, Cancelled, Opening}
+use Rattle.world_model.specs.Talks.{Talk, Told, Said, Unsent, Met, Done}
+use Rattle.host_model.specs.Circumstances.{Headway, Sending, Sent, Settled, Circumstance, headway_in}
+use Rattle.host_model.specs.Profiles.{Profile}
+use Rattle.host_model.specs.Hosts.{Host, settles, goes_by, drives, driven, brought, ready, hear, next}
+use Rattle.host_model.specs.Machines.{upper}
+use Rattle.host_laws.specs.Acts.{Act, Hears, Says, Does, from_news, from_act, from_acts}
+use Rattle.host_laws.specs.Calls.{Asks}
+use Rattle.host_laws.specs.Turning.{Deed, Learned, Spoke, deed_of, deeds_in, AreInQuiet, OnLink}
+use Rattle.host_laws.specs.Seen.{pdu_of, moved, IsQuiet}
+use Rattle.host_laws.specs.Calm.{IsCalmAct, AreCalm, IsGentleAct, AreGentle, HoldsNothingBack, pdus_in, HostsTalkInTurns}
+use Rattle.host_laws.proofs.Growing.{none-some}
+use Rattle.host_laws.proofs.Links.{brought_told, linked_new}
+use Rattle.host_laws.proofs.Living.{lives_from}
+use Rattle.host_laws.proofs.Calming.{calm_hosts_move}
+
+module _ {P : Type 0} (A : Profile P) where
+  -- where its channels have something to give, a host is not driven on
+  goes_quiet : (more : Host P → Host P) (test : Bool) (host : Host P) → is_some (next_given host.channels) ≡ test → next_given (if test then host else goes_by A more (A.steps host.channels host.profile) host).channels ≡ None → next_given host.channels ≡ None
+  goes_quiet more true host is none = none
+  goes_quiet more false host is none = none-some (next_given host.channels) is
+
+  undriven : (host : Host P) → next_given (driven A host).channels ≡ None → IsQuiet host.channels
+  unfolding drives
+  undriven host none = goes_quiet (λ now. drives A 3 now) (is_some (next_given host.channels)) (settles A host) refl none
+
+  brought_quiet : (far : Headway) (host : Host P) → next_given (driven A host).channels ≡ None → IsQuiet (brought A far host).channels
+  brought_quiet Sending host none = undriven host none
+  brought_quiet Sent host none = undriven host none
+  brought_quiet Settled host none = none
+
+  act_calm : (act : Act Circumstance) (host : Host P) → (let U = upper A in AreInQuiet U (act ∷ []) host) → IsGentleAct A act host → IsCalmAct A act host
+  act_calm (Hears circumstances (Linked event)) host quiet gentle = tt
+  act_calm (Hears circumstances (Failed status)) host quiet gentle = tt
+  act_calm (Hears circumstances (Heard pdu)) host quiet gentle = (brought_quiet (headway_in circumstances) host (gentle.0 quiet.0), gentle.1)
+  act_calm (Hears circumstances TimerFired) host quiet gentle = (brought_quiet (headway_in circumstances) host (gentle.0 quiet.0), gentle.1)
+  act_calm (Hears circumstances Cancelled) host quiet gentle = tt
+  act_calm (Hears circumstances (Opening name)) host quiet gentle = tt
+  act_calm (Says pdu) host quiet gentle = gentle
+
+  acts_calm : (acts : List (Act Circumstance)) (host : Host P) → AreInQuiet (upper A) acts host → AreGentle A acts host → AreCalm A acts host
+  acts_calm [] host quiet gentle = tt
+  acts_calm (act ∷ acts) host quiet gentle = (act_calm act host (quiet.0, λ mid does. tt) gentle.0, λ mid does. acts_calm acts mid (quiet.1 mid does) (gentle.1 mid does))
+
+-- ---- PDUs
+
+abbrev deed_pdus : Deed → List Pdu
+deed_pdus (Learned news) = pdus_in (Told news)
+deed_pdus (Spoke pdu) = pdus_in (Said pdu)
+
+news_pdus : (news : News) → filter_map pdu_of (from_news news) ≡ pdus_in (Told news)
+news_pdus (Linked event) = refl
+news_pdus (Failed status) = refl
+news_pdus (Heard pdu) = refl
+news_pdus TimerFired = refl
+news_pdus Cancelled = refl
+news_pdus (Opening name) = refl
+
+act_pdus : {G : Type 0} (act : Act G) → filter_map pdu_of (from_act act) ≡ deed_pdus (deed_of act)
+act_pdus (Hears gifts news) = news_pdus news
+act_pdus (Says pdu) = refl
+
+acts_pdus : {G : Type 0} (acts : List (Act G)) → filter_map pdu_of (from_acts acts) ≡ flat_map deed_pdus (map deed_of acts)
+acts_pdus [] = refl
+acts_pdus (act ∷ acts) = filter_map-append pdu_of (from_act act) (from_acts acts) ∙ ap₂ (λ (a b : List Pdu). a ++ b) (act_pdus act) (acts_pdus acts)
+
+talk_pdus : (talk : Talk) → flat_map deed_pdus (deeds_in talk) ≡ pdus_in talk
+talk_pdus (Told (Linked event)) = refl
+talk_pdus (Told (Failed status)) = refl
+talk_pdus (Told (Heard pdu)) = refl
+talk_pdus (Told TimerFired) = refl
+talk_pdus (Told Cancelled) = refl
+talk_pdus (Told (Opening name)) = refl
+talk_pdus (Said pdu) = refl
+talk_pdus (Unsent pdu) = refl
+talk_pdus (Met fate checked) = refl
+talk_pdus (Done outcome) = refl
+
+talks_pdus : (talks : List Talk) → flat_map deed_pdus (flat_map deeds_in talks) ≡ flat_map pdus_in talks
+talks_pdus [] = refl
+talks_pdus (talk ∷ talks) = flat_map-append deed_pdus (deeds_in talk) (flat_map deeds_in talks) ∙ ap₂ (λ (a b : List Pdu). a ++ b) (talk_pdus talk) (talks_pdus talks)
+
+pub hosts_talk_in_turns : {P : Type 0} (A : Profile P) → HostsTalkInTurns A
+hosts_talk_in_turns {P} A asks talk now on gentle none back =
+    let start = hear A on.gifts (Linked Up) on.old in
+    let fresh : start.channels ≡ no_channels =
+        linked_new A on.gifts Up (ready A on.gifts on.old) (brought_told A (headway_in on.gifts) on.old (lives_from A asks on.before on.old on.acting_before).all_told) in
+    let moves = calm_hosts_move A asks on.acts start now fresh on.stays on.acting (acts_calm A on.acts start on.in_quiet gentle) (undriven A now (back none)) in
+    record {
+      list = moves.list;
+      channels_run = moves.channels_run;
+      talk_is = moves.talk_is ∙ ap (flat_map said_by) (acts_pdus on.acts ∙ (ap (flat_map deed_pdus) on.deeds_are ∙ talks_pdus on.since));
+    }
