@@ -13,6 +13,9 @@ pub mod Sending
 pub mod Moving
 pub mod Calming
 pub mod Talking
+pub mod Firing
+pub mod Clearing
+pub mod Steadying
 pub mod Serving
 pub mod OneWay
 pub mod OneCarrier

@@ -39,18 +39,18 @@ use Rattle.host_laws.proofs.Sending.{Plainly, NoneWaits, OneWaits, sends-so}
 
 -- ---- lists of sayings
 
-spoken-both : (xs ys : List Saying) → spoken_of (xs ++ ys) ≡ spoken_of xs ++ spoken_of ys
+pub spoken-both : (xs ys : List Saying) → spoken_of (xs ++ ys) ≡ spoken_of xs ++ spoken_of ys
 spoken-both xs ys = filter-append is_spoken xs ys
 
-commands_spoken : (command : Option Command) → spoken_of (map spoken (option_to_list command)) ≡ map spoken (option_to_list command)
-commands_spoken None = refl
-commands_spoken (Some command) = refl
+pub commands-spoken : (command : Option Command) → spoken_of (map spoken (option_to_list command)) ≡ map spoken (option_to_list command)
+commands-spoken None = refl
+commands-spoken (Some command) = refl
 
 waiting_spoken : (queue : List Queued) (v : Channels) → spoken_of (waiting_in queue v) ≡ waiting_in queue v
 waiting_spoken [] v = refl
 waiting_spoken (Answer command ∷ queue) v = ap (λ (rest : List Saying). spoken command ∷ rest) (waiting_spoken queue v)
 waiting_spoken (Ask errand ∷ queue) v =
-    spoken-both (said_of (Some errand) v) (waiting_in queue v) ∙ ap₂ (λ (a b : List Saying). a ++ b) (commands_spoken (command_of errand v)) (waiting_spoken queue v)
+    spoken-both (said_of (Some errand) v) (waiting_in queue v) ∙ ap₂ (λ (a b : List Saying). a ++ b) (commands-spoken (command_of errand v)) (waiting_spoken queue v)
 
 moved-more : (list : List Occurrence) (one : Occurrence) → moved (list ++ one ∷ []) ≡ moved list ++ moved (one ∷ [])
 moved-more list one =
@@ -135,10 +135,10 @@ forgone_none (Leaving peer setup request) own = refl
 forgone_none (Closing peer request) own = refl
 forgone_none (Crossed peer request) own = refl
 
-given_up_none : (before after : Option Held) → spoken_of (forgone_between before after) ≡ []
-given_up_none None after = refl
-given_up_none (Some held) None = forgone_none held.stage held.own
-given_up_none (Some held) (Some other) = refl
+pub given-up_none : (before after : Option Held) → spoken_of (forgone_between before after) ≡ []
+given-up_none None after = refl
+given-up_none (Some held) None = forgone_none held.stage held.own
+given-up_none (Some held) (Some other) = refl
 
 -- ---- a PDU comes in
 
@@ -415,7 +415,7 @@ one_more policy AsksFeatures seen said v so calm distinct fresh after =
 one_more policy (Disconnects own) seen said v so calm distinct fresh after =
     let still = quiet_so seen said v so calm in
     let w = disconnected own v in
-    asks_behind seen said v w (given_up own v w) so calm after (disconnected-goes policy StaysSent GoesPlain (walks-plain policy) own v still.plain) (disconnected-adds v (none-replies v.queue still.queue_is) own) (given_up_none (held_at own v) (held_at own w))
+    asks_behind seen said v w (given_up own v w) so calm after (disconnected-goes policy StaysSent GoesPlain (walks-plain policy) own v still.plain) (disconnected-adds v (none-replies v.queue still.queue_is) own) (given-up_none (held_at own v) (held_at own w))
 one_more policy (Sends own sdu) seen said v so calm distinct fresh after = sends_behind seen said v own sdu so calm
 one_more policy (Gives pdu) seen said v so calm distinct fresh after = gives_so policy seen said v pdu calm distinct after so
 one_more policy Fires seen said v so calm distinct fresh after = fires_so policy seen said v so calm.0 calm.1 after

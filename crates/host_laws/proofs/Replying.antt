@@ -29,24 +29,24 @@ pub record Asked (v w : Channels) : Type 0 where
   pub said : asked_between v w ≡ waiting_in w.queue w
   pub due : AllDue w.queue w
 
-asked_stays : (v w : Channels) → w.identifier ≡ v.identifier → asked_between v w ≡ []
-asked_stays v w same = ap (λ n. cond (eqb n v.identifier) [] (said_of (newest w.queue) w)) same ∙ ap (λ b. cond b [] (said_of (newest w.queue) w)) (eqb-same v.identifier)
+pub asked-stays : (v w : Channels) → w.identifier ≡ v.identifier → asked_between v w ≡ []
+asked-stays v w same = ap (λ n. cond (eqb n v.identifier) [] (said_of (newest w.queue) w)) same ∙ ap (λ b. cond b [] (said_of (newest w.queue) w)) (eqb-same v.identifier)
 
-asked_one : (v w : Channels) (errand : Errand) → w.identifier ≡ next_identifier v.identifier → newest w.queue ≡ Some errand → asked_between v w ≡ said_of (Some errand) w
-asked_one v w errand next last =
+pub asked-one : (v w : Channels) (errand : Errand) → w.identifier ≡ next_identifier v.identifier → newest w.queue ≡ Some errand → asked_between v w ≡ said_of (Some errand) w
+asked-one v w errand next last =
     ap (λ n. cond (eqb n v.identifier) [] (said_of (newest w.queue) w)) next
     ∙ (ap (λ b. cond b [] (said_of (newest w.queue) w)) (next-apart v.identifier) ∙ ap (λ (e : Option Errand). said_of e w) last)
 
 -- nothing waited before
 pub asked-so : (v w : Channels) → v.queue ≡ [] → Adds v w → Asked v w
 asked-so v w none (Stays same still) = record {
-  said = asked_stays v w same ∙ sym (ap (λ (queue : List Queued). waiting_in queue w) (still ∙ none));
+  said = asked-stays v w same ∙ sym (ap (λ (queue : List Queued). waiting_in queue w) (still ∙ none));
   due = subst (λ (queue : List Queued). AllDue queue w) (sym (still ∙ none)) tt;
 }
 asked-so v w none (Demands errand next more some) =
     let queue_is : w.queue ≡ Ask errand ∷ [] = more ∙ ap (λ (queue : List Queued). queue ++ Ask errand ∷ []) none in
     record {
-      said = asked_one v w errand next (ap newest queue_is) ∙ (sym (append-nil (said_of (Some errand) w)) ∙ sym (ap (λ (queue : List Queued). waiting_in queue w) queue_is));
+      said = asked-one v w errand next (ap newest queue_is) ∙ (sym (append-nil (said_of (Some errand) w)) ∙ sym (ap (λ (queue : List Queued). waiting_in queue w) queue_is));
       due = subst (λ (queue : List Queued). AllDue queue w) (sym queue_is) (some, tt);
     }
 
@@ -63,13 +63,13 @@ replied : (one : Read) (identifier : ℕ) (response : Option Content) (u w : Cha
 replied one identifier None u w adds =
     let asked = asked-so (quieted u) w refl adds in record { said = ap (λ (rest : List Saying). sayings.Command Into one ∷ rest) asked.said; due = asked.due }
 replied one identifier (Some content) u w (Stays same still) = record {
-  said = ap (λ (rest : List Saying). sayings.Command Into one ∷ (spoken (command_with identifier content) ∷ rest)) (asked_stays (quieted u) w same)
+  said = ap (λ (rest : List Saying). sayings.Command Into one ∷ (spoken (command_with identifier content) ∷ rest)) (asked-stays (quieted u) w same)
       ∙ sym (ap (λ (queue : List Queued). sayings.Command Into one ∷ waiting_in queue w) still);
   due = subst (λ (queue : List Queued). AllDue queue w) (sym still) (tt, tt);
 }
 replied one identifier (Some content) u w (Demands errand next more some) = record {
   said = ap (λ (rest : List Saying). sayings.Command Into one ∷ (spoken (command_with identifier content) ∷ rest))
-      (asked_one (quieted u) w errand next (ap newest more) ∙ sym (append-nil (said_of (Some errand) w)))
+      (asked-one (quieted u) w errand next (ap newest more) ∙ sym (append-nil (said_of (Some errand) w)))
       ∙ sym (ap (λ (queue : List Queued). sayings.Command Into one ∷ waiting_in queue w) more);
   due = subst (λ (queue : List Queued). AllDue queue w) (sym more) (tt, (some, tt));
 }

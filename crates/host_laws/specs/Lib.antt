@@ -5,6 +5,7 @@ pub mod Feeds
 pub mod Lives
 pub mod Told
 pub mod Seen
+pub mod Steady
 pub mod Calm
 pub mod Serving
 pub mod OneCarrier

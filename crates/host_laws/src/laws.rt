@@ -7,6 +7,7 @@ ghost use Rattle.host_laws.specs.Lives.{HostsRun, HostsWait};
 ghost use Rattle.host_laws.specs.OneCarrier.{OneCarrierGains};
 ghost use Rattle.host_laws.specs.Seen.{OwnTalkMoves};
 ghost use Rattle.host_laws.specs.Serving.{HostsGain, ServersAreServed};
+ghost use Rattle.host_laws.specs.Steady.{SteadyFirePlainly};
 ghost use Rattle.host_laws.specs.Told.{AllSdusAreTold, ChecksAreRead, ProfilesAreTold};
 ghost use Rattle.host_laws.specs.Turning.{LinksAreActs, TurnsAreActs};
 ghost use Rattle.host_model.specs.Profiles.{Profile};
@@ -62,6 +63,12 @@ pub fn links_are_acts<S, T, G, H>()
 /// that it gave up, which nobody hears.
 pub fn own_talk_moves()
     ensures { OwnTalkMoves }
+{}
+
+/// Where no command waits to be given and no channel on its way out asks for its options, a firing says what waits to be
+/// given behind it.
+pub fn steady_fire_plainly()
+    ensures { SteadyFirePlainly }
 {}
 
 /// So it is of every host that is calm on its link, whatever its profile: its own talk is what it heard and said there.
