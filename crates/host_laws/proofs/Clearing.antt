@@ -1,9 +1,7 @@
 -- What one channel does in a firing.
-use Rattle.std.proofs.Common.{◌≡◌, ℕ, List, [], ◌∷◌, ◌++◌, map, filter, find, Bool, true, false, cond, not, ◌&&◌, ◌||◌, eqb, nat_le, Option, Some, None, is_some, refl, sym, ap, ap₂, subst, ◌∙◌, append-nil}
+use Rattle.std.proofs.Common.{◌≡◌, ℕ, List, [], ◌∷◌, ◌++◌, map, filter, find, Bool, true, false, cond, not, ◌||◌, eqb, nat_le, Option, Some, None, is_some, refl, sym, ap, ap₂, subst, ◌∙◌, append-nil}
 use Rattle.std.specs.List.{AllByRecursion, list_any}
-use Rattle.std.proofs.lemmas.Bool.{eqb-true}
 use Rattle.ertm_model.specs.declared.reason.ErtmReason.{ErtmReason}
-use Rattle.ertm_model.specs.Value.{Ertm}
 use Rattle.ertm_model.specs.Giving.{timed}
 use Rattle.link_talk.specs.Sayings.{Saying}
 use Rattle.channel_model.specs.declared.errand.Errand.{Errand}
@@ -11,20 +9,18 @@ use Rattle.channel_model.specs.declared.errand.Errand.TheVariants as errands
 use Rattle.channel_model.specs.declared.event.CloseReason.{CloseReason}
 use Rattle.channel_model.specs.declared.event.CloseReason.TheVariants.{RetryLimit}
 use Rattle.channel_model.specs.Value.{Request, Queued, Answer, Ask, Own, Unasked, Asking, Granted, Carrier, Plain, Retransmitting, Setup, Stage, Requested, Connected, Leaving, Closing, Crossed, Held, Channels}
-use Rattle.channel_model.specs.Changing.{has_own, held_at, in_place_of, to_stage, to_setup, with_setup, setup_of, stage_with, same_errand, is_copy, is_due, is_about, is_copy_about, queued, forgets, gone}
-use Rattle.channel_model.specs.Asking.{new_request, Fired, StillDue, OnceMore, Spent, fired}
+use Rattle.channel_model.specs.Changing.{has_own, held_at, in_place_of, to_setup, with_setup, setup_of, same_errand, is_copy, is_due, is_about, is_copy_about, queued}
+use Rattle.channel_model.specs.Asking.{new_request, StillDue, OnceMore, Spent}
 use Rattle.channel_model.specs.Closing.{closes, closes_at, ends, ends_at}
 use Rattle.channel_model.specs.Carrying.{reason_of, settles_machine}
-use Rattle.channel_model.specs.Timing.{fires, times, times_carrier, times_setup, times_stage, times_held, loses_end, times_end_at, times_end}
+use Rattle.channel_model.specs.Timing.{fires, times, times_carrier, times_setup, times_stage, loses_end, times_end_at, times_end}
 use Rattle.channel_model.specs.Giving.{connection_at, configuration_by, configuration_at, disconnection_at, on_held, command_of}
 use Rattle.channel_model.specs.Calls.{own_waits}
-use Rattle.channel_model.proofs.Lookups.{own_of, Distinct, eqb-same, eqb-away, found-has, found-placed, find-placed, placed-distinct, find-others, distinct-filter}
-use Rattle.channel_model.proofs.Walking.{found-own}
+use Rattle.channel_model.proofs.Lookups.{own_of, Distinct, eqb-same, eqb-away, found-placed, find-placed, placed-distinct, find-others, distinct-filter}
 use Rattle.channel_laws.specs.OwnTalk.{said_of}
-use Rattle.channel_laws.specs.Runs.{said_on_firing, said_by_channel, fired_channel}
+use Rattle.channel_laws.specs.Runs.{said_on_firing}
 use Rattle.channel_laws.proofs.Asking.{newest-last}
 use Rattle.host_laws.specs.Seen.{spoken_of, waiting_in, AllDue}
-use Rattle.host_laws.proofs.Moving.{spoken-both}
 use Rattle.host_laws.proofs.Firing.{still-said, any-last, again-connection, again-configuration, again-disconnection, closed-said}
 
 -- ---- no copy about a channel waits

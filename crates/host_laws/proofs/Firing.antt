@@ -1,29 +1,18 @@
 -- What a firing says waits to be given behind it, where no channel is on its way out while its own options are asked for.
-use Rattle.std.proofs.Common.{◌≡◌, ℕ, List, [], ◌∷◌, ◌++◌, map, filter, find, Bool, true, false, cond, not, ◌&&◌, ◌||◌, eqb, nat_le, Option, Some, None, is_some, option_to_list, refl, sym, ap, ap₂, subst, ◌∙◌, append_assoc, append-nil}
-use Rattle.std.specs.List.{AllByRecursion, list_any}
-use Rattle.ertm_model.specs.declared.reason.ErtmReason.{ErtmReason}
-use Rattle.ertm_model.specs.Value.{Ertm}
-use Rattle.ertm_model.specs.Giving.{timed}
+use Rattle.std.proofs.Common.{◌≡◌, ℕ, List, [], ◌∷◌, ◌++◌, Bool, true, false, cond, not, ◌&&◌, ◌||◌, eqb, Some, refl, sym, ap, ap₂, ◌∙◌, append_assoc, append-nil}
+use Rattle.std.specs.List.{list_any}
 use Rattle.link_talk.specs.Sayings.{Saying}
 use Rattle.channel_model.specs.declared.errand.Errand.{Errand}
 use Rattle.channel_model.specs.declared.errand.Errand.TheVariants as errands
-use Rattle.channel_model.specs.declared.event.CloseReason.{CloseReason}
-use Rattle.channel_model.specs.declared.event.CloseReason.TheVariants.{RetryLimit}
-use Rattle.channel_model.specs.Value.{Request, Queued, Answer, Ask, Own, Unasked, Asking, Granted, Carrier, Plain, Retransmitting, Setup, Stage, Requested, Connected, Leaving, Closing, Crossed, Held, Channels}
-use Rattle.channel_model.specs.Policies.{Policy}
-use Rattle.channel_model.specs.Changing.{has_own, held_at, in_place_of, to_stage, to_setup, with_setup, setup_of, stage_with, same_errand, is_copy, is_due, is_about, is_copy_about, queued, forgets, gone}
-use Rattle.channel_model.specs.Asking.{next_identifier, new_request, Fired, StillDue, OnceMore, Spent, fired}
-use Rattle.channel_model.specs.Closing.{closes, closes_at, ends, ends_at}
-use Rattle.channel_model.specs.Carrying.{reason_of, settles_machine, with_machine}
-use Rattle.channel_model.specs.Timing.{fires, times, times_carrier, times_setup, times_stage, times_held, loses_end, times_end_at, times_end, loses_features, times_features, times_channels, timed_out}
-use Rattle.channel_model.specs.Giving.{connection_at, configuration_by, configuration_at, disconnection_at, on_held, command_of, features_command}
-use Rattle.channel_model.specs.Calls.{own_waits}
-use Rattle.channel_model.proofs.Lookups.{own_of, Distinct, eqb-same, eqb-away, found-placed, find-placed, placed-distinct, find-others, distinct-filter}
-use Rattle.channel_model.proofs.Walking.{found-own}
-use Rattle.channel_laws.specs.OwnTalk.{spoken, said_of, asked_between, newest}
-use Rattle.channel_laws.specs.Runs.{given_up, features_given_up, said_again, said_on_firing, said_by_channel, fired_channel, said_by_features, said_by_channels}
-use Rattle.channel_laws.proofs.Asking.{next-apart, newest-last}
-use Rattle.host_laws.specs.Seen.{spoken_of, waiting_in, IsDue, AllDue, FiresPlainly}
+use Rattle.channel_model.specs.Value.{Queued, Ask, Channels}
+use Rattle.channel_model.specs.Changing.{held_at, same_errand, is_copy, is_due, queued}
+use Rattle.channel_model.specs.Asking.{next_identifier}
+use Rattle.channel_model.specs.Giving.{command_of}
+use Rattle.channel_model.proofs.Lookups.{eqb-same}
+use Rattle.channel_laws.specs.OwnTalk.{said_of, asked_between, newest}
+use Rattle.channel_laws.specs.Runs.{given_up, said_again, said_on_firing}
+use Rattle.channel_laws.proofs.Asking.{next-apart}
+use Rattle.host_laws.specs.Seen.{spoken_of}
 use Rattle.host_laws.proofs.Moving.{spoken-both, commands-spoken, given-up_none}
 use Rattle.host_laws.proofs.Replying.{asked-stays, asked-one}
 

@@ -1,15 +1,14 @@
 -- All channels of a link in a firing, one after the other, and then the features.
-use Rattle.std.proofs.Common.{◌≡◌, ℕ, List, [], ◌∷◌, ◌++◌, map, fold, find, Bool, true, false, cond, ◌||◌, eqb, nat_le, Option, Some, None, option_to_list, is_some, refl, sym, ap, ap₂, subst, ◌∙◌, append_assoc, append-nil}
+use Rattle.std.proofs.Common.{◌≡◌, ℕ, List, [], ◌∷◌, ◌++◌, map, find, Bool, true, false, cond, ◌||◌, eqb, nat_le, Option, Some, None, option_to_list, is_some, refl, sym, ap, ap₂, subst, ◌∙◌, append_assoc, append-nil}
 use Rattle.std.specs.List.{AllByRecursion, list_any}
 use Rattle.std.proofs.lemmas.Bool.{eqb-true}
 use Rattle.l2cap_signal.specs.Commands.{Command}
 use Rattle.link_talk.specs.Sayings.{Saying}
 use Rattle.channel_model.specs.declared.errand.Errand.{Errand}
 use Rattle.channel_model.specs.declared.errand.Errand.TheVariants as errands
-use Rattle.channel_model.specs.Value.{Request, Queued, Answer, Ask, Setup, Stage, Requested, Connected, Leaving, Closing, Crossed, Held, Channels}
-use Rattle.channel_model.specs.Policies.{Policy}
-use Rattle.channel_model.specs.Changing.{has_own, held_at, is_copy, is_due, is_about, is_copy_about, queued}
-use Rattle.channel_model.specs.Timing.{times, times_stage, times_held, times_end_at, times_end, loses_features, times_features, times_channels, timed_out}
+use Rattle.channel_model.specs.Value.{Request, Queued, Answer, Ask, Setup, Stage, Leaving, Held, Channels}
+use Rattle.channel_model.specs.Changing.{has_own, held_at, is_copy, is_about, queued}
+use Rattle.channel_model.specs.Timing.{times_stage, times_held, times_end_at, times_end, loses_features, times_features, times_channels, timed_out}
 use Rattle.channel_model.specs.Giving.{connection_at, configuration_at, disconnection_at, on_held, command_of, features_command}
 use Rattle.channel_model.specs.Calls.{own_waits}
 use Rattle.channel_model.proofs.Lookups.{own_of, Distinct, eqb-away, found-has, not_found}
@@ -17,7 +16,7 @@ use Rattle.channel_model.proofs.Walking.{found-own}
 use Rattle.channel_laws.specs.OwnTalk.{spoken, said_of}
 use Rattle.channel_laws.specs.Runs.{features_given_up, said_again, said_on_firing, said_by_channel, fired_channel, said_by_features, said_by_channels, run_of}
 use Rattle.channel_laws.proofs.Running.{all-sound}
-use Rattle.host_laws.specs.Seen.{spoken_of, queued_said, waiting_in, IsDue, AllDue}
+use Rattle.host_laws.specs.Seen.{spoken_of, queued_said, waiting_in, AllDue}
 use Rattle.host_laws.specs.Steady.{IsSteadyStage, IsSteadyAt, SteadyFirePlainly}
 use Rattle.host_laws.proofs.Moving.{spoken-both, commands-spoken}
 use Rattle.host_laws.proofs.Firing.{still-said, same-due, now-due, self-due}
@@ -208,7 +207,7 @@ all_fire tries (own ∷ owns) u (apart, differ) (clear, clears) none (steady, st
     let mid = fired_channel tries own u in
     let half = channel_whole own tries u clear lone steady in
     let rest = all_fire tries owns mid differ (subst (λ (q : List Queued). AllByRecursion (λ n. Clear n q) owns) (sym half.queue_is) (clear_rest own owns u.queue half.asks clears half.about apart))
-        (subst NoFeatures (sym half.queue_is) (features_more own u.queue half.asks none half.about)) (steady_rest own owns u mid half.kept steadies apart) half.kept.lone in
+    (subst NoFeatures (sym half.queue_is) (features_more own u.queue half.asks none half.about)) (steady_rest own owns u mid half.kept steadies apart) half.kept.lone in
     let w = fired_all tries owns mid in
     let still : held_at own w ≡ held_at own mid = rest.others own (apart_all own owns apart) in
     record {

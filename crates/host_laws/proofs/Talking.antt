@@ -1,24 +1,22 @@
 -- On a link of a run of turns the own talk of a host is what it was told and said.
-use Rattle.std.proofs.Common.{◌≡◌, ℕ, zero, suc, Bool, true, false, List, [], ◌∷◌, ◌++◌, map, filter_map, Option, Some, None, is_some, refl, sym, ap, ap₂, ◌∙◌, if◌then◌else◌}
+use Rattle.std.proofs.Common.{◌≡◌, Bool, true, false, List, [], ◌∷◌, ◌++◌, map, filter_map, None, is_some, refl, ap, ap₂, ◌∙◌, if◌then◌else◌}
 use Rattle.std.specs.List.{flat_map}
 use Rattle.std.proofs.lemmas.List.Concat.{flat_map-append}
 use Rattle.std.proofs.lemmas.List.Elements.{filter_map-append}
-use Rattle.capture.specs.declared.flow.Flow.TheVariants.{Out, Into}
 use Rattle.capture.specs.Pdus.{Pdu}
 use Rattle.link_talk.specs.Sayings.{said_by}
-use Rattle.channel_model.specs.Value.{Channels, no_channels}
+use Rattle.channel_model.specs.Value.{no_channels}
 use Rattle.channel_model.specs.Giving.{next_given}
 use Rattle.world_model.specs.Machines.{Up, News, Linked, Failed, Heard, TimerFired, Cancelled, Opening}
 use Rattle.world_model.specs.Talks.{Talk, Told, Said, Unsent, Met, Done}
 use Rattle.host_model.specs.Circumstances.{Headway, Sending, Sent, Settled, Circumstance, headway_in}
 use Rattle.host_model.specs.Profiles.{Profile}
-use Rattle.host_model.specs.Hosts.{Host, settles, goes_by, drives, driven, brought, ready, hear, next}
+use Rattle.host_model.specs.Hosts.{Host, settles, goes_by, drives, driven, brought, ready, hear}
 use Rattle.host_model.specs.Machines.{upper}
-use Rattle.host_laws.specs.Acts.{Act, Hears, Says, Does, from_news, from_act, from_acts}
-use Rattle.host_laws.specs.Calls.{Asks}
-use Rattle.host_laws.specs.Turning.{Deed, Learned, Spoke, deed_of, deeds_in, AreInQuiet, OnLink}
-use Rattle.host_laws.specs.Seen.{pdu_of, moved, IsQuiet}
-use Rattle.host_laws.specs.Calm.{IsCalmAct, AreCalm, IsGentleAct, AreGentle, HoldsNothingBack, pdus_in, HostsTalkInTurns}
+use Rattle.host_laws.specs.Acts.{Act, Hears, Says, from_news, from_act, from_acts}
+use Rattle.host_laws.specs.Turning.{Deed, Learned, Spoke, deed_of, deeds_in, AreInQuiet}
+use Rattle.host_laws.specs.Seen.{pdu_of, IsQuiet}
+use Rattle.host_laws.specs.Calm.{IsCalmAct, AreCalm, IsGentleAct, AreGentle, pdus_in, HostsTalkInTurns}
 use Rattle.host_laws.proofs.Growing.{none-some}
 use Rattle.host_laws.proofs.Links.{brought_told, linked_new}
 use Rattle.host_laws.proofs.Living.{lives_from}
@@ -94,7 +92,7 @@ pub hosts_talk_in_turns : {P : Type 0} (A : Profile P) → HostsTalkInTurns A
 hosts_talk_in_turns {P} A asks talk now on gentle none back =
     let start = hear A on.gifts (Linked Up) on.old in
     let fresh : start.channels ≡ no_channels =
-        linked_new A on.gifts Up (ready A on.gifts on.old) (brought_told A (headway_in on.gifts) on.old (lives_from A asks on.before on.old on.acting_before).all_told) in
+    linked_new A on.gifts Up (ready A on.gifts on.old) (brought_told A (headway_in on.gifts) on.old (lives_from A asks on.before on.old on.acting_before).all_told) in
     let moves = calm_hosts_move A asks on.acts start now fresh on.stays on.acting (acts_calm A on.acts start on.in_quiet gentle) (undriven A now (back none)) in
     record {
       list = moves.list;

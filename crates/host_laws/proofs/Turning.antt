@@ -326,5 +326,5 @@ passes_linked U V (step ∷ steps) old new (mid, moves, passes) both = passes_li
 pub links_are_acts : {S T G H : Type 0} (U : Upper S G) (V : Upper T H) → LinksAreActs U V
 links_are_acts U V size names steps pair passes up =
     let both = passes_linked U V steps (first_pair U V size names) pair passes
-        (record { a = record { behaves = record { acts = []; acting = refl; deeds_are = refl }; on = λ on. cc; settled = λ on. cc }; b = record { behaves = record { acts = []; acting = refl; deeds_are = refl }; on = λ on. cc; settled = λ on. cc } }) in
+    (record { a = record { behaves = record { acts = []; acting = refl; deeds_are = refl }; on = λ on. cc; settled = λ on. cc }; b = record { behaves = record { acts = []; acting = refl; deeds_are = refl }; on = λ on. cc; settled = λ on. cc } }) in
     record { a = both.a.on up; b = both.b.on up }

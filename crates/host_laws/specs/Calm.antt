@@ -1,6 +1,6 @@
 -- A host that is calm on its link: nothing waits in it where it hears something, a PDU has one command, and what it says is read as it
 -- was meant (Core 5.1, Volume 3 Part A, 3.1 and 4).
-use Rattle.std.specs.Prelude.{ℕ, ◌≡◌, ◌≤◌, List, [], ◌∷◌, length, drop, Option, Some, None}
+use Rattle.std.specs.Prelude.{ℕ, ◌≡◌, ◌≤◌, List, [], ◌∷◌, length, drop, Some, None}
 use Rattle.std.specs.List.{AllByRecursion, filter_map, flat_map}
 use Rattle.acl_fragments.specs.Pieces.{channel_of}
 use Rattle.capture.specs.declared.flow.Flow.TheVariants.{Out, Into}
