@@ -12,7 +12,7 @@ use Rattle.channel_laws.specs.Runs.{Occurrence, new_link, run_of}
 use Rattle.world_model.specs.Machines.{LinkEvent, Up, Down, Linked, Failed, Heard, TimerFired, Cancelled, Opening}
 use Rattle.host_model.specs.Circumstances.{Circumstance, headway_in}
 use Rattle.host_model.specs.Profiles.{Profile}
-use Rattle.host_model.specs.Hosts.{Host, first_host, told, ready, hears_news, driven, most_steps}
+use Rattle.host_model.specs.Hosts.{Host, first_host, told, ready, hear, hears_news, driven, most_steps}
 use Rattle.host_model.specs.Machines.{upper}
 use Rattle.host_laws.specs.Acts.{Act, Hears, Says, Does, Acting, from_act}
 use Rattle.host_laws.specs.Calls.{Asks, values_after, asked, outer}
@@ -43,8 +43,8 @@ module _ {P : Type 0} (A : Profile P) (asks : Asks A) where
 
   -- ---- on its link
 
-  goes_on : (marks : List Mark) (acted : List Occurrence) (old new : Host P) → Lives A asks marks old → Grows A asks ⊥ acted old new → new.channels.events ≡ [] → Lives A asks (marks ++ map Occurred acted) new
-  goes_on marks acted old new lives grows told =
+  pub goes-on : (marks : List Mark) (acted : List Occurrence) (old new : Host P) → Lives A asks marks old → Grows A asks ⊥ acted old new → new.channels.events ≡ [] → Lives A asks (marks ++ map Occurred acted) new
+  goes-on marks acted old new lives grows told =
       let value : old.channels ≡ values_after A.policy no_channels lives.now = lives.channels_run ∙ value_run A.policy lives.now new_link in
       record {
         spans = lives.spans;
@@ -68,8 +68,8 @@ module _ {P : Type 0} (A : Profile P) (asks : Asks A) where
             ∙ ap₂ (λ (a b : List Mark). a ++ b) lives.marks_are (ap (map Occurred) grows.acted_is));
       }
 
-  still : (marks : List Mark) (old new : Host P) → Lives A asks marks old → Grows A asks ⊥ [] old new → new.channels.events ≡ [] → Lives A asks marks new
-  still marks old new lives grows told = subst (λ (m : List Mark). Lives A asks m new) (append-nil marks) (goes_on marks [] old new lives grows told)
+  pub still : (marks : List Mark) (old new : Host P) → Lives A asks marks old → Grows A asks ⊥ [] old new → new.channels.events ≡ [] → Lives A asks marks new
+  still marks old new lives grows told = subst (λ (m : List Mark). Lives A asks m new) (append-nil marks) (goes-on marks [] old new lives grows told)
 
   -- ---- its link comes up or goes down
 
@@ -97,8 +97,8 @@ module _ {P : Type 0} (A : Profile P) (asks : Asks A) where
       let news : List Feed = Learns circumstances (Linked (Down reason)) ∷ [] in
       ap (A.told circumstances (Linked (Down reason))) (each_fed A v v.events host.profile) ∙ sym (fold-append (fed A) host.profile (happenings v v.events) news)
 
-  turns_on : (marks : List Mark) (event : LinkEvent) (circumstances : List Circumstance) (host : Host P) → Lives A asks marks host → Lives A asks (marks ++ Turned event ∷ []) (hears_news A circumstances (Linked event) host)
-  turns_on marks event circumstances host lives =
+  pub turns-on : (marks : List Mark) (event : LinkEvent) (circumstances : List Circumstance) (host : Host P) → Lives A asks marks host → Lives A asks (marks ++ Turned event ∷ []) (hears_news A circumstances (Linked event) host)
+  turns-on marks event circumstances host lives =
       let fresh = linked_new A circumstances event host lives.all_told in
       let value : host.channels ≡ values_after A.policy no_channels lives.now = lives.channels_run ∙ value_run A.policy lives.now new_link in
       let span : Span = record { list = lives.now; event = event } in
@@ -129,6 +129,17 @@ module _ {P : Type 0} (A : Profile P) (asks : Asks A) where
             ∙ (sym (append_assoc (flat_map span_marks lives.spans) (marks_on lives.now) (Turned event ∷ [])) ∙ ap (λ (m : List Mark). m ++ Turned event ∷ []) lives.marks_are)));
       }
 
+  -- what happened since the link came up
+  pub since-up : (before : List Mark) (gifts : List Circumstance) (old now : Host P) (acted : List Occurrence) → Lives A asks before (ready A gifts old) → Grows A asks ⊥ acted (hear A gifts (Linked Up) old) now → now.channels.events ≡ []
+      → Lives A asks ((before ++ Turned Up ∷ []) ++ map Occurred acted) now
+  since-up before gifts old now acted lives grows told =
+      goes-on (before ++ Turned Up ∷ []) acted (hear A gifts (Linked Up) old) now (turns-on before Up gifts (ready A gifts old) lives) grows told
+
+  pub now-is : (before : List Mark) (gifts : List Circumstance) (old now : Host P) (acted : List Occurrence) (lives : Lives A asks before (ready A gifts old)) (grows : Grows A asks ⊥ acted (hear A gifts (Linked Up) old) now) (told : now.channels.events ≡ [])
+      → (since-up before gifts old now acted lives grows told).now ≡ grows.list
+  unfolding since-up goes-on turns-on
+  now-is before gifts old now acted lives grows told = refl
+
   -- ---- one act
 
   abbrev Lives_on : List Mark → Act Circumstance → Host P → Type 0
@@ -138,19 +149,19 @@ module _ {P : Type 0} (A : Profile P) (asks : Asks A) where
   act_lives marks (Hears circumstances (Linked event)) old new lives does =
       let mid = ready A circumstances old in
       let far = still marks old mid lives (readies A asks ⊥ circumstances old) (brought_told A (headway_in circumstances) old lives.all_told) in
-      subst (λ (host : Host P). Lives A asks (marks ++ Turned event ∷ []) host) (sym does) (turns_on marks event circumstances mid far)
+      subst (λ (host : Host P). Lives A asks (marks ++ Turned event ∷ []) host) (sym does) (turns-on marks event circumstances mid far)
   act_lives marks (Hears circumstances (Failed status)) old new lives does =
-      goes_on marks [] old new lives (act_grows A asks ⊥ (Hears circumstances (Failed status)) old new tt (λ never. absurd never) does) (act_told A (Hears circumstances (Failed status)) old new does lives.all_told)
+      goes-on marks [] old new lives (act_grows A asks ⊥ (Hears circumstances (Failed status)) old new tt (λ never. absurd never) does) (act_told A (Hears circumstances (Failed status)) old new does lives.all_told)
   act_lives marks (Hears circumstances (Heard pdu)) old new lives does =
-      let act : Act Circumstance = Hears circumstances (Heard pdu) in goes_on marks (from_act act) old new lives (act_grows A asks ⊥ act old new tt (λ never. absurd never) does) (act_told A act old new does lives.all_told)
+      let act : Act Circumstance = Hears circumstances (Heard pdu) in goes-on marks (from_act act) old new lives (act_grows A asks ⊥ act old new tt (λ never. absurd never) does) (act_told A act old new does lives.all_told)
   act_lives marks (Hears circumstances TimerFired) old new lives does =
-      let act : Act Circumstance = Hears circumstances TimerFired in goes_on marks (from_act act) old new lives (act_grows A asks ⊥ act old new tt (λ never. absurd never) does) (act_told A act old new does lives.all_told)
+      let act : Act Circumstance = Hears circumstances TimerFired in goes-on marks (from_act act) old new lives (act_grows A asks ⊥ act old new tt (λ never. absurd never) does) (act_told A act old new does lives.all_told)
   act_lives marks (Hears circumstances Cancelled) old new lives does =
-      let act : Act Circumstance = Hears circumstances Cancelled in goes_on marks (from_act act) old new lives (act_grows A asks ⊥ act old new tt (λ never. absurd never) does) (act_told A act old new does lives.all_told)
+      let act : Act Circumstance = Hears circumstances Cancelled in goes-on marks (from_act act) old new lives (act_grows A asks ⊥ act old new tt (λ never. absurd never) does) (act_told A act old new does lives.all_told)
   act_lives marks (Hears circumstances (Opening name)) old new lives does =
-      let act : Act Circumstance = Hears circumstances (Opening name) in goes_on marks (from_act act) old new lives (act_grows A asks ⊥ act old new tt (λ never. absurd never) does) (act_told A act old new does lives.all_told)
+      let act : Act Circumstance = Hears circumstances (Opening name) in goes-on marks (from_act act) old new lives (act_grows A asks ⊥ act old new tt (λ never. absurd never) does) (act_told A act old new does lives.all_told)
   act_lives marks (Says pdu) old new lives does =
-      let act : Act Circumstance = Says pdu in goes_on marks (from_act act) old new lives (act_grows A asks ⊥ act old new tt (λ never. absurd never) does) (act_told A act old new does lives.all_told)
+      let act : Act Circumstance = Says pdu in goes-on marks (from_act act) old new lives (act_grows A asks ⊥ act old new tt (λ never. absurd never) does) (act_told A act old new does lives.all_told)
 
   all_live : (marks : List Mark) (acts : List (Act Circumstance)) (old new : Host P) → Lives A asks marks old → Acting (upper A) acts old new → Lives A asks (marks ++ flat_map act_marks acts) new
   all_live marks [] old new lives same = subst (λ (host : Host P). Lives A asks (marks ++ []) host) (sym same) (subst (λ (m : List Mark). Lives A asks m old) (sym (append-nil marks)) lives)

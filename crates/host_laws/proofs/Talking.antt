@@ -1,26 +1,31 @@
 -- On a link of a run of turns the own talk of a host is what it was told and said.
-use Rattle.std.proofs.Common.{◌≡◌, Bool, true, false, List, [], ◌∷◌, ◌++◌, map, filter_map, None, is_some, refl, ap, ap₂, ◌∙◌, if◌then◌else◌}
+use Rattle.std.proofs.Common.{◌≡◌, Bool, true, false, List, [], ◌∷◌, ◌++◌, map, filter_map, None, is_some, refl, ap, ap₂, ◌∙◌, if◌then◌else◌, subst, sym, ℕ}
 use Rattle.std.specs.List.{flat_map}
 use Rattle.std.proofs.lemmas.List.Concat.{flat_map-append}
 use Rattle.std.proofs.lemmas.List.Elements.{filter_map-append}
 use Rattle.capture.specs.Pdus.{Pdu}
 use Rattle.link_talk.specs.Sayings.{said_by}
-use Rattle.channel_model.specs.Value.{no_channels}
+use Rattle.channel_model.specs.Value.{Channels, no_channels}
 use Rattle.channel_model.specs.Giving.{next_given}
+use Rattle.channel_laws.specs.Runs.{Occurrence, new_link, run_of}
 use Rattle.world_model.specs.Machines.{Up, News, Linked, Failed, Heard, TimerFired, Cancelled, Opening}
 use Rattle.world_model.specs.Talks.{Talk, Told, Said, Unsent, Met, Done}
 use Rattle.host_model.specs.Circumstances.{Headway, Sending, Sent, Settled, Circumstance, headway_in}
 use Rattle.host_model.specs.Profiles.{Profile}
 use Rattle.host_model.specs.Hosts.{Host, settles, goes_by, drives, driven, brought, ready, hear}
 use Rattle.host_model.specs.Machines.{upper}
-use Rattle.host_laws.specs.Acts.{Act, Hears, Says, from_news, from_act, from_acts}
+use Rattle.host_laws.specs.Acts.{Act, Hears, Says, Does, Acting, from_news, from_act, from_acts}
+use Rattle.host_laws.specs.Calls.{Asks, values_after}
+use Rattle.host_laws.specs.Lives.{Mark, Occurred, Turned, act_marks, Lives}
 use Rattle.host_laws.specs.Turning.{Deed, Learned, Spoke, deed_of, deeds_in, AreInQuiet}
-use Rattle.host_laws.specs.Seen.{pdu_of, IsQuiet}
+use Rattle.host_laws.specs.Seen.{spoken_of, pdu_of, moved, IsQuiet, IsCalm}
 use Rattle.host_laws.specs.Calm.{IsCalmAct, AreCalm, IsGentleAct, AreGentle, pdus_in, HostsTalkInTurns}
-use Rattle.host_laws.proofs.Growing.{none-some}
-use Rattle.host_laws.proofs.Links.{brought_told, linked_new}
-use Rattle.host_laws.proofs.Living.{lives_from}
-use Rattle.host_laws.proofs.Calming.{calm_hosts_move}
+use Rattle.host_laws.proofs.Steps.{Grows}
+use Rattle.host_laws.proofs.Growing.{none-some, readies}
+use Rattle.host_laws.proofs.Links.{value_run, brought_told, act_told, linked_new}
+use Rattle.host_laws.proofs.Living.{still, lives_from, since-up, now-is}
+use Rattle.host_laws.proofs.Moving.{own_talk_moves}
+use Rattle.host_laws.proofs.Calming.{outer-pdus, acts-grow}
 
 module _ {P : Type 0} (A : Profile P) where
   -- where its channels have something to give, a host is not driven on
@@ -88,14 +93,41 @@ talks_pdus : (talks : List Talk) → flat_map deed_pdus (flat_map deeds_in talks
 talks_pdus [] = refl
 talks_pdus (talk ∷ talks) = flat_map-append deed_pdus (deeds_in talk) (flat_map deeds_in talks) ∙ ap₂ (λ (a b : List Pdu). a ++ b) (talk_pdus talk) (talks_pdus talks)
 
+-- ---- all of it
+
+acts_told : {P : Type 0} (A : Profile P) (acts : List (Act Circumstance)) (old new : Host P) → Acting (upper A) acts old new → old.channels.events ≡ [] → new.channels.events ≡ []
+acts_told A [] old new same is = ap (λ (host : Host _). host.channels.events) same ∙ is
+acts_told A (act ∷ acts) old new (mid, does, rest) is = acts_told A acts mid new rest (act_told A act old mid does is)
+
+abbrev without_calm : {P : Type 0} (A : Profile P) (asks : Asks A) (acted : List Occurrence) (old new : Host P) → Grows A asks (Unit {0}) acted old new → Grows A asks ⊥ acted old new
+without_calm A asks acted old new grows = record {
+  list = grows.list;
+  feeds = grows.feeds;
+  channels_are = grows.channels_are;
+  profile_is = grows.profile_is;
+  tidings_are = grows.tidings_are;
+  asked_is = grows.asked_is;
+  acted_is = grows.acted_is;
+  calm = λ never. absurd never;
+}
+
 pub hosts_talk_in_turns : {P : Type 0} (A : Profile P) → HostsTalkInTurns A
 hosts_talk_in_turns {P} A asks talk now on gentle none back =
     let start = hear A on.gifts (Linked Up) on.old in
-    let fresh : start.channels ≡ no_channels =
-    linked_new A on.gifts Up (ready A on.gifts on.old) (brought_told A (headway_in on.gifts) on.old (lives_from A asks on.before on.old on.acting_before).all_told) in
-    let moves = calm_hosts_move A asks on.acts start now fresh on.stays on.acting (acts_calm A on.acts start on.in_quiet gentle) (undriven A now (back none)) in
+    let before = flat_map act_marks on.before in
+    let mid = ready A on.gifts on.old in
+    let first = lives_from A asks on.before on.old on.acting_before in
+    let mid_told = brought_told A (headway_in on.gifts) on.old first.all_told in
+    let ready_lives = still A asks before on.old mid first (readies A asks ⊥ on.gifts on.old) mid_told in
+    let fresh : start.channels ≡ no_channels = linked_new A on.gifts Up mid mid_told in
+    let calm = acts_calm A on.acts start on.in_quiet gentle in
+    let grows = acts-grow A asks (Unit {0}) on.acts start now on.stays on.acting (λ c. calm) in
+    let told = acts_told A on.acts start now on.acting (ap (λ (v : Channels). v.events) fresh) in
+    let plain = without_calm A asks (from_acts on.acts) start now grows in
+    let value : now.channels ≡ (run_of A.policy grows.list).value = grows.channels_are ∙ (ap (λ (v : Channels). values_after A.policy v grows.list) fresh ∙ sym (value_run A.policy grows.list new_link)) in
     record {
-      list = moves.list;
-      channels_run = moves.channels_run;
-      talk_is = moves.talk_is ∙ ap (flat_map said_by) (acts_pdus on.acts ∙ (ap (flat_map deed_pdus) on.deeds_are ∙ talks_pdus on.since));
+      lives = since-up A asks before on.gifts on.old now (from_acts on.acts) ready_lives plain told;
+      talk_is = ap (λ (list : List Occurrence). spoken_of (run_of A.policy list).said) (now-is A asks before on.gifts on.old now (from_acts on.acts) ready_lives plain told)
+          ∙ (own_talk_moves A.policy grows.list (subst (λ (v : Channels). IsCalm A.policy v grows.list) fresh (grows.calm tt)) (subst IsQuiet value (undriven A now (back none)))
+          ∙ (ap (flat_map said_by) (sym (outer-pdus grows.list) ∙ (ap (filter_map pdu_of) grows.acted_is ∙ (acts_pdus on.acts ∙ (ap (flat_map deed_pdus) on.deeds_are ∙ talks_pdus on.since))))));
     }

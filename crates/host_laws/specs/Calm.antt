@@ -1,6 +1,6 @@
 -- A host that is calm on its link: nothing waits in it where it hears something, a PDU has one command, and what it says is read as it
 -- was meant (Core 5.1, Volume 3 Part A, 3.1 and 4).
-use Rattle.std.specs.Prelude.{ℕ, ◌≡◌, ◌≤◌, List, [], ◌∷◌, length, drop, Some, None}
+use Rattle.std.specs.Prelude.{ℕ, ◌≡◌, ◌≤◌, List, [], ◌∷◌, length, drop, Some, None, map, ◌++◌}
 use Rattle.std.specs.List.{AllByRecursion, filter_map, flat_map}
 use Rattle.acl_fragments.specs.Pieces.{channel_of}
 use Rattle.capture.specs.declared.flow.Flow.TheVariants.{Out, Into}
@@ -19,6 +19,7 @@ use Rattle.host_model.specs.Hosts.{Host, driven, ready, hear, next}
 use Rattle.host_model.specs.Machines.{upper}
 use Rattle.host_laws.specs.Acts.{Act, Hears, Says, Does, Acting, StaysOnLink, from_acts}
 use Rattle.host_laws.specs.Turning.{OnLink}
+use Rattle.host_laws.specs.Lives.{Occurred, Turned, act_marks, Lives}
 use Rattle.host_laws.specs.Calls.{Asks, outer}
 use Rattle.host_laws.specs.Seen.{spoken_of, moved, IsQuiet, saying_of, FiresPlainly}
 
@@ -92,14 +93,13 @@ pdus_in (Unsent pdu) = record { flow = Out; octets = pdu } ∷ []
 pdus_in (Met fate checked) = []
 pdus_in (Done outcome) = []
 
--- its channels are those of a run of which the own talk is what was told and said since the link came up
-pub record TalksSo {P : Type 0} (A : Profile P) (since : List Talk) (now : Host P) : Type 0 where
-  pub list : List Occurrence
-  pub channels_run : now.channels ≡ (run_of A.policy list).value
-  pub talk_is : spoken_of (run_of A.policy list).said ≡ flat_map said_by (flat_map pdus_in since)
+-- it lives so that the own talk on its last link is what was told and said since the link came up, but for what was given up
+pub record TalksSo {P : Type 0} (A : Profile P) (asks : Asks A) (talk : List Talk) (now : Host P) (on : OnLink (upper A) talk now) : Type 0 where
+  pub lives : Lives A asks ((flat_map act_marks on.before ++ Turned Up ∷ []) ++ map Occurred (from_acts on.acts)) now
+  pub talk_is : spoken_of (run_of A.policy lives.now).said ≡ flat_map said_by (flat_map pdus_in on.since)
 
--- So it is of a host on a link of a run of turns, where it has said all.
+-- So it is of a host on a link of a run of turns, where it has said all. All that is told of how hosts live holds of it with this talk.
 abbrev pub HostsTalkInTurns : {P : Type 0} → Profile P → Type 0
 HostsTalkInTurns {P} A =
     (asks : Asks A) (talk : List Talk) (now : Host P) (on : OnLink (upper A) talk now) → AreGentle A on.acts (hear A on.gifts (Linked Up) on.old) → next A now ≡ None → HoldsNothingBack A now
-    → TalksSo A on.since now
+    → TalksSo A asks talk now on
