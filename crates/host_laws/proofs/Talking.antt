@@ -1,5 +1,5 @@
 -- On a link of a run of turns the own talk of a host is what it was told and said.
-use Rattle.std.proofs.Common.{◌≡◌, Bool, true, false, List, [], ◌∷◌, ◌++◌, map, filter_map, None, is_some, refl, ap, ap₂, ◌∙◌, if◌then◌else◌, subst, sym, ℕ}
+use Rattle.std.proofs.Common.{◌≡◌, Bool, true, false, List, [], ◌∷◌, ◌++◌, map, filter_map, None, is_some, refl, ap, ap₂, ◌∙◌, if◌then◌else◌, subst, sym}
 use Rattle.std.specs.List.{flat_map}
 use Rattle.std.proofs.lemmas.List.Concat.{flat_map-append}
 use Rattle.std.proofs.lemmas.List.Elements.{filter_map-append}
@@ -14,11 +14,11 @@ use Rattle.host_model.specs.Circumstances.{Headway, Sending, Sent, Settled, Circ
 use Rattle.host_model.specs.Profiles.{Profile}
 use Rattle.host_model.specs.Hosts.{Host, settles, goes_by, drives, driven, brought, ready, hear}
 use Rattle.host_model.specs.Machines.{upper}
-use Rattle.host_laws.specs.Acts.{Act, Hears, Says, Does, Acting, from_news, from_act, from_acts}
+use Rattle.host_laws.specs.Acts.{Act, Hears, Says, Acting, from_news, from_act, from_acts}
 use Rattle.host_laws.specs.Calls.{Asks, values_after}
-use Rattle.host_laws.specs.Lives.{Mark, Occurred, Turned, act_marks, Lives}
+use Rattle.host_laws.specs.Lives.{act_marks}
 use Rattle.host_laws.specs.Turning.{Deed, Learned, Spoke, deed_of, deeds_in, AreInQuiet}
-use Rattle.host_laws.specs.Seen.{spoken_of, pdu_of, moved, IsQuiet, IsCalm}
+use Rattle.host_laws.specs.Seen.{spoken_of, pdu_of, IsQuiet, IsCalm}
 use Rattle.host_laws.specs.Calm.{IsCalmAct, AreCalm, IsGentleAct, AreGentle, pdus_in, HostsTalkInTurns}
 use Rattle.host_laws.proofs.Steps.{Grows}
 use Rattle.host_laws.proofs.Growing.{none-some, readies}
