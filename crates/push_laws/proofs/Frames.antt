@@ -1,8 +1,10 @@
 -- The frames of a multiplexer, as the SDUs on its channel show them.
-use Rattle.std.proofs.Common.{Bool, true, false, cond, eqb, ltb, ◌&&◌, ◌<◌, ◌≡◌, ℕ, List, [], ◌∷◌, ◌++◌, length, take, Option, Some, None, Ok, Err, refl, sym, ap, subst, ◌∙◌, arith, append_assoc, append-nil}
-use Rattle.std.specs.Prelude.{not, is_none}
-use Rattle.std.specs.List.{filter_map, cons_option}
-use Rattle.std.proofs.lemmas.Bool.{cond-true, and_parts}
+use Rattle.std.proofs.Common.{Bool, true, false, cond, eqb, ltb, ◌||◌, ◌&&◌, ◌+◌, ◌-◌, ◌≤◌, ◌≡◌, ℕ, List, [], ◌∷◌, ◌++◌, length, take, Option, Some, None, Ok, Err, inl, inr, refl, sym, ap, subst, ◌∙◌, arith, append_assoc, append-nil}
+use Rattle.std.specs.Prelude.{pos, ◌-ℤ◌, not, is_none, is_some}
+use Rattle.std.specs.List.{cons_option}
+use Rattle.std.proofs.lemmas.Bool.{cases_Bool, cond-true, and_parts}
+use Rattle.std.proofs.Math.IntN.{pos-+ℤ-pos, +ℤ-neg_ℤ_cancel}
+use Rattle.std.proofs.lemmas.List.Sums.{sum_by-append, sum_by-cons}
 use Rattle.std.proofs.lemmas.List.Elements.{filter_map-append}
 use Rattle.bt_base.specs.Octets.{IsOctets}
 use Rattle.rfcomm_frames.specs.declared.connection.Dlc.{Dlc}
@@ -15,10 +17,10 @@ use Rattle.rfcomm_frames.specs.Answers.{Answer}
 use Rattle.rfcomm_frames.specs.Frames.{PlainFrame, Spells, carries}
 use Rattle.rfcomm_frames.specs.FrameReading.{frame_answer, is_empty}
 use Rattle.rfcomm_frames.specs.Connections.{other_role, turned}
-use Rattle.rfcomm_frames.specs.Multiplexing.{Passed, Framed, Connections, framed, frames, no_connections, connections_after, carries_on, information, carried}
+use Rattle.rfcomm_frames.specs.Multiplexing.{Passed, Framed, Connections, framed, frames, no_connections, connections_after, carries_on, information, carried, granted_by, granted, spent_by, spent}
 use Rattle.rfcomm_frames.specs.Ending.{Course, no_course, closing_said, course_after, is_last, has_last, to_closing}
 use Rattle.rfcomm_frames.specs.LookingBack.{connections}
-use Rattle.rfcomm_frames.specs.UserChannel.{user_octets}
+use Rattle.rfcomm_frames.specs.UserChannel.{user_octets, credits_held}
 use Rattle.rfcomm_frames.proofs.Ending.{counting, to_closing-more}
 use Rattle.rfcomm_frames.proofs.LookingBack.{looks-back}
 use Rattle.rfcomm_frames.proofs.FrameReading.{spelled_answered}
@@ -27,11 +29,11 @@ use Rattle.rfcomm_model.specs.declared.state.Command.TheVariants.{LeaveUser}
 use Rattle.rfcomm_model.specs.Machine.{Mux, Kept, may_pass, is_ready, is_leaving, taken_count, sends, leaves}
 use Rattle.rfcomm_model.specs.Hearing.{hears, up}
 use Rattle.rfcomm_model.specs.Saying.{Said, next, after_said}
-use Rattle.rfcomm_model.specs.Sides.{Deed, Hears, Says, Sends, Leaves, Side, handed, heard_frame, said_by, given, done, all_done, new_side, DeedFindsRoom, AnswerFindsRoom, AlwaysRoom}
+use Rattle.rfcomm_model.specs.Sides.{connections_of, Deed, Hears, Says, Sends, Leaves, Side, handed, heard_frame, said_by, given, done, all_done, new_side, DeedFindsRoom, AnswerFindsRoom, AlwaysRoom}
 use Rattle.rfcomm_model.specs.ClosedSides.{IsOrderly, ReadsToClosing}
-use Rattle.rfcomm_model.proofs.Ended.{closed-sides_read}
+use Rattle.rfcomm_model.proofs.Ended.{closed-sides_read, to_all}
 use Rattle.rfcomm_model.proofs.Keeping.{answer_keeps, next_keeps}
-use Rattle.rfcomm_model.proofs.Reading.{said_keeps}
+use Rattle.rfcomm_model.proofs.Reading.{own_grants, granted_more, spent_more, said_keeps}
 use Rattle.rfcomm_model.proofs.Stepping.{cond_same}
 
 -- ---- the octets of the peer
@@ -99,6 +101,107 @@ quiet_from lines course (g ∷ before) after f e =
     ap (λ (xs : List ℕ). cond (carries_on lines) (information 18 Initiator g) [] ++ xs)
     (on_alike (is_last 18 Responder course g) (connections_after 18 lines g) _ _ (quiet_from (connections_after 18 lines g) (course_after 18 Responder course g) before after f e))
 
+-- ---- what is granted and spent
+
+abbrev pub granted_to : Connections → Course → List Framed → ℕ
+granted_to lines course fs = granted 18 Responder lines (to_closing 18 Responder course fs)
+
+abbrev pub spent_to : Course → List Framed → ℕ
+spent_to course fs = spent 18 Responder (to_closing 18 Responder course fs)
+
+abbrev pub is_over : Course → List Framed → Bool
+is_over course fs = has_last 18 Responder course fs
+
+abbrev pub cost : PlainFrame → ℕ
+cost f = spent_by 18 Responder (own f)
+
+spent_first : (f : Framed) (fs : List Framed) → spent 18 Responder (f ∷ fs) ≡ spent_by 18 Responder f + spent 18 Responder fs
+spent_first f fs = sum_by-cons (spent_by 18 Responder) f fs
+
+granted_alike : (last : Bool) (lines : Connections) (a b : List Framed) → granted 18 Responder lines a ≡ granted 18 Responder lines b → granted 18 Responder lines (cond last [] a) ≡ granted 18 Responder lines (cond last [] b)
+granted_alike true lines a b e = refl
+granted_alike false lines a b e = e
+
+quiet_granted : (lines : Connections) (course : Course) (before after : List Framed) (f : PlainFrame) → carries f.kind ≡ true → granted_to lines course (before ++ own f ∷ after) ≡ granted_to lines course (before ++ after)
+quiet_granted lines course [] after f e =
+    ap (λ (n : ℕ). n + granted 18 Responder (connections_after 18 lines (own f)) (to_closing 18 Responder (course_after 18 Responder course (own f)) after)) (own_grants 18 Responder lines f)
+    ∙ (let same : granted 18 Responder (connections_after 18 lines (own f)) (to_closing 18 Responder (course_after 18 Responder course (own f)) after) ≡ granted_to lines course after =
+    ap (λ (l : Connections). granted 18 Responder l (to_closing 18 Responder (course_after 18 Responder course (own f)) after)) (lines_quiet f lines e) ∙ ap (λ (c : Course). granted_to lines c after) (course_quiet f course e)
+    in omega (arith, same))
+quiet_granted lines course (g ∷ before) after f e =
+    ap (λ (n : ℕ). granted_by 18 Responder lines g + n)
+    (granted_alike (is_last 18 Responder course g) (connections_after 18 lines g) _ _ (quiet_granted (connections_after 18 lines g) (course_after 18 Responder course g) before after f e))
+
+quiet_over : (course : Course) (before after : List Framed) (f : PlainFrame) → carries f.kind ≡ true → is_over course (before ++ own f ∷ after) ≡ is_over course (before ++ after)
+quiet_over course [] after f e = ap (λ (c : Course). is_over c after) (course_quiet f course e)
+quiet_over course (g ∷ before) after f e = ap (λ (b : Bool). is_last 18 Responder course g || b) (quiet_over (course_after 18 Responder course g) before after f e)
+
+-- one that stands behind the last frame costs nothing
+abbrev unless_over : Bool → PlainFrame → ℕ
+unless_over over f = cond over 0 (cost f)
+
+quiet_spent_at : (last over : Bool) (g : Framed) (f : PlainFrame) (with_it without : List Framed) → spent 18 Responder with_it ≡ spent 18 Responder without + unless_over over f
+    → spent 18 Responder (g ∷ cond last [] with_it) ≡ spent 18 Responder (g ∷ cond last [] without) + unless_over (last || over) f
+quiet_spent_at true over g f with_it without e = omega arith
+quiet_spent_at false over g f with_it without e = let one = spent_first g with_it in let two = spent_first g without in omega (arith, one, two, e)
+
+quiet_spent : (course : Course) (before after : List Framed) (f : PlainFrame) → carries f.kind ≡ true → spent_to course (before ++ own f ∷ after) ≡ spent_to course (before ++ after) + unless_over (is_over course before) f
+quiet_spent course [] after f e =
+    let one = spent_first (own f) (to_closing 18 Responder (course_after 18 Responder course (own f)) after) in
+    let same : spent_to (course_after 18 Responder course (own f)) after ≡ spent_to course after = ap (λ (c : Course). spent_to c after) (course_quiet f course e) in
+    omega (arith, one, same)
+quiet_spent course (g ∷ before) after f e =
+    quiet_spent_at (is_last 18 Responder course g) (is_over (course_after 18 Responder course g) before) g f _ _ (quiet_spent (course_after 18 Responder course g) before after f e)
+
+or_stays : (a x y : Bool) → (a || x) ≡ true → (x ≡ true → y ≡ true) → (a || y) ≡ true
+or_stays true x y e f = refl
+or_stays false x y e f = f e
+
+over_stays : (course : Course) (fs more : List Framed) → is_over course fs ≡ true → is_over course (fs ++ more) ≡ true
+over_stays course [] more e = absurd (let f : false ≡ true = e in cc)
+over_stays course (g ∷ fs) more e = or_stays (is_last 18 Responder course g) (is_over (course_after 18 Responder course g) fs) (is_over (course_after 18 Responder course g) (fs ++ more)) e (over_stays (course_after 18 Responder course g) fs more)
+
+-- ---- frames that say the same, in another order of the own ones
+
+pub record Alike (a b : List Framed) : Type 0 where
+  pub octets : reading a ≡ reading b
+  pub grants : granted_to no_connections no_course a ≡ granted_to no_connections no_course b
+  pub over : is_over no_course a ≡ is_over no_course b
+  pub spends : spent_to no_course b ≤ spent_to no_course a
+  pub total : spent 18 Responder a ≡ spent 18 Responder b
+
+pub alike_same : (a b : List Framed) → a ≡ b → Alike a b
+alike_same a b e = record {
+  octets = ap reading e;
+  grants = ap (granted_to no_connections no_course) e;
+  over = ap (is_over no_course) e;
+  spends = (let same = ap (spent_to no_course) e in omega (arith, same));
+  total = ap (spent 18 Responder) e;
+}
+
+pub alike_then : (a b c : List Framed) → Alike a b → Alike b c → Alike a c
+alike_then a b c x y = record { octets = x.octets ∙ y.octets; grants = x.grants ∙ y.grants; over = x.over ∙ y.over; spends = (let one = x.spends in let two = y.spends in omega (arith, one, two)); total = x.total ∙ y.total }
+
+later_spends : (first second : Bool) (f : PlainFrame) (n : ℕ) → (first ≡ true → second ≡ true) → n + unless_over second f ≤ n + unless_over first f
+later_spends true true f n e = omega arith
+later_spends true false f n e = absurd (let g : false ≡ true = e refl in cc)
+later_spends false true f n e = omega arith
+later_spends false false f n e = omega arith
+
+-- one with information that goes later
+later : (fs new more : List Framed) (f : PlainFrame) → carries f.kind ≡ true → Alike (fs ++ own f ∷ (new ++ more)) ((fs ++ new) ++ own f ∷ more)
+later fs new more f e =
+    let same : (fs ++ new) ++ more ≡ fs ++ (new ++ more) = append_assoc fs new more in
+    record {
+      octets = quiet_from no_connections no_course fs (new ++ more) f e ∙ ap reading (sym same) ∙ sym (quiet_from no_connections no_course (fs ++ new) more f e);
+      grants = quiet_granted no_connections no_course fs (new ++ more) f e ∙ ap (granted_to no_connections no_course) (sym same) ∙ sym (quiet_granted no_connections no_course (fs ++ new) more f e);
+      over = quiet_over no_course fs (new ++ more) f e ∙ ap (is_over no_course) (sym same) ∙ sym (quiet_over no_course (fs ++ new) more f e);
+      spends = (let one = quiet_spent no_course fs (new ++ more) f e in let two = quiet_spent no_course (fs ++ new) more f e in let rest = ap (spent_to no_course) same in
+          let less = later_spends (is_over no_course fs) (is_over no_course (fs ++ new)) f (spent_to no_course (fs ++ (new ++ more))) (over_stays no_course fs new) in omega (arith, one, two, rest, less));
+      total = (let one = sum_by-append (spent_by 18 Responder) fs (own f ∷ (new ++ more)) in let two = spent_first (own f) (new ++ more) in let three = sum_by-append (spent_by 18 Responder) new more in
+          let four = sum_by-append (spent_by 18 Responder) (fs ++ new) (own f ∷ more) in let five = spent_first (own f) more in let six = sum_by-append (spent_by 18 Responder) fs new in omega (arith, one, two, three, four, five, six));
+    }
+
 -- ---- a side that was reached
 
 pub record Reached (largest cap : ℕ) (side : Side) : Type 0 where
@@ -150,11 +253,16 @@ abbrev pub waiting : Option PlainFrame → List Framed
 waiting None = []
 waiting (Some frame) = own frame ∷ []
 
+-- what a frame that waits has cost already
+abbrev pub waiting_cost : Option PlainFrame → ℕ
+waiting_cost None = 0
+waiting_cost (Some frame) = cost frame
+
 -- the multiplexer took up all that came; its frame that waits is not among what passed
 pub record Carries (largest cap : ℕ) (passed : List Passed) (got : List ℕ) (mux : Mux) (frame : Option PlainFrame) : Type 0 where
   pub talk : List Framed
   pub reached : Reached largest cap (record { mux = mux; talk = talk; got = got })
-  pub reads : (more : List Framed) → reading (talk ++ more) ≡ reading (frames passed ++ (waiting frame ++ more))
+  pub reads : (more : List Framed) → Alike (talk ++ more) (frames passed ++ (waiting frame ++ more))
 
 waiting_ends : (fs : List Framed) (frame : Option PlainFrame) → reading (fs ++ (waiting frame ++ [])) ≡ reading fs
 waiting_ends fs None = ap reading (append-nil fs)
@@ -165,10 +273,10 @@ pub carries_read : (largest cap : ℕ) (passed : List Passed) (got : List ℕ) (
 carries_read largest cap passed got mux frame c orderly =
     let reads : ReadsToClosing 18 Responder (record { mux = mux; talk = c.talk; got = got }) =
     subst (ReadsToClosing 18 Responder) c.reached.is (closed-sides_read Responder 18 largest largest cap c.reached.deeds (omega arith) (subst (λ (s : Side). IsOrderly s.mux.closed) (sym c.reached.is) orderly) c.reached.room) in
-    sym (waiting_ends (frames passed) frame) ∙ sym (c.reads []) ∙ ap reading (append-nil c.talk) ∙ sym reads.octets
+    sym (waiting_ends (frames passed) frame) ∙ sym (c.reads []).octets ∙ ap reading (append-nil c.talk) ∙ sym reads.octets
 
 pub carries_new : (largest cap : ℕ) → Carries largest cap [] [] (new_side Responder 18 largest largest cap).mux None
-carries_new largest cap = record { talk = []; reached = record { deeds = []; is = refl; room = tt }; reads = λ more. refl }
+carries_new largest cap = record { talk = []; reached = record { deeds = []; is = refl; room = tt }; reads = λ more. alike_same more more refl }
 
 heard_is : (from : Role) (a : Answer) → heard_frame from a ≡ cons_option (framed from a) []
 heard_is from (Ok frame) = refl
@@ -181,9 +289,9 @@ abbrev pub only_quiet : Option PlainFrame → Bool
 only_quiet None = true
 only_quiet (Some frame) = carries frame.kind
 
-passes_waiting : (fs new more : List Framed) (frame : Option PlainFrame) → only_quiet frame ≡ true → reading (fs ++ (waiting frame ++ (new ++ more))) ≡ reading ((fs ++ new) ++ (waiting frame ++ more))
-passes_waiting fs new more None e = ap reading (sym (append_assoc fs new more))
-passes_waiting fs new more (Some f) e = quiet_from no_connections no_course fs (new ++ more) f e ∙ ap reading (sym (append_assoc fs new more)) ∙ sym (quiet_from no_connections no_course (fs ++ new) more f e)
+passes_waiting : (fs new more : List Framed) (frame : Option PlainFrame) → only_quiet frame ≡ true → Alike (fs ++ (waiting frame ++ (new ++ more))) ((fs ++ new) ++ (waiting frame ++ more))
+passes_waiting fs new more None e = alike_same (fs ++ (new ++ more)) ((fs ++ new) ++ more) (sym (append_assoc fs new more))
+passes_waiting fs new more (Some f) e = later fs new more f e
 
 -- a frame comes
 pub carries_came : (largest cap : ℕ) (passed : List Passed) (got : List ℕ) (mux : Mux) (frame : Option PlainFrame) (sdu : List ℕ) → Carries largest cap passed got mux frame → AnswerFindsRoom (frame_answer sdu) mux → only_quiet frame ≡ true
@@ -196,8 +304,10 @@ carries_came largest cap passed got mux frame sdu c room quiet =
       talk = c.talk ++ new;
       reached = reached_by largest cap (record { mux = mux; talk = c.talk; got = got }) (Hears sdu) c.reached room;
       reads = λ more.
-          ap reading (append_assoc c.talk new more) ∙ c.reads (new ++ more) ∙ passes_waiting (frames passed) new more frame quiet
-          ∙ ap (λ (fs : List Framed). reading (fs ++ (waiting frame ++ more))) (ap (λ (xs : List Framed). frames passed ++ xs) new_is ∙ sym (frames_more passed (record { from = Initiator; sdu = sdu })));
+          alike_then _ _ _ (alike_same ((c.talk ++ new) ++ more) (c.talk ++ (new ++ more)) (append_assoc c.talk new more))
+          (alike_then _ _ _ (c.reads (new ++ more)) (alike_then _ _ _ (passes_waiting (frames passed) new more frame quiet)
+          (alike_same ((frames passed ++ new) ++ (waiting frame ++ more)) (frames (passed ++ record { from = Initiator; sdu = sdu } ∷ []) ++ (waiting frame ++ more))
+          (ap (λ (fs : List Framed). fs ++ (waiting frame ++ more)) (ap (λ (xs : List Framed). frames passed ++ xs) new_is ∙ sym (frames_more passed (record { from = Initiator; sdu = sdu })))))));
     }
 
 -- the frame that waits goes
@@ -207,8 +317,9 @@ carries_went largest cap passed got mux frame sdu c octets spells = record {
   talk = c.talk;
   reached = c.reached;
   reads = λ more.
-      c.reads more ∙ ap reading (sym (append_assoc (frames passed) (own frame ∷ []) more))
-      ∙ ap (λ (fs : List Framed). reading (fs ++ more)) (ap (λ (a : Answer). frames passed ++ cons_option (framed Responder a) []) (sym (spelled_answered frame sdu octets spells)) ∙ sym (frames_more passed (record { from = Responder; sdu = sdu })));
+      alike_then _ _ _ (c.reads more) (alike_same (frames passed ++ own frame ∷ more) (frames (passed ++ record { from = Responder; sdu = sdu } ∷ []) ++ more)
+      (sym (append_assoc (frames passed) (own frame ∷ []) more)
+      ∙ ap (λ (fs : List Framed). fs ++ more) (ap (λ (a : Answer). frames passed ++ cons_option (framed Responder a) []) (sym (spelled_answered frame sdu octets spells)) ∙ sym (frames_more passed (record { from = Responder; sdu = sdu })))));
 }
 
 -- ---- the next frame
@@ -232,7 +343,7 @@ carries_says largest cap passed got mux (Some said) e c =
     record {
       talk = c.talk ++ own said.frame ∷ [];
       reached = subst (Reached largest cap) side_is (reached_by largest cap side Says c.reached tt);
-      reads = λ more. ap reading (append_assoc c.talk (own said.frame ∷ []) more) ∙ c.reads (own said.frame ∷ more);
+      reads = λ more. alike_then _ _ _ (alike_same ((c.talk ++ own said.frame ∷ []) ++ more) (c.talk ++ own said.frame ∷ more) (append_assoc c.talk (own said.frame ∷ []) more)) (c.reads (own said.frame ∷ more));
     }
 
 -- octets are given to one that may send them
@@ -248,3 +359,63 @@ carries_sends largest cap passed got mux frame octets ready c =
 
 pub carries_leaves : (largest cap : ℕ) (passed : List Passed) (got : List ℕ) (mux : Mux) (frame : Option PlainFrame) → Carries largest cap passed got mux frame → Carries largest cap passed got (leaves mux) frame
 carries_leaves largest cap passed got mux frame c = record { talk = c.talk; reached = reached_by largest cap (record { mux = mux; talk = c.talk; got = got }) Leaves c.reached tt; reads = c.reads }
+
+-- ---- the account
+
+own_grants_none : (closed : Bool) (fs : List Framed) (f : PlainFrame) → granted 18 Responder no_connections (fs ++ cons_option (counting closed (Some (own f))) []) ≡ granted 18 Responder no_connections fs
+own_grants_none true fs f = ap (granted 18 Responder no_connections) (append-nil fs)
+own_grants_none false fs f = let more = granted_more 18 Responder no_connections fs (own f) in let none = own_grants 18 Responder (connections_of 18 no_connections fs) f in omega (arith, more, none)
+
+own_spends_some : (closed : Bool) (fs : List Framed) (f : PlainFrame) → spent 18 Responder fs ≤ spent 18 Responder (fs ++ cons_option (counting closed (Some (own f))) [])
+own_spends_some true fs f = let same = ap (spent 18 Responder) (append-nil fs) in omega (arith, same)
+own_spends_some false fs f = let more = spent_more 18 Responder fs (own f) in omega (arith, more)
+
+waiting_grants : (fs : List Framed) (frame : Option PlainFrame) → granted_to no_connections no_course (fs ++ (waiting frame ++ [])) ≡ granted_to no_connections no_course fs
+waiting_grants fs None = ap (granted_to no_connections no_course) (append-nil fs)
+waiting_grants fs (Some f) = ap (granted 18 Responder no_connections) (to_closing-more 18 Responder no_course fs (Some (own f))) ∙ own_grants_none (has_last 18 Responder no_course fs) (to_closing 18 Responder no_course fs) f
+
+waiting_spends : (fs : List Framed) (frame : Option PlainFrame) → spent_to no_course fs ≤ spent_to no_course (fs ++ (waiting frame ++ []))
+waiting_spends fs None = let same = ap (spent_to no_course) (append-nil fs) in omega (arith, same)
+waiting_spends fs (Some f) =
+    let some = own_spends_some (has_last 18 Responder no_course fs) (to_closing 18 Responder no_course fs) f in
+    let same = ap (spent 18 Responder) (to_closing-more 18 Responder no_course fs (Some (own f))) in
+    omega (arith, some, same)
+
+waiting_total : (fs : List Framed) (frame : Option PlainFrame) → spent 18 Responder (fs ++ (waiting frame ++ [])) ≡ spent 18 Responder fs + waiting_cost frame
+waiting_total fs None = let same = ap (spent 18 Responder) (append-nil fs) in omega (arith, same)
+waiting_total fs (Some f) = spent_more 18 Responder fs (own f)
+
+left_over : (s h : ℕ) → pos (s + h) -ℤ pos s ≡ pos h
+left_over s h = ap (λ n. pos n -ℤ pos s) (omega arith) ∙ (ap (λ m. m -ℤ pos s) (sym (pos-+ℤ-pos h s)) ∙ +ℤ-neg_ℤ_cancel (pos h) (pos s))
+
+none_over : (course : Course) (fs more : List Framed) → is_over course (fs ++ more) ≡ false → is_over course fs ≡ false
+none_over course fs more e = elim (cases_Bool (is_over course fs)) [ inl over ↦ absurd (let f : true ≡ false = sym (over_stays course fs more over) ∙ e in cc) | inr none ↦ none ]
+
+-- what the SDUs granted less what they spent
+pub record HasCredits (passed : List Passed) (mux : Mux) (frame : Option PlainFrame) : Type 0 where
+  pub spare : ℕ
+  pub credits : credits_held 18 Responder passed ≡ pos (mux.account.held + spare)
+  pub exact : mux.closed ≡ None → spare ≡ waiting_cost frame
+
+pub carries_credits : (largest cap : ℕ) (passed : List Passed) (got : List ℕ) (mux : Mux) (frame : Option PlainFrame) → Carries largest cap passed got mux frame → IsOrderly mux.closed → HasCredits passed mux frame
+carries_credits largest cap passed got mux frame c orderly =
+    let reads : ReadsToClosing 18 Responder (record { mux = mux; talk = c.talk; got = got }) =
+    subst (ReadsToClosing 18 Responder) c.reached.is (closed-sides_read Responder 18 largest largest cap c.reached.deeds (omega arith) (subst (λ (s : Side). IsOrderly s.mux.closed) (sym c.reached.is) orderly) c.reached.room) in
+    let fs : List Framed = frames passed in
+    let alike : Alike c.talk (fs ++ (waiting frame ++ [])) = alike_then _ _ _ (alike_same c.talk (c.talk ++ []) (sym (append-nil c.talk))) (c.reads []) in
+    let granted_is : granted_to no_connections no_course fs ≡ spent_to no_course c.talk + mux.account.held = sym (waiting_grants fs frame) ∙ sym alike.grants ∙ reads.credits in
+    let some = alike.spends in
+    let more = waiting_spends fs frame in
+    let spare : ℕ = spent_to no_course c.talk - spent_to no_course fs in
+    let sum : granted_to no_connections no_course fs ≡ spent_to no_course fs + (mux.account.held + spare) = omega (arith, granted_is, some, more) in
+    record {
+      spare = spare;
+      credits = ap (λ (n : ℕ). pos n -ℤ pos (spent_to no_course fs)) sum ∙ left_over (spent_to no_course fs) (mux.account.held + spare);
+      exact = λ open_.
+          let none : is_over no_course c.talk ≡ false = sym reads.closed ∙ ap is_some open_ in
+          let all = ap (spent 18 Responder) (to_all 18 Responder no_course c.talk none) in
+          let rest = ap (spent 18 Responder) (to_all 18 Responder no_course fs (none_over no_course fs (waiting frame ++ []) (sym alike.over ∙ none))) in
+          let total = alike.total in
+          let last = waiting_total fs frame in
+          omega (arith, all, rest, total, last);
+    }

@@ -1,18 +1,18 @@
 -- What is read off one occurrence more.
-use Rattle.std.proofs.Common.{Bool, true, false, cond, ◌≡◌, ℕ, List, [], ◌∷◌, ◌++◌, length, drop, map, Option, Some, None, refl, sym, ap, ◌∙◌, append-nil}
+use Rattle.std.proofs.Common.{true, false, cond, ◌≡◌, ℕ, List, [], ◌∷◌, ◌++◌, length, drop, map, Option, None, refl, sym, ap, ◌∙◌, append_assoc, append-nil}
 use Rattle.std.specs.List.{filter_map, cons_option}
 use Rattle.std.proofs.lemmas.Bool.{cond-true, cond-false}
 use Rattle.std.proofs.lemmas.List.{map-append}
 use Rattle.std.proofs.lemmas.List.Elements.{filter_map-append}
-use Rattle.bt_base.specs.Objects.{Object}
-use Rattle.obex_headers.specs.Packets.{PlainPacket}
+use Rattle.bt_base.specs.declared.settings.Transport.{Transport}
 use Rattle.obex_headers.specs.Runs.{objects_from}
 use Rattle.obex_session.specs.Laws.{without_fault}
-use Rattle.obex_session.specs.Past.{put_heard, puts_heard, open_from}
-use Rattle.obex_session.proofs.PastLaws.{objects-more}
+use Rattle.obex_session.specs.Past.{Heard, put_heard, puts_heard, open_from, stored_by}
+use Rattle.obex_session.proofs.SuccessLaws.{more_stored}
 use Rattle.link_talk.specs.Gains.{beyond}
 use Rattle.link_talk.specs.ObjectsHeard.{put_within, spelled_within}
 use Rattle.push_laws.specs.Occurrences.{Occurrence}
+use Rattle.push_laws.specs.Faults.{Marked, unmarked, heard_behind, heard_from, heard_over}
 use Rattle.push_laws.specs.Readings.{closes, since_from, since}
 
 -- ---- since the last closing
@@ -46,16 +46,28 @@ drop_same (x ∷ xs) = drop_same xs
 
 -- ---- objects
 
-pub puts_same : (most : ℕ) (packets : List (List ℕ)) → puts_heard most (without_fault packets) ≡ map (put_within most) packets
+-- with a packet more
+pub stored_more : (most : ℕ) (past : List Heard) (one : Heard) → beyond (stored_by most past) (stored_by most (past ++ one ∷ [])) ≡ objects_from (open_from [] (puts_heard most past)) (put_heard most one ∷ [])
+stored_more most past one = ap (beyond (stored_by most past)) (more_stored most past one) ∙ drop_front (stored_by most past) (objects_from (open_from [] (puts_heard most past)) (put_heard most one ∷ []))
+
+-- where no call fails
+puts_same : (most : ℕ) (packets : List (List ℕ)) → puts_heard most (without_fault packets) ≡ map (put_within most) packets
 puts_same most [] = refl
 puts_same most (packet ∷ packets) = ap (λ ps. put_within most packet ∷ ps) (puts_same most packets)
 
--- with a packet more
-pub objects_more : (most : ℕ) (packets : List (List ℕ)) (packet : List ℕ) → beyond (spelled_within most packets) (spelled_within most (packets ++ packet ∷ []))
-    ≡ objects_from (open_from [] (puts_heard most (without_fault packets))) (put_heard most (packet, false) ∷ [])
-objects_more most packets packet =
-    let before : List (Option PlainPacket) = map (put_within most) packets in
-    ap (λ ps. beyond (spelled_within most packets) (objects_from [] ps)) (map-append (put_within most) packets (packet ∷ []))
-    ∙ ap (beyond (spelled_within most packets)) (objects-more [] before (put_within most packet))
-    ∙ drop_front (spelled_within most packets) (objects_from (open_from [] before) (put_within most packet ∷ []))
-    ∙ ap (λ ps. objects_from (open_from [] ps) (put_within most packet ∷ [])) (sym (puts_same most packets))
+pub spelled_stored : (most : ℕ) (packets : List (List ℕ)) → stored_by most (without_fault packets) ≡ spelled_within most packets
+spelled_stored most packets = ap (objects_from []) (puts_same most packets)
+
+-- ---- marks
+
+pub unmarked_more : (past : List Marked) (one : Marked) → unmarked (past ++ one ∷ []) ≡ unmarked past ++ one.occurrence ∷ []
+unmarked_more past one = map-append (λ (m : Marked). m.occurrence) past (one ∷ [])
+
+heard_last : (t : Transport) (before : List Occurrence) (kept : List Heard) (past : List Marked) (one : Marked) → heard_from t before kept (past ++ one ∷ []) ≡ heard_behind t (before ++ unmarked past) (heard_from t before kept past) one
+heard_last t before kept [] one = ap (λ (os : List Occurrence). heard_behind t os kept one) (sym (append-nil before))
+heard_last t before kept (first ∷ past) one =
+    heard_last t (before ++ first.occurrence ∷ []) (heard_behind t before kept first) past one
+    ∙ ap (λ (os : List Occurrence). heard_behind t os (heard_from t (before ++ first.occurrence ∷ []) (heard_behind t before kept first) past) one) (append_assoc before (first.occurrence ∷ []) (unmarked past))
+
+pub heard_more : (t : Transport) (past : List Marked) (one : Marked) → heard_over t (past ++ one ∷ []) ≡ heard_behind t (unmarked past) (heard_over t past) one
+heard_more t past one = heard_last t [] [] past one

@@ -1,11 +1,11 @@
 -- The stream of packets over RFCOMM, as a listener hears it.
-use Rattle.std.proofs.Common.{inl, inr, ◌⊎◌, zero, suc, Bool, true, false, cond, ltb, eqb, ◌+◌, ◌<◌, ◌≤◌, ◌≡◌, ℕ, List, [], ◌∷◌, ◌++◌, length, take, Option, Some, None, Result, Ok, Err, refl, sym, ap, subst, ◌∙◌, arith, append_assoc, append-nil, length-append}
+use Rattle.std.proofs.Common.{inl, inr, ◌⊎◌, zero, suc, Bool, true, false, cond, ltb, eqb, ◌+◌, ◌<◌, ◌≤◌, ◌≡◌, ℕ, List, [], ◌∷◌, ◌++◌, length, take, Result, Ok, Err, refl, sym, ap, ◌∙◌, arith, append_assoc, length-append}
 use Rattle.std.specs.Prelude.{not, slice_index}
-use Rattle.std.specs.List.{flat_map, AllByRecursion}
-use Rattle.std.proofs.lemmas.Bool.{cases_lt, lt-ltb, le-ltb, ltb-false, ltb-true, cond-true, cond-false, cond_both, ne_eqb}
-use Rattle.rfcomm_frames.specs.ObexPackets.{stated_size, IsPacket, HasNoPacket, AreObexPackets, obex_packets}
+use Rattle.std.specs.List.{flat_map}
+use Rattle.std.proofs.lemmas.Bool.{cases_lt, lt-ltb, le-ltb, ltb-false, cond-true, cond-false, ne_eqb}
+use Rattle.rfcomm_frames.specs.ObexPackets.{stated_size, HasNoPacket, obex_packets}
 use Rattle.rfcomm_frames.proofs.ObexSplits.{obex_packets-right, obex_packets-one}
-use Rattle.rfcomm_laws.proofs.Splitting.{same_length, partial_none, before}
+use Rattle.rfcomm_laws.proofs.Splitting.{same_length, before}
 use Rattle.obex_headers.specs.declared.fault.ObexRefusal.{ObexRefusal}
 use Rattle.obex_headers.specs.declared.fault.ObexRefusal.TheVariants.{Short, BadLength, BadHeaderLength, BadText, AboveMaximum, BadVersion}
 use Rattle.obex_headers.specs.declared.packet.Phase.TheVariants.{Request}
@@ -15,7 +15,7 @@ use Rattle.obex_headers.specs.Reading.{◌>>=◌, behind_length, front_at, heade
 use Rattle.push_model.proofs.StreamLaws.{whole_front, partial_front, broken_front}
 use Rattle.push_model.specs.Sessions.{Gift}
 use Rattle.push_model.specs.Streams.{Front}
-use Rattle.push_model.specs.Listening.{Listener, Received, has_bad_length, heeds_carried, heeds_broken, received, hears_on, hears_front, hears_stream}
+use Rattle.push_model.specs.Listening.{Listener, has_bad_length, heeds_carried, heeds_broken, received, hears_on, hears_front, hears_stream}
 
 -- ---- lengths
 
@@ -31,12 +31,12 @@ none_front most rest none =
     elim (cases_lt (length rest) 3) [
       | inl short ↦ inl (inl short)
       | inr long ↦ elim (cases_lt most (stated_len rest)) [
-          | inl above ↦ inr (AboveMaximum, (long, above))
-          | inr within ↦ elim (cases_lt (stated_len rest) 3) [
-              | inl small ↦ inr (BadLength, (long, within, small))
-              | inr size ↦ inl (inr (size, within, few (same_length rest long) long size none))
-            ]
+        | inl above ↦ inr (AboveMaximum, (long, above))
+        | inr within ↦ elim (cases_lt (stated_len rest) 3) [
+          | inl small ↦ inr (BadLength, (long, within, small))
+          | inr size ↦ inl (inr (size, within, few (same_length rest long) long size none))
         ]
+      ]
     ]
   where
     few : stated_len rest ≡ stated_size rest → 3 ≤ length rest → 3 ≤ stated_len rest → HasNoPacket rest → length rest < stated_len rest

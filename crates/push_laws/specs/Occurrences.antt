@@ -2,7 +2,7 @@
 -- and what its inbox answers (Object Push Profile 1.2, 4.3).
 use Rattle.std.specs.Prelude.{ℕ, ◌≡◌, List, [], ◌∷◌, ◌++◌, Option, Some}
 use Rattle.bt_base.specs.declared.settings.Settings.{Settings}
-use Rattle.bt_base.specs.Objects.{Object, Contents}
+use Rattle.bt_base.specs.Objects.{Contents}
 use Rattle.bt_base.specs.Octets.{IsOctets}
 use Rattle.obex_session.specs.InboxCalls.{Answer}
 use Rattle.push_model.specs.Sessions.{Gift}
