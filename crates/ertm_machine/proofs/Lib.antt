@@ -5,3 +5,4 @@ pub mod Keeping
 pub mod Windowing
 pub mod Valuing
 pub mod Handing
+pub mod Asking

@@ -62,3 +62,9 @@ own_after false r = record r { reply = value.NoReply }
 pub record Replies (old : ReceiverValue) (result : Option Frame) (new : ReceiverValue) : Type 0 where
   pub frame : option_map plain result ≡ own_frame old.receiver.polled old.receiver.reply old.receiver.expected
   pub after : new ≡ record old { receiver = own_after old.receiver.polled old.receiver }
+
+-- whether RR or REJ is to be given
+abbrev pub replies : value.Reply → Bool
+replies value.NoReply = false
+replies value.Acknowledges = true
+replies value.Rejects = true

@@ -1,6 +1,7 @@
 -- What a sender holds, and what it gives.
-use Rattle.std.specs.Prelude.{ℕ, ◌≡◌, ◌+◌, ◌<◌, ◌≤◌, Bool, true, false, List, [], ◌∷◌, ◌++◌, length, nat_lt, nat_le, slice_get, Option, Some, None, if◌then◌else◌}
+use Rattle.std.specs.Prelude.{ℕ, ◌≡◌, ◌+◌, ◌<◌, ◌≤◌, ◌||◌, ◌&&◌, not, Bool, true, false, List, [], ◌∷◌, ◌++◌, length, nat_lt, nat_le, slice_get, Option, Some, None, if◌then◌else◌}
 use Rattle.ertm_frames.specs.Segments.{Segment}
+use Rattle.ertm_model.specs.Submitting.{is_some_fresh}
 use Rattle.ertm_model.specs.Value as value
 use Rattle.ertm_model.specs.Giving as giving
 use Rattle.ertm_machine.specs.declared.sender.Poll.{Poll}
@@ -104,3 +105,15 @@ AdvancesTo (Some after) old moved new = (moved ≡ true) × (new ≡ record old 
 
 abbrev pub Advances : SenderValue → Bool → SenderValue → Type 0
 Advances old moved new = AdvancesTo (given old.sender.poll old.agreed.send_window old.sender) old moved new
+
+-- whether a sender has something to give: a poll, or else an I-frame, while none is awaited and the peer is ready
+abbrev pub has_data : ℕ → value.Sender → Bool
+has_data size s = nat_lt s.next (length s.unacked) || (nat_lt (length s.unacked) size && is_some_fresh s.fresh)
+
+abbrev pub has_next_by : value.Poll → SenderValue → Bool
+has_next_by value.NoPoll s = not s.sender.busy && has_data s.agreed.send_window s.sender
+has_next_by value.Due s = true
+has_next_by value.Waits s = false
+
+abbrev pub has_next : SenderValue → Bool
+has_next s = has_next_by s.sender.poll s

@@ -1,9 +1,9 @@
 //! The machine of one end of an enhanced channel.
 
-ghost use Rattle.std.specs.Prelude.{◌≡◌, ◌≤◌, length, None, IfOk, IfSome};
+ghost use Rattle.std.specs.Prelude.{◌≡◌, ◌≤◌, length, None, is_some, IfOk, IfSome};
 ghost use Rattle.ertm_frames.specs.Frames.{plain, IsFrame};
 ghost use Rattle.ertm_model.specs.Value as value;
-ghost use Rattle.ertm_model.specs.Giving.{timed};
+ghost use Rattle.ertm_model.specs.Giving.{timed, next_frame};
 ghost use Rattle.ertm_model.specs.Hearing as hearing;
 ghost use Rattle.ertm_model.specs.Hearing.{refused};
 ghost use Rattle.ertm_model.specs.Submitting.{is_busy};
@@ -220,6 +220,17 @@ impl Ertm {
         let tx = self.sender.latest_number();
         let piece = self.sender.latest();
         Some(put_information(cid, tx, req, &piece, into))
+    }
+
+    /// Whether there is a frame to give, so that `next_frame` would write one.
+    #[tactic(auto, using(crate::proofs::Asking::gives_is))]
+    pub fn gives(&self) -> bool
+        ensures { result ≡ is_some (next_frame self.now.ertm) }
+    {
+        if self.closed.is_some() {
+            return false;
+        }
+        self.receiver.has_reply() || self.sender.has_next()
     }
 
     /// The timer fires. Where an I-frame is not acknowledged, or the answer to a poll is awaited, a

@@ -5,7 +5,7 @@ ghost use Rattle.ertm_frames.specs.Frames.{plain};
 ghost use Rattle.ertm_frames.specs.Frames as spelled;
 ghost use Rattle.ertm_model.specs.Hearing as hearing;
 ghost use Rattle.ertm_machine.specs.Joiners.{plain_segment};
-ghost use Rattle.ertm_machine.specs.Receivers.{place_of, Hears, Replies};
+ghost use Rattle.ertm_machine.specs.Receivers.{place_of, Hears, Replies, replies};
 
 use crate::joiner::{Joiner, Segment, Taken};
 use bt_base::NoMemory;
@@ -175,6 +175,13 @@ impl Receiver {
             Place::Expected => self.joiner.fault(agreed.receive_mtu, segment),
             Place::Ahead | Place::Other => None,
         }
+    }
+
+    /// Whether an S-frame is to be given.
+    pub(crate) fn has_reply(&self) -> bool
+        ensures { result ≡ (self.now.receiver.polled || replies self.now.receiver.reply) }
+    {
+        self.polled || !matches!(self.reply, Reply::Nothing)
     }
 
     /// The S-frame that is to be given: the answer to a poll, or else RR or REJ.

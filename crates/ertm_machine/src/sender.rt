@@ -7,7 +7,7 @@ ghost use Rattle.ertm_frames.specs.Picking.{req_of, is_final};
 ghost use Rattle.ertm_model.specs.Hearing as hearing;
 ghost use Rattle.ertm_model.specs.Submitting.{cut, is_some_fresh};
 ghost use Rattle.ertm_machine.specs.Pieces.{octets_of, segment_of_piece};
-ghost use Rattle.ertm_machine.specs.Senders.{poll_of, Fires, Polls, Advances};
+ghost use Rattle.ertm_machine.specs.Senders.{poll_of, Fires, Polls, Advances, has_next};
 
 use crate::piece::Piece;
 use crate::receiver::past;
@@ -286,6 +286,17 @@ impl Sender {
         match self.poll {
             Poll::Nothing => !self.busy && self.window.advance(),
             Poll::Due => false,
+            Poll::Waits => false,
+        }
+    }
+
+    /// Whether a poll or an I-frame is given now, where `give_poll` and `advance` are asked.
+    pub(crate) fn has_next(&self) -> bool
+        ensures { result ≡ has_next self.now }
+    {
+        match self.poll {
+            Poll::Nothing => !self.busy && self.window.has_next(),
+            Poll::Due => true,
             Poll::Waits => false,
         }
     }

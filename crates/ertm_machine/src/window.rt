@@ -1,6 +1,6 @@
 //! The I-frames that were given and are not acknowledged, and the SDU that waits behind them.
 
-ghost use Rattle.std.specs.Prelude.{◌≡◌, ◌+◌, ◌-◌, ◌*◌, ◌≤◌, ◌<◌, ◌^◌, ◌↔◌, ℕ, List, [], ◌∷◌, ◌++◌, length, take, drop, slice_get, slice_set, IfOk, IfSome, IfNone, false, nat_le};
+ghost use Rattle.std.specs.Prelude.{◌≡◌, ◌+◌, ◌-◌, ◌*◌, ◌≤◌, ◌<◌, ◌^◌, ◌↔◌, ℕ, List, [], ◌∷◌, ◌++◌, length, take, drop, slice_get, slice_set, IfOk, IfSome, IfNone, false, nat_le, nat_lt, ◌||◌, ◌&&◌};
 ghost use Rattle.std.specs.Option.{option_map};
 ghost use Rattle.ertm_frames.specs.Frames.{IsInformation};
 ghost use Rattle.std.specs.List.{sum_by, list_any};
@@ -283,6 +283,16 @@ impl Window {
     {
         self.next = 0;
         self.place = 0;
+    }
+
+    /// Whether there is a segment that is given next.
+    pub(crate) fn has_next(&self) -> bool
+        ensures { result ≡ (nat_lt self.now.next (length self.now.unacked) || (nat_lt (length self.now.unacked) self.now.agreed.send_window && is_some_fresh self.now.fresh)) }
+    {
+        if self.next() < self.used() {
+            return true;
+        }
+        self.used() < self.agreed().send_window && self.is_waiting()
     }
 
     /// Goes past the segment that is given next, where there is one.

@@ -1,5 +1,6 @@
 -- A client waits within a few steps: each channel that it ends is one less.
-use Rattle.std.proofs.Common.{ap, ◌≡◌, ◌≤◌, ℕ, ◌==◌, nat_lt, min, Bool, true, false, fold, List, [], ◌∷◌, Option, Some, None, refl, arith, if◌then◌else◌}
+use Rattle.std.proofs.Common.{ap, ◌≡◌, ◌≤◌, ℕ, ◌==◌, nat_lt, min, Bool, true, false, List, [], ◌∷◌, Option, Some, None, refl, arith, if◌then◌else◌}
+use Rattle.bt_base.specs.declared.settings.Settings.{Settings}
 use Rattle.bt_base.specs.declared.settings.Transport.{Transport}
 use Rattle.bt_base.specs.declared.settings.Transport.TheVariants.{L2cap, Rfcomm}
 use Rattle.push_terms.specs.declared.outcome.Outcome.{Outcome}
@@ -15,7 +16,8 @@ use Rattle.push_model.specs.declared.course.Stage.TheVariants.{Rest, Link, Searc
 use Rattle.push_model.specs.Causes.{Ending, InOrder, AtOnce, ending_of, cause_of_close, small_channel}
 use Rattle.push_model.specs.Client.{Client, ends, ends_by, ends_if, in_order, at_once, stage_after}
 use Rattle.push_model.specs.Events as events
-use Rattle.host_model.specs.Clients.{ClientProfile, cause_of, closed_by, opened_by, event_heard, happened}
+use Rattle.host_model.specs.Hosts.{tells_each}
+use Rattle.host_model.specs.Clients.{ClientProfile, client_profile, cause_of, closed_by, opened_by, event_heard, happened}
 
 -- how many channels it may still end
 abbrev pub left : Stage → ℕ
@@ -194,9 +196,10 @@ event_low (event.Features features) channels client = told_low client.stage clie
 event_low event.FeaturesLost channels client = either (events.is_asking_features client.stage) client (ends outcomes.RetryLimit client) client (ends_low client.cause outcomes.RetryLimit client) (same client)
 event_low (event.DisconnectLost own) channels client = same client
 
-pub all_low : (channels : Channels) (list : List ChannelEvent) (pushing : ClientProfile) → Low pushing.client (fold (λ profile one. happened one channels profile) pushing list).client
-all_low channels [] pushing = same pushing.client
-all_low channels (one ∷ list) pushing =
-    let first = event_low one channels pushing.client in
-    let rest = all_low channels list (happened one channels pushing) in
+pub all_low : (settings : Settings) (channels : Channels) (list : List ChannelEvent) (pushing : ClientProfile) → Low pushing.client (tells_each (client_profile settings) list channels pushing).client
+all_low settings channels [] pushing = same pushing.client
+all_low settings channels (one ∷ list) pushing =
+    let now = record channels { events = list } in
+    let first = event_low one now pushing.client in
+    let rest = all_low settings now list (happened one now pushing) in
     omega (arith, first, rest)

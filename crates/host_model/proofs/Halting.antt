@@ -141,7 +141,7 @@ submitted false on channels after pushing = refl
 
 submits_once : (own : Option ℕ) (payload : Payload) (channels : Channels) (pushing : ClientProfile) → (submits own payload channels pushing).more ≡ false
 submits_once None payload channels pushing = refl
-submits_once (Some own) payload channels pushing = submitted (takes_sdu own channels) (sends own (sdu_of payload) channels) channels (record pushing { submitted = Some own }) pushing
+submits_once (Some own) payload channels pushing = submitted (takes_sdu own (sdu_of payload) channels) (sends own (sdu_of payload) channels) channels (record pushing { submitted = Some own }) pushing
 
 taken : (step : Step) (channels : Channels) (after before : ClientProfile) (bound : ℕ) → Lowers bound step after.client → (takes step channels after before).more ≡ true
     → left (takes step channels after before).profile.client.stage < bound
@@ -175,7 +175,7 @@ module _ (settings : Settings) where
   after_stride count host stride true is low more =
       let new = record host { channels = stride.channels; profile = stride.profile } in
       let first = low refl in
-      let rest = all_low stride.channels stride.channels.events stride.profile in
+      let rest = all_low settings stride.channels stride.channels.events stride.profile in
       more (strides (client_profile settings) stride host) (omega (arith, first, rest))
   after_stride count host stride false is low more = refl
 

@@ -1,5 +1,5 @@
 -- What a profile keeps in whatever its host does and hears.
-use Rattle.std.proofs.Common.{subst, ◌≡◌, ℕ, zero, suc, Bool, true, false, List, [], ◌∷◌, Option, Some, None, fold, is_some, if◌then◌else◌}
+use Rattle.std.proofs.Common.{subst, ◌≡◌, ℕ, zero, suc, Bool, true, false, List, [], ◌∷◌, Option, Some, None, is_some, if◌then◌else◌}
 use Rattle.acl_fragments.specs.Pieces.{channel_of}
 use Rattle.channel_model.specs.declared.event.ChannelEvent.{ChannelEvent}
 use Rattle.channel_model.specs.Value.{Channels}
@@ -9,10 +9,10 @@ use Rattle.channel_model.specs.Hearing as channels
 use Rattle.channel_model.specs.Timing.{timed_out}
 use Rattle.channel_model.specs.Giving.{Given, next_given, after_given}
 use Rattle.world_model.specs.Machines.{News, Linked, Up, Down, Failed, Heard, TimerFired, Cancelled, Opening}
-use Rattle.host_model.specs.Circumstances.{Headway, Sending, Sent, Settled, Circumstance, headway_in}
+use Rattle.host_model.specs.Circumstances.{Circumstance}
 use Rattle.host_model.specs.Pdus.{pdu_of, is_frame}
 use Rattle.host_model.specs.Profiles.{Stride, Profile}
-use Rattle.host_model.specs.Hosts.{Host, drives, driven, goes_by, strides, settles, tells_events, brought, handed, hears_news, told, ready, hear, says, next, with_channels, most_steps}
+use Rattle.host_model.specs.Hosts.{Host, drives, driven, goes_by, strides, settles, tells_each, tells_events, handed, hears_news, told, ready, hear, after_said, says, next, with_channels, most_steps}
 
 pub record Keeps {P : Type 0} (A : Profile P) (K : P → Type 0) : Type 0 where
   pub given : (circumstances : List Circumstance) (p : P) → K p → K (A.given circumstances p)
@@ -26,9 +26,10 @@ abbrev pub KeepsNews : {P : Type 0} (A : Profile P) (K : P → Type 0) → News 
 KeepsNews {P} A K news = (circumstances : List Circumstance) (p : P) → K p → K (A.told circumstances news p)
 
 module _ {P : Type 0} (A : Profile P) (K : P → Type 0) (keeps : Keeps A K) where
-  each : (channels : Channels) (events : List ChannelEvent) (p : P) → K p → K (fold (λ profile event. A.happened event channels profile) p events)
+  each : (channels : Channels) (events : List ChannelEvent) (p : P) → K p → K (tells_each A events channels p)
   each channels [] p kept = kept
-  each channels (event ∷ events) p kept = each channels events (A.happened event channels p) (keeps.happened event channels p kept)
+  each channels (event ∷ events) p kept =
+      let now = record channels { events = events } in each now events (A.happened event now p) (keeps.happened event now p kept)
 
   pub tells : (host : Host P) → K host.profile → K (tells_events A host).profile
   tells host kept = each host.channels host.channels.events host.profile kept
@@ -51,14 +52,8 @@ module _ {P : Type 0} (A : Profile P) (K : P → Type 0) (keeps : Keeps A K) whe
       let now = settles A host in
       goes_by_test (λ next. drives A count next) (is_some (next_given now.channels)) now (λ next. drives_on count next) (keeps.sent host.channels host.profile kept)
 
-  brings : (far : Headway) (host : Host P) → K host.profile → K (brought A far host).profile
-  brings Sending host kept = kept
-  brings Sent host kept = keeps.sent host.channels host.profile kept
-  brings Settled host kept = drives_on most_steps host kept
-
   readies : (circumstances : List Circumstance) (host : Host P) → K host.profile → K (ready A circumstances host).profile
-  readies circumstances host kept =
-      let old = brought A (headway_in circumstances) host in keeps.given circumstances old.profile (brings (headway_in circumstances) host kept)
+  readies circumstances host kept = keeps.given circumstances host.profile kept
 
   hands : (up : Handed) (p : P) → K p → K (handed A up p)
   hands Nothing p kept = kept
@@ -79,7 +74,8 @@ module _ {P : Type 0} (A : Profile P) (K : P → Type 0) (keeps : Keeps A K) whe
 
   -- what is kept of the news, is kept
   pub hears_on : (circumstances : List Circumstance) (news : News) (host : Host P) → KeepsNews A K news → K host.profile → K (hear A circumstances news host).profile
-  hears_on circumstances news host told kept = hears_any circumstances news (ready A circumstances host) told (readies circumstances host kept)
+  hears_on circumstances news host told kept =
+      drives_on most_steps (hears_news A circumstances news (ready A circumstances host)) (hears_any circumstances news (ready A circumstances host) told (readies circumstances host kept))
 
   -- what follows from all that is said
   abbrev Said : Option (List ℕ × Host P) → Type 0
@@ -90,10 +86,11 @@ module _ {P : Type 0} (A : Profile P) (K : P → Type 0) (keeps : Keeps A K) whe
   frames true pdu host kept = kept
   frames false pdu host kept = tt
 
-  pub says_on : (given : Option Given) (count : ℕ) (host : Host P) → K host.profile → Said (says given count host)
+  pub says_on : (given : Option Given) (count : ℕ) (host : Host P) → K host.profile → Said (says A given count host)
   says_on None count host kept = tt
   says_on (Some given) zero host kept = tt
-  says_on (Some given) (suc count) host kept = frames (is_frame (pdu_of given)) (pdu_of given) (record host { channels = after_given host.channels; may_say = count }) kept
+  says_on (Some given) (suc count) host kept =
+      frames (is_frame (pdu_of given)) (pdu_of given) (after_said A count host) (drives_on most_steps (with_channels (after_given host.channels) host) kept)
 
   pub goes_next : (host : Host P) (pdu : List ℕ) (after : Host P) → next A host ≡ Some (pdu, after) → K host.profile → K after.profile
-  goes_next host pdu after same kept = subst Said same (says_on (next_given (driven A host).channels) host.may_say (driven A host) (drives_on most_steps host kept))
+  goes_next host pdu after same kept = subst Said same (says_on (next_given host.channels) host.may_say host kept)

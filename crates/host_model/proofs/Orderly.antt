@@ -2,23 +2,23 @@
 use Rattle.std.proofs.Common.{true≢false, ap, sym, subst, ◌≡◌, ◌⊎◌, inl, inr, ℕ, zero, suc, Bool, true, false, ◌&&◌, not, List, length, nat_le, ◌==◌, Option, Some, None, refl, if◌then◌else◌, tests, arith}
 use Rattle.bt_base.specs.declared.settings.Settings.{Settings}
 use Rattle.acl_fragments.specs.Pieces.{pdu_length}
-use Rattle.channel_model.specs.Giving.{Given, next_given, after_given}
+use Rattle.channel_model.specs.Giving.{Given, next_given}
 use Rattle.push_model.specs.declared.course.Stage.{Stage}
 use Rattle.push_model.specs.declared.course.Stage.TheVariants.{Rest}
 use Rattle.push_model.specs.Client.{is_rest, is_idle}
-use Rattle.world_model.specs.Machines.{News}
+use Rattle.world_model.specs.Machines.{News, Linked, Up}
 use Rattle.world_model.specs.Stations.{longest_pdu}
 use Rattle.turn_laws.specs.Premises.{IsFrame, SaysFrames, IsAside, Idles}
 use Rattle.rest_laws.specs.Premises.{AsksOnce}
 use Rattle.host_model.specs.Circumstances.{Circumstance}
 use Rattle.host_model.specs.Pdus.{pdu_of, is_frame}
 use Rattle.host_model.specs.Profiles.{Profile}
-use Rattle.host_model.specs.Hosts.{Host, driven, says, next, hear}
+use Rattle.host_model.specs.Hosts.{Host, most_steps, after_said, says, next, ready, hears_news, hear}
 use Rattle.host_model.specs.Clients.{ClientProfile, client_profile, is_paging}
 use Rattle.host_model.specs.Servers.{server_profile}
 use Rattle.host_model.specs.Machines.{upper, client_host}
 use Rattle.host_model.specs.Laws.{HostsAreOrderly}
-use Rattle.host_model.proofs.Keeping.{hears_on, goes_next}
+use Rattle.host_model.proofs.Keeping.{drives_on, hears_on, goes_next}
 use Rattle.host_model.proofs.Resting.{IsResting, keeps_rest, told_rest}
 use Rattle.host_model.proofs.Paging.{PagesNot, keeps_unpaged, told_unpaged}
 
@@ -42,13 +42,13 @@ frames_by : {P : Type 0} (test : Bool) (pdu : List ℕ) (host : Host P) → is_f
 frames_by true pdu host is = framed pdu is
 frames_by false pdu host is = tt
 
-frames : {P : Type 0} (given : Option Given) (count : ℕ) (host : Host P) → Frames (says given count host)
-frames None count host = tt
-frames (Some given) zero host = tt
-frames (Some given) (suc count) host = frames_by (is_frame (pdu_of given)) (pdu_of given) (record host { channels = after_given host.channels; may_say = count }) refl
+frames : {P : Type 0} (A : Profile P) (given : Option Given) (count : ℕ) (host : Host P) → Frames (says A given count host)
+frames A None count host = tt
+frames A (Some given) zero host = tt
+frames A (Some given) (suc count) host = frames_by (is_frame (pdu_of given)) (pdu_of given) (after_said A count host) refl
 
 says_frames : {P : Type 0} (A : Profile P) → SaysFrames (upper A)
-says_frames A host pdu after same = subst Frames same (frames (next_given (driven A host).channels) host.may_say (driven A host))
+says_frames A host pdu after same = subst Frames same (frames A (next_given host.channels) host.may_say host)
 
 -- ---- idle clients
 
@@ -100,9 +100,15 @@ says_none settings host pdu after same (inl is) = none_wanted (is_paging after.p
 says_none settings host pdu after same (inr off) =
     unpaged (is_paging after.profile.bid) (is_idle after.profile.client) (goes_next (client_profile settings) PagesNot (keeps_unpaged settings) host pdu after same off)
 
+comes_up : (settings : Settings) (circumstances : List Circumstance) (host : Host ClientProfile) → (upper (client_profile settings)).wants_link (hear (client_profile settings) circumstances (Linked Up) host) ≡ false
+comes_up settings circumstances host =
+    let after = hear (client_profile settings) circumstances (Linked Up) host in
+    unpaged (is_paging after.profile.bid) (is_idle after.profile.client)
+    (drives_on (client_profile settings) PagesNot (keeps_unpaged settings) most_steps (hears_news (client_profile settings) circumstances (Linked Up) (ready (client_profile settings) circumstances host)) refl)
+
 asks_once : (settings : Settings) → AsksOnce (client_host settings)
 asks_once settings = record {
-  comes = λ circumstances host. refl;
+  comes = comes_up settings;
   hears = λ circumstances news host aside off. hears_none settings circumstances news host aside (apart (is_paging host.profile.bid) (is_idle host.profile.client) off);
   says = λ host pdu after same off. says_none settings host pdu after same (apart (is_paging host.profile.bid) (is_idle host.profile.client) off);
 }

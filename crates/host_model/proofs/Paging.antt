@@ -30,7 +30,7 @@ submitting_by false own on channels pushing off = off
 
 submitting : (own : Option ℕ) (payload : Payload) (channels : Channels) (pushing : ClientProfile) → PagesNot pushing → PagesNot (submits own payload channels pushing).profile
 submitting None payload channels pushing off = off
-submitting (Some own) payload channels pushing off = submitting_by (takes_sdu own channels) own (sends own (sdu_of payload) channels) channels pushing off
+submitting (Some own) payload channels pushing off = submitting_by (takes_sdu own (sdu_of payload) channels) own (sends own (sdu_of payload) channels) channels pushing off
 
 taking : (step : Step) (channels : Channels) (after before : ClientProfile) → PagesNot after → PagesNot before → PagesNot (takes step channels after before).profile
 taking Wait channels after before off same = off

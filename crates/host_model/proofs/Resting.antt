@@ -94,7 +94,7 @@ submitting_by false own on channels pushing rest = rest
 
 submitting : (own : Option ℕ) (payload : Payload) (channels : Channels) (pushing : ClientProfile) → IsResting pushing → IsResting (submits own payload channels pushing).profile
 submitting None payload channels pushing rest = rest
-submitting (Some own) payload channels pushing rest = submitting_by (takes_sdu own channels) own (sends own (sdu_of payload) channels) channels pushing rest
+submitting (Some own) payload channels pushing rest = submitting_by (takes_sdu own (sdu_of payload) channels) own (sends own (sdu_of payload) channels) channels pushing rest
 
 taking : (step : Step) (channels : Channels) (after before : ClientProfile) → IsResting after → IsResting before → IsResting (takes step channels after before).profile
 taking Wait channels after before rest same = rest

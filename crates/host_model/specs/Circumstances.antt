@@ -1,5 +1,5 @@
--- What a host is told with each thing that it hears: how far it had come with what it says, which its line alone knows, and what its
--- ports answer from then on until it hears the next thing (this project's own).
+-- What a host is told with each thing that it hears: what its ports answer from then on until it hears the next thing (this project's
+-- own).
 use Rattle.std.specs.Prelude.{ℕ, List, [], ◌∷◌, Result, Err}
 use Rattle.std.specs.List.{flat_map}
 use Rattle.bt_base.specs.declared.ports.PortFault.{PortFault}
@@ -7,37 +7,19 @@ use Rattle.bt_base.specs.declared.ports.PortFault.TheVariants.{Failed}
 use Rattle.obex_session.specs.InboxCalls.{Answer}
 use Rattle.push_model.specs.Steps.{Part as Octets}
 
--- Pieces of its last PDU wait to be put out. All are out, but no buffer was free since, and its profile was not asked for more. The
--- profile was asked until it waited.
-pub data Headway : Type 0 where
-  Sending : Headway
-  Sent : Headway
-  Settled : Headway
-
 pub data Circumstance : Type 0 where
-  Comes : (far : Headway) → Circumstance
   -- the shelf answers how long an object is, and with a part of one; the inbox answers a call
   Size : (answer : Result ℕ PortFault) → Circumstance
   Part : (answer : Octets) → Circumstance
   Stored : (answer : Answer) → Circumstance
 
--- the first of them says how far the host had come
-abbrev pub headway_in : List Circumstance → Headway
-headway_in [] = Settled
-headway_in (Comes far ∷ rest) = far
-headway_in (Size answer ∷ rest) = Settled
-headway_in (Part answer ∷ rest) = Settled
-headway_in (Stored answer ∷ rest) = Settled
-
 abbrev pub size_in : List Circumstance → Result ℕ PortFault
 size_in [] = Err Failed
-size_in (Comes far ∷ rest) = size_in rest
 size_in (Size answer ∷ rest) = answer
 size_in (Part answer ∷ rest) = size_in rest
 size_in (Stored answer ∷ rest) = size_in rest
 
 abbrev pub part_of : Circumstance → List Octets
-part_of (Comes far) = []
 part_of (Size answer) = []
 part_of (Part answer) = answer ∷ []
 part_of (Stored answer) = []
@@ -46,7 +28,6 @@ abbrev pub parts_in : List Circumstance → List Octets
 parts_in circumstances = flat_map part_of circumstances
 
 abbrev pub answer_of : Circumstance → List Answer
-answer_of (Comes far) = []
 answer_of (Size answer) = []
 answer_of (Part answer) = []
 answer_of (Stored answer) = answer ∷ []

@@ -1,5 +1,5 @@
 -- The profile of a client: its push, the answers of its shelf, its channels and what it asks of its line (Object Push Profile 1.2, 4.3).
-use Rattle.std.specs.Prelude.{ℕ, ◌&&◌, not, Bool, true, false, List, [], ◌++◌, Option, Some, None, if◌then◌else◌}
+use Rattle.std.specs.Prelude.{ℕ, ◌&&◌, not, Bool, true, false, List, [], Option, Some, None, if◌then◌else◌}
 use Rattle.bt_base.specs.declared.settings.Settings.{Settings}
 use Rattle.channel_model.specs.declared.event.ChannelEvent.{ChannelEvent}
 use Rattle.channel_model.specs.declared.event.ChannelEvent.TheVariants.{Opened, Closed, Features, FeaturesLost, DisconnectLost}
@@ -127,7 +127,7 @@ going channels pushing = record { channels = channels; profile = pushing; more =
 abbrev pub submits : Option ℕ → Payload → Channels → ClientProfile → Stride ClientProfile
 submits None payload channels pushing = waiting channels pushing
 submits (Some own) payload channels pushing =
-    if takes_sdu own channels then waiting (sends own (sdu_of payload) channels) (record pushing { submitted = Some own }) else waiting channels pushing
+    if takes_sdu own (sdu_of payload) channels then waiting (sends own (sdu_of payload) channels) (record pushing { submitted = Some own }) else waiting channels pushing
 
 abbrev pub closes : Option ℕ → Channels → Channels
 closes None channels = channels
@@ -164,7 +164,7 @@ abbrev pub client_profile : Settings → Profile ClientProfile
 client_profile settings = record {
   policy = policy settings false;
   first = record { client = new_client settings; parts = []; endpoints = []; submitted = None; bid = NoBid };
-  given = λ circumstances pushing. record pushing { parts = pushing.parts ++ parts_in circumstances };
+  given = λ circumstances pushing. record pushing { parts = parts_in circumstances };
   told = told;
   received = received;
   happened = happened;

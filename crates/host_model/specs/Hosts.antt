@@ -1,7 +1,9 @@
--- A host above its line, as a value: the channels of its link and its profile. What it hears goes to the channels first; what it says is
--- the channels' next PDU, and where there is none its profile is asked until there is one (this project's own).
-use Rattle.std.specs.Prelude.{ℕ, zero, suc, ◌^◌, List, [], fold, Option, Some, None, is_some, if◌then◌else◌}
+-- A host above its line, as a value: the channels of its link and its profile. What it hears goes to the channels first. Behind each
+-- thing that it hears or says its profile is asked for steps, until the channels have a PDU or the profile waits; what it says is the
+-- channels' next PDU (this project's own).
+use Rattle.std.specs.Prelude.{ℕ, zero, suc, ◌^◌, List, [], ◌∷◌, Option, Some, None, is_some, if◌then◌else◌}
 use Rattle.acl_fragments.specs.Pieces.{channel_of}
+use Rattle.channel_model.specs.declared.event.ChannelEvent.{ChannelEvent}
 use Rattle.channel_model.specs.Value.{Channels, no_channels}
 use Rattle.channel_model.specs.Calls.{link_up, link_down}
 use Rattle.channel_model.specs.Carrying.{Up as Handed, Nothing, Received}
@@ -9,7 +11,7 @@ use Rattle.channel_model.specs.Hearing.{hears, up}
 use Rattle.channel_model.specs.Timing.{timed_out}
 use Rattle.channel_model.specs.Giving.{Given, next_given, after_given}
 use Rattle.world_model.specs.Machines.{News, Linked, Up, Down, Failed, Heard, TimerFired, Cancelled, Opening}
-use Rattle.host_model.specs.Circumstances.{Headway, Sending, Sent, Settled, Circumstance, headway_in}
+use Rattle.host_model.specs.Circumstances.{Circumstance}
 use Rattle.host_model.specs.Pdus.{pdu_of, is_frame}
 use Rattle.host_model.specs.Profiles.{Stride, Profile}
 
@@ -30,11 +32,16 @@ first_host profile = record { channels = no_channels; profile = profile.first; m
 abbrev pub with_channels : {P : Type 0} → Channels → Host P → Host P
 with_channels channels host = record host { channels = channels }
 
--- the profile is told what happened to the channels, one thing after the other
+-- the profile is told what happened to the channels, one thing after the other, as each of them is taken from the channels
+abbrev pub tells_each : {P : Type 0} → Profile P → List ChannelEvent → Channels → P → P
+tells_each A [] channels profile = profile
+tells_each A (event ∷ events) channels profile =
+    tells_each A events (record channels { events = events }) (A.happened event (record channels { events = events }) profile)
+
 abbrev pub tells_events : {P : Type 0} → Profile P → Host P → Host P
 tells_events A host = record host {
   channels = record (host.channels) { events = [] };
-  profile = fold (λ profile event. A.happened event host.channels profile) host.profile host.channels.events;
+  profile = tells_each A host.channels.events host.channels host.profile;
 }
 
 -- ---- what it does by itself
@@ -61,17 +68,11 @@ drives A (suc count) host = goes_on A (λ next. drives A count next) (settles A 
 abbrev pub most_steps : ℕ
 most_steps = 4
 
--- all its pieces are out and a buffer is free: it has a PDU to say, or its profile waits
+-- it has a PDU to say, or its profile waits
 abbrev pub driven : {P : Type 0} → Profile P → Host P → Host P
 driven A host = drives A most_steps host
 
 -- ---- hearing
-
--- what it did before it hears
-abbrev pub brought : {P : Type 0} → Profile P → Headway → Host P → Host P
-brought A Sending host = host
-brought A Sent host = settles A host
-brought A Settled host = driven A host
 
 abbrev pub handed : {P : Type 0} → Profile P → Handed → P → P
 handed A Nothing profile = profile
@@ -96,22 +97,26 @@ hears_news A circumstances TimerFired host = told A circumstances TimerFired (te
 hears_news A circumstances Cancelled host = told A circumstances Cancelled host
 hears_news A circumstances (Opening name) host = told A circumstances (Opening name) host
 
--- the answers of its ports are for what it does from then on
+-- the answers of its ports are for what it does from then on, in place of those that were left
 abbrev pub ready : {P : Type 0} → Profile P → List Circumstance → Host P → Host P
-ready A circumstances host = let old = brought A (headway_in circumstances) host in record old { profile = A.given circumstances old.profile; may_say = most_said }
+ready A circumstances host = record host { profile = A.given circumstances host.profile; may_say = most_said }
 
 abbrev pub hear : {P : Type 0} → Profile P → List Circumstance → News → Host P → Host P
-hear A circumstances news host = hears_news A circumstances news (ready A circumstances host)
+hear A circumstances news host = driven A (hears_news A circumstances news (ready A circumstances host))
 
 -- ---- saying
 
 abbrev pub says_frame : {P : Type 0} → List ℕ → Host P → Option (List ℕ × Host P)
 says_frame pdu after = if is_frame pdu then Some (pdu, after) else None
 
-abbrev pub says : {P : Type 0} → Option Given → (may_say : ℕ) → Host P → Option (List ℕ × Host P)
-says None count host = None
-says (Some given) zero host = None
-says (Some given) (suc count) host = says_frame (pdu_of given) (record host { channels = after_given host.channels; may_say = count })
+-- once a PDU was said, and its channels gave it
+abbrev pub after_said : {P : Type 0} → Profile P → (may_say : ℕ) → Host P → Host P
+after_said A count host = record (driven A (with_channels (after_given host.channels) host)) { may_say = count }
+
+abbrev pub says : {P : Type 0} → Profile P → Option Given → (may_say : ℕ) → Host P → Option (List ℕ × Host P)
+says A None count host = None
+says A (Some given) zero host = None
+says A (Some given) (suc count) host = says_frame (pdu_of given) (after_said A count host)
 
 abbrev pub next : {P : Type 0} → Profile P → Host P → Option (List ℕ × Host P)
-next A host = let now = driven A host in says (next_given now.channels) host.may_say now
+next A host = says A (next_given host.channels) host.may_say host

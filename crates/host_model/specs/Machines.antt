@@ -6,12 +6,11 @@ use Rattle.channel_model.specs.Calls as channels
 use Rattle.world_model.specs.Machines.{Upper}
 use Rattle.host_model.specs.Circumstances.{Circumstance}
 use Rattle.host_model.specs.Profiles.{Profile}
-use Rattle.host_model.specs.Hosts.{Host, first_host, driven, hear, next}
+use Rattle.host_model.specs.Hosts.{Host, first_host, hear, next}
 use Rattle.host_model.specs.Clients.{ClientProfile, client_profile}
 use Rattle.host_model.specs.Servers.{ServerProfile, server_profile}
 use Rattle.host_model.specs.Saying.{says_less}
 
--- Whether it ends its link, what waits for the timer, and what can be cancelled, are asked of it as it is once its profile waits.
 abbrev pub upper : {P : Type 0} → Profile P → Upper (Host P) Circumstance
 upper A = record {
   first = first_host A;
@@ -20,12 +19,12 @@ upper A = record {
   left = λ host. host.may_say;
   falls = says_less A;
   wants_link = λ host. A.wants_link host.profile;
-  leaves_link = λ host. A.leaves_link (driven A host).profile;
+  leaves_link = λ host. A.leaves_link host.profile;
   is_idle = λ host. A.is_idle host.profile;
   outcome = λ host. A.outcome host.profile;
-  armed = λ host. channels.armed (driven A host).channels || A.armed (driven A host).profile;
-  may_cancel = λ host. A.may_cancel (driven A host).profile;
-  has_check = λ host own. channels.has_fcs own (driven A host).channels;
+  armed = λ host. channels.armed host.channels || A.armed host.profile;
+  may_cancel = λ host. A.may_cancel host.profile;
+  has_check = λ host own. channels.has_fcs own host.channels;
 }
 
 abbrev pub client_host : Settings → Upper (Host ClientProfile) Circumstance

@@ -18,13 +18,13 @@ pub record Stride (P : Type 0) : Type 0 where
 pub record Profile (P : Type 0) : Type 0 where
   pub policy : Policy
   pub first : P
-  -- it keeps what its ports are to answer
+  -- it keeps what its ports are to answer, in place of what it kept
   pub given : List Circumstance → P → P
   -- news other than a PDU
   pub told : List Circumstance → News → P → P
   pub received : (own psm : ℕ) → List ℕ → P → P
   pub happened : ChannelEvent → Channels → P → P
-  -- the last PDU is out: an SDU that waits no longer in its channel is sent
+  -- an SDU that waits no longer in its channel is sent
   pub sent : Channels → P → P
   pub steps : Channels → P → Stride P
   -- whether it asks for a link, and whether it ends the one that is up

@@ -1,5 +1,5 @@
 -- The profile of a server: its sessions and replies, its inbox, and the channels that its clients use (Object Push Profile 1.2, 4.3).
-use Rattle.std.specs.Prelude.{ℕ, Bool, true, false, List, [], ◌++◌, Option, Some, None, if◌then◌else◌}
+use Rattle.std.specs.Prelude.{ℕ, Bool, true, false, List, [], Option, Some, None, if◌then◌else◌}
 use Rattle.bt_base.specs.declared.settings.Settings.{Settings}
 use Rattle.bt_base.specs.Objects.{Contents}
 use Rattle.channel_model.specs.declared.event.ChannelEvent.{ChannelEvent}
@@ -76,7 +76,7 @@ waiting channels server serving = record { channels = channels; profile = record
 abbrev pub submits : Option ℕ → Lent → Channels → Server → ServerProfile → Stride ServerProfile
 submits None lent channels server serving = waiting channels server serving
 submits (Some own) lent channels server serving =
-    if takes_sdu own channels then record { channels = sends own (sdu_of lent.payload) channels; profile = record serving { server = stepped server }; more = true }
+    if takes_sdu own (sdu_of lent.payload) channels then record { channels = sends own (sdu_of lent.payload) channels; profile = record serving { server = stepped server }; more = true }
     else waiting channels server serving
 
 abbrev pub takes : Option Lent → Channels → Server → ServerProfile → Stride ServerProfile
@@ -89,7 +89,7 @@ next_stride channels serving = let server = lends serving.server in takes (lent_
 -- ---- all of it
 
 abbrev pub with_answers : List Circumstance → ServerProfile → ServerProfile
-with_answers circumstances serving = record serving { inbox = record { content = serving.inbox.content; answers = serving.inbox.answers ++ answers_in circumstances } }
+with_answers circumstances serving = record serving { inbox = record { content = serving.inbox.content; answers = answers_in circumstances } }
 
 -- its inbox holds that at first; it pushes nothing, and nothing of its own waits for the timer
 abbrev pub server_profile : Settings → Option Contents → Profile ServerProfile

@@ -1,6 +1,6 @@
 //! What the hosts promise.
 
-ghost use Rattle.host_model.specs.Examples.{PushesBegin, SuccessesComeEarly};
+ghost use Rattle.host_model.specs.Examples.{PushesBegin};
 ghost use Rattle.host_model.specs.Laws.{HostsAreOrderly};
 ghost use Rattle.host_model.specs.Profiles.{Profile};
 ghost use Rattle.host_model.specs.Spelling.{OctetsAreRight};
@@ -26,12 +26,6 @@ pub fn pushes_begin()
 #[tactic(auto, using(crate::proofs::Stopping::more_is_same))]
 pub fn more_changes_nothing<P>()
     ensures { (A : Profile P) → MoreChangesNothing A }
-{}
-
-/// A success ends a push while pieces of its request wait, and is its answer once they are out: so a host is told
-/// how far it had come.
-pub fn successes_come_early()
-    ensures { SuccessesComeEarly }
 {}
 
 /// A client waits, or has a PDU, within the steps that it is asked for, whatever its channels and its push are.

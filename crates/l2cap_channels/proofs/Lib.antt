@@ -18,3 +18,4 @@ mod Questions
 pub mod Usable
 pub mod Taking
 pub mod Arriving
+pub mod Pending

@@ -410,7 +410,7 @@ impl Channels {
     }
 
     /// An SDU for the channel at a place waits from now on, where the channel is open and none waits.
-    fn send_at(&mut self, at: usize, sdu: &[u8])
+    pub(crate) fn send_at(&mut self, at: usize, sdu: &[u8])
         requires place { at < length self.old.channels.held }
         requires fits { IfSome (place_mtu (slice_get self.old.channels.held at)) (λ mtu. length sdu.now ≤ mtu) }
         ensures { self.new ≡ with_channels self.old (calls.sends_held (slice_get self.old.channels.held at) sdu.now self.old.channels) }

@@ -14,6 +14,7 @@ mod identifier;
 mod line;
 mod lines;
 mod memory;
+mod offering;
 mod payload;
 mod place;
 mod progress;

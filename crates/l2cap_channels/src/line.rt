@@ -1,6 +1,6 @@
 //! What carries the SDUs of a channel.
 
-ghost use Rattle.std.specs.Prelude.{◌≡◌, ◌≤◌, None, Some, false, length, is_some, IfOk, IfSome};
+ghost use Rattle.std.specs.Prelude.{◌≡◌, ◌≤◌, ℕ, None, Some, false, length, is_some, IfOk, IfSome};
 ghost use Rattle.std.specs.Option.{option_map};
 ghost use Rattle.channel_model.specs.Calls as calls;
 ghost use Rattle.channel_model.specs.Configuring.{new_carrier};
@@ -181,6 +181,17 @@ impl Line {
             Carrying::Nothing => 0,
             Carrying::Basic { .. } => 0,
             Carrying::Enhanced => self.machine.window_used(),
+        }
+    }
+
+    /// Whether there is a PDU to give.
+    pub(crate) fn gives(&self) -> bool
+        ensures { (peer : ℕ) → result ≡ is_some (some_carrier_gives self.now peer) }
+    {
+        match self.carrying {
+            Carrying::Nothing => false,
+            Carrying::Basic { waits, .. } => waits,
+            Carrying::Enhanced => self.machine.gives(),
         }
     }
 

@@ -171,6 +171,13 @@ impl Queue {
         self.items.retain(|waiting| !waiting.is_about(own));
     }
 
+    /// What waits longest.
+    pub(crate) fn first(&self) -> Option<&Queued>
+        ensures { option_map (λ queued. queued_value queued.now) result ≡ slice_get self.now 0 }
+    {
+        self.items.first()
+    }
+
     /// What waits longest, which waits no more.
     pub(crate) fn take(&mut self) -> Option<Queued>
         ensures first { option_map queued_value result ≡ slice_get self.old 0 }
