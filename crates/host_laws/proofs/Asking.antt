@@ -24,7 +24,7 @@ send_if taken own payload = if taken then Some (Send own (sdu_of payload)) else 
 
 abbrev sends_on : Channels → Payload → Option ℕ → Option Call
 sends_on v payload None = None
-sends_on v payload (Some own) = send_if (takes_sdu own v) own payload
+sends_on v payload (Some own) = send_if (takes_sdu own (sdu_of payload) v) own payload
 
 -- ---- a client
 
@@ -50,7 +50,7 @@ submits_so policy false own payload v pushing = refl
 
 submitted : (policy : Policy) (own : Option ℕ) (payload : Payload) (v : Channels) (pushing : ClientProfile) → (clients.submits own payload v pushing).channels ≡ values_after policy v (from_call (sends_on v payload own))
 submitted policy None payload v pushing = refl
-submitted policy (Some own) payload v pushing = submits_so policy (takes_sdu own v) own payload v pushing
+submitted policy (Some own) payload v pushing = submits_so policy (takes_sdu own (sdu_of payload) v) own payload v pushing
 
 closed : (policy : Policy) (own : Option ℕ) (v : Channels) → clients.closes own v ≡ values_after policy v (from_call (closes_on own))
 closed policy None v = refl
@@ -87,7 +87,7 @@ lent_so policy false own lent v server serving = refl
 
 lent_to : (policy : Policy) (own : Option ℕ) (lent : Lent) (v : Channels) (server : Server) (serving : ServerProfile) → (servers.submits own lent v server serving).channels ≡ values_after policy v (from_call (sends_on v lent.payload own))
 lent_to policy None lent v server serving = refl
-lent_to policy (Some own) lent v server serving = lent_so policy (takes_sdu own v) own lent v server serving
+lent_to policy (Some own) lent v server serving = lent_so policy (takes_sdu own (sdu_of lent.payload) v) own lent v server serving
 
 lending : (policy : Policy) (lent : Option Lent) (v : Channels) (server : Server) (serving : ServerProfile) → (servers.takes lent v server serving).channels ≡ values_after policy v (from_call (lent_call lent v serving))
 lending policy None v server serving = refl

@@ -1,5 +1,5 @@
 -- A host tells its profile all that its channels tell, one thing after the other.
-use Rattle.std.proofs.Common.{◌≡◌, List, [], ◌∷◌, map, fold, refl, sym, ap, ◌∙◌}
+use Rattle.std.proofs.Common.{◌≡◌, List, [], ◌∷◌, map, refl, sym, ap, ◌∙◌}
 use Rattle.std.specs.List.{filter_map}
 use Rattle.channel_model.specs.declared.event.ChannelEvent.{ChannelEvent}
 use Rattle.channel_model.specs.Value.{Channels}
@@ -7,7 +7,7 @@ use Rattle.channel_model.specs.Policies.{Policy}
 use Rattle.channel_laws.specs.Runs.{Occurrence, value_after}
 use Rattle.channel_laws.specs.Runs as channels
 use Rattle.host_model.specs.Profiles.{Profile}
-use Rattle.host_model.specs.Hosts.{Host, tells_events}
+use Rattle.host_model.specs.Hosts.{Host, tells_each, tells_events}
 use Rattle.host_laws.specs.Calls.{Asks, values_after, asked, outer}
 use Rattle.host_laws.specs.Feeds.{Feed, Happens, all_fed, asked_from, Tiding, Tells, tidings_of, tidings_from}
 use Rattle.host_laws.specs.Seen.{IsCalm}
@@ -33,21 +33,22 @@ none_asked : (events : List ChannelEvent) → filter_map asked (tellings events)
 none_asked [] = refl
 none_asked (event ∷ events) = none_asked events
 
--- what the profile goes through
+-- what the profile goes through: each event with the channels as it is taken from them
 abbrev pub happenings : Channels → List ChannelEvent → List Feed
-happenings v events = map (λ event. Happens event v) events
+happenings v [] = []
+happenings v (event ∷ events) = Happens event (record v { events = events }) ∷ happenings (record v { events = events }) events
 
-pub each_fed : {P : Type 0} (A : Profile P) (v : Channels) (events : List ChannelEvent) (p : P) → fold (λ profile event. A.happened event v profile) p events ≡ all_fed A p (happenings v events)
+pub each_fed : {P : Type 0} (A : Profile P) (v : Channels) (events : List ChannelEvent) (p : P) → tells_each A events v p ≡ all_fed A p (happenings v events)
 each_fed A v [] p = refl
-each_fed A v (event ∷ events) p = each_fed A v events (A.happened event v p)
+each_fed A v (event ∷ events) p = let now : Channels = record v { events = events } in each_fed A now events (A.happened event now p)
 
 pub each_told : (v : Channels) (events : List ChannelEvent) → tidings_of (happenings v events) ≡ map Tells events
 each_told v [] = refl
-each_told v (event ∷ events) = ap (λ (rest : List Tiding). Tells event ∷ rest) (each_told v events)
+each_told v (event ∷ events) = let now : Channels = record v { events = events } in ap (λ (rest : List Tiding). Tells event ∷ rest) (each_told now events)
 
 pub each_asked : {P : Type 0} (A : Profile P) (asks : Asks A) (v : Channels) (events : List ChannelEvent) (p : P) → asked_from A asks p (happenings v events) ≡ []
 each_asked A asks v [] p = refl
-each_asked A asks v (event ∷ events) p = each_asked A asks v events (A.happened event v p)
+each_asked A asks v (event ∷ events) p = let now : Channels = record v { events = events } in each_asked A asks now events (A.happened event now p)
 
 calm_tellings : (policy : Policy) (v : Channels) (events : List ChannelEvent) → IsCalm policy v (tellings events)
 calm_tellings policy v [] = tt

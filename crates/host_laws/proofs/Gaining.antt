@@ -76,7 +76,7 @@ same_both xs xs' ys ys' one two = record {
 
 went_same : (own : Option ℕ) (lent : Lent) (v : Channels) → Same (push.Asked ∷ taken_by own lent v) []
 went_same None lent v = record { gain_is = λ most packets. gain-still most packets push.Asked [] refl; states_are = λ packets. refl }
-went_same (Some own) lent v = by (takes_sdu own v)
+went_same (Some own) lent v = by (takes_sdu own (sdu_of lent.payload) v)
   where
     by : (taken : Bool) → Same (push.Asked ∷ cond taken (push.Went lent.psm (sdu_of lent.payload) ∷ []) []) []
     by true = record {

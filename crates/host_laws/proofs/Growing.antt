@@ -1,5 +1,5 @@
 -- What a host does, one thing after the other.
-use Rattle.std.proofs.Common.{◌≡◌, ℕ, zero, suc, Bool, true, false, List, [], ◌∷◌, ◌++◌, Option, Some, None, is_some, refl, sym, ap, ap₂, subst, ◌∙◌, append_assoc, if◌then◌else◌}
+use Rattle.std.proofs.Common.{◌≡◌, ℕ, zero, suc, Bool, true, false, List, [], ◌∷◌, ◌++◌, Option, Some, None, is_some, refl, sym, ap, ap₂, subst, ◌∙◌, append_assoc, append-nil, if◌then◌else◌}
 use Rattle.std.specs.List.{filter_map}
 use Rattle.std.proofs.lemmas.List.Concat.{flat_map-append}
 use Rattle.std.proofs.lemmas.List.Elements.{filter_map-append}
@@ -13,10 +13,10 @@ use Rattle.channel_model.specs.Timing.{timed_out}
 use Rattle.channel_model.specs.Giving.{Given, next_given, after_given}
 use Rattle.channel_laws.specs.Runs.{Occurrence, Comes, Fires, Gives, value_after}
 use Rattle.world_model.specs.Machines.{News, Linked, Failed, Heard, TimerFired, Cancelled, Opening}
-use Rattle.host_model.specs.Circumstances.{Headway, Sending, Sent, Settled, Circumstance, headway_in}
+use Rattle.host_model.specs.Circumstances.{Circumstance}
 use Rattle.host_model.specs.Pdus.{pdu_of, is_frame}
 use Rattle.host_model.specs.Profiles.{Profile}
-use Rattle.host_model.specs.Hosts.{Host, with_channels, tells_events, settles, strides, goes_by, drives, most_steps, driven, brought, handed, told, hears_news, ready, hear, says}
+use Rattle.host_model.specs.Hosts.{Host, with_channels, tells_events, settles, strides, goes_by, drives, most_steps, driven, handed, told, hears_news, ready, hear, after_said, says}
 use Rattle.host_model.specs.Machines.{upper}
 use Rattle.host_laws.specs.Acts.{Act, Hears, Says, Does, StaysOnLink, from_news, from_act}
 use Rattle.host_laws.specs.Calls.{Call, Connect, AskFeatures, Disconnect, Send, Asks, from_call, values_after, asked, outer}
@@ -113,8 +113,8 @@ module _ {P : Type 0} (A : Profile P) (asks : Asks A) (C : Type 0) where
   fires_grow : (host : Host P) → (C → IsCalmAt A.policy Fires host.channels) → Grows A asks C (Fires ∷ []) host (with_channels (timed_out A.policy host.channels) host)
   fires_grow host calm = record { list = Fires ∷ []; feeds = []; channels_are = refl; profile_is = refl; tidings_are = refl; asked_is = refl; acted_is = refl; calm = λ c. (calm c, tt) }
 
-  gives_grow : (pdu : List ℕ) (host : Host P) (count : ℕ) → (C → IsGiven host.channels pdu) → (let after : Host P = record host { channels = after_given host.channels; may_say = count } in Grows A asks C (Gives pdu ∷ []) host after)
-  gives_grow pdu host count calm = record { list = Gives pdu ∷ []; feeds = []; channels_are = refl; profile_is = refl; tidings_are = refl; asked_is = refl; acted_is = refl; calm = λ c. (calm c, tt) }
+  gives_grow : (pdu : List ℕ) (host : Host P) → (C → IsGiven host.channels pdu) → Grows A asks C (Gives pdu ∷ []) host (with_channels (after_given host.channels) host)
+  gives_grow pdu host calm = record { list = Gives pdu ∷ []; feeds = []; channels_are = refl; profile_is = refl; tidings_are = refl; asked_is = refl; acted_is = refl; calm = λ c. (calm c, tt) }
 
   learns_grow : (circumstances : List Circumstance) (news : News) (host : Host P) → tidings_by news ≡ [] → Grows A asks C [] host (told A circumstances news host)
   learns_grow circumstances news host none = feeds_grow host (Learns circumstances news) host.may_say none refl
@@ -187,15 +187,25 @@ module _ {P : Type 0} (A : Profile P) (asks : Asks A) (C : Type 0) where
       let test = is_some (next_given now.channels) in
       grows_then [] [] host now (if test then now else goes_by A more (A.steps now.channels now.profile) now) (settles_grow host) (goes_on more test now refl (λ next. drives_grow count next))
 
-  brings : (far : Headway) (host : Host P) → Grows A asks C [] host (brought A far host)
-  brings Sending host = grows_none host
-  brings Sent host = settles_grow host
-  brings Settled host = drives_grow most_steps host
+  pub then_driven : (acted : List Occurrence) (old new : Host P) → Grows A asks C acted old new → Grows A asks C acted old (driven A new)
+  then_driven acted old new grows =
+      subst (λ (list : List Occurrence). Grows A asks C list old (driven A new)) (append-nil acted) (grows_then acted [] old new (driven A new) grows (drives_grow most_steps new))
+
+  -- how much it may say counts for nothing
+  may_grow : (acted : List Occurrence) (old new : Host P) (count : ℕ) → Grows A asks C acted old new → (let after : Host P = record new { may_say = count } in Grows A asks C acted old after)
+  may_grow acted old new count grows = record {
+    list = grows.list;
+    feeds = grows.feeds;
+    channels_are = grows.channels_are;
+    profile_is = grows.profile_is;
+    tidings_are = grows.tidings_are;
+    asked_is = grows.asked_is;
+    acted_is = grows.acted_is;
+    calm = grows.calm;
+  }
 
   pub readies : (circumstances : List Circumstance) (host : Host P) → Grows A asks C [] host (ready A circumstances host)
-  readies circumstances host =
-      let old = brought A (headway_in circumstances) host in
-      grows_then [] [] host old (ready A circumstances host) (brings (headway_in circumstances) host) (feeds_grow old (Gifts circumstances) (ready A circumstances host).may_say refl refl)
+  readies circumstances host = feeds_grow host (Gifts circumstances) (ready A circumstances host).may_say refl refl
 
   -- ---- acts
 
@@ -212,28 +222,30 @@ module _ {P : Type 0} (A : Profile P) (asks : Asks A) (C : Type 0) where
   hears_any circumstances Cancelled host stays calm = learns_grow circumstances Cancelled host refl
   hears_any circumstances (Opening name) host stays calm = learns_grow circumstances (Opening name) host refl
 
-  hears_grow : (circumstances : List Circumstance) (news : News) (host : Host P) → StaysOnLink (Hears circumstances news) → (C → IsCalmNews A.policy news (ready A circumstances host).channels) → Grows A asks C (from_news news) host (hear A circumstances news host)
+  hears_grow : (circumstances : List Circumstance) (news : News) (host : Host P) → StaysOnLink (Hears circumstances news) → (C → IsCalmNews A.policy news host.channels) → Grows A asks C (from_news news) host (hear A circumstances news host)
   hears_grow circumstances news host stays calm =
-      grows_then [] (from_news news) host (ready A circumstances host) (hear A circumstances news host) (readies circumstances host) (hears_any circumstances news (ready A circumstances host) stays calm)
+      let old = ready A circumstances host in
+      then_driven (from_news news) host (hears_news A circumstances news old)
+      (grows_then [] (from_news news) host old (hears_news A circumstances news old) (readies circumstances host) (hears_any circumstances news old stays calm))
 
   -- what follows from all that is said
   abbrev Says_it : Host P → Option (List ℕ × Host P) → Type 0
   Says_it host None = Unit {0}
-  Says_it host (Some one) = (C → IsReadFrom A one.0 host) → Grows A asks C (Gives one.0 ∷ []) host one.1
+  Says_it host (Some one) = (C → IsReadFrom one.0 host) → Grows A asks C (Gives one.0 ∷ []) host one.1
 
-  frames_grow : (old : Host P) (test : Bool) (pdu : List ℕ) (host : Host P) → ((C → IsReadFrom A pdu old) → Grows A asks C (Gives pdu ∷ []) old host) → Says_it old (if test then Some (pdu, host) else None)
+  frames_grow : (old : Host P) (test : Bool) (pdu : List ℕ) (host : Host P) → ((C → IsReadFrom pdu old) → Grows A asks C (Gives pdu ∷ []) old host) → Says_it old (if test then Some (pdu, host) else None)
   frames_grow old true pdu host grows = grows
   frames_grow old false pdu host grows = tt
 
-  says_grow : (old : Host P) (given : Option Given) (count : ℕ) → next_given (driven A old).channels ≡ given → Says_it old (says given count (driven A old))
+  says_grow : (old : Host P) (given : Option Given) (count : ℕ) → next_given old.channels ≡ given → Says_it old (says A given count old)
   says_grow old None count is = tt
   says_grow old (Some given) zero is = tt
   says_grow old (Some given) (suc count) is =
-      let host = driven A old in
-      let after : Host P = record host { channels = after_given host.channels; may_say = count } in
-      frames_grow old (is_frame (pdu_of given)) (pdu_of given) after
-      (λ calm. grows_then [] (Gives (pdu_of given) ∷ []) old host after (drives_grow most_steps old) (gives_grow (pdu_of given) host count (λ c. record { given = given; is = is; read = calm c given is })))
+      let pdu = pdu_of given in
+      let gave = with_channels (after_given old.channels) old in
+      frames_grow old (is_frame pdu) pdu (after_said A count old)
+      (λ calm. may_grow (Gives pdu ∷ []) old (driven A gave) count (then_driven (Gives pdu ∷ []) old gave (gives_grow pdu old (λ c. record { given = given; is = is; read = calm c given is }))))
 
   pub act_grows : (act : Act Circumstance) (old new : Host P) → StaysOnLink act → (C → IsCalmAct A act old) → Does (upper A) act old new → Grows A asks C (from_act act) old new
   act_grows (Hears circumstances news) old new stays calm does = subst (λ (host : Host P). Grows A asks C (from_news news) old host) (sym does) (hears_grow circumstances news old stays calm)
-  act_grows (Says pdu) old new stays calm does = subst (Says_it old) does (says_grow old (next_given (driven A old).channels) old.may_say refl) calm
+  act_grows (Says pdu) old new stays calm does = subst (Says_it old) does (says_grow old (next_given old.channels) old.may_say refl) calm

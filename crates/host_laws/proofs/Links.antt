@@ -9,10 +9,10 @@ use Rattle.channel_model.specs.Changing.{held_at, setup_of}
 use Rattle.channel_model.specs.Giving.{Given, next_given, after_given, gives, carrier_spent, held_given, stage_given, connection_given, configuration_given, disconnection_given, counted, queue_given}
 use Rattle.channel_laws.specs.Runs.{Occurrence, Run, run_on}
 use Rattle.world_model.specs.Machines.{LinkEvent, Up, Down, News, Linked, Failed, Heard, TimerFired, Cancelled, Opening}
-use Rattle.host_model.specs.Circumstances.{Headway, Sending, Sent, Settled, Circumstance, headway_in}
+use Rattle.host_model.specs.Circumstances.{Circumstance}
 use Rattle.host_model.specs.Pdus.{pdu_of, is_frame}
 use Rattle.host_model.specs.Profiles.{Stride, Profile}
-use Rattle.host_model.specs.Hosts.{Host, settles, strides, goes_by, drives, most_steps, driven, brought, hears_news, ready, says}
+use Rattle.host_model.specs.Hosts.{Host, with_channels, settles, strides, goes_by, drives, most_steps, hears_news, ready, after_said, says}
 use Rattle.host_model.specs.Machines.{upper}
 use Rattle.host_laws.specs.Acts.{Act, Hears, Says, Does}
 use Rattle.host_laws.specs.Calls.{values_after}
@@ -66,11 +66,6 @@ module _ {P : Type 0} (A : Profile P) where
   drives_told zero host is = is
   drives_told (suc count) host is = let now = settles A host in goes_told (λ next. drives A count next) (is_some (next_given now.channels)) now (λ next. drives_told count next) is
 
-  pub brought_told : (far : Headway) (host : Host P) → IsTold host → IsTold (brought A far host)
-  brought_told Sending host is = is
-  brought_told Sent host is = is
-  brought_told Settled host is = drives_told most_steps host is
-
   pub heard_told : (circumstances : List Circumstance) (news : News) (host : Host P) → IsTold host → IsTold (hears_news A circumstances news host)
   heard_told circumstances (Linked Up) host is = is
   heard_told circumstances (Linked (Down reason)) host is = refl
@@ -88,17 +83,18 @@ module _ {P : Type 0} (A : Profile P) where
   frames_told true pdu host is = is
   frames_told false pdu host is = tt
 
-  says_told : (given : Option Given) (count : ℕ) (host : Host P) → IsTold host → Says_told (says given count host)
+  says_told : (given : Option Given) (count : ℕ) (host : Host P) → IsTold host → Says_told (says A given count host)
   says_told None count host is = tt
   says_told (Some given) zero host is = tt
   says_told (Some given) (suc count) host is =
-      let after : Host P = record host { channels = after_given host.channels; may_say = count } in
-      frames_told (is_frame (pdu_of given)) (pdu_of given) after (queue_events host.channels.queue host.channels ∙ is)
+      let gave = with_channels (after_given host.channels) host in
+      frames_told (is_frame (pdu_of given)) (pdu_of given) (after_said A count host) (drives_told most_steps gave (queue_events host.channels.queue host.channels ∙ is))
 
   pub act_told : (act : Act Circumstance) (old new : Host P) → Does (upper A) act old new → IsTold old → IsTold new
   act_told (Hears circumstances news) old new does is =
-      subst (λ (host : Host P). IsTold host) (sym does) (heard_told circumstances news (ready A circumstances old) (brought_told (headway_in circumstances) old is))
-  act_told (Says pdu) old new does is = subst Says_told does (says_told (next_given (driven A old).channels) old.may_say (driven A old) (drives_told most_steps old is))
+      let readied = ready A circumstances old in
+      subst (λ (host : Host P). IsTold host) (sym does) (drives_told most_steps (hears_news A circumstances news readied) (heard_told circumstances news readied is))
+  act_told (Says pdu) old new does is = subst Says_told does (says_told (next_given old.channels) old.may_say old is)
 
   -- ---- links begin and end
 

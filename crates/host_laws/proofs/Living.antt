@@ -10,18 +10,18 @@ use Rattle.channel_model.specs.Calls.{link_down}
 use Rattle.channel_model.specs.Policies.{Policy}
 use Rattle.channel_laws.specs.Runs.{Occurrence, new_link, run_of}
 use Rattle.world_model.specs.Machines.{LinkEvent, Up, Down, Linked, Failed, Heard, TimerFired, Cancelled, Opening}
-use Rattle.host_model.specs.Circumstances.{Circumstance, headway_in}
+use Rattle.host_model.specs.Circumstances.{Circumstance}
 use Rattle.host_model.specs.Profiles.{Profile}
-use Rattle.host_model.specs.Hosts.{Host, first_host, told, ready, hear, hears_news, driven, most_steps}
+use Rattle.host_model.specs.Hosts.{Host, first_host, told, ready, hears_news, driven, most_steps}
 use Rattle.host_model.specs.Machines.{upper}
 use Rattle.host_laws.specs.Acts.{Act, Hears, Says, Does, Acting, from_act}
 use Rattle.host_laws.specs.Calls.{Asks, values_after, asked, outer}
 use Rattle.host_laws.specs.Feeds.{Feed, Learns, fed, all_fed, asked_from, Tiding, Turns, tidings_in, tidings_of, tidings_from}
 use Rattle.host_laws.proofs.Steps.{Grows}
-use Rattle.host_laws.specs.Lives.{Mark, Occurred, Turned, act_marks, Span, end_tidings, span_tidings, marks_on, span_marks, Lives, HostsRun, HostsWait}
+use Rattle.host_laws.specs.Lives.{Mark, Occurred, Turned, act_marks, Span, end_tidings, span_tidings, marks_on, span_marks, Lives, HostsRun}
 use Rattle.host_laws.proofs.Draining.{happenings, each_fed, each_told, each_asked}
 use Rattle.host_laws.proofs.Growing.{tidings-append, asked-append, readies, drives_grow, act_grows}
-use Rattle.host_laws.proofs.Links.{value_run, drives_told, brought_told, act_told, linked_new}
+use Rattle.host_laws.proofs.Links.{value_run, drives_told, act_told, linked_new}
 
 tidings-both : (xs ys : List Feed) → tidings_of (xs ++ ys) ≡ tidings_of xs ++ tidings_of ys
 tidings-both xs ys = flat_map-append tidings_in xs ys
@@ -130,12 +130,12 @@ module _ {P : Type 0} (A : Profile P) (asks : Asks A) where
       }
 
   -- what happened since the link came up
-  pub since-up : (before : List Mark) (gifts : List Circumstance) (old now : Host P) (acted : List Occurrence) → Lives A asks before (ready A gifts old) → Grows A asks ⊥ acted (hear A gifts (Linked Up) old) now → now.channels.events ≡ []
+  pub since-up : (before : List Mark) (gifts : List Circumstance) (old now : Host P) (acted : List Occurrence) → Lives A asks before (ready A gifts old) → Grows A asks ⊥ acted (hears_news A gifts (Linked Up) (ready A gifts old)) now → now.channels.events ≡ []
       → Lives A asks ((before ++ Turned Up ∷ []) ++ map Occurred acted) now
   since-up before gifts old now acted lives grows told =
-      goes-on (before ++ Turned Up ∷ []) acted (hear A gifts (Linked Up) old) now (turns-on before Up gifts (ready A gifts old) lives) grows told
+      goes-on (before ++ Turned Up ∷ []) acted (hears_news A gifts (Linked Up) (ready A gifts old)) now (turns-on before Up gifts (ready A gifts old) lives) grows told
 
-  pub now-is : (before : List Mark) (gifts : List Circumstance) (old now : Host P) (acted : List Occurrence) (lives : Lives A asks before (ready A gifts old)) (grows : Grows A asks ⊥ acted (hear A gifts (Linked Up) old) now) (told : now.channels.events ≡ [])
+  pub now-is : (before : List Mark) (gifts : List Circumstance) (old now : Host P) (acted : List Occurrence) (lives : Lives A asks before (ready A gifts old)) (grows : Grows A asks ⊥ acted (hears_news A gifts (Linked Up) (ready A gifts old)) now) (told : now.channels.events ≡ [])
       → (since-up before gifts old now acted lives grows told).now ≡ grows.list
   unfolding since-up goes-on turns-on
   now-is before gifts old now acted lives grows told = refl
@@ -148,8 +148,11 @@ module _ {P : Type 0} (A : Profile P) (asks : Asks A) where
   act_lives : (marks : List Mark) (act : Act Circumstance) (old new : Host P) → Lives A asks marks old → Does (upper A) act old new → Lives_on marks act new
   act_lives marks (Hears circumstances (Linked event)) old new lives does =
       let mid = ready A circumstances old in
-      let far = still marks old mid lives (readies A asks ⊥ circumstances old) (brought_told A (headway_in circumstances) old lives.all_told) in
-      subst (λ (host : Host P). Lives A asks (marks ++ Turned event ∷ []) host) (sym does) (turns-on marks event circumstances mid far)
+      let after = hears_news A circumstances (Linked event) mid in
+      let readied = still marks old mid lives (readies A asks ⊥ circumstances old) lives.all_told in
+      let turned = turns-on marks event circumstances mid readied in
+      subst (λ (host : Host P). Lives A asks (marks ++ Turned event ∷ []) host) (sym does)
+      (still (marks ++ Turned event ∷ []) after (driven A after) turned (drives_grow A asks ⊥ most_steps after) (drives_told A most_steps after turned.all_told))
   act_lives marks (Hears circumstances (Failed status)) old new lives does =
       goes-on marks [] old new lives (act_grows A asks ⊥ (Hears circumstances (Failed status)) old new tt (λ never. absurd never) does) (act_told A (Hears circumstances (Failed status)) old new does lives.all_told)
   act_lives marks (Hears circumstances (Heard pdu)) old new lives does =
@@ -171,13 +174,5 @@ module _ {P : Type 0} (A : Profile P) (asks : Asks A) where
   pub lives_from : (acts : List (Act Circumstance)) (host : Host P) → Acting (upper A) acts (first_host A) host → Lives A asks (flat_map act_marks acts) host
   lives_from acts host acting = all_live [] acts (first_host A) host first_lives acting
 
-  pub waits_from : (acts : List (Act Circumstance)) (host : Host P) → Acting (upper A) acts (first_host A) host → Lives A asks (flat_map act_marks acts) (driven A host)
-  waits_from acts host acting =
-      let lives = lives_from acts host acting in
-      still (flat_map act_marks acts) host (driven A host) lives (drives_grow A asks ⊥ most_steps host) (drives_told A most_steps host lives.all_told)
-
 pub hosts_run : {P : Type 0} (A : Profile P) → HostsRun A
 hosts_run A asks acts host acting = lives_from A asks acts host acting
-
-pub hosts_wait : {P : Type 0} (A : Profile P) → HostsWait A
-hosts_wait A asks acts host acting = waits_from A asks acts host acting

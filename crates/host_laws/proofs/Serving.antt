@@ -49,7 +49,7 @@ asked serving = record { server = lends serving.server; gift = serving.inbox }
 
 lent_done : (own : Option ℕ) (lent : Lent) (v : Channels) (serving : ServerProfile) → reacted (submits own lent v (lends serving.server) serving).profile ≡ all_done (taken_by own lent v) (asked serving)
 lent_done None lent v serving = refl
-lent_done (Some own) lent v serving = by (takes_sdu own v)
+lent_done (Some own) lent v serving = by (takes_sdu own (sdu_of lent.payload) v)
   where
     took : Stride ServerProfile
     took = record { channels = sends own (sdu_of lent.payload) v; profile = record serving { server = stepped (lends serving.server) }; more = true }

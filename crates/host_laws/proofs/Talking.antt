@@ -1,18 +1,17 @@
 -- On a link of a run of turns the own talk of a host is what it was told and said.
-use Rattle.std.proofs.Common.{◌≡◌, Bool, true, false, List, [], ◌∷◌, ◌++◌, map, filter_map, None, is_some, refl, ap, ap₂, ◌∙◌, if◌then◌else◌, subst, sym}
+use Rattle.std.proofs.Common.{◌≡◌, List, [], ◌∷◌, ◌++◌, map, filter_map, refl, ap, ap₂, ◌∙◌, subst, sym}
 use Rattle.std.specs.List.{flat_map}
 use Rattle.std.proofs.lemmas.List.Concat.{flat_map-append}
 use Rattle.std.proofs.lemmas.List.Elements.{filter_map-append}
 use Rattle.capture.specs.Pdus.{Pdu}
 use Rattle.link_talk.specs.Sayings.{said_by}
 use Rattle.channel_model.specs.Value.{Channels, no_channels}
-use Rattle.channel_model.specs.Giving.{next_given}
 use Rattle.channel_laws.specs.Runs.{Occurrence, new_link, run_of}
 use Rattle.world_model.specs.Machines.{Up, News, Linked, Failed, Heard, TimerFired, Cancelled, Opening}
 use Rattle.world_model.specs.Talks.{Talk, Told, Said, Unsent, Met, Done}
-use Rattle.host_model.specs.Circumstances.{Headway, Sending, Sent, Settled, Circumstance, headway_in}
+use Rattle.host_model.specs.Circumstances.{Circumstance}
 use Rattle.host_model.specs.Profiles.{Profile}
-use Rattle.host_model.specs.Hosts.{Host, settles, goes_by, drives, driven, brought, ready, hear}
+use Rattle.host_model.specs.Hosts.{Host, most_steps, driven, ready, hears_news}
 use Rattle.host_model.specs.Machines.{upper}
 use Rattle.host_laws.specs.Acts.{Act, Hears, Says, Acting, from_news, from_act, from_acts}
 use Rattle.host_laws.specs.Calls.{Asks, values_after}
@@ -21,32 +20,18 @@ use Rattle.host_laws.specs.Turning.{Deed, Learned, Spoke, deed_of, deeds_in, Are
 use Rattle.host_laws.specs.Seen.{spoken_of, pdu_of, IsQuiet, IsCalm}
 use Rattle.host_laws.specs.Calm.{IsCalmAct, AreCalm, IsGentleAct, AreGentle, pdus_in, HostsTalkInTurns}
 use Rattle.host_laws.proofs.Steps.{Grows}
-use Rattle.host_laws.proofs.Growing.{none-some, readies}
-use Rattle.host_laws.proofs.Links.{value_run, brought_told, act_told, linked_new}
+use Rattle.host_laws.proofs.Growing.{grows_then, drives_grow, readies}
+use Rattle.host_laws.proofs.Links.{value_run, drives_told, act_told, linked_new}
 use Rattle.host_laws.proofs.Living.{still, lives_from, since-up, now-is}
 use Rattle.host_laws.proofs.Moving.{own_talk_moves}
 use Rattle.host_laws.proofs.Calming.{outer-pdus, acts-grow}
 
 module _ {P : Type 0} (A : Profile P) where
-  -- where its channels have something to give, a host is not driven on
-  goes_quiet : (more : Host P → Host P) (test : Bool) (host : Host P) → is_some (next_given host.channels) ≡ test → next_given (if test then host else goes_by A more (A.steps host.channels host.profile) host).channels ≡ None → next_given host.channels ≡ None
-  goes_quiet more true host is none = none
-  goes_quiet more false host is none = none-some (next_given host.channels) is
-
-  undriven : (host : Host P) → next_given (driven A host).channels ≡ None → IsQuiet host.channels
-  unfolding drives
-  undriven host none = goes_quiet (λ now. drives A 3 now) (is_some (next_given host.channels)) (settles A host) refl none
-
-  brought_quiet : (far : Headway) (host : Host P) → next_given (driven A host).channels ≡ None → IsQuiet (brought A far host).channels
-  brought_quiet Sending host none = undriven host none
-  brought_quiet Sent host none = undriven host none
-  brought_quiet Settled host none = none
-
   act_calm : (act : Act Circumstance) (host : Host P) → (let U = upper A in AreInQuiet U (act ∷ []) host) → IsGentleAct A act host → IsCalmAct A act host
   act_calm (Hears circumstances (Linked event)) host quiet gentle = tt
   act_calm (Hears circumstances (Failed status)) host quiet gentle = tt
-  act_calm (Hears circumstances (Heard pdu)) host quiet gentle = (brought_quiet (headway_in circumstances) host (gentle.0 quiet.0), gentle.1)
-  act_calm (Hears circumstances TimerFired) host quiet gentle = (brought_quiet (headway_in circumstances) host (gentle.0 quiet.0), gentle.1)
+  act_calm (Hears circumstances (Heard pdu)) host quiet gentle = (gentle.0 quiet.0, gentle.1)
+  act_calm (Hears circumstances TimerFired) host quiet gentle = (gentle.0 quiet.0, gentle.1)
   act_calm (Hears circumstances Cancelled) host quiet gentle = tt
   act_calm (Hears circumstances (Opening name)) host quiet gentle = tt
   act_calm (Says pdu) host quiet gentle = gentle
@@ -113,21 +98,22 @@ without_calm A asks acted old new grows = record {
 
 pub hosts_talk_in_turns : {P : Type 0} (A : Profile P) → HostsTalkInTurns A
 hosts_talk_in_turns {P} A asks talk now on gentle none back =
-    let start = hear A on.gifts (Linked Up) on.old in
     let before = flat_map act_marks on.before in
     let mid = ready A on.gifts on.old in
+    let linked = hears_news A on.gifts (Linked Up) mid in
+    let start = driven A linked in
     let first = lives_from A asks on.before on.old on.acting_before in
-    let mid_told = brought_told A (headway_in on.gifts) on.old first.all_told in
-    let ready_lives = still A asks before on.old mid first (readies A asks ⊥ on.gifts on.old) mid_told in
-    let fresh : start.channels ≡ no_channels = linked_new A on.gifts Up mid mid_told in
+    let ready_lives = still A asks before on.old mid first (readies A asks ⊥ on.gifts on.old) first.all_told in
+    let fresh : linked.channels ≡ no_channels = linked_new A on.gifts Up mid first.all_told in
     let calm = acts_calm A on.acts start on.in_quiet gentle in
-    let grows = acts-grow A asks (Unit {0}) on.acts start now on.stays on.acting (λ c. calm) in
-    let told = acts_told A on.acts start now on.acting (ap (λ (v : Channels). v.events) fresh) in
-    let plain = without_calm A asks (from_acts on.acts) start now grows in
+    let grows =
+    grows_then A asks (Unit {0}) [] (from_acts on.acts) linked start now (drives_grow A asks (Unit {0}) most_steps linked) (acts-grow A asks (Unit {0}) on.acts start now on.stays on.acting (λ c. calm)) in
+    let told = acts_told A on.acts start now on.acting (drives_told A most_steps linked (ap (λ (v : Channels). v.events) fresh)) in
+    let plain = without_calm A asks (from_acts on.acts) linked now grows in
     let value : now.channels ≡ (run_of A.policy grows.list).value = grows.channels_are ∙ (ap (λ (v : Channels). values_after A.policy v grows.list) fresh ∙ sym (value_run A.policy grows.list new_link)) in
     record {
       lives = since-up A asks before on.gifts on.old now (from_acts on.acts) ready_lives plain told;
       talk_is = ap (λ (list : List Occurrence). spoken_of (run_of A.policy list).said) (now-is A asks before on.gifts on.old now (from_acts on.acts) ready_lives plain told)
-          ∙ (own_talk_moves A.policy grows.list (subst (λ (v : Channels). IsCalm A.policy v grows.list) fresh (grows.calm tt)) (subst IsQuiet value (undriven A now (back none)))
+          ∙ (own_talk_moves A.policy grows.list (subst (λ (v : Channels). IsCalm A.policy v grows.list) fresh (grows.calm tt)) (subst IsQuiet value (back none))
           ∙ (ap (flat_map said_by) (sym (outer-pdus grows.list) ∙ (ap (filter_map pdu_of) grows.acted_is ∙ (acts_pdus on.acts ∙ (ap (flat_map deed_pdus) on.deeds_are ∙ talks_pdus on.since))))));
     }

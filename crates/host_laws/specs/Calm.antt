@@ -15,7 +15,7 @@ use Rattle.world_model.specs.Machines.{Up, News, Linked, Failed, Heard, TimerFir
 use Rattle.world_model.specs.Talks.{Talk, Told, Said, Unsent, Met, Done}
 use Rattle.host_model.specs.Circumstances.{Circumstance}
 use Rattle.host_model.specs.Profiles.{Profile}
-use Rattle.host_model.specs.Hosts.{Host, driven, ready, hear, next}
+use Rattle.host_model.specs.Hosts.{Host, hear, next}
 use Rattle.host_model.specs.Machines.{upper}
 use Rattle.host_laws.specs.Acts.{Act, Hears, Says, Does, Acting, StaysOnLink, from_acts}
 use Rattle.host_laws.specs.Turning.{OnLink}
@@ -31,13 +31,13 @@ IsCalmNews policy TimerFired v = IsQuiet v × FiresPlainly policy v
 IsCalmNews policy Cancelled v = Unit {0}
 IsCalmNews policy (Opening name) v = Unit {0}
 
--- what the host gives once its profile waits is read so
-abbrev pub IsReadFrom : {P : Type 0} → Profile P → List ℕ → Host P → Type 0
-IsReadFrom A pdu host = (given : Given) → next_given (driven A host).channels ≡ Some given → said_by (let gave : Pdu = record { flow = Out; octets = pdu } in gave) ≡ saying_of given pdu ∷ []
+-- what the host gives is read so
+abbrev pub IsReadFrom : {P : Type 0} → List ℕ → Host P → Type 0
+IsReadFrom pdu host = (given : Given) → next_given host.channels ≡ Some given → said_by (let gave : Pdu = record { flow = Out; octets = pdu } in gave) ≡ saying_of given pdu ∷ []
 
 abbrev pub IsCalmAct : {P : Type 0} → Profile P → Act Circumstance → Host P → Type 0
-IsCalmAct A (Hears circumstances news) host = IsCalmNews A.policy news (ready A circumstances host).channels
-IsCalmAct A (Says pdu) host = IsReadFrom A pdu host
+IsCalmAct A (Hears circumstances news) host = IsCalmNews A.policy news host.channels
+IsCalmAct A (Says pdu) host = IsReadFrom pdu host
 
 -- with each of its acts
 abbrev pub AreCalm : {P : Type 0} → Profile P → List (Act Circumstance) → Host P → Type 0
@@ -61,19 +61,19 @@ CalmHostsMove {P} A =
 
 -- where it has nothing to say, its channels have nothing to give: no bound on what it says holds a PDU back
 abbrev pub HoldsNothingBack : {P : Type 0} → Profile P → Host P → Type 0
-HoldsNothingBack A host = next A host ≡ None → next_given (driven A host).channels ≡ None
+HoldsNothingBack A host = next A host ≡ None → next_given host.channels ≡ None
 
-abbrev pub IsGentleNews : {P : Type 0} → Profile P → List Circumstance → News → Host P → Type 0
-IsGentleNews A circumstances (Linked event) host = Unit {0}
-IsGentleNews A circumstances (Failed status) host = Unit {0}
-IsGentleNews A circumstances (Heard pdu) host = HoldsNothingBack A host × (channel_of pdu ≡ 0x0001 → length (answers (drop 4 pdu)) ≤ 1)
-IsGentleNews A circumstances TimerFired host = HoldsNothingBack A host × FiresPlainly A.policy (ready A circumstances host).channels
-IsGentleNews A circumstances Cancelled host = Unit {0}
-IsGentleNews A circumstances (Opening name) host = Unit {0}
+abbrev pub IsGentleNews : {P : Type 0} → Profile P → News → Host P → Type 0
+IsGentleNews A (Linked event) host = Unit {0}
+IsGentleNews A (Failed status) host = Unit {0}
+IsGentleNews A (Heard pdu) host = HoldsNothingBack A host × (channel_of pdu ≡ 0x0001 → length (answers (drop 4 pdu)) ≤ 1)
+IsGentleNews A TimerFired host = HoldsNothingBack A host × FiresPlainly A.policy host.channels
+IsGentleNews A Cancelled host = Unit {0}
+IsGentleNews A (Opening name) host = Unit {0}
 
 abbrev pub IsGentleAct : {P : Type 0} → Profile P → Act Circumstance → Host P → Type 0
-IsGentleAct A (Hears circumstances news) host = IsGentleNews A circumstances news host
-IsGentleAct A (Says pdu) host = IsReadFrom A pdu host
+IsGentleAct A (Hears circumstances news) host = IsGentleNews A news host
+IsGentleAct A (Says pdu) host = IsReadFrom pdu host
 
 -- what comes in has one command in a PDU, and what is said is read so
 abbrev pub AreGentle : {P : Type 0} → Profile P → List (Act Circumstance) → Host P → Type 0

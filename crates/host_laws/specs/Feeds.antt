@@ -15,10 +15,10 @@ pub data Feed : Type 0 where
   -- it is given what its ports will answer, and news
   Gifts : (circumstances : List Circumstance) → Feed
   Learns : (circumstances : List Circumstance) (news : News) → Feed
-  -- an SDU of a channel, and what happened to the channels
+  -- an SDU of a channel, and what happened to the channels, which are as it was taken from them
   Receives : (own psm : ℕ) (sdu : List ℕ) → Feed
   Happens : (event : ChannelEvent) (channels : Channels) → Feed
-  -- the last PDU is out, and it is asked for a step
+  -- an SDU that waits no longer in its channel is sent, and it is asked for a step
   Sent : (channels : Channels) → Feed
   Steps : (channels : Channels) → Feed
 

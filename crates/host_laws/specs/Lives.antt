@@ -8,7 +8,7 @@ use Rattle.channel_laws.specs.Runs.{Occurrence, Comes, Gives, Fires, run_of}
 use Rattle.world_model.specs.Machines.{LinkEvent, Up, Down, News, Linked, Failed, Heard, TimerFired, Cancelled, Opening}
 use Rattle.host_model.specs.Circumstances.{Circumstance}
 use Rattle.host_model.specs.Profiles.{Profile}
-use Rattle.host_model.specs.Hosts.{Host, first_host, driven}
+use Rattle.host_model.specs.Hosts.{Host, first_host}
 use Rattle.host_model.specs.Machines.{upper}
 use Rattle.host_laws.specs.Acts.{Act, Hears, Says, Acting}
 use Rattle.host_laws.specs.Calls.{Asks, values_after, asked, outer}
@@ -83,10 +83,6 @@ pub record Lives {P : Type 0} (A : Profile P) (asks : Asks A) (marks : List Mark
 abbrev pub on_links : {P : Type 0} (A : Profile P) (asks : Asks A) (marks : List Mark) (host : Host P) → Lives A asks marks host → List (List Occurrence)
 on_links A asks marks host lives = map (λ (span : Span). span.list) lives.spans ++ lives.now ∷ []
 
--- So it is of every host, whatever it hears and however far it comes with what it says.
+-- So it is of every host, whatever it hears and says.
 abbrev pub HostsRun : {P : Type 0} → Profile P → Type 0
 HostsRun {P} A = (asks : Asks A) (acts : List (Act Circumstance)) (host : Host P) → Acting (upper A) acts (first_host A) host → Lives A asks (flat_map act_marks acts) host
-
--- and once its profile waits
-abbrev pub HostsWait : {P : Type 0} → Profile P → Type 0
-HostsWait {P} A = (asks : Asks A) (acts : List (Act Circumstance)) (host : Host P) → Acting (upper A) acts (first_host A) host → Lives A asks (flat_map act_marks acts) (driven A host)

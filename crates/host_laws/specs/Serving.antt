@@ -42,7 +42,7 @@ event_served (events.DisconnectLost own) = []
 -- what the server lends goes out where its channel takes it
 abbrev pub taken_by : Option ℕ → Lent → Channels → List Occurrence
 taken_by None lent v = []
-taken_by (Some own) lent v = if takes_sdu own v then Went lent.psm (sdu_of lent.payload) ∷ [] else []
+taken_by (Some own) lent v = if takes_sdu own (sdu_of lent.payload) v then Went lent.psm (sdu_of lent.payload) ∷ [] else []
 
 abbrev pub lent_by : Option Lent → Channels → ServerProfile → List Occurrence
 lent_by None v serving = []

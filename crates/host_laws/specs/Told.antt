@@ -17,7 +17,7 @@ use Rattle.channel_laws.specs.Views.{channel_by, read_at}
 use Rattle.channel_laws.specs.Sdus.{StatesFrame, IsHandedUp}
 use Rattle.channel_laws.specs.Endpoints.{IsOf}
 use Rattle.host_model.specs.Profiles.{Profile}
-use Rattle.host_model.specs.Hosts.{Host, driven}
+use Rattle.host_model.specs.Hosts.{Host}
 use Rattle.host_model.specs.Machines.{upper}
 use Rattle.host_laws.specs.Calls.{Asks}
 use Rattle.host_laws.specs.Feeds.{Tiding, Brings, Tells, Turns, tidings_from}
@@ -91,7 +91,7 @@ AllSdusAreTold {P} A =
     → AllByRecursion (SdusAreToldOn A.policy party) (on_links A asks marks host lives)
 
 -- A host looks for a check word at an endpoint where its own talk says that there is one, until its profile was told the end of the
--- channel. It is asked for that as it is once its profile waits.
+-- channel.
 abbrev pub ChecksAreRead : {P : Type 0} → Profile P → Type 0
-ChecksAreRead {P} A = (asks : Asks A) (marks : List Mark) (host : Host P) (lives : Lives A asks marks (driven A host)) (own : ℕ)
+ChecksAreRead {P} A = (asks : Asks A) (marks : List Mark) (host : Host P) (lives : Lives A asks marks host) (own : ℕ)
     → (upper A).has_check host own ≡ (has_check_word (run_of A.policy lives.now).said own && not (is_told_closed own (events_told (told_on A.policy lives.now))))

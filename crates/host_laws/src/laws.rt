@@ -3,7 +3,7 @@
 ghost use Rattle.host_laws.specs.Calls.{HostsAsk};
 ghost use Rattle.host_laws.specs.Calm.{CalmHostsMove, HostsTalkInTurns};
 ghost use Rattle.host_laws.specs.Gaining.{HostsGainTalk};
-ghost use Rattle.host_laws.specs.Lives.{HostsRun, HostsWait};
+ghost use Rattle.host_laws.specs.Lives.{HostsRun};
 ghost use Rattle.host_laws.specs.OneCarrier.{OneCarrierGains};
 ghost use Rattle.host_laws.specs.Seen.{OwnTalkMoves};
 ghost use Rattle.host_laws.specs.Serving.{HostsGain, ServersAreServed};
@@ -23,11 +23,6 @@ pub fn hosts_ask()
 /// came up and went down. So all laws on channels hold of every host.
 pub fn hosts_run<P>()
     ensures { (A : Profile P) → HostsRun A }
-{}
-
-/// So it is of a host once its profile waits.
-pub fn hosts_wait<P>()
-    ensures { (A : Profile P) → HostsWait A }
 {}
 
 /// What a profile is told on a link is read off its host's own talk: each SDU is of a channel that is read, none comes
