@@ -1,5 +1,5 @@
 -- A server behind what comes on its channels, goes on them and closes them.
-use Rattle.std.proofs.Common.{inl, inr, Bool, true, false, cond, eqb, ◌&&◌, ◌≡◌, ℕ, List, [], ◌∷◌, ◌++◌, length, Option, Some, None, refl, sym, subst}
+use Rattle.std.proofs.Common.{inl, inr, Bool, true, false, cond, eqb, ◌&&◌, ◌≡◌, ℕ, List, ◌++◌, length, Option, Some, None, refl, sym, subst}
 use Rattle.std.specs.Prelude.{not}
 use Rattle.std.proofs.lemmas.Bool.{cases_Bool, cond_both, eqb-true, and_parts}
 use Rattle.bt_base.specs.declared.settings.Transport.{Transport}
