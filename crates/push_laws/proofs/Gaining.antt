@@ -58,11 +58,6 @@ module _ (settings : Settings) (before : List Object) where
   pub unfailed : (past : List Marked) (at calm : Reacted) → Holds settings before past at → cond at.server.listener.service.failed (let r : Reacted = record { server = at.server; gift = at.gift } in r) calm ≡ calm
   unfailed past at calm h = cond-false _ _ _ h.upholds.listens.serves.enough
 
-  faults_append : (xs ys : List Answer) → faults_of (xs ++ ys) ≡ faults_of xs + faults_of ys
-  faults_append [] ys = omega arith
-  faults_append (Ok done ∷ xs) ys = faults_append xs ys
-  faults_append (Err fault ∷ xs) ys = let more = faults_append xs ys in omega arith
-
   abbrev NextTo : List Marked → Reacted → List ℕ → Occurrence → Reacted → Type 0
   NextTo past at got one at' = Next settings (unmarked past) (heard_over L2cap past) (heard_over Rfcomm past) (before ++ objects settings past) got one at.gift at'
 
@@ -83,7 +78,7 @@ module _ (settings : Settings) (before : List Object) where
   next_after past (Answering answers) at h may =
       same_next settings (unmarked past) (heard_over L2cap past) (heard_over Rfcomm past) (before ++ objects settings past) h.got (Answering answers) at.gift (done (Answering answers) at) refl refl refl refl
       (answers_uphold (most settings) (settings.mtu - 6) settings.credits (heard_over L2cap past) (heard_over Rfcomm past) (passed (unmarked past)) h.got (before ++ objects settings past) at.server at.gift answers may.answers h.upholds)
-      (let more = faults_append at.gift.answers answers in omega arith)
+      (omega arith)
 
   -- ---- one occurrence more
 

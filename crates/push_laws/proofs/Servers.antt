@@ -1,5 +1,5 @@
 -- A server behind what comes on its channels, goes on them and closes them.
-use Rattle.std.proofs.Common.{inl, inr, Bool, true, false, cond, eqb, ◌&&◌, ◌≡◌, ℕ, List, [], ◌∷◌, ◌++◌, length, Option, Some, None, refl, sym, subst}
+use Rattle.std.proofs.Common.{inl, inr, Bool, true, false, cond, eqb, ◌&&◌, ◌≡◌, ℕ, List, ◌++◌, length, Option, Some, None, refl, sym, subst}
 use Rattle.std.specs.Prelude.{not}
 use Rattle.std.proofs.lemmas.Bool.{cases_Bool, cond_both, eqb-true, and_parts}
 use Rattle.bt_base.specs.declared.settings.Transport.{Transport}
@@ -83,23 +83,19 @@ module _ (most : Transport → ℕ) (largest cap : ℕ) (direct carried : List H
   pub asked_upholds : (server : Server) (gift : Gift) → Upholds most largest cap direct carried passed got stored server gift → Upholds most largest cap direct carried passed got stored (lends server) gift
   asked_upholds server gift u = lends_upholds server.lent server gift u
 
-  -- ---- the inbox is to answer more
+  -- ---- the inbox is to answer so
 
   pub answers_uphold : (server : Server) (gift : Gift) (answers : List Answer) → NoneShort answers → Upholds most largest cap direct carried passed got stored server gift
-      → Upholds most largest cap direct carried passed got stored server (record gift { answers = gift.answers ++ answers })
+      → Upholds most largest cap direct carried passed got stored server (record gift { answers = answers })
   answers_uphold server gift answers all u = record {
     listens = record {
       tail = u.listens.tail;
-      serves = record { stands = u.listens.serves.stands; none_short = both gift.answers answers u.listens.serves.none_short all; enough = u.listens.serves.enough };
+      serves = record { stands = u.listens.serves.stands; none_short = all; enough = u.listens.serves.enough };
       packets = u.listens.packets;
       cut = u.listens.cut;
     };
     carries = u.carries;
   }
-    where
-      both : (xs ys : List Answer) → NoneShort xs → NoneShort ys → NoneShort (xs ++ ys)
-      both [] ys p q = q
-      both (x ∷ xs) ys p q = (p.0, both xs ys p.1 q)
 
   -- ---- octets over RFCOMM
 

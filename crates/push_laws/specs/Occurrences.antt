@@ -1,6 +1,6 @@
 -- What happens to a server of Object Push, one thing after the other: what comes and goes on its channels, what is closed,
 -- and what its inbox answers (Object Push Profile 1.2, 4.3).
-use Rattle.std.specs.Prelude.{ℕ, ◌≡◌, List, [], ◌∷◌, ◌++◌, Option, Some}
+use Rattle.std.specs.Prelude.{ℕ, ◌≡◌, List, [], ◌∷◌, Option, Some}
 use Rattle.bt_base.specs.declared.settings.Settings.{Settings}
 use Rattle.bt_base.specs.Objects.{Contents}
 use Rattle.bt_base.specs.Octets.{IsOctets}
@@ -18,11 +18,11 @@ pub data Occurrence : Type 0 where
   LinkDown : Occurrence
   -- the server was asked for the SDU that it sends next
   Asked : Occurrence
-  -- the inbox will answer so, behind the answers that it is to give already
+  -- the inbox will answer so, in place of the answers that it was to give
   Answering : (answers : List Answer) → Occurrence
 
 abbrev pub answering : List Answer → Gift → Gift
-answering answers inbox = record inbox { answers = inbox.answers ++ answers }
+answering answers inbox = record inbox { answers = answers }
 
 -- the server and its inbox after one of them
 abbrev pub done : Occurrence → Reacted → Reacted

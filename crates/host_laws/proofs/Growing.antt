@@ -1,0 +1,251 @@
+-- What a host does, one thing after the other.
+use Rattle.std.proofs.Common.{◌≡◌, ℕ, zero, suc, Bool, true, false, List, [], ◌∷◌, ◌++◌, Option, Some, None, is_some, refl, sym, ap, ap₂, subst, ◌∙◌, append_assoc, append-nil, if◌then◌else◌}
+use Rattle.std.specs.List.{filter_map}
+use Rattle.std.proofs.lemmas.List.Concat.{flat_map-append}
+use Rattle.std.proofs.lemmas.List.Elements.{filter_map-append}
+use Rattle.std.proofs.lemmas.List.Sums.{fold-append}
+use Rattle.acl_fragments.specs.Pieces.{channel_of}
+use Rattle.channel_model.specs.Value.{Channels}
+use Rattle.channel_model.specs.Policies.{Policy}
+use Rattle.channel_model.specs.Carrying.{Up as Handed, Nothing, Received}
+use Rattle.channel_model.specs.Hearing as channels
+use Rattle.channel_model.specs.Timing.{timed_out}
+use Rattle.channel_model.specs.Giving.{Given, next_given, after_given}
+use Rattle.channel_laws.specs.Runs.{Occurrence, Comes, Fires, Gives, value_after}
+use Rattle.world_model.specs.Machines.{News, Linked, Failed, Heard, TimerFired, Cancelled, Opening}
+use Rattle.host_model.specs.Circumstances.{Circumstance}
+use Rattle.host_model.specs.Pdus.{pdu_of, is_frame}
+use Rattle.host_model.specs.Profiles.{Profile}
+use Rattle.host_model.specs.Hosts.{Host, with_channels, tells_events, settles, strides, goes_by, drives, most_steps, driven, handed, told, hears_news, ready, hear, after_said, says}
+use Rattle.host_model.specs.Machines.{upper}
+use Rattle.host_laws.specs.Acts.{Act, Hears, Says, Does, StaysOnLink, from_news, from_act}
+use Rattle.host_laws.specs.Calls.{Call, Connect, AskFeatures, Disconnect, Send, Asks, from_call, values_after, asked, outer}
+use Rattle.host_laws.specs.Feeds.{Feed, Gifts, Learns, Receives, fed, all_fed, asked_with, asked_from, Tiding, tidings_by, tidings_in, tidings_of, brought_by, tidings_with, tidings_from}
+use Rattle.host_laws.specs.Feeds as feeds
+use Rattle.host_laws.specs.Seen.{IsQuiet, IsGiven, IsCalmAt, IsCalm}
+use Rattle.host_laws.specs.Calm.{IsCalmNews, IsReadFrom, IsCalmAct}
+use Rattle.host_laws.proofs.Steps.{Grows}
+use Rattle.host_laws.proofs.Draining.{tells_grow}
+
+pub tidings-append : (policy : Policy) (v : Channels) (xs ys : List Occurrence) → tidings_from policy v (xs ++ ys) ≡ tidings_from policy v xs ++ tidings_from policy (values_after policy v xs) ys
+tidings-append policy v [] ys = refl
+tidings-append policy v (x ∷ xs) ys =
+    ap (λ (rest : List Tiding). tidings_with x v ++ rest) (tidings-append policy (value_after policy x v) xs ys)
+    ∙ sym (append_assoc (tidings_with x v) (tidings_from policy (value_after policy x v) xs) (tidings_from policy (values_after policy v (x ∷ xs)) ys))
+
+pub asked-append : {P : Type 0} (A : Profile P) (asks : Asks A) (p : P) (xs ys : List Feed) → asked_from A asks p (xs ++ ys) ≡ asked_from A asks p xs ++ asked_from A asks (all_fed A p xs) ys
+asked-append A asks p [] ys = refl
+asked-append A asks p (x ∷ xs) ys =
+    ap (λ (rest : List Occurrence). asked_with A asks p x ++ rest) (asked-append A asks (fed A p x) xs ys)
+    ∙ sym (append_assoc (asked_with A asks p x) (asked_from A asks (fed A p x) xs) (asked_from A asks (all_fed A p (x ∷ xs)) ys))
+
+calm-both : (policy : Policy) (v : Channels) (xs ys : List Occurrence) → IsCalm policy v xs → IsCalm policy (values_after policy v xs) ys → IsCalm policy v (xs ++ ys)
+calm-both policy v [] ys one two = two
+calm-both policy v (x ∷ xs) ys one two = (one.0, calm-both policy (value_after policy x v) xs ys one.1 two)
+
+pub none-some : {X : Type 0} (found : Option X) → is_some found ≡ false → found ≡ None
+none-some None is = refl
+none-some (Some x) is = cc
+
+module _ {P : Type 0} (A : Profile P) (asks : Asks A) (C : Type 0) where
+  pub grows_none : (host : Host P) → Grows A asks C [] host host
+  grows_none host = record { list = []; feeds = []; channels_are = refl; profile_is = refl; tidings_are = refl; asked_is = refl; acted_is = refl; calm = λ c. tt }
+
+  pub grows_then : (xs ys : List Occurrence) (old mid new : Host P) → Grows A asks C xs old mid → Grows A asks C ys mid new → Grows A asks C (xs ++ ys) old new
+  grows_then xs ys old mid new one two = record {
+    list = one.list ++ two.list;
+    feeds = one.feeds ++ two.feeds;
+    channels_are = two.channels_are
+        ∙ (ap (λ v. values_after A.policy v two.list) one.channels_are ∙ sym (fold-append (λ w more. value_after A.policy more w) old.channels one.list two.list));
+    profile_is = two.profile_is ∙ (ap (λ p. all_fed A p two.feeds) one.profile_is ∙ sym (fold-append (fed A) old.profile one.feeds two.feeds));
+    tidings_are = flat_map-append tidings_in one.feeds two.feeds
+        ∙ (ap₂ (λ (a b : List Tiding). a ++ b) one.tidings_are (two.tidings_are ∙ ap (λ v. tidings_from A.policy v two.list) one.channels_are)
+        ∙ sym (tidings-append A.policy old.channels one.list two.list));
+    asked_is = filter_map-append asked one.list two.list
+        ∙ (ap₂ (λ (a b : List Occurrence). a ++ b) one.asked_is (two.asked_is ∙ ap (λ p. asked_from A asks p two.feeds) one.profile_is)
+        ∙ sym (asked-append A asks old.profile one.feeds two.feeds));
+    acted_is = filter_map-append outer one.list two.list ∙ ap₂ (λ (a b : List Occurrence). a ++ b) one.acted_is two.acted_is;
+    calm = λ c. calm-both A.policy old.channels one.list two.list (one.calm c) (subst (λ (v : Channels). IsCalm A.policy v two.list) one.channels_are (two.calm c));
+  }
+
+  -- the profile alone goes on
+  pub feeds_grow : (host : Host P) (feed : Feed) (count : ℕ) → tidings_in feed ≡ [] → asked_with A asks host.profile feed ≡ [] → (let after : Host P = record host { profile = fed A host.profile feed; may_say = count } in Grows A asks C [] host after)
+  feeds_grow host feed count none nothing = record {
+    list = [];
+    feeds = feed ∷ [];
+    channels_are = refl;
+    profile_is = refl;
+    tidings_are = ap (λ (t : List Tiding). t ++ []) none;
+    asked_is = sym (ap (λ (l : List Occurrence). l ++ []) nothing);
+    acted_is = refl;
+    calm = λ c. tt;
+  }
+
+  pub settles_grow : (host : Host P) → Grows A asks C [] host (settles A host)
+  settles_grow host = feeds_grow host (feeds.Sent host.channels) host.may_say refl refl
+
+  -- ---- a PDU comes in
+
+  abbrev feeds_up : Handed → List Feed
+  feeds_up Nothing = []
+  feeds_up (Received own psm sdu) = Receives own psm sdu ∷ []
+
+  fed_up : (up : Handed) (p : P) → handed A up p ≡ all_fed A p (feeds_up up)
+  fed_up Nothing p = refl
+  fed_up (Received own psm sdu) p = refl
+
+  told_up : (up : Handed) → tidings_of (feeds_up up) ≡ (brought_by up ++ []) ++ []
+  told_up Nothing = refl
+  told_up (Received own psm sdu) = refl
+
+  asked_up : (up : Handed) (p : P) → asked_from A asks p (feeds_up up) ≡ []
+  asked_up Nothing p = refl
+  asked_up (Received own psm sdu) p = refl
+
+  pub comes_grow : (pdu : List ℕ) (host : Host P) → (C → IsCalmAt A.policy (Comes pdu) host.channels)
+      → (let after : Host P = record host { channels = channels.hears A.policy (channel_of pdu) pdu host.channels; profile = handed A (channels.up (channel_of pdu) pdu host.channels) host.profile } in Grows A asks C (Comes pdu ∷ []) host after)
+  comes_grow pdu host calm =
+      let up = channels.up (channel_of pdu) pdu host.channels in
+      record { list = Comes pdu ∷ []; feeds = feeds_up up; channels_are = refl; profile_is = fed_up up host.profile; tidings_are = told_up up; asked_is = sym (asked_up up host.profile); acted_is = refl; calm = λ c. (calm c, tt) }
+
+  -- ---- the timer fires, a PDU is given
+
+  fires_grow : (host : Host P) → (C → IsCalmAt A.policy Fires host.channels) → Grows A asks C (Fires ∷ []) host (with_channels (timed_out A.policy host.channels) host)
+  fires_grow host calm = record { list = Fires ∷ []; feeds = []; channels_are = refl; profile_is = refl; tidings_are = refl; asked_is = refl; acted_is = refl; calm = λ c. (calm c, tt) }
+
+  gives_grow : (pdu : List ℕ) (host : Host P) → (C → IsGiven host.channels pdu) → Grows A asks C (Gives pdu ∷ []) host (with_channels (after_given host.channels) host)
+  gives_grow pdu host calm = record { list = Gives pdu ∷ []; feeds = []; channels_are = refl; profile_is = refl; tidings_are = refl; asked_is = refl; acted_is = refl; calm = λ c. (calm c, tt) }
+
+  learns_grow : (circumstances : List Circumstance) (news : News) (host : Host P) → tidings_by news ≡ [] → Grows A asks C [] host (told A circumstances news host)
+  learns_grow circumstances news host none = feeds_grow host (Learns circumstances news) host.may_say none refl
+
+  -- ---- a step of its profile
+
+  none_told : (call : Option Call) (v : Channels) → [] ≡ tidings_from A.policy v (from_call call)
+  none_told None v = refl
+  none_told (Some (Connect psm)) v = refl
+  none_told (Some AskFeatures) v = refl
+  none_told (Some (Disconnect own)) v = refl
+  none_told (Some (Send own sdu)) v = refl
+
+  call_asked : (call : Option Call) → filter_map asked (from_call call) ≡ from_call call ++ []
+  call_asked None = refl
+  call_asked (Some (Connect psm)) = refl
+  call_asked (Some AskFeatures) = refl
+  call_asked (Some (Disconnect own)) = refl
+  call_asked (Some (Send own sdu)) = refl
+
+  none_acted : (call : Option Call) → filter_map outer (from_call call) ≡ []
+  none_acted None = refl
+  none_acted (Some (Connect psm)) = refl
+  none_acted (Some AskFeatures) = refl
+  none_acted (Some (Disconnect own)) = refl
+  none_acted (Some (Send own sdu)) = refl
+
+  call_calm : (call : Option Call) (v : Channels) → IsQuiet v → IsCalm A.policy v (from_call call)
+  call_calm None v quiet = tt
+  call_calm (Some (Connect psm)) v quiet = (quiet, tt)
+  call_calm (Some AskFeatures) v quiet = (quiet, tt)
+  call_calm (Some (Disconnect own)) v quiet = (quiet, tt)
+  call_calm (Some (Send own sdu)) v quiet = (quiet, tt)
+
+  strides_grow : (host : Host P) → IsQuiet host.channels → Grows A asks C [] host (strides A (A.steps host.channels host.profile) host)
+  strides_grow host quiet =
+      let stride = A.steps host.channels host.profile in
+      let mid : Host P = record host { channels = stride.channels; profile = stride.profile } in
+      let call = asks.call host.channels host.profile in
+      let steps : Grows A asks C [] host mid = record {
+        list = from_call call;
+        feeds = feeds.Steps host.channels ∷ [];
+        channels_are = asks.steps_are host.channels host.profile;
+        profile_is = refl;
+        tidings_are = none_told call host.channels;
+        asked_is = call_asked call;
+        acted_is = none_acted call;
+        calm = λ c. call_calm call host.channels quiet;
+      } in
+      grows_then [] [] host mid (strides A stride host) steps (tells_grow A asks C mid)
+
+  -- ---- all that it does by itself
+
+  strides_on : (more : Host P → Host P) (test : Bool) (host : Host P) → IsQuiet host.channels → ((next : Host P) → Grows A asks C [] next (more next))
+      → (let after = strides A (A.steps host.channels host.profile) host in Grows A asks C [] host (if test then more after else after))
+  strides_on more true host quiet goes = let after = strides A (A.steps host.channels host.profile) host in grows_then [] [] host after (more after) (strides_grow host quiet) (goes after)
+  strides_on more false host quiet goes = strides_grow host quiet
+
+  goes_on : (more : Host P → Host P) (test : Bool) (host : Host P) → is_some (next_given host.channels) ≡ test → ((next : Host P) → Grows A asks C [] next (more next))
+      → Grows A asks C [] host (if test then host else goes_by A more (A.steps host.channels host.profile) host)
+  goes_on more true host is goes = grows_none host
+  goes_on more false host is goes = strides_on more (A.steps host.channels host.profile).more host (none-some (next_given host.channels) is) goes
+
+  pub drives_grow : (count : ℕ) (host : Host P) → Grows A asks C [] host (drives A count host)
+  unfolding drives
+  drives_grow zero host = settles_grow host
+  drives_grow (suc count) host =
+      let now = settles A host in
+      let more = λ (next : Host P). drives A count next in
+      let test = is_some (next_given now.channels) in
+      grows_then [] [] host now (if test then now else goes_by A more (A.steps now.channels now.profile) now) (settles_grow host) (goes_on more test now refl (λ next. drives_grow count next))
+
+  pub then_driven : (acted : List Occurrence) (old new : Host P) → Grows A asks C acted old new → Grows A asks C acted old (driven A new)
+  then_driven acted old new grows =
+      subst (λ (list : List Occurrence). Grows A asks C list old (driven A new)) (append-nil acted) (grows_then acted [] old new (driven A new) grows (drives_grow most_steps new))
+
+  -- how much it may say counts for nothing
+  may_grow : (acted : List Occurrence) (old new : Host P) (count : ℕ) → Grows A asks C acted old new → (let after : Host P = record new { may_say = count } in Grows A asks C acted old after)
+  may_grow acted old new count grows = record {
+    list = grows.list;
+    feeds = grows.feeds;
+    channels_are = grows.channels_are;
+    profile_is = grows.profile_is;
+    tidings_are = grows.tidings_are;
+    asked_is = grows.asked_is;
+    acted_is = grows.acted_is;
+    calm = grows.calm;
+  }
+
+  pub readies : (circumstances : List Circumstance) (host : Host P) → Grows A asks C [] host (ready A circumstances host)
+  readies circumstances host = feeds_grow host (Gifts circumstances) (ready A circumstances host).may_say refl refl
+
+  -- ---- acts
+
+  hears_any : (circumstances : List Circumstance) (news : News) (host : Host P) → StaysOnLink (Hears circumstances news) → (C → IsCalmNews A.policy news host.channels) → Grows A asks C (from_news news) host (hears_news A circumstances news host)
+  hears_any circumstances (Linked event) host stays calm = absurd stays
+  hears_any circumstances (Failed status) host stays calm = learns_grow circumstances (Failed status) host refl
+  hears_any circumstances (Heard pdu) host stays calm =
+      let heard : Host P = record host { channels = channels.hears A.policy (channel_of pdu) pdu host.channels; profile = handed A (channels.up (channel_of pdu) pdu host.channels) host.profile } in
+      grows_then (Comes pdu ∷ []) [] host heard (tells_events A heard) (comes_grow pdu host calm) (tells_grow A asks C heard)
+  hears_any circumstances TimerFired host stays calm =
+      let fired = with_channels (timed_out A.policy host.channels) host in
+      grows_then (Fires ∷ []) [] host fired (told A circumstances TimerFired (tells_events A fired)) (fires_grow host calm)
+      (grows_then [] [] fired (tells_events A fired) (told A circumstances TimerFired (tells_events A fired)) (tells_grow A asks C fired) (learns_grow circumstances TimerFired (tells_events A fired) refl))
+  hears_any circumstances Cancelled host stays calm = learns_grow circumstances Cancelled host refl
+  hears_any circumstances (Opening name) host stays calm = learns_grow circumstances (Opening name) host refl
+
+  hears_grow : (circumstances : List Circumstance) (news : News) (host : Host P) → StaysOnLink (Hears circumstances news) → (C → IsCalmNews A.policy news host.channels) → Grows A asks C (from_news news) host (hear A circumstances news host)
+  hears_grow circumstances news host stays calm =
+      let old = ready A circumstances host in
+      then_driven (from_news news) host (hears_news A circumstances news old)
+      (grows_then [] (from_news news) host old (hears_news A circumstances news old) (readies circumstances host) (hears_any circumstances news old stays calm))
+
+  -- what follows from all that is said
+  abbrev Says_it : Host P → Option (List ℕ × Host P) → Type 0
+  Says_it host None = Unit {0}
+  Says_it host (Some one) = (C → IsReadFrom one.0 host) → Grows A asks C (Gives one.0 ∷ []) host one.1
+
+  frames_grow : (old : Host P) (test : Bool) (pdu : List ℕ) (host : Host P) → ((C → IsReadFrom pdu old) → Grows A asks C (Gives pdu ∷ []) old host) → Says_it old (if test then Some (pdu, host) else None)
+  frames_grow old true pdu host grows = grows
+  frames_grow old false pdu host grows = tt
+
+  says_grow : (old : Host P) (given : Option Given) (count : ℕ) → next_given old.channels ≡ given → Says_it old (says A given count old)
+  says_grow old None count is = tt
+  says_grow old (Some given) zero is = tt
+  says_grow old (Some given) (suc count) is =
+      let pdu = pdu_of given in
+      let gave = with_channels (after_given old.channels) old in
+      frames_grow old (is_frame pdu) pdu (after_said A count old)
+      (λ calm. may_grow (Gives pdu ∷ []) old (driven A gave) count (then_driven (Gives pdu ∷ []) old gave (gives_grow pdu old (λ c. record { given = given; is = is; read = calm c given is }))))
+
+  pub act_grows : (act : Act Circumstance) (old new : Host P) → StaysOnLink act → (C → IsCalmAct A act old) → Does (upper A) act old new → Grows A asks C (from_act act) old new
+  act_grows (Hears circumstances news) old new stays calm does = subst (λ (host : Host P). Grows A asks C (from_news news) old host) (sym does) (hears_grow circumstances news old stays calm)
+  act_grows (Says pdu) old new stays calm does = subst (Says_it old) does (says_grow old (next_given old.channels) old.may_say refl) calm

@@ -1,0 +1,12 @@
+pub mod Acts
+pub mod Turning
+pub mod Calls
+pub mod Feeds
+pub mod Lives
+pub mod Told
+pub mod Seen
+pub mod Steady
+pub mod Calm
+pub mod Serving
+pub mod OneCarrier
+pub mod Gaining
