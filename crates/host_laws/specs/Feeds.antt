@@ -15,7 +15,7 @@ pub data Feed : Type 0 where
   -- it is given what its ports will answer, and news
   Gifts : (circumstances : List Circumstance) → Feed
   Learns : (circumstances : List Circumstance) (news : News) → Feed
-  -- an SDU of a channel, and what happened to the channels, which are as it was taken from them
+  -- an SDU of a channel, and what happened, with the channels as they stand once that was taken from them
   Receives : (own psm : ℕ) (sdu : List ℕ) → Feed
   Happens : (event : ChannelEvent) (channels : Channels) → Feed
   -- an SDU that waits no longer in its channel is sent, and it is asked for a step
