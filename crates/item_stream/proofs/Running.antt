@@ -48,15 +48,15 @@ standing_none has_told input old now h = record {
 }
 
 -- the items that are held were told of, and what was told is written
-abbrev pub standing_told : {T : Type 0} (has_told : T → List ℕ → List ℕ → Type 0) (finds : T → List ℕ → Front → Type 0) (input left old new new' : Option (List ℕ)) (now now' : T) (held held' added : List ℕ) (found : Front) (fed : ℕ)
-    → Standing has_told input left old new now held fed → TellsAll has_told finds now now' held held' [] added found → new' ≡ gained new added → Standing has_told input left old new' now' held' fed
-standing_told has_told finds input left old new new' now now' held held' added found fed s tells wrote = record {
+abbrev pub standing_told : {T : Type 0} (has_told : T → T → List ℕ → List ℕ → Type 0) (first : T) (finds : T → List ℕ → Front → Type 0) (input left old new new' : Option (List ℕ)) (now now' : T) (held held' added : List ℕ) (found : Front) (fed : ℕ)
+    → Standing (has_told first) input left old new now held fed → TellsAll has_told finds now now' held held' [] added found → new' ≡ gained new added → Standing (has_told first) input left old new' now' held' fed
+standing_told has_told first finds input left old new new' now now' held held' added found fed s tells wrote = record {
   taken = s.taken ++ tells.eaten;
   said = s.said ++ tells.added;
   took = subst (λ (t : List ℕ). Took input left t) (ap (λ (t : List ℕ). s.taken ++ t) tells.whole ∙ sym (append_assoc s.taken tells.eaten held')) s.took;
   count = omega (arith, s.count, length-append s.taken tells.eaten, ap length tells.whole, length-append tells.eaten held');
   within = s.within;
-  told = tells.goes s.taken s.said s.told;
+  told = tells.goes first s.taken s.said s.told;
   written = wrote ∙ ap (λ (c : Option (List ℕ)). gained c added) s.written ∙ gained-gained old s.said added ∙ ap (λ (t : List ℕ). gained old (s.said ++ t)) tells.adds;
 }
 
@@ -145,11 +145,11 @@ front_stands has_told input left old new now held fed s = told input (λ all e.
     record { then_ = now; taken = s.taken; left = held ++ t.0; said = s.said; whole = t.2.whole ∙ append_assoc s.taken held t.0; within = omega (arith, t.2.within); told = s.told; wrote = front_whole old new s.said s.written })
 
 -- a front of what is told of those that are held was written
-front_more : {T : Type 0} (has_told : T → List ℕ → List ℕ → Type 0) (finds : T → List ℕ → Front → Type 0) (input left old new new' : Option (List ℕ)) (now now' : T) (held held' added : List ℕ) (found : Front) (fed : ℕ)
-    → Standing has_told input left old new now held fed → TellsAll has_told finds now now' held held' [] added found → GainedFront new new' added → IfSome input (λ all. FrontTold has_told all old new')
-front_more has_told finds input left old new new' now now' held held' added found fed s tells front = told input (λ all e.
-    let s' = standing_told has_told finds input left old new (gained new added) now now' held held' added found fed s tells refl in
-    let t = told_of has_told input left old (gained new added) now' held' all fed s' e in
+front_more : {T : Type 0} (has_told : T → T → List ℕ → List ℕ → Type 0) (first : T) (finds : T → List ℕ → Front → Type 0) (input left old new new' : Option (List ℕ)) (now now' : T) (held held' added : List ℕ) (found : Front) (fed : ℕ)
+    → Standing (has_told first) input left old new now held fed → TellsAll has_told finds now now' held held' [] added found → GainedFront new new' added → IfSome input (λ all. FrontTold (has_told first) all old new')
+front_more has_told first finds input left old new new' now now' held held' added found fed s tells front = told input (λ all e.
+    let s' = standing_told has_told first finds input left old new (gained new added) now now' held held' added found fed s tells refl in
+    let t = told_of (has_told first) input left old (gained new added) now' held' all fed s' e in
     record {
       then_ = now';
       taken = s'.taken;
@@ -162,13 +162,13 @@ front_more has_told finds input left old new new' now now' held held' added foun
     })
 
 -- a fault of the sink
-pub sink_fault : {T : Type 0} (has_told : T → List ℕ → List ℕ → Type 0) (finds : T → List ℕ → Front → Type 0) (input left old new new' : Option (List ℕ)) (now now' : T) (held held' : List ℕ) (fed : ℕ) (fault : StreamFault)
-    → Standing has_told input left old new now held fed → IsOfSink fault → Writes has_told finds now now' held held' new new' (Err fault) → IfSome input (λ all. Runs has_told finds now' all left old new' (Err fault))
-sink_fault has_told finds input left old new new' now now' held held' fed ReadFault s sink writes = absurd sink
-sink_fault has_told finds input left old new new' now now' held held' fed WriteFault s sink (inl same) = subst (λ (c : Option (List ℕ)). IfSome input (λ all. FrontTold has_told all old c)) (sym same) (front_stands has_told input left old new now held fed s)
-sink_fault has_told finds input left old new new' now now' held held' fed WriteFault s sink (inr (rest, added, found, tells, front)) = front_more has_told finds input left old new new' now now' held rest added found fed s tells front
-sink_fault has_told finds input left old new new' now now' held held' fed NoMemory s sink (inl same) = subst (λ (c : Option (List ℕ)). IfSome input (λ all. FrontTold has_told all old c)) (sym same) (front_stands has_told input left old new now held fed s)
-sink_fault has_told finds input left old new new' now now' held held' fed NoMemory s sink (inr (rest, added, found, tells, front)) = front_more has_told finds input left old new new' now now' held rest added found fed s tells front
+pub sink_fault : {T : Type 0} (has_told : T → T → List ℕ → List ℕ → Type 0) (first : T) (finds : T → List ℕ → Front → Type 0) (input left old new new' : Option (List ℕ)) (now now' : T) (held held' : List ℕ) (fed : ℕ) (fault : StreamFault)
+    → Standing (has_told first) input left old new now held fed → IsOfSink fault → Writes has_told finds now now' held held' new new' (Err fault) → IfSome input (λ all. Runs (has_told first) finds now' all left old new' (Err fault))
+sink_fault has_told first finds input left old new new' now now' held held' fed ReadFault s sink writes = absurd sink
+sink_fault has_told first finds input left old new new' now now' held held' fed WriteFault s sink (inl same) = subst (λ (c : Option (List ℕ)). IfSome input (λ all. FrontTold (has_told first) all old c)) (sym same) (front_stands (has_told first) input left old new now held fed s)
+sink_fault has_told first finds input left old new new' now now' held held' fed WriteFault s sink (inr (rest, added, found, tells, front)) = front_more has_told first finds input left old new new' now now' held rest added found fed s tells front
+sink_fault has_told first finds input left old new new' now now' held held' fed NoMemory s sink (inl same) = subst (λ (c : Option (List ℕ)). IfSome input (λ all. FrontTold (has_told first) all old c)) (sym same) (front_stands (has_told first) input left old new now held fed s)
+sink_fault has_told first finds input left old new new' now now' held held' fed NoMemory s sink (inr (rest, added, found, tells, front)) = front_more has_told first finds input left old new new' now now' held rest added found fed s tells front
 
 short : {T : Type 0} (finds : T → List ℕ → Front → Type 0) (now : T) (held : List ℕ) (found : Front) → Found finds now held found → (found ≡ front.Refused → ⊥) → IsShort finds now held
 short finds now held (front.Item n) found known = absurd found
@@ -191,13 +191,13 @@ pub memory_fault : {T : Type 0} (has_told : T → List ℕ → List ℕ → Type
 memory_fault has_told finds input left left' old new now now' held fed s = front_stands has_told input left old new now held fed s
 
 -- the items that were held were told of, and a piece more was read
-pub goes_on : {T : Type 0} (has_told : T → List ℕ → List ℕ → Type 0) (finds : T → List ℕ → Front → Type 0) (input left left' old new new' : Option (List ℕ)) (now now' : T) (held held' held'' xs : List ℕ) (found : Front) (fed fed' n : ℕ)
+pub goes_on : {T : Type 0} (has_told : T → T → List ℕ → List ℕ → Type 0) (first : T) (finds : T → List ℕ → Front → Type 0) (input left left' old new new' : Option (List ℕ)) (now now' : T) (held held' held'' xs : List ℕ) (found : Front) (fed fed' n : ℕ)
     → Writes has_told finds now now' held held' new new' (Ok found) → Took left left' xs → length xs ≡ n → fed' ≡ fed → fed' + n ≤ input_limit → held'' ≡ held' ++ xs
-    → Standing has_told input left old new now held fed → Standing has_told input left' old new' now' held'' (fed' + n)
-goes_on has_told finds input left left' old new new' now now' held held' held'' xs found fed fed' n writes took size same within items s =
-    let told' = standing_told has_told finds input left old new new' now now' held held' writes.0 found fed s writes.1 writes.2 in
-    let s' : Standing has_told input left old new' now' held' fed' = subst (λ (k : ℕ). Standing has_told input left old new' now' held' k) (sym same) told' in
-    subst (λ (h : List ℕ). Standing has_told input left' old new' now' h (fed' + n)) (sym items) (standing_fed has_told input left left' old new' now' held' xs fed' n s' took size within)
+    → Standing (has_told first) input left old new now held fed → Standing (has_told first) input left' old new' now' held'' (fed' + n)
+goes_on has_told first finds input left left' old new new' now now' held held' held'' xs found fed fed' n writes took size same within items s =
+    let told' = standing_told has_told first finds input left old new new' now now' held held' writes.0 found fed s writes.1 writes.2 in
+    let s' : Standing (has_told first) input left old new' now' held' fed' = subst (λ (k : ℕ). Standing (has_told first) input left old new' now' held' k) (sym same) told' in
+    subst (λ (h : List ℕ). Standing (has_told first) input left' old new' now' h (fed' + n)) (sym items) (standing_fed (has_told first) input left left' old new' now' held' xs fed' n s' took size within)
 
 -- the octets that are held were read
 pub held_within : {T : Type 0} (has_told : T → List ℕ → List ℕ → Type 0) (input left old new : Option (List ℕ)) (now : T) (held : List ℕ) (fed : ℕ) → Standing has_told input left old new now held fed → length held ≤ fed

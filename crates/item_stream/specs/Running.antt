@@ -107,14 +107,14 @@ pub record Standing {T : Type 0} (has_told : T → List ℕ → List ℕ → Typ
 
 -- One piece more was read, or the run ended: from each standing it leads to the next one, or to what the sink gains from
 -- the whole input.
-abbrev pub Steps : {T : Type 0} → (T → List ℕ → List ℕ → Type 0) → (T → List ℕ → Front → Type 0) → Option (List ℕ) → Option (List ℕ) → Option (List ℕ) → Option (List ℕ) → T → T → List ℕ → List ℕ → ℕ → ℕ → Result (Option Ending) StreamFault → Type 0
-Steps has_told finds left left' new new' now now' held held' fed fed' (Ok None) =
+abbrev pub Steps : {T : Type 0} → (T → T → List ℕ → List ℕ → Type 0) → (T → List ℕ → Front → Type 0) → Option (List ℕ) → Option (List ℕ) → Option (List ℕ) → Option (List ℕ) → T → T → List ℕ → List ℕ → ℕ → ℕ → Result (Option Ending) StreamFault → Type 0
+Steps {T} has_told finds left left' new new' now now' held held' fed fed' (Ok None) =
     (fed < fed') × (fed' ≤ input_limit) × (length held' ≤ fed')
-    × ((input old : Option (List ℕ)) → Standing has_told input left old new now held fed → Standing has_told input left' old new' now' held' fed')
-Steps has_told finds left left' new new' now now' held held' fed fed' (Ok (Some ending)) =
-    (input old : Option (List ℕ)) → Standing has_told input left old new now held fed → IfSome input (λ all. Ends has_told finds now' all old new' ending)
-Steps has_told finds left left' new new' now now' held held' fed fed' (Err fault) =
-    (input old : Option (List ℕ)) → Standing has_told input left old new now held fed → IfSome input (λ all. Runs has_told finds now' all left' old new' (Err fault))
+    × ((first : T) (input old : Option (List ℕ)) → Standing (has_told first) input left old new now held fed → Standing (has_told first) input left' old new' now' held' fed')
+Steps {T} has_told finds left left' new new' now now' held held' fed fed' (Ok (Some ending)) =
+    (first : T) (input old : Option (List ℕ)) → Standing (has_told first) input left old new now held fed → IfSome input (λ all. Ends (has_told first) finds now' all old new' ending)
+Steps {T} has_told finds left left' new new' now now' held held' fed fed' (Err fault) =
+    (first : T) (input old : Option (List ℕ)) → Standing (has_told first) input left old new now held fed → IfSome input (λ all. Runs (has_told first) finds now' all left' old new' (Err fault))
 
 -- How an input ends that was read to its end; the next item begins at that place.
 abbrev pub EndsAt : Front → ℕ → Ending → Type 0
@@ -131,7 +131,7 @@ EndsAtLimit front.Nothing left ending = ((ending ≡ Whole) × IfSome left (λ o
 EndsAtLimit front.Refused left ending = Unit {0}
 
 -- The items that are held were told of and what was told was written, or a front of it was; or nothing was written.
-abbrev pub Writes : {T : Type 0} → (T → List ℕ → List ℕ → Type 0) → (T → List ℕ → Front → Type 0) → T → T → List ℕ → List ℕ → Option (List ℕ) → Option (List ℕ) → Result Front StreamFault → Type 0
+abbrev pub Writes : {T : Type 0} → (T → T → List ℕ → List ℕ → Type 0) → (T → List ℕ → Front → Type 0) → T → T → List ℕ → List ℕ → Option (List ℕ) → Option (List ℕ) → Result Front StreamFault → Type 0
 Writes has_told finds old new held held' written written' (Ok found) = (added : List ℕ) × TellsAll has_told finds old new held held' [] added found × (written' ≡ gained written added)
 Writes has_told finds old new held held' written written' (Err fault) =
     (written' ≡ written) ⊎ ((rest added : List ℕ) × (found : Front) × TellsAll has_told finds old new held rest [] added found × GainedFront written written' added)

@@ -180,8 +180,8 @@ fn run_all<T: Teller, S: Source, K: Sink>(
     requires held { run.old.held.items ≡ [] }
     requires text { run.old.text.items ≡ [] }
     requires fed { run.old.fed ≡ 0 }
-    requires new { T.has_told teller.old [] [] }
-    ensures runs { IfSome (S.content source.old) (λ input. Runs T.has_told T.finds teller.new input (S.content source.new) (K.content sink.old) (K.content sink.new) result) }
+    requires new { T.has_told teller.old teller.old [] [] }
+    ensures runs { IfSome (S.content source.old) (λ input. Runs (T.has_told teller.old) T.finds teller.new input (S.content source.new) (K.content sink.old) (K.content sink.new) result) }
     ensures finish { result ≡ Ok Whole → IfSome (S.content source.new) (λ left. left ≡ []) }
     ensures blame { Blames (S.faults source.old) (S.faults source.new) (K.faults sink.old) (K.faults sink.new) result }
     ensures source_short { IsAnswered (S.shortages source.old) (S.shortages source.new) (IsErrOf result StreamFault.NoMemory) }
@@ -197,7 +197,7 @@ fn run_all<T: Teller, S: Source, K: Sink>(
 }
 
 /// Tells of all items of the input, up to its end or to the first place where no item stands, and
-/// answers how the input ends. It needs a teller that took and told nothing yet.
+/// answers how the input ends.
 ///
 /// `ReadFault` comes where the source failed, once all that was read is told of, and `WriteFault`
 /// where the sink failed. `NoMemory` comes where memory was wanting, also that of a port.
@@ -207,9 +207,9 @@ pub fn tell_all<T: Teller, S: Source, K: Sink>(
     source: &mut S,
     sink: &mut K,
 ) -> Result<Ending, StreamFault>
-    requires { T.has_told teller.old [] [] }
+    requires { T.has_told teller.old teller.old [] [] }
     // What the sink gains is what is told of the items that the source had left. A fault of the source loses nothing.
-    ensures runs { IfSome (S.content source.old) (λ input. Runs T.has_told T.finds teller.new input (S.content source.new) (K.content sink.old) (K.content sink.new) result) }
+    ensures runs { IfSome (S.content source.old) (λ input. Runs (T.has_told teller.old) T.finds teller.new input (S.content source.new) (K.content sink.old) (K.content sink.new) result) }
     // The input was read to its end.
     ensures finish { result ≡ Ok Whole → IfSome (S.content source.new) (λ left. left ≡ []) }
     // Each fault has its cause, and a shortage of memory of a port is answered.

@@ -22,8 +22,8 @@ pub enum Front {
 pub trait Teller {
     ghost use Rattle.item_stream.specs.declared.teller.Front.{Front};
 
-    /// It took items that have these octets, and told this of them.
-    ghost has_told: { Self → List ℕ → List ℕ → Type 0 };
+    /// Since it was `first` it took items that have these octets, and told this of them.
+    ghost has_told: { Self → Self → List ℕ → List ℕ → Type 0 };
 
     /// It finds this at the front of octets where no whole item stands.
     ghost finds: { Self → List ℕ → Front → Type 0 };
