@@ -2,7 +2,7 @@
 use Rattle.std.proofs.Common.{◌≡◌, ◌≢◌, ℕ, ◌+◌, ◌-◌, ◌≤◌, List, [], ◌++◌, length, Option, Some, None, IfSome, Ok, Err, refl, sym, ap, subst, ◌∙◌, append_assoc, arith, inl, inr, length-append}
 use Rattle.std.proofs.lemmas.List.{append-nil}
 use Rattle.bt_base.specs.Streams.{gained, GainedFront}
-use Rattle.bt_base.proofs.PortLaws.{gained-gained, gained-nil, front_whole, front_then}
+use Rattle.bt_base.proofs.PortLaws.{gained-gained, front_none, front_whole, front_then}
 use Rattle.item_stream.specs.declared.end.Ending.{Ending}
 use Rattle.item_stream.specs.declared.end.Ending.TheVariants.{Refused}
 use Rattle.item_stream.specs.declared.end.StreamFault.{StreamFault}
@@ -36,15 +36,15 @@ taken_front None left octets all took e = absurd cc
 taken_front (Some known) left octets all (rest, whole, left-is) e = let same : known ≡ all = cc in (rest, sym same ∙ whole, left-is)
 
 -- nothing was read yet
-pub standing_none : {T : Type 0} (has_told : T → List ℕ → List ℕ → Type 0) (input old : Option (List ℕ)) (now : T) → has_told now [] [] → Standing has_told input input old old now [] 0
-standing_none has_told input old now h = record {
+pub standing_none : {T : Type 0} (has_told : T → List ℕ → List ℕ → Type 0) (input old new : Option (List ℕ)) (now : T) (opening : List ℕ) → has_told now [] opening → new ≡ gained old opening → Standing has_told input input old new now [] 0
+standing_none has_told input old new now opening h wrote = record {
   taken = [];
-  said = [];
+  said = opening;
   took = took_none input;
   count = refl;
   within = omega arith;
   told = h;
-  written = sym (gained-nil old);
+  written = wrote;
 }
 
 -- the items that are held were told of, and what was told is written
@@ -203,11 +203,21 @@ goes_on has_told first finds input left left' old new new' now now' held held' h
 pub held_within : {T : Type 0} (has_told : T → List ℕ → List ℕ → Type 0) (input left old new : Option (List ℕ)) (now : T) (held : List ℕ) (fed : ℕ) → Standing has_told input left old new now held fed → length held ≤ fed
 held_within has_told input left old new now held fed s = omega (arith, s.count)
 
--- a new run
-pub standing_new : {T : Type 0} (has_told : T → List ℕ → List ℕ → Type 0) (input old : Option (List ℕ)) (now : T) (held : List ℕ) (fed : ℕ) → held ≡ [] → fed ≡ 0 → has_told now [] [] → Standing has_told input input old old now held fed
-standing_new has_told input old now held fed none unread h =
-    subst (λ (t : List ℕ). Standing has_told input input old old now t fed) (sym none) (subst (λ (k : ℕ). Standing has_told input input old old now [] k) (sym unread) (standing_none has_told input old now h))
+-- a new run, which holds nothing
+pub standing_new : {T : Type 0} (has_told : T → List ℕ → List ℕ → Type 0) (input old new : Option (List ℕ)) (now : T) (opening held : List ℕ) → held ≡ [] → has_told now [] opening → new ≡ gained old opening → Standing has_told input input old new now held 0
+standing_new has_told input old new now opening held none h wrote = subst (λ (t : List ℕ). Standing has_told input input old new now t 0) (sym none) (standing_none has_told input old new now opening h wrote)
 
--- nothing was told, for want of memory
-pub nothing_told : {T : Type 0} (has_told : T → List ℕ → List ℕ → Type 0) (finds : T → List ℕ → Front → Type 0) (input left old : Option (List ℕ)) (now : T) → has_told now [] [] → IfSome input (λ all. Runs has_told finds now all left old old (Err NoMemory))
-nothing_told has_told finds input left old now h = memory_fault has_told finds input input left old old now now [] 0 (standing_none has_told input old now h)
+-- a front of the opening was written
+opening_front : {T : Type 0} (has_told : T → List ℕ → List ℕ → Type 0) (input old new : Option (List ℕ)) (now : T) (opening : List ℕ) → has_told now [] opening → GainedFront old new opening → IfSome input (λ all. FrontTold has_told all old new)
+opening_front has_told input old new now opening h front = told input (λ all e. record { then_ = now; taken = []; left = all; said = opening; whole = refl; within = omega arith; told = h; wrote = front })
+
+-- nothing was told but a front of the opening
+pub opening_fault : {T : Type 0} (has_told : T → List ℕ → List ℕ → Type 0) (finds : T → List ℕ → Front → Type 0) (input left old new : Option (List ℕ)) (now : T) (opening : List ℕ) (fault : StreamFault) → has_told now [] opening → GainedFront old new opening → IsOfSink fault
+    → IfSome input (λ all. Runs has_told finds now all left old new (Err fault))
+opening_fault has_told finds input left old new now opening ReadFault h front sink = absurd sink
+opening_fault has_told finds input left old new now opening WriteFault h front sink = opening_front has_told input old new now opening h front
+opening_fault has_told finds input left old new now opening NoMemory h front sink = opening_front has_told input old new now opening h front
+
+-- no memory could be had for the run
+pub nothing_told : {T : Type 0} (has_told : T → List ℕ → List ℕ → Type 0) (finds : T → List ℕ → Front → Type 0) (input left old : Option (List ℕ)) (now : T) (opening : List ℕ) → has_told now [] opening → IfSome input (λ all. Runs has_told finds now all left old old (Err NoMemory))
+nothing_told has_told finds input left old now opening h = opening_front has_told input old old now opening h (front_none old opening)

@@ -71,13 +71,16 @@ Runs has_told finds now input left old new (Err NoMemory) = FrontTold has_told i
 
 -- Who is to blame for a fault: one of reading comes only where the source's count of faults rose, one of writing
 -- only where the sink's did, and a count that rises is answered.
-pub record Blames {A : Type 0} (source source' sink sink' : ℕ) (result : Result A StreamFault) : Type 0 where
+pub record IsBlamed (source source' sink sink' : ℕ) (of_reading of_writing : Type 0) : Type 0 where
   pub source_stays : source ≤ source'
   pub sink_stays : sink ≤ sink'
-  pub read : IsErrOf result ReadFault → HasRisen source source'
-  pub write : IsErrOf result WriteFault → HasRisen sink sink'
-  pub only_read : source < source' → IsErrOf result ReadFault
-  pub only_write : sink < sink' → IsErrOf result WriteFault
+  pub read : of_reading → HasRisen source source'
+  pub write : of_writing → HasRisen sink sink'
+  pub only_read : source < source' → of_reading
+  pub only_write : sink < sink' → of_writing
+
+abbrev pub Blames : {A : Type 0} → ℕ → ℕ → ℕ → ℕ → Result A StreamFault → Type 0
+Blames source source' sink sink' result = IsBlamed source source' sink sink' (IsErrOf result ReadFault) (IsErrOf result WriteFault)
 
 -- A count that rises in a call is answered so. It never falls.
 pub record IsAnswered (count count' : ℕ) (answer : Type 0) : Type 0 where
@@ -135,3 +138,8 @@ abbrev pub Writes : {T : Type 0} → (T → T → List ℕ → List ℕ → Type
 Writes has_told finds old new held held' written written' (Ok found) = (added : List ℕ) × TellsAll has_told finds old new held held' [] added found × (written' ≡ gained written added)
 Writes has_told finds old new held held' written written' (Err fault) =
     (written' ≡ written) ⊎ ((rest added : List ℕ) × (found : Front) × TellsAll has_told finds old new held rest [] added found × GainedFront written written' added)
+
+-- A run from each standing leads to what the sink gains from the whole input.
+abbrev pub RunsFrom : {T : Type 0} → (T → T → List ℕ → List ℕ → Type 0) → (T → List ℕ → Front → Type 0) → Option (List ℕ) → Option (List ℕ) → Option (List ℕ) → Option (List ℕ) → T → T → List ℕ → ℕ → Result Ending StreamFault → Type 0
+RunsFrom {T} has_told finds left left' new new' now now' held fed result =
+    (first : T) (input old : Option (List ℕ)) → Standing (has_told first) input left old new now held fed → IfSome input (λ all. Runs (has_told first) finds now' all left' old new' result)

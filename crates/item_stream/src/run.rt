@@ -3,7 +3,7 @@
 ghost use Rattle.std.specs.Prelude.{◌≡◌, ◌≤◌, ◌<◌, ◌++◌, List, ℕ, Option, [], None, Some, Ok, Err, vec_len, length, drop, take, IfOk, OnOk, IfSome, IfErr, IsErrOf, OnErr};
 ghost use Rattle.item_stream.specs.declared.end.Ending.TheVariants.{Whole};
 ghost use Rattle.item_stream.specs.Telling.{TellsAll};
-ghost use Rattle.item_stream.specs.Running.{input_limit, Took, Runs, Steps, EndsAt, EndsAtLimit, Writes, Blames, IsAnswered, IsOfSource, IsOfSink};
+ghost use Rattle.item_stream.specs.Running.{input_limit, Runs, RunsFrom, Steps, EndsAt, EndsAtLimit, Writes, Blames, IsAnswered, IsOfSource, IsOfSink};
 
 use crate::end::{Ending, StreamFault};
 use crate::ports::{read_piece, write_text};
@@ -177,11 +177,10 @@ fn run_all<T: Teller, S: Source, K: Sink>(
     piece: &mut [u8],
 ) -> Result<Ending, StreamFault>
     requires room { 0 < length piece.old }
-    requires held { run.old.held.items ≡ [] }
     requires text { run.old.text.items ≡ [] }
-    requires fed { run.old.fed ≡ 0 }
-    requires new { T.has_told teller.old teller.old [] [] }
-    ensures runs { IfSome (S.content source.old) (λ input. Runs (T.has_told teller.old) T.finds teller.new input (S.content source.new) (K.content sink.old) (K.content sink.new) result) }
+    requires within { run.old.fed ≤ input_limit }
+    requires held { vec_len run.old.held ≤ run.old.fed }
+    ensures runs { RunsFrom T.has_told T.finds (S.content source.old) (S.content source.new) (K.content sink.old) (K.content sink.new) teller.old teller.new run.old.held.items run.old.fed result }
     ensures finish { result ≡ Ok Whole → IfSome (S.content source.new) (λ left. left ≡ []) }
     ensures blame { Blames (S.faults source.old) (S.faults source.new) (K.faults sink.old) (K.faults sink.new) result }
     ensures source_short { IsAnswered (S.shortages source.old) (S.shortages source.new) (IsErrOf result StreamFault.NoMemory) }
@@ -196,18 +195,20 @@ fn run_all<T: Teller, S: Source, K: Sink>(
     }
 }
 
-/// Tells of all items of the input, up to its end or to the first place where no item stands, and
-/// answers how the input ends.
+/// Writes the opening, and then tells of all items of the input, up to its end or to the first place
+/// where no item stands. It answers how the input ends.
 ///
 /// `ReadFault` comes where the source failed, once all that was read is told of, and `WriteFault`
 /// where the sink failed. `NoMemory` comes where memory was wanting, also that of a port.
 pub fn tell_all<T: Teller, S: Source, K: Sink>(
     alloc: Global,
+    opening: &[u8],
     teller: &mut T,
     source: &mut S,
     sink: &mut K,
 ) -> Result<Ending, StreamFault>
-    requires { T.has_told teller.old teller.old [] [] }
+    // Nothing was taken yet, and the opening counts as told.
+    requires { T.has_told teller.old teller.old [] opening.now }
     // What the sink gains is what is told of the items that the source had left. A fault of the source loses nothing.
     ensures runs { IfSome (S.content source.old) (λ input. Runs (T.has_told teller.old) T.finds teller.new input (S.content source.new) (K.content sink.old) (K.content sink.new) result) }
     // The input was read to its end.
@@ -220,6 +221,9 @@ pub fn tell_all<T: Teller, S: Source, K: Sink>(
     let Ok(mut piece) = vec![in alloc; 0u8; PIECE_LENGTH] else {
         return Err(StreamFault::NoMemory);
     };
+    if let Err(fault) = write_text(sink, opening) {
+        return Err(fault);
+    }
     let mut run = Run {
         held: Vec::new(alloc),
         text: Vec::new(alloc),
