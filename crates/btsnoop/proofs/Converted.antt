@@ -1,5 +1,5 @@
 -- What a conversion comes to.
-use Rattle.std.proofs.Common.{◌≡◌, ◌≢◌, ℕ, ◌+◌, ◌-◌, ◌<◌, ◌≤◌, ◌⊎◌, List, [], ◌∷◌, ◌++◌, length, take, drop, Option, Some, None, IfSome, Result, Ok, Err, refl, sym, ap, subst, ◌∙◌, append_assoc, arith, inl, inr, length-append}
+use Rattle.std.proofs.Common.{◌≡◌, ◌≢◌, ℕ, ◌+◌, ◌-◌, ◌<◌, ◌≤◌, ◌⊎◌, List, [], ◌∷◌, ◌++◌, length, take, Option, Some, None, IfSome, Ok, Err, refl, sym, ap, subst, ◌∙◌, append_assoc, arith, inl, inr}
 use Rattle.std.proofs.lemmas.List.{append-nil, take_at, take_all, drop_all}
 use Rattle.std.proofs.Math.Seq.{take-append-add}
 use Rattle.bt_base.specs.Streams.{gained, GainedFront}
@@ -9,11 +9,8 @@ use Rattle.capture.specs.Entries.{moved_tag}
 use Rattle.capture.specs.EntryReading.{record_octets as tagged, IsFront}
 use Rattle.capture.proofs.FrontLaws.{cut_at_once}
 use Rattle.tagged_entries.specs.Records.{least_length}
-use Rattle.item_stream.specs.declared.end.Ending.{Ending}
 use Rattle.item_stream.specs.declared.end.Ending.TheVariants as ending
-use Rattle.item_stream.specs.declared.end.StreamFault.{StreamFault}
 use Rattle.item_stream.specs.declared.end.StreamFault.TheVariants as stream
-use Rattle.item_stream.specs.declared.teller.Front.TheVariants.{Cut}
 use Rattle.item_stream.specs.Running.{input_limit, Told, GoesPast, Within, Behind, Ends, IsShort, FrontTold, Runs}
 use Rattle.btsnoop.specs.declared.refusal.SnoopRefusal.{SnoopRefusal}
 use Rattle.btsnoop.specs.declared.refusal.SnoopRefusal.TheVariants.{Truncated, BadTag, BadRecord, TooLong}
@@ -22,7 +19,7 @@ use Rattle.btsnoop.specs.declared.converting.Converter.{Converter}
 use Rattle.btsnoop.specs.Files.{file_header, file_of}
 use Rattle.btsnoop.specs.Writing.{Writes}
 use Rattle.btsnoop.proofs.Items.{header_size}
-use Rattle.btsnoop.specs.Converting.{first_time, items_octets, records_of, IsBadPacket, read_of, Stops, BeginsWith, IsReading, WrittenRead, FrontWritten, Converts}
+use Rattle.btsnoop.specs.Converting.{first_time, records_of, IsBadPacket, read_of, Stops, BeginsWith, IsReading, FrontWritten, Converts}
 use Rattle.btsnoop.specs.Converter.{HasRead, Finds}
 
 -- entries that were read begin the input

@@ -1,21 +1,19 @@
 -- How the records of a host grow with the entries that are read.
-use Rattle.std.proofs.Common.{◌≡◌, ℕ, ◌+◌, ◌*◌, ◌%◌, ◌^◌, ◌<◌, ◌≤◌, ◌⊎◌, Bool, true, false, if◌then◌else◌, List, [], ◌∷◌, ◌++◌, length, take, Option, Some, None, Err, refl, sym, ap, subst, ◌∙◌, append_assoc, arith, inl, inr, length-append}
+use Rattle.std.proofs.Common.{◌≡◌, ℕ, ◌+◌, ◌%◌, ◌^◌, ◌<◌, Bool, true, false, if◌then◌else◌, List, [], ◌∷◌, ◌++◌, length, refl, sym, ap, ◌∙◌, append_assoc, arith, length-append}
 use Rattle.std.proofs.lemmas.List.{append-nil}
 use Rattle.std.proofs.lemmas.Grind.{flat_map-append}
 use Rattle.std.proofs.lemmas.List.Elements.{filter_map-append}
-use Rattle.std.specs.List.{AllByRecursion, flat_map, filter_map}
-use Rattle.h4_framing.specs.Packets.{Packet, Command, Acl, Sync, Event, spelling, IsPacket}
+use Rattle.std.specs.List.{AllByRecursion}
+use Rattle.h4_framing.specs.Packets.{Packet, Command, Acl, Sync, Event}
 use Rattle.push_terms.specs.declared.word.Side.{Side}
 use Rattle.push_terms.specs.declared.word.Side.TheVariants as sides
 use Rattle.capture.specs.declared.flow.Flow.{Flow}
 use Rattle.capture.specs.declared.flow.Flow.TheVariants.{Out, Into}
-use Rattle.capture.specs.Entries.{moved_tag}
-use Rattle.capture.specs.EntryReading.{record_octets as tagged}
 use Rattle.capture.specs.Moves.{Move}
 use Rattle.btsnoop.specs.declared.converting.Converter.{Converter}
 use Rattle.btsnoop.specs.Files.{Record, record_octets, records_octets, file_header, file_of}
-use Rattle.btsnoop.specs.Converting.{Item, Moved, Passed, IsItem, item_octets, items_octets, move_in, moves_in, flow_flag, kind_flag, first_time, time_of, record_of, records_from, records_of}
-use Rattle.btsnoop.specs.Converter.{HasRead, same_side, given_of, after, PacketRead, EntryRead}
+use Rattle.btsnoop.specs.Converting.{Item, Moved, Passed, IsItem, item_octets, items_octets, move_in, moves_in, flow_flag, kind_flag, time_of, record_of, records_from}
+use Rattle.btsnoop.specs.Converter.{HasRead, same_side, given_of, after}
 
 pub flags_small : (flow : Flow) (packet : Packet) → flow_flag flow + kind_flag packet < 4
 flags_small Out (Command opcode params) = omega arith

@@ -1,18 +1,14 @@
 -- What a conversion makes of the octets where an entry should begin.
-use Rattle.std.proofs.Common.{◌≡◌, ℕ, ◌+◌, ◌*◌, ◌/◌, ◌%◌, ◌^◌, ◌<◌, ◌≤◌, ◌⊎◌, true, false, List, [], ◌∷◌, ◌++◌, length, take, get_or, Err, refl, sym, ap, subst, ◌∙◌, arith, inl, inr, length-append}
+use Rattle.std.proofs.Common.{◌≡◌, ℕ, ◌+◌, true, List, [], ◌++◌, length, take, refl, sym, ap, ◌∙◌, arith, inl, inr, length-append}
 use Rattle.std.proofs.lemmas.List.{append-nil, take_at}
-use Rattle.bt_base.specs.Octets.{IsOctets, be16}
+use Rattle.bt_base.specs.Octets.{be16}
 use Rattle.h4_framing.specs.Packets.{spelling}
-use Rattle.capture.specs.declared.entry_refusal.EntryRefusal.TheVariants as entry
 use Rattle.capture.specs.Entries.{moved_tag}
-use Rattle.capture.specs.EntryReading.{IsRecord as IsTagged, record_octets as tagged, IsFront}
-use Rattle.tagged_entries.specs.Records.{least_length}
-use Rattle.item_stream.specs.declared.teller.Front.TheVariants.{Item as item, Cut, Nothing, Refused}
-use Rattle.item_stream.specs.Telling.{longest_item, Tells}
-use Rattle.btsnoop.specs.declared.refusal.SnoopRefusal.TheVariants.{BadTag, BadRecord}
+use Rattle.capture.specs.EntryReading.{IsRecord as IsTagged, record_octets as tagged}
+use Rattle.item_stream.specs.declared.teller.Front.TheVariants.{Item as item}
+use Rattle.item_stream.specs.Telling.{Tells}
 use Rattle.btsnoop.specs.declared.converting.Converter.{Converter}
 use Rattle.btsnoop.specs.Files.{records_octets}
-use Rattle.btsnoop.specs.Converting.{Moved, Passed}
 use Rattle.btsnoop.specs.Converter.{HasRead, Finds, given_of, EntryRead}
 use Rattle.btsnoop.proofs.Growing.{packet_more, passed_more}
 

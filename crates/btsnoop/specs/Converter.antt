@@ -1,5 +1,5 @@
 -- What contracts see of a conversion under way (this project's own).
-use Rattle.std.specs.Prelude.{ℕ, ◌≡◌, ◌≢◌, ◌+◌, ◌%◌, ◌^◌, ◌≤◌, ◌⊎◌, Bool, true, false, if◌then◌else◌, List, [], ◌∷◌, ◌++◌, length, Some, Err}
+use Rattle.std.specs.Prelude.{ℕ, ◌≡◌, ◌≢◌, ◌+◌, ◌%◌, ◌^◌, ◌≤◌, ◌⊎◌, Bool, true, false, if◌then◌else◌, List, [], ◌∷◌, ◌++◌, length, Err}
 use Rattle.std.specs.List.{AllByRecursion}
 use Rattle.capture.specs.declared.entry_refusal.EntryRefusal.TheVariants as entry
 use Rattle.h4_framing.specs.Packets.{Packet, spelling, IsPacket}

@@ -2,6 +2,8 @@
 #![tactic(auto)]
 
 mod converting;
+#[cfg(test)]
+mod converting_tests;
 mod fault;
 mod fields;
 mod gathering;

@@ -1,6 +1,6 @@
 use Rattle.std.proofs.Common.{refl, arith}
 use Rattle.btsnoop.proofs.Items.{header_size}
-use Rattle.btsnoop.proofs.Converted.{new_read, told_then, whole_converts, cut_converts, long_converts, refusal_converts, read_converts, write_converts, memory_converts}
+use Rattle.btsnoop.proofs.Converted.{new_read, told_then, whole_converts, cut_converts, long_converts, refusal_converts}
 use Rattle.btsnoop.proofs.converting.convert.Goals as goal
 
 pub put_header-sixteen-requires : goal.put_header-sixteen-requires

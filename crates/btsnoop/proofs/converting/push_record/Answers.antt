@@ -1,4 +1,3 @@
-use Rattle.std.proofs.Common.{refl}
 use Rattle.btsnoop.specs.Files.{record_octets}
 use Rattle.btsnoop.proofs.Parts.{six_added}
 use Rattle.btsnoop.proofs.converting.push_record.Goals as goal

@@ -1,4 +1,4 @@
-use Rattle.std.proofs.Common.{refl, arith}
+use Rattle.std.proofs.Common.{arith}
 use Rattle.btsnoop.proofs.Growing.{flags_small}
 use Rattle.btsnoop.proofs.converting.read_packet.Goals as goal
 
