@@ -143,14 +143,6 @@ goes_on (lent.Pdu channel pdu) = false
 goes_on lent.More = true
 goes_on (lent.Dropped reason) = false
 
--- a piece was shown and joined
-pub record Shown (past : List Piece) (piece : Piece) (text text' : List ℕ) (joiner' : Held) (channels' : Channels) (on : Bool) : Type 0 where
-  pub written : text' ≡ text ++ joined_text past piece
-  pub limit : joiner'.limit ≡ pdu_limit
-  pub holds : HoldsOpen (past ++ piece ∷ []) joiner'
-  pub ends : on ≡ false → joiner'.octets ≡ []
-  pub channels : Keeps (learnt (past ++ piece ∷ [])) channels'
-
 -- the handle, if there is one, is the one whose link the event tells the end of
 abbrev pub ClosesBy : ℕ → List ℕ → Option ℕ → Type 0
 ClosesBy code params None = (handle : ℕ) → closes handle code params ≡ false

@@ -4,6 +4,8 @@ pub mod Signals
 pub mod Pdus
 pub mod Nested
 pub mod Details
+pub mod Lanes
+pub mod Both
 pub mod Lines
 pub mod Shows
 pub mod Standing

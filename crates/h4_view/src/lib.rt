@@ -1,6 +1,7 @@
 //! Captures as text: a line for each packet of a stream.
 #![tactic(auto)]
 
+mod both_links;
 mod details;
 mod joined;
 pub mod laws;
