@@ -6,3 +6,4 @@ pub mod Showing
 pub mod Stands
 pub mod Endings
 pub mod OneView
+pub mod BothWays

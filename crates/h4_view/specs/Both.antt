@@ -1,5 +1,6 @@
 -- What stands under a packet's line where it is known which way each packet goes: each direction of a handle has pieces of
 -- its own, and its channels are told by both (this project's own).
+use Rattle.std.proofs.Common.{set}
 use Rattle.std.specs.Prelude.{ℕ, ◌≡◌, ◌<◌, List, [], ◌∷◌, ◌++◌, length, get_or, fold, cond, ◌==◌, codes, Option, None, Some}
 use Rattle.std.specs.List.{AllByRecursion, flat_map}
 use Rattle.h4_framing.specs.Packets.{Packet, Command, Acl, Sync, Event}
@@ -95,3 +96,8 @@ pub record KnowsBoth (past : List Sent) (links : BothLinks) : Type 0 where
   pub size : length links.places.items ≡ 0x0F00
   pub each : (handle : ℕ) → handle < 0x0F00 → IsBothOf (sent_on handle past) (get_or links.places.items handle None)
   pub spare : AllByRecursion IsSpare links.spare.items
+
+-- the links without that handle's
+abbrev pub without_link : List (Option BothLink) → Option ℕ → List (Option BothLink)
+without_link links None = links
+without_link links (Some at) = set links at None

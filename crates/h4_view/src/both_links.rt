@@ -2,9 +2,9 @@
 
 ghost use Rattle.std.specs.Prelude.{◌≡◌, ◌++◌, ◌∷◌, List, Option, [], None, Some, IfOk, OnOk};
 ghost use Rattle.std.specs.List.{AllByRecursion};
-ghost use Rattle.h4_framing.specs.Packets.{packet};
-ghost use Rattle.h4_view.specs.Details.{IsSpare, forgotten};
-ghost use Rattle.h4_view.specs.Both.{Sent, SentPiece, both_text, under_sent, IsBoth, IsBothOf, KnowsBoth};
+ghost use Rattle.h4_framing.specs.Packets.{Acl, Event as EventPacket, packet};
+ghost use Rattle.h4_view.specs.Details.{IsSpare};
+ghost use Rattle.h4_view.specs.Both.{Sent, SentPiece, both_text, under_sent, IsBoth, IsBothOf, KnowsBoth, without_link};
 
 use crate::details::{closed_by, push_bad_command, push_bad_event};
 use crate::joined::{link_of, push_on_lane};
@@ -130,5 +130,87 @@ fn push_in_both(
     let mut link = both_in(alloc, place.take());
     push_on_both(alloc, text, spare, &mut link, direction, boundary, octets)?;
     *place = Some(link);
+    Ok(())
+}
+
+/// Adds what stands under the line of an ACL packet.
+fn push_both_piece(
+    alloc: Global,
+    text: &mut Text,
+    links: &mut BothLinks,
+    direction: Direction,
+    word: u16,
+    octets: &[u8],
+) -> Result<(), NoMemory>
+    ensures { OnOk result ((past : List Sent) → KnowsBoth past links.old →
+        (text.new.items ≡ text.old.items ++ under_sent past (record { direction = direction; packet = Acl word octets.now })) × KnowsBoth (past ++ record { direction = direction; packet = Acl word octets.now } ∷ []) links.new) }
+{
+    let Some((at, boundary)) = link_of(word) else {
+        push_text(text, "  drop BadWord\n")?;
+        return Ok(());
+    };
+    let Some(place) = links.places.get_mut(at) else {
+        return Ok(());
+    };
+    push_in_both(
+        alloc,
+        text,
+        &mut links.spare,
+        place,
+        direction,
+        boundary,
+        octets,
+    )?;
+    Ok(())
+}
+
+/// Forgets all that is kept of a handle.
+fn forget_both(links: &mut BothLinks, closed: Option<usize>)
+    ensures places { links.new.places.items ≡ without_link links.old.places.items closed }
+    ensures spare { links.new.spare ≡ links.old.spare }
+{
+    if let Some(at) = closed
+        && let Some(place) = links.places.get_mut(at)
+    {
+        *place = None;
+    }
+}
+
+/// Adds what stands under the line of an event, and forgets the link that it tells the end of.
+fn push_both_event(
+    text: &mut Text,
+    links: &mut BothLinks,
+    direction: Direction,
+    code: u8,
+    params: &[u8],
+) -> Result<(), NoMemory>
+    ensures { OnOk result ((past : List Sent) → KnowsBoth past links.old →
+        (text.new.items ≡ text.old.items ++ under_sent past (record { direction = direction; packet = EventPacket code params.now })) × KnowsBoth (past ++ record { direction = direction; packet = EventPacket code params.now } ∷ []) links.new) }
+{
+    let closed = closed_by(code, params);
+    forget_both(links, closed);
+    push_bad_event(text, code, params)?;
+    Ok(())
+}
+
+/// Adds what stands under the line of a packet that goes that way.
+pub(crate) fn push_both_details(
+    alloc: Global,
+    text: &mut Text,
+    links: &mut BothLinks,
+    direction: Direction,
+    unit: &Unit<'_>,
+) -> Result<(), NoMemory>
+    ensures { OnOk result ((past : List Sent) → KnowsBoth past links.old →
+        (text.new.items ≡ text.old.items ++ under_sent past (record { direction = direction; packet = packet unit.now })) × KnowsBoth (past ++ record { direction = direction; packet = packet unit.now } ∷ []) links.new) }
+{
+    match *unit {
+        Unit::Command { opcode, params } => push_bad_command(text, opcode, params)?,
+        Unit::Acl { word, octets } => {
+            push_both_piece(alloc, text, links, direction, word, octets)?
+        }
+        Unit::Sync { .. } => {}
+        Unit::Event { code, params } => push_both_event(text, links, direction, code, params)?,
+    }
     Ok(())
 }
