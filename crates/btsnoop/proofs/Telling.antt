@@ -25,11 +25,11 @@ tells_entry old new octets text text' payload rest tag is whole (inl (side, flow
     let octets-is : take (3 + length payload) octets ≡ tagged (moved_tag side flow) (spelling packet) = front ∙ ap (λ (t : ℕ). tagged t payload) tag-is ∙ ap (λ (p : List ℕ). tagged (moved_tag side flow) p) (sym spelled) in (
       omega arith,
       omega (arith, ap length whole, length-append (tagged tag payload) rest, tagged_long tag payload),
-      (records_octets (given_of old side (record { flow = flow; packet = packet })), adds, λ first before said h. packet_more first old new before said (take (3 + length payload) octets) _ side flow packet h (is-packet, omega (arith, is.1, ap length spelled)) octets-is refl new-is),
+      λ first before said h. (records_octets (given_of old side (record { flow = flow; packet = packet })), adds, packet_more first old new before said (take (3 + length payload) octets) _ side flow packet h (is-packet, omega (arith, is.1, ap length spelled)) octets-is refl new-is),
     )
 tells_entry old new octets text text' payload rest tag is whole (inr (low, read, same, new-is)) =
     let front : take (3 + length payload) octets ≡ tagged tag payload = ap (take (3 + length payload)) whole ∙ take_at (tagged tag payload) rest (3 + length payload) (tagged_long tag payload) in (
       omega arith,
       omega (arith, ap length whole, length-append (tagged tag payload) rest, tagged_long tag payload),
-      ([], same ∙ sym (append-nil text), λ first before said h. passed_more first old new before said (take (3 + length payload) octets) [] tag payload h (low, is.0.1, is.1) front refl new-is),
+      λ first before said h. ([], same ∙ sym (append-nil text), passed_more first old new before said (take (3 + length payload) octets) [] tag payload h (low, is.0.1, is.1) front refl new-is),
     )

@@ -48,17 +48,19 @@ standing_none has_told input old new now opening h wrote = record {
 }
 
 -- the items that are held were told of, and what was told is written
-abbrev pub standing_told : {T : Type 0} (has_told : T → T → List ℕ → List ℕ → Type 0) (first : T) (finds : T → List ℕ → Front → Type 0) (input left old new new' : Option (List ℕ)) (now now' : T) (held held' added : List ℕ) (found : Front) (fed : ℕ)
-    → Standing (has_told first) input left old new now held fed → TellsAll has_told finds now now' held held' [] added found → new' ≡ gained new added → Standing (has_told first) input left old new' now' held' fed
-standing_told has_told first finds input left old new new' now now' held held' added found fed s tells wrote = record {
-  taken = s.taken ++ tells.eaten;
-  said = s.said ++ tells.added;
-  took = subst (λ (t : List ℕ). Took input left t) (ap (λ (t : List ℕ). s.taken ++ t) tells.whole ∙ sym (append_assoc s.taken tells.eaten held')) s.took;
-  count = omega (arith, s.count, length-append s.taken tells.eaten, ap length tells.whole, length-append tells.eaten held');
-  within = s.within;
-  told = tells.goes first s.taken s.said s.told;
-  written = wrote ∙ ap (λ (c : Option (List ℕ)). gained c added) s.written ∙ gained-gained old s.said added ∙ ap (λ (t : List ℕ). gained old (s.said ++ t)) tells.adds;
-}
+abbrev pub standing_told : {T : Type 0} (has_told : T → T → List ℕ → List ℕ → Type 0) (first : T) (finds : T → List ℕ → Front → Type 0) (input left old new new' : Option (List ℕ)) (now now' : T) (held held' text : List ℕ) (found : Front) (fed : ℕ)
+    → Standing (has_told first) input left old new now held fed → TellsAll has_told finds now now' held held' [] text found → new' ≡ gained new text → Standing (has_told first) input left old new' now' held' fed
+standing_told has_told first finds input left old new new' now now' held held' text found fed s tells wrote =
+    let more = tells.goes first s.taken s.said s.told in
+    record {
+      taken = s.taken ++ tells.eaten;
+      said = s.said ++ more.0;
+      took = subst (λ (t : List ℕ). Took input left t) (ap (λ (t : List ℕ). s.taken ++ t) tells.whole ∙ sym (append_assoc s.taken tells.eaten held')) s.took;
+      count = omega (arith, s.count, length-append s.taken tells.eaten, ap length tells.whole, length-append tells.eaten held');
+      within = s.within;
+      told = more.2;
+      written = wrote ∙ ap (λ (c : Option (List ℕ)). gained c text) s.written ∙ gained-gained old s.said text ∙ ap (λ (t : List ℕ). gained old (s.said ++ t)) more.1;
+    }
 
 -- a piece more was read
 pub standing_fed : {T : Type 0} (has_told : T → List ℕ → List ℕ → Type 0) (input left left' old new : Option (List ℕ)) (now : T) (held xs : List ℕ) (fed n : ℕ)
@@ -158,7 +160,7 @@ front_more has_told first finds input left old new new' now now' held held' adde
       whole = t.2.whole ∙ append_assoc s'.taken held' t.0;
       within = omega (arith, t.2.within);
       told = s'.told;
-      wrote = subst (λ (x : List ℕ). GainedFront old new' (s.said ++ x)) tells.adds (front_then old new new' s.said added s.written front);
+      wrote = subst (λ (x : List ℕ). GainedFront old new' (s.said ++ x)) (tells.goes first s.taken s.said s.told).1 (front_then old new new' s.said added s.written front);
     })
 
 -- a fault of the sink

@@ -8,45 +8,44 @@ use Rattle.item_stream.specs.Telling.{GoesOn, Tells, Found, TellsAll}
 -- some items at the front of octets were taken and told of, and these octets are left
 pub record HasTold {T : Type 0} (has_told : T → T → List ℕ → List ℕ → Type 0) (old new : T) (octets rest text text' : List ℕ) : Type 0 where
   pub eaten : List ℕ
-  pub added : List ℕ
   pub whole : octets ≡ eaten ++ rest
-  pub adds : text' ≡ text ++ added
-  pub goes : GoesOn has_told old new eaten added
+  pub goes : GoesOn has_told old new eaten text text'
 
 pub told_none : {T : Type 0} (has_told : T → T → List ℕ → List ℕ → Type 0) (now : T) (octets text : List ℕ) → HasTold has_told now now octets octets text text
 told_none has_told now octets text = record {
   eaten = [];
-  added = [];
   whole = refl;
-  adds = sym (append-nil text);
-  goes = λ first before said h.
-      subst (λ (b : List ℕ). has_told first now b (said ++ [])) (sym (append-nil before)) (subst (λ (s : List ℕ). has_told first now before s) (sym (append-nil said)) h);
+  goes = λ first before said h. (
+    [],
+    sym (append-nil text),
+    subst (λ (b : List ℕ). has_told first now b (said ++ [])) (sym (append-nil before)) (subst (λ (s : List ℕ). has_told first now before s) (sym (append-nil said)) h),
+  );
 }
 
 -- one item more
 pub told_item : {T : Type 0} (has_told : T → T → List ℕ → List ℕ → Type 0) (finds : T → List ℕ → Front → Type 0) (old mid new : T) (octets rest text text' text'' : List ℕ) (n : ℕ)
     → HasTold has_told old mid octets rest text text' → Tells has_told finds mid new rest text' text'' (Item n) → HasTold has_told old new octets (drop n rest) text text''
-told_item has_told finds old mid new octets rest text text' text'' n so_far (some, within, (a, adds, goes)) = record {
+told_item has_told finds old mid new octets rest text text' text'' n so_far (some, within, goes) = record {
   eaten = so_far.eaten ++ take n rest;
-  added = so_far.added ++ a;
   whole = so_far.whole ∙ ap (λ (t : List ℕ). so_far.eaten ++ t) (sym (take-append-drop n rest)) ∙ sym (append_assoc so_far.eaten (take n rest) (drop n rest));
-  adds = adds ∙ ap (λ (t : List ℕ). t ++ a) so_far.adds ∙ append_assoc text so_far.added a;
   goes = λ first before said h.
-      subst (λ (b : List ℕ). has_told first new b (said ++ (so_far.added ++ a))) (append_assoc before so_far.eaten (take n rest))
-      (subst (λ (s : List ℕ). has_told first new ((before ++ so_far.eaten) ++ take n rest) s) (append_assoc said so_far.added a)
-      (goes first (before ++ so_far.eaten) (said ++ so_far.added) (so_far.goes first before said h)));
+      let one = so_far.goes first before said h in
+      let two = goes first (before ++ so_far.eaten) (said ++ one.0) one.2 in (
+        one.0 ++ two.0,
+        two.1 ∙ ap (λ (t : List ℕ). t ++ two.0) one.1 ∙ append_assoc text one.0 two.0,
+        subst (λ (b : List ℕ). has_told first new b (said ++ (one.0 ++ two.0))) (append_assoc before so_far.eaten (take n rest))
+            (subst (λ (s : List ℕ). has_told first new ((before ++ so_far.eaten) ++ take n rest) s) (append_assoc said one.0 two.0) two.2),
+      );
 }
 
 -- and then no whole item
-told_last : {T : Type 0} (has_told : T → T → List ℕ → List ℕ → Type 0) (finds : T → List ℕ → Front → Type 0) (old mid new : T) (octets rest text text' text'' : List ℕ) (front : Front)
+pub told_last : {T : Type 0} (has_told : T → T → List ℕ → List ℕ → Type 0) (finds : T → List ℕ → Front → Type 0) (old mid new : T) (octets rest text text' text'' : List ℕ) (front : Front)
     → HasTold has_told old mid octets rest text text' → text'' ≡ text' → ((first : T) (before said : List ℕ) → has_told first mid before said → has_told first new before said) → Found finds new rest front
     → TellsAll has_told finds old new octets rest text text'' front
 told_last has_told finds old mid new octets rest text text' text'' front so_far same stays found = record {
   eaten = so_far.eaten;
-  added = so_far.added;
   whole = so_far.whole;
-  adds = same ∙ so_far.adds;
-  goes = λ first before said h. stays first (before ++ so_far.eaten) (said ++ so_far.added) (so_far.goes first before said h);
+  goes = λ first before said h. let one = so_far.goes first before said h in (one.0, same ∙ one.1, stays first (before ++ so_far.eaten) (said ++ one.0) one.2);
   found = found;
 }
 

@@ -135,9 +135,9 @@ EndsAtLimit front.Refused left ending = Unit {0}
 
 -- The items that are held were told of and what was told was written, or a front of it was; or nothing was written.
 abbrev pub Writes : {T : Type 0} → (T → T → List ℕ → List ℕ → Type 0) → (T → List ℕ → Front → Type 0) → T → T → List ℕ → List ℕ → Option (List ℕ) → Option (List ℕ) → Result Front StreamFault → Type 0
-Writes has_told finds old new held held' written written' (Ok found) = (added : List ℕ) × TellsAll has_told finds old new held held' [] added found × (written' ≡ gained written added)
+Writes has_told finds old new held held' written written' (Ok found) = (text : List ℕ) × TellsAll has_told finds old new held held' [] text found × (written' ≡ gained written text)
 Writes has_told finds old new held held' written written' (Err fault) =
-    (written' ≡ written) ⊎ ((rest added : List ℕ) × (found : Front) × TellsAll has_told finds old new held rest [] added found × GainedFront written written' added)
+    (written' ≡ written) ⊎ ((rest text : List ℕ) × (found : Front) × TellsAll has_told finds old new held rest [] text found × GainedFront written written' text)
 
 -- A run from each standing leads to what the sink gains from the whole input.
 abbrev pub RunsFrom : {T : Type 0} → (T → T → List ℕ → List ℕ → Type 0) → (T → List ℕ → Front → Type 0) → Option (List ℕ) → Option (List ℕ) → Option (List ℕ) → Option (List ℕ) → T → T → List ℕ → ℕ → Result Ending StreamFault → Type 0
