@@ -1,6 +1,6 @@
 -- What is kept of links where it is known which way each packet goes.
-use Rattle.std.proofs.Common.{◌≡◌, ◌≢◌, ℕ, ◌<◌, ◌≤◌, List, [], ◌∷◌, ◌++◌, length, get_or, set, true, false, cond, eqb, Option, Some, None, replicate, refl, sym, ap, subst, ◌∙◌, append_assoc, inl, inr, arith}
-use Rattle.std.specs.List.{AllByRecursion, flat_map}
+use Rattle.std.proofs.Common.{◌≡◌, ◌≢◌, ℕ, ◌<◌, List, [], ◌∷◌, ◌++◌, length, get_or, set, true, false, eqb, Option, Some, None, replicate, refl, sym, ap, subst, ◌∙◌, append_assoc, inl, inr, arith}
+use Rattle.std.specs.List.{AllByRecursion}
 use Rattle.std.proofs.lemmas.List.{append-nil, get_or_default, get_or-set_same, get_or-set_other, length-set, length-replicate, get_or-replicate}
 use Rattle.std.proofs.lemmas.List.Sums.{fold-append}
 use Rattle.std.proofs.lemmas.Grind.{flat_map-append}
@@ -8,17 +8,16 @@ use Rattle.std.proofs.lemmas.Bool.Decides.{eqb_tells}
 use Rattle.hci_packets.specs.declared.acl.Boundary.{Boundary}
 use Rattle.acl_fragments.specs.Pieces.{Piece}
 use Rattle.acl_fragments.specs.Joiners.{Held}
-use Rattle.h4_framing.specs.Packets.{Packet, Command, Acl, Sync, Event}
+use Rattle.h4_framing.specs.Packets.{Command, Acl, Sync, Event}
 use Rattle.seen_channels.specs.declared.direction.Direction.{Direction}
 use Rattle.seen_channels.specs.declared.direction.Direction.TheVariants.{Out, In}
-use Rattle.seen_channels.specs.declared.channels.Channels.{Channels}
 use Rattle.seen_channels.specs.Tellings.{Learnt, nothing}
 use Rattle.seen_channels.specs.Tables.{Keeps}
 use Rattle.h4_view.specs.declared.both_links.BothLink.{BothLink}
 use Rattle.h4_view.specs.declared.both_links.BothLinks.{BothLinks}
 use Rattle.h4_view.specs.Details.{link_of, IsJoinerOf, IsSpare, ClosesBy}
 use Rattle.h4_view.specs.Lanes.{learnt_with, LaneKept}
-use Rattle.h4_view.specs.Both.{Sent, SentPiece, in_lane, lane, learnt_from, learnt_both, with_sent_piece, with_by, with_sent, sent_on, both_text, sent_piece_text, under_by, under_sent, IsBoth, IsBothOf, KnowsBoth, without_link}
+use Rattle.h4_view.specs.Both.{Sent, SentPiece, in_lane, lane, learnt_from, learnt_both, with_sent_piece, with_sent, sent_on, both_text, sent_piece_text, under_by, IsBoth, IsBothOf, KnowsBoth, without_link}
 
 -- ---- one piece more
 

@@ -7,3 +7,5 @@ pub mod Stands
 pub mod Endings
 pub mod OneView
 pub mod BothWays
+pub mod TaggedLines
+pub mod TaggedEnds

@@ -8,7 +8,6 @@ use Rattle.hci_packets.specs.declared.acl.Boundary.{Boundary}
 use Rattle.hci_packets.specs.Commands.{command_refusal}
 use Rattle.hci_packets.specs.Events.{event_refusal}
 use Rattle.acl_fragments.specs.Pieces.{Piece}
-use Rattle.acl_fragments.specs.Joiners.{Held}
 use Rattle.seen_channels.specs.declared.direction.Direction.{Direction}
 use Rattle.seen_channels.specs.declared.direction.Direction.TheVariants.{Out, In}
 use Rattle.seen_channels.specs.Tellings.{Learnt, nothing}

@@ -17,7 +17,7 @@ use Rattle.acl_fragments.specs.declared.joined.Got.{Got}
 use Rattle.acl_fragments.specs.declared.joined.Got.TheVariants as lent
 use Rattle.acl_fragments.specs.Pieces.{Piece, starts}
 use Rattle.acl_fragments.specs.Answers.{Answer, Pdu, More, Dropped, open_after, leaves_unfinished}
-use Rattle.acl_fragments.specs.Joiners.{Held, HoldsOpen}
+use Rattle.acl_fragments.specs.Joiners.{Held}
 use Rattle.h4_view.specs.Texts.{word_text}
 use Rattle.seen_channels.specs.declared.direction.Direction.{Direction}
 use Rattle.seen_channels.specs.declared.channels.Channels.{Channels}

@@ -1,5 +1,5 @@
 -- What a piece gives where its link's pieces of the same direction, and what is known of the link's channels, are given.
-use Rattle.std.specs.Prelude.{ℕ, ◌≡◌, List, [], ◌∷◌, ◌++◌, Bool, false, cond, fold, codes, Option, None, Some}
+use Rattle.std.specs.Prelude.{ℕ, ◌≡◌, List, [], ◌∷◌, ◌++◌, Bool, false, cond, fold, codes, Option}
 use Rattle.acl_fragments.specs.Pieces.{Piece, starts}
 use Rattle.acl_fragments.specs.Answers.{open_after, leaves_unfinished}
 use Rattle.acl_fragments.specs.Joiners.{Held, HoldsOpen}

@@ -7,6 +7,8 @@ pub mod Details
 pub mod Lanes
 pub mod Both
 pub mod Lines
+pub mod Tagged
+pub mod TaggedTelling
 pub mod Shows
 pub mod Standing
 pub mod View

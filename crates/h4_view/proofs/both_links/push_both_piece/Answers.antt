@@ -1,5 +1,5 @@
 use Rattle.std.proofs.Common.{refl, sym, ◌∙◌}
-use Rattle.h4_view.proofs.BothWays.{stray_both, piece_both}
+use Rattle.h4_view.proofs.BothWays.{piece_both}
 use Rattle.h4_view.proofs.both_links.push_both_piece.Goals as goal
 
 pub returns : goal.returns

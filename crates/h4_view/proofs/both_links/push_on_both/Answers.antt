@@ -1,4 +1,4 @@
-use Rattle.std.proofs.Common.{List, refl, sym, subst}
+use Rattle.std.proofs.Common.{refl}
 use Rattle.h4_view.proofs.BothWays.{out_more, in_more}
 use Rattle.h4_view.proofs.both_links.push_on_both.Goals as goal
 
