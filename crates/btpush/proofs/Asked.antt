@@ -4,7 +4,7 @@ use Rattle.bt_base.proofs.PortLaws.{front_none}
 use Rattle.clap.specs.Words.{Text}
 use Rattle.command_words.specs.Forms.{AsksFor, IsAnswered}
 use Rattle.command_words.specs.declared.form.Form.{Form}
-use Rattle.command_words.specs.declared.form.Form.TheVariants.{Decode, DecodeTagged, Push, Receive, Make, Wire}
+use Rattle.command_words.specs.declared.form.Form.TheVariants.{Decode, DecodeTagged, DecodeSnoop, Push, Receive, Make, Snoop, Wire}
 use Rattle.command_words.proofs.Asking.{asks_once}
 use Rattle.h4_view.specs.View.{OfLines}
 use Rattle.three_wire.specs.declared.fault.CarryFault.TheVariants as fault
@@ -30,9 +30,11 @@ not_other words form other asks differs asks' = differs (asks_once words form ot
 unbuilt : (form : Form) → (form ≡ Decode → ⊥) → (form ≡ Push → ⊥) → ((number : Option ℕ) → form ≡ Wire number → ⊥) → IsBuilt form → ⊥
 unbuilt Decode decode push wire built = decode refl
 unbuilt DecodeTagged decode push wire built = built
+unbuilt DecodeSnoop decode push wire built = built
 unbuilt Push decode push wire built = push refl
 unbuilt Receive decode push wire built = built
 unbuilt (Make number) decode push wire built = built
+unbuilt (Snoop side) decode push wire built = built
 unbuilt (Wire number) decode push wire built = wire number refl
 
 pub none_built : (words : List Text) (form : Form) → AsksFor words form → (form ≡ Decode → ⊥) → (form ≡ Push → ⊥) → ((number : Option ℕ) → form ≡ Wire number → ⊥) → AskForNone words

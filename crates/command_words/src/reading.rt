@@ -10,6 +10,7 @@ use crate::form::Form;
 use clap::ArgMatches;
 use clap::error::ErrorKind;
 use itoa::Buffer;
+use push_terms::Side;
 use std::alloc::Global;
 
 /// Memory ran out while the words were read.
@@ -31,27 +32,39 @@ fn number_of(text: &str) -> Option<u32>
     }
 }
 
-/// The form with that word and flag, where no number is given.
-fn plain_form(word: &str, tagged: bool) -> Option<Form>
-    ensures { IsSpelled (record { form = Some word.now; tagged = tagged; number = None }) result }
+/// The form with that word and these flags, where no side and no number is given.
+fn plain_form(word: &str, tagged: bool, snoop: bool) -> Option<Form>
+    ensures { IsSpelled (record { form = Some word.now; tagged = tagged; snoop = snoop; side = None; number = None }) result }
 {
-    match (word, tagged) {
-        ("decode", false) => Some(Form::Decode),
-        ("decode", true) => Some(Form::DecodeTagged),
-        ("push", false) => Some(Form::Push),
-        ("receive", false) => Some(Form::Receive),
-        ("wire", false) => Some(Form::Wire(None)),
+    match (word, tagged, snoop) {
+        ("decode", false, false) => Some(Form::Decode),
+        ("decode", true, false) => Some(Form::DecodeTagged),
+        ("decode", false, true) => Some(Form::DecodeSnoop),
+        ("push", false, false) => Some(Form::Push),
+        ("receive", false, false) => Some(Form::Receive),
+        ("wire", false, false) => Some(Form::Wire(None)),
         _ => None,
     }
 }
 
-/// The form with that word and flag, and a number.
-fn numbered_form(word: &str, tagged: bool, number: &str) -> Option<Form>
-    ensures { IsSpelled (record { form = Some word.now; tagged = tagged; number = Some number.now }) result }
+/// The form with that word and these flags, and a number.
+fn numbered_form(word: &str, tagged: bool, snoop: bool, number: &str) -> Option<Form>
+    ensures { IsSpelled (record { form = Some word.now; tagged = tagged; snoop = snoop; side = None; number = Some number.now }) result }
 {
-    match (word, tagged) {
-        ("make", false) => number_of(number).map(Form::Make),
-        ("wire", false) => number_of(number).map(|number| Form::Wire(Some(number))),
+    match (word, tagged, snoop) {
+        ("make", false, false) => number_of(number).map(Form::Make),
+        ("wire", false, false) => number_of(number).map(|number| Form::Wire(Some(number))),
+        _ => None,
+    }
+}
+
+/// The form with that word and these flags, and a side.
+fn sided_form(word: &str, tagged: bool, snoop: bool, side: &str) -> Option<Form>
+    ensures { IsSpelled (record { form = Some word.now; tagged = tagged; snoop = snoop; side = Some side.now; number = None }) result }
+{
+    match (word, tagged, snoop, side) {
+        ("snoop", false, false, "a") => Some(Form::Snoop(Side::A)),
+        ("snoop", false, false, "b") => Some(Form::Snoop(Side::B)),
         _ => None,
     }
 }
@@ -63,11 +76,11 @@ fn text_found<'a>(found: &ArgMatches<'a>, name: &str) -> Option<&'a str>
     found.get_str(name)
 }
 
-/// Whether `--tagged` was found.
-fn is_tagged(found: &ArgMatches<'_>) -> bool
-    ensures { result ≡ is_set (first_of (codes "tagged") (rows_of (found_of found.now))) }
+/// Whether a flag was found under a name.
+fn is_found(found: &ArgMatches<'_>, name: &str) -> bool
+    ensures { result ≡ is_set (first_of name.now (rows_of (found_of found.now))) }
 {
-    match text_found(found, "tagged") {
+    match text_found(found, name) {
         Some(text) => text == "true",
         None => false,
     }
@@ -77,13 +90,20 @@ fn is_tagged(found: &ArgMatches<'_>) -> bool
 fn form_found(found: &ArgMatches<'_>) -> Option<Form>
     ensures { IsSpelled (given_by (rows_of (found_of found.now))) result }
 {
-    let tagged = is_tagged(found);
+    let tagged = is_found(found, "tagged");
+    let snoop = is_found(found, "snoop");
     let Some(word) = text_found(found, "form") else {
         return None
     };
+    let Some(side) = text_found(found, "side") else {
+        return match text_found(found, "number") {
+            None => plain_form(word, tagged, snoop),
+            Some(number) => numbered_form(word, tagged, snoop, number),
+        }
+    };
     match text_found(found, "number") {
-        None => plain_form(word, tagged),
-        Some(number) => numbered_form(word, tagged, number),
+        None => sided_form(word, tagged, snoop, side),
+        Some(_) => None,
     }
 }
 

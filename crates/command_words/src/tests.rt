@@ -1,12 +1,16 @@
 use crate::{Form, form_of};
+use push_terms::Side;
 use std::test::Fail;
 
 /// Command lines behind the program's name, their words apart by blanks, and the forms that they ask
 /// for.
-const LINES: [(&str, Option<Form>); 18] = [
+const LINES: [(&str, Option<Form>); 26] = [
     ("decode", Some(Form::Decode)),
     ("decode --tagged", Some(Form::DecodeTagged)),
     ("--tagged decode", Some(Form::DecodeTagged)),
+    ("decode --snoop", Some(Form::DecodeSnoop)),
+    ("snoop --side a", Some(Form::Snoop(Side::A))),
+    ("--side=b snoop", Some(Form::Snoop(Side::B))),
     ("push", Some(Form::Push)),
     ("receive", Some(Form::Receive)),
     ("make --number 0", Some(Form::Make(0))),
@@ -21,6 +25,11 @@ const LINES: [(&str, Option<Form>); 18] = [
     ("wire --number 01", None),
     ("wire --tagged", None),
     ("push push", None),
+    ("decode --snoop --tagged", None),
+    ("snoop", None),
+    ("snoop --side c", None),
+    ("snoop --side a --snoop", None),
+    ("snoop --side a --number 1", None),
     ("--help", None),
 ];
 
