@@ -4,6 +4,8 @@ pub mod PutLaws
 pub mod PacketLaws
 pub mod RuleLaws
 pub mod PastLaws
+pub mod GrantedLaws
+pub mod CallLaws
 pub mod TurnLaws
 pub mod RuledLaws
 pub mod ListLaws

@@ -50,7 +50,7 @@ open_at : (ends : Bool) (all others run run' : List PlainPacket) (last : Option 
 open_at true all others run run' last e f = e
 open_at false all others run run' last e f = f
 
-open-more : (run : List PlainPacket) (packets : List (Option PlainPacket)) (last : Option PlainPacket) → open_from run (packets ++ last ∷ []) ≡ open_from (open_from run packets) (last ∷ [])
+pub open-more : (run : List PlainPacket) (packets : List (Option PlainPacket)) (last : Option PlainPacket) → open_from run (packets ++ last ∷ []) ≡ open_from (open_from run packets) (last ∷ [])
 open-more run [] last = refl
 open-more run (None ∷ rest) last = open-more [] rest last
 open-more run (Some put ∷ rest) last = open_at (breaks (run_headers (run ++ put ∷ [])) || is_final put) _ _ _ _ last (open-more [] rest last) (open-more (run ++ put ∷ []) rest last)
@@ -64,7 +64,7 @@ open_keeps_at : (ends : Bool) (all others : List PlainPacket) → KeepsRules (ru
 open_keeps_at true all others k l = k
 open_keeps_at false all others k l = l refl
 
-open_keeps : (run : List PlainPacket) (packets : List (Option PlainPacket)) → KeepsRules (run_headers run) → KeepsRules (run_headers (open_from run packets))
+pub open_keeps : (run : List PlainPacket) (packets : List (Option PlainPacket)) → KeepsRules (run_headers run) → KeepsRules (run_headers (open_from run packets))
 open_keeps run [] k = k
 open_keeps run (None ∷ rest) k = open_keeps [] rest nothing_kept
 open_keeps run (Some put ∷ rest) k = open_keeps_at (breaks (run_headers (run ++ put ∷ [])) || is_final put) _ _ (open_keeps [] rest nothing_kept)
@@ -144,7 +144,7 @@ final_at run put stored calls (name ∷ ns) (body ∷ bs) final k n b c =
 
 -- ---- a PUT
 
-headers-more : (run : List PlainPacket) (put : PlainPacket) → run_headers (run ++ put ∷ []) ≡ run_headers run ++ put.headers
+pub headers-more : (run : List PlainPacket) (put : PlainPacket) → run_headers (run ++ put ∷ []) ≡ run_headers run ++ put.headers
 headers-more run put = flat_map-append (λ packet. packet.headers) run (put ∷ []) ∙ ap (λ (hs : List PlainHeader). run_headers run ++ hs) (append-nil put.headers)
 
 put_at : (final : Bool) (run : List PlainPacket) (put : PlainPacket) (stored : List Object) (calls : List InboxCall) (heard : Verdict) → is_final put ≡ final
@@ -184,11 +184,11 @@ passed : (ended : Bool) (stored : List Object) (before : List PlainHeader) (obje
 passed true stored before objects run final leaves = record { progress_is = leaves.progress_is; contents_are = leaves.contents_are; counted = leaves.counted }
 passed false stored before objects run final leaves = record { progress_is = leaves.progress_is; contents_are = leaves.contents_are; counted = leaves.counted }
 
-not_true : (b : Bool) → not b ≡ true → b ≡ false
+pub not_true : (b : Bool) → not b ≡ true → b ≡ false
 not_true true e = absurd cc
 not_true false e = refl
 
-ignoring_rests : (course : Course) → is_ignoring course ≡ true → progress_in course ≡ Unnamed
+pub ignoring_rests : (course : Course) → is_ignoring course ≡ true → progress_in course ≡ Unnamed
 ignoring_rests Rests e = refl
 ignoring_rests Ignores e = refl
 ignoring_rests (Runs progress single) e = absurd cc

@@ -282,7 +282,7 @@ step_at headers header (first ∷ ns) bs None None stored k n b alone = stands_b
 abbrev pub held : List Object → List PlainHeader → Contents
 held stored headers = record { stored = stored; pending = pending_of headers }
 
-step : (headers : List PlainHeader) (header : PlainHeader) (stored : List Object) → KeepsRules headers → FollowsBy (headers ++ header ∷ []) (at_header (progress_of headers) header) stored (held stored headers)
+pub step : (headers : List PlainHeader) (header : PlainHeader) (stored : List Object) → KeepsRules headers → FollowsBy (headers ++ header ∷ []) (at_header (progress_of headers) header) stored (held stored headers)
 step headers header stored keeps = step_at headers header (names headers) (bodies headers) (name_text header) (body_of header) stored (record { keeps = keeps; names_are = refl; bodies_are = refl }) refl refl
     (λ text e. name_is_no_body_at (eqb header.id 0x01) (eqb header.id 0x48 || eqb header.id 0x49) header.value text e)
 

@@ -160,7 +160,7 @@ none_stored Refused said e = refl
 none_stored (Put final marks) said e = e
 none_stored (Other octet) said e = refl
 
-more_stored : (maximum : ℕ) (past : List Heard) (heard : Heard) → stored_by maximum (past ++ heard ∷ []) ≡ stored_by maximum past ++ objects_from (open_from [] (puts_heard maximum past)) (put_heard maximum heard ∷ [])
+pub more_stored : (maximum : ℕ) (past : List Heard) (heard : Heard) → stored_by maximum (past ++ heard ∷ []) ≡ stored_by maximum past ++ objects_from (open_from [] (puts_heard maximum past)) (put_heard maximum heard ∷ [])
 more_stored maximum past heard = ap (objects_from []) (map-append (put_heard maximum) past (heard ∷ [])) ∙ objects-more [] (puts_heard maximum past) (put_heard maximum heard)
 
 gains : (session : Serving) (past : List Heard) (packet : List ℕ) (come : Answer) → progress_in session.course ≡ progress_of (open_headers session.maximum past)

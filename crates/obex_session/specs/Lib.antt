@@ -7,6 +7,7 @@ pub mod Turns
 pub mod Past
 pub mod Hearing
 pub mod Serving
+pub mod Calls
 pub mod ObjectPuts
 pub mod Pushes
 pub mod Exchanges

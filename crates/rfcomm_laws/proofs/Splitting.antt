@@ -11,20 +11,20 @@ use Rattle.obex_headers.proofs.AssemblerLaws.{any_pieces}
 use Rattle.rfcomm_laws.specs.Assembling.{PiecesAreOfOneStream}
 
 -- both read one length
-same_length : (octets : List ℕ) → 3 ≤ length octets → stated_len octets ≡ stated_size octets
+pub same_length : (octets : List ℕ) → 3 ≤ length octets → stated_len octets ≡ stated_size octets
 same_length [] long = absurd (omega arith)
 same_length (a ∷ []) long = absurd (omega arith)
 same_length (a ∷ b ∷ []) long = absurd (omega arith)
 same_length (a ∷ b ∷ c ∷ octets) long = omega arith
 
-framed_packet : (maximum : ℕ) (octets : List ℕ) → IsFramed maximum octets → IsPacket octets
+pub framed_packet : (maximum : ℕ) (octets : List ℕ) → IsFramed maximum octets → IsPacket octets
 framed_packet maximum octets framed = (framed.0, sym (same_length octets framed.0) ∙ framed.2)
 
 framed_packets : (maximum : ℕ) (packets : List (List ℕ)) → AllByRecursion (IsFramed maximum) packets → AllByRecursion IsPacket packets
 framed_packets maximum [] all = tt
 framed_packets maximum (packet ∷ packets) all = (framed_packet maximum packet all.0, framed_packets maximum packets all.1)
 
-partial_none : (maximum : ℕ) (rest : List ℕ) → IsPartial maximum rest → HasNoPacket rest
+pub partial_none : (maximum : ℕ) (rest : List ℕ) → IsPartial maximum rest → HasNoPacket rest
 partial_none maximum rest (inl short) = inl short
 partial_none maximum rest (inr few) =
     elim (cases_lt (length rest) 3) [
@@ -32,7 +32,7 @@ partial_none maximum rest (inr few) =
       | inr long ↦ inr (inr (let same = same_length rest long in omega (arith, same, few.2)))
     ]
 
-small_none : (maximum : ℕ) (rest : List ℕ) → BeginsNone maximum rest BadLength → HasNoPacket rest
+pub small_none : (maximum : ℕ) (rest : List ℕ) → BeginsNone maximum rest BadLength → HasNoPacket rest
 small_none maximum rest begins = inr (inl (let same = same_length rest begins.0 in omega (arith, same, begins.2)))
 
 -- packets in front of a stream
@@ -40,7 +40,7 @@ all_append : (packets others : List (List ℕ)) → AllByRecursion IsPacket pack
 all_append [] others all more = more
 all_append (packet ∷ packets) others all more = (all.0, all_append packets others all.1 more)
 
-before : (stream rest : List ℕ) (packets : List (List ℕ)) → stream ≡ packets_joined packets ++ rest → AllByRecursion IsPacket packets → obex_packets stream ≡ packets ++ obex_packets rest
+pub before : (stream rest : List ℕ) (packets : List (List ℕ)) → stream ≡ packets_joined packets ++ rest → AllByRecursion IsPacket packets → obex_packets stream ≡ packets ++ obex_packets rest
 before stream rest packets whole each =
     let behind = obex_packets-right rest in
     sym (obex_packets-one stream (packets ++ obex_packets rest)

@@ -1,0 +1,14 @@
+pub mod Sessions
+pub mod Services
+pub mod Readings
+pub mod Streams
+pub mod Frames
+pub mod Listening
+pub mod Servers
+pub mod Running
+pub mod Gaining
+pub mod Answering
+pub mod Beginning
+pub mod Calling
+pub mod SmallFrames
+pub mod SmallAnswers
