@@ -76,9 +76,9 @@ takes_keeps answer.Srmp client = ends_keeps unknown_parameters client
 
 answer_keeps : (answered : Option Answered) (packet : List ℕ) (client : Client) → Keeps client (hears_answer answered packet client)
 answer_keeps None packet client = ends_keeps unawaited_response client
-answer_keeps (Some answered) packet client = either (is_success answered && is_early client) client (ends unawaited_response client)
-    (takes answered (record client { session = after_at client.session.awaited client.session packet })) (ends_keeps unawaited_response client)
-    (takes_keeps answered (record client { session = after_at client.session.awaited client.session packet }))
+answer_keeps (Some answered) packet client =
+    let heard : Client = record client { session = after_at client.session.awaited client.session packet } in
+    either (is_success answered && is_early client) client (ends unawaited_response heard) (takes answered heard) (ends_keeps unawaited_response heard) (takes_keeps answered heard)
 
 response_keeps : (packet : List ℕ) (client : Client) → Keeps client (hears_response packet client)
 response_keeps packet client = answer_keeps (answer_at client.session.awaited client.session packet) packet client
@@ -90,7 +90,7 @@ front_keeps more keeps stream (Whole packet rest) client =
 front_keeps more keeps stream Partial client = λ first e. e
 front_keeps more keeps stream (Broken refusal) client = ends_keeps (cause_of_obex refusal) (record client { held = [] })
 
-stream_keeps : (count : ℕ) (stream : List ℕ) (client : Client) → Keeps client (hears_stream count stream client)
+pub stream_keeps : (count : ℕ) (stream : List ℕ) (client : Client) → Keeps client (hears_stream count stream client)
 unfolding hears_stream
 stream_keeps zero stream client = λ first e. e
 stream_keeps (suc count) stream client = front_keeps (λ rest next. hears_stream count rest next) (λ rest next. stream_keeps count rest next) stream (front_of client.session.maximum stream) client

@@ -1,3 +1,4 @@
 pub mod CauseLaws
+pub mod ShownLaws
 pub mod LinkLaws
 pub mod StreamLaws

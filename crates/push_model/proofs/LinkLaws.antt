@@ -110,9 +110,9 @@ takes_keeps answer.Srmp client = ends_keeps unknown_parameters client
 
 answer_keeps : (answered : Option Answered) (packet : List ℕ) (client : Client) → Keeps client (hears_answer answered packet client)
 answer_keeps None packet client = ends_keeps unawaited_response client
-answer_keeps (Some answered) packet client = either (is_success answered && is_early client) client (ends unawaited_response client)
-    (takes answered (record client { session = after_at client.session.awaited client.session packet })) (ends_keeps unawaited_response client)
-    (takes_keeps answered (record client { session = after_at client.session.awaited client.session packet }))
+answer_keeps (Some answered) packet client =
+    let heard : Client = record client { session = after_at client.session.awaited client.session packet } in
+    either (is_success answered && is_early client) client (ends unawaited_response heard) (takes answered heard) (ends_keeps unawaited_response heard) (takes_keeps answered heard)
 
 response_keeps : (packet : List ℕ) (client : Client) → Keeps client (hears_response packet client)
 response_keeps packet client = answer_keeps (answer_at client.session.awaited client.session packet) packet client

@@ -10,3 +10,4 @@ pub mod Responding
 pub mod Events
 pub mod Steps
 pub mod Laws
+pub mod Shown

@@ -26,7 +26,7 @@ met Left = Left
 met Closing = Closing
 
 -- A success comes too early before the last octet of its request was sent, and where more PUTs follow in single response
--- mode, which are one request.
+-- mode, which are one request. The session has taken it then, as any other response.
 abbrev pub is_early : Client → Bool
 is_early client = client.going || is_stream client.session.awaited
 
@@ -47,8 +47,8 @@ is_success Srmp = false
 abbrev pub hears_answer : Option Answered → List ℕ → Client → Client
 hears_answer None packet client = ends unawaited_response client
 hears_answer (Some answer) packet client =
-    if is_success answer && is_early client then ends unawaited_response client
-    else takes answer (record client { session = after_at client.session.awaited client.session packet })
+    let heard = record client { session = after_at client.session.awaited client.session packet } in
+    if is_success answer && is_early client then ends unawaited_response heard else takes answer heard
 
 abbrev pub hears_response : List ℕ → Client → Client
 hears_response packet client = hears_answer (answer_at client.session.awaited client.session packet) packet client

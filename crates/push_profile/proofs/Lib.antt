@@ -4,7 +4,5 @@ pub mod ServiceLaws
 pub mod ListeningLaws
 pub mod StreamSteps
 pub mod StreamEnds
-pub mod FrameLaws
 pub mod ServerLaws
 pub mod LendingLaws
-pub mod NameLaws

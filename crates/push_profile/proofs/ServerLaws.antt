@@ -8,7 +8,7 @@ use Rattle.rfcomm_model.specs.Saying.{Said, next, after_said}
 use Rattle.push_model.specs.Listening.{heeds}
 use Rattle.push_model.specs.Sessions.{Gift}
 use Rattle.push_model.specs.Server.{Server, Reacted, filled, said_on, breaks_now, left_by, leaves_with, framed_by, framed, remuxed, unanswered, unreplied, lets_go_on, lets_go_twice, link_down, hears_search, hears_up, hears_on, search_psm, rfcomm_psm, object_psm, reacted_by}
-use Rattle.push_profile.specs.Frames.{said_frame}
+use Rattle.push_rooms.specs.Frames.{said_frame}
 use Rattle.push_profile.specs.Reactions.{Comes}
 use Rattle.push_profile.specs.Serving.{reacted, has_failed, fails_now}
 use Rattle.push_profile.proofs.StreamSteps.{comes_by, comes_as, comes_then, comes_at_once}

@@ -1,5 +1,3 @@
 pub mod Reactions
-pub mod Courses
 pub mod Hearing
-pub mod Frames
 pub mod Serving

@@ -1,0 +1,6 @@
+pub mod Courses
+pub mod Talking
+pub mod Putting
+pub mod Pushing
+pub mod Telling
+pub mod Requesting

@@ -1,0 +1,5 @@
+use Rattle.push_rooms.proofs.FrameLaws.{none_in}
+use Rattle.push_rooms.proofs.waiting_frame.WaitingFrame.clear.Goals as goal
+
+pub returns : goal.returns
+returns c = none_in
