@@ -42,7 +42,7 @@ closed_none v held reason (Crossed peer request) is found = ap asked_on found �
 granted_at : (setup : Setup) (stage : Stage) → (asked_at (stage_with (granted_setup setup) stage) ≡ None) ⊎ (asked_at (stage_with (granted_setup setup) stage) ≡ Some None)
 granted_at setup (Requested request) = inl refl
 granted_at setup (Connected peer before) = inr refl
-granted_at setup (Leaving peer before request) = inl refl
+granted_at setup (Leaving peer before request) = inr refl
 granted_at setup (Closing peer request) = inl refl
 granted_at setup (Crossed peer request) = inl refl
 
@@ -85,7 +85,9 @@ again_done v held after options stage is found =
     by (Connected peer setup) now =
         let asked : Setup = record after { own = Asking (new_request v) options } in
         inr (inr (record { next = refl; newest_is = newest-asks (errands.Configuration held.own) (to_setup held asked v); asked = now }))
-    by (Leaving peer setup request) now = inl now
+    by (Leaving peer setup request) now =
+        let asked : Setup = record after { own = Asking (new_request v) options } in
+        inr (inr (record { next = refl; newest_is = newest-asks (errands.Configuration held.own) (to_setup held asked v); asked = now }))
     by (Closing peer request) now = inl now
     by (Crossed peer request) now = inl now
 

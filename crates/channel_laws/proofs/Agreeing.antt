@@ -1,5 +1,5 @@
 -- How what is agreed on goes on with what is said.
-use Rattle.std.proofs.Common.{◌≡◌, ℕ, zero, suc, ◌<◌, ◌≤◌, List, [], ◌∷◌, ◌++◌, length, take, drop, Bool, true, false, cond, ltb, ◌&&◌, eqb, not, Option, Some, None, Result, Ok, refl, sym, ap, subst, ◌∙◌, ◌⊎◌, inl, inr, arith, length-append}
+use Rattle.std.proofs.Common.{◌≡◌, ℕ, zero, suc, ◌<◌, ◌≤◌, List, [], ◌∷◌, ◌++◌, length, take, drop, Bool, true, false, cond, ltb, eqb, not, Option, Some, None, Result, Ok, refl, sym, ap, subst, ◌∙◌, ◌⊎◌, inl, inr, arith, length-append}
 use Rattle.std.specs.Prelude.{option_map, unwrap_or, is_some}
 use Rattle.std.specs.Option.{option_or}
 use Rattle.std.proofs.lemmas.Bool.{eqb-true, ltb-false, le-ltb}
@@ -23,6 +23,7 @@ use Rattle.link_talk.specs.Setups.{mode_in, mode_stated, mode_numbered, is_set, 
 use Rattle.channel_model.specs.Value.{Request, Own, Unasked, Asking, Granted, Carrier, Setup}
 use Rattle.channel_model.specs.Configuring.{carrier_by, new_carrier, bounded_agreement}
 use Rattle.channel_laws.specs.Views.{carrier_mode, asked_mode as mode_asked}
+use Rattle.channel_laws.proofs.Both.{and-left, and-right}
 use Rattle.channel_laws.proofs.Sound.{PartsAre, states_mode, OwnStates, CarrierIs, Agrees}
 use Rattle.channel_laws.proofs.Granting.{no_parts}
 
@@ -149,14 +150,6 @@ modes_same wish None b one other is also = cc
 modes_same wish (Some x) None one other is also = cc
 modes_same wish (Some x) (Some y) one other is also = ap Some (one ∙ sym other)
 
-and_right : (a b : Bool) → (a && b) ≡ true → b ≡ true
-and_right true b is = is
-and_right false b is = cc
-
-and_left : (a b : Bool) → (a && b) ≡ true → a ≡ true
-and_left true b is = refl
-and_left false b is = is
-
 -- what it does while the channel is not set up
 pub record Answers (setup : Setup) (said : read.Setup) (part : Part) : Type 0 where
   pub asked_is : (read.with_answer said part).asked ≡ said.asked
@@ -169,7 +162,7 @@ answer_by wish before after said part true is agrees own carrier lasts answers =
   set_up = record {
     asked_is = agrees.set_up.asked_is ∙ ap (mode_asked wish) (sym own);
     accepted_is =
-        let some : is_some before.carrier ≡ true = some_map before.carrier (ap is_some (sym agrees.set_up.accepted_is) ∙ and_right (is_some said.asked) (is_some said.accepted) is) in
+        let some : is_some before.carrier ≡ true = some_map before.carrier (ap is_some (sym agrees.set_up.accepted_is) ∙ and-right (is_some said.asked) (is_some said.accepted) is) in
         agrees.set_up.accepted_is ∙ modes_same wish before.carrier after.carrier agrees.carrier_is carrier some (lasts some);
   };
   states = subst (OwnStates wish) (sym own) agrees.states;
@@ -212,7 +205,7 @@ wish_by : (wish : Wish) (setup : Setup) (said : read.Setup) (request : Request) 
     → (let after : Setup = record setup { own = Asking request options } in Agrees wish after (cond set said (read.with_wish said (written options))))
 wish_by wish setup said request options true is agrees states = record {
   set_up = record {
-    asked_is = agrees.set_up.asked_is ∙ asked_some wish setup.own (ap is_some (sym agrees.set_up.asked_is) ∙ and_left (is_some said.asked) (is_some said.accepted) is);
+    asked_is = agrees.set_up.asked_is ∙ asked_some wish setup.own (ap is_some (sym agrees.set_up.asked_is) ∙ and-left (is_some said.asked) (is_some said.accepted) is);
     accepted_is = agrees.set_up.accepted_is;
   };
   states = states;

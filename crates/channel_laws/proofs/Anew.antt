@@ -75,7 +75,7 @@ anew v w held stage found held_is next newest_is asks own = by (eqb held.own own
 asked_with : (request : Request) (options : Options) (after : Setup) (stage : Stage) → (let asked : Setup = record after { own = Asking request options } in (asked_at (stage_with asked stage) ≡ None) ⊎ (asked_at (stage_with asked stage) ≡ Some (Some request.identifier)))
 asked_with request options after (Requested other) = inl refl
 asked_with request options after (Connected peer setup) = inr refl
-asked_with request options after (Leaving peer setup other) = inl refl
+asked_with request options after (Leaving peer setup other) = inr refl
 asked_with request options after (Closing peer other) = inl refl
 asked_with request options after (Crossed peer other) = inl refl
 

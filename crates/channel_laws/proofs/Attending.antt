@@ -1,7 +1,7 @@
 -- A retransmission machine has heard the frames that came in on its channel.
-use Rattle.std.proofs.Common.{◌≡◌, ℕ, ◌+◌, ◌<◌, ◌≤◌, List, [], ◌∷◌, ◌++◌, length, Bool, true, false, cond, ◌||◌, ◌&&◌, not, eqb, Option, Some, None, refl, sym, ap, subst, ◌∙◌, ◌⊎◌, inl, inr, arith}
-use Rattle.std.specs.Prelude.{find, option_map, is_some, min, nat_lt, nat_le}
-use Rattle.std.proofs.lemmas.Bool.{ltb-false, ltb-true}
+use Rattle.std.proofs.Common.{◌≡◌, ℕ, ◌≤◌, List, [], ◌∷◌, ◌++◌, length, Bool, true, false, cond, ◌||◌, not, eqb, Option, Some, None, refl, sym, ap, subst, ◌∙◌, ◌⊎◌, inl, inr, arith}
+use Rattle.std.specs.Prelude.{min, nat_lt, nat_le}
+use Rattle.std.proofs.lemmas.Bool.{ltb-false}
 use Rattle.ertm_frames.specs.Reading.{frames_in}
 use Rattle.ertm_model.specs.declared.reason.ErtmReason.TheVariants.{RetryLimit}
 use Rattle.ertm_model.specs.Value.{Ertm, Kept, Poll, NoPoll, Due, Waits, new_ertm}
@@ -18,16 +18,11 @@ use Rattle.l2cap_config.specs.declared.wish.Mode.{Mode}
 use Rattle.l2cap_config.specs.declared.wish.Mode.TheVariants.{Basic, Enhanced}
 use Rattle.l2cap_config.specs.declared.wish.Wish.{Wish}
 use Rattle.l2cap_config.specs.Agreement.{asked_mode, asked_mtu, mode_number, answered, answered_values, agreed_on, sent_window}
-use Rattle.channel_model.specs.declared.event.ChannelEvent.{ChannelEvent}
-use Rattle.channel_model.specs.Value.{Own, Unasked, Asking, Granted, Carrier, Plain, Retransmitting, Setup, Stage, Requested, Connected, Leaving, Closing, Crossed, Held, Channels}
+use Rattle.channel_model.specs.Value.{Carrier, Plain, Retransmitting, Stage, Held, Channels}
 use Rattle.channel_model.specs.Policies.{Policy}
-use Rattle.channel_model.specs.Changing.{has_own, is_granted, is_open}
 use Rattle.channel_model.specs.Configuring.{bounded_agreement, carrier_by}
-use Rattle.channel_model.proofs.Lookups.{and_off}
-use Rattle.channel_model.proofs.Going.{OwnGoes, IsAccepted, CarrierGoes, SetupGoes, StageGoes, staged, Moves, IsFirst, new_held, Walks}
-use Rattle.channel_laws.proofs.Sound.{at_each}
-use Rattle.channel_laws.proofs.Steps.{less-apart}
-use Rattle.channel_laws.proofs.Inviting.{held_others, held_here}
+use Rattle.channel_model.proofs.Going.{IsAccepted, CarrierGoes, Walks}
+use Rattle.channel_laws.proofs.Keeping.{OfCarrier, StageKeeps, HeldKeeps, AllKeep, walks-keep}
 
 -- ---- a machine
 
@@ -49,13 +44,13 @@ happens-last (first ∷ events) event c = happens-last events event (happens fir
 
 -- ---- what happens beside what comes in
 
-given_machine : (found : Option Giving) (c : Course) → (given found c).machine ≡ after_by found c.machine
-given_machine None c = refl
-given_machine (Some giving) c = refl
+pub given-machine : (found : Option Giving) (c : Course) → (given found c).machine ≡ after_by found c.machine
+given-machine None c = refl
+given-machine (Some giving) c = refl
 
-given_came : (found : Option Giving) (c : Course) → (given found c).came ≡ c.came
-given_came None c = refl
-given_came (Some giving) c = refl
+pub given-came : (found : Option Giving) (c : Course) → (given found c).came ≡ c.came
+given-came None c = refl
+given-came (Some giving) c = refl
 
 giving_keeps : (found : Giving) (m : Ertm) → ((after_giving found m).closed ≡ m.closed) × ((after_giving found m).agreed ≡ m.agreed)
 giving_keeps PollAnswer m = (refl, refl)
@@ -104,8 +99,8 @@ submits-aside sdu m = record {
 pub gives-aside : (m : Ertm) → Aside m (after_frame m)
 gives-aside m = record {
   event = Gives;
-  after_is = λ c is. given_machine (giving c.machine) c ∙ ap after_frame is;
-  came_same = λ c. given_came (giving c.machine) c;
+  after_is = λ c is. given-machine (giving c.machine) c ∙ ap after_frame is;
+  came_same = λ c. given-came (giving c.machine) c;
   agreed_same = (by_keeps (giving m) m).1;
   open_still = λ is. (by_keeps (giving m) m).0 ∙ is;
 }
@@ -209,27 +204,46 @@ CarrierAttends wish frame pdus opened None = frames_in frame pdus ≡ []
 CarrierAttends wish frame pdus opened (Some (Plain agreed waiting)) = wish.mode ≡ Basic
 CarrierAttends wish frame pdus opened (Some (Retransmitting machine)) = Attends frame pdus opened machine
 
+-- it hears on its channel until the host asks for its end
+abbrev pub Attended : (frame : ℕ) (pdus : List (List ℕ)) → OfCarrier
+Attended frame pdus wish false opened carrier = CarrierAttends wish frame pdus opened carrier
+Attended frame pdus wish true opened carrier = Unit {0}
+
 abbrev pub StageAttends : Wish → (frame : ℕ) (pdus : List (List ℕ)) → Stage → Type 0
-StageAttends wish frame pdus (Requested request) = frames_in frame pdus ≡ []
-StageAttends wish frame pdus (Connected peer setup) = CarrierAttends wish frame pdus (is_open setup) setup.carrier
-StageAttends wish frame pdus (Leaving peer setup request) = Unit {0}
-StageAttends wish frame pdus (Closing peer request) = Unit {0}
-StageAttends wish frame pdus (Crossed peer request) = Unit {0}
+StageAttends wish frame pdus stage = StageKeeps (Attended frame pdus) wish stage
 
 abbrev pub HeldAttends : Policy → (frame : ℕ) (pdus : List (List ℕ)) → Option Held → Type 0
-HeldAttends policy frame pdus None = Unit {0}
-HeldAttends policy frame pdus (Some held) = StageAttends (policy.wish held.psm) frame pdus held.stage
+HeldAttends policy frame pdus held = HeldKeeps policy (Attended frame pdus) held
 
 -- a new carrier is one of the mode that is wished
-new_attends : (wish : Wish) (frame : ℕ) (pdus : List (List ℕ)) (opened : Bool) (carrier : Carrier) → wish.mps ≡ frame → frames_in frame pdus ≡ [] → IsAccepted wish carrier → CarrierAttends wish frame pdus opened (Some carrier)
-new_attends wish frame pdus opened carrier mps none accepted =
-    subst (λ c. CarrierAttends wish frame pdus opened (Some c)) (sym accepted.is) (by wish.mode refl)
+pub record IsNew (wish : Wish) (agreed : Agreed) (carrier : Carrier) : Type 0 where
+  pub is : carrier ≡ Retransmitting (new_ertm agreed)
+  pub small : agreed.send_window ≤ 63
+  pub frame_is : agreed.receive_mps ≡ wish.mps
+
+pub new-carrier : (wish : Wish) (carrier : Carrier) → IsAccepted wish carrier → ((agreed : Agreed) × (carrier ≡ Plain agreed None) × (wish.mode ≡ Basic)) ⊎ ((agreed : Agreed) × IsNew wish agreed carrier)
+new-carrier wish carrier accepted = by wish.mode refl
   where
-    by : (mode : Mode) → wish.mode ≡ mode → CarrierAttends wish frame pdus opened (Some (carrier_by mode (bounded_agreement (agreed_on wish accepted.options))))
-    by Basic is = is
-    by Enhanced is =
-        attends-new frame pdus opened (bounded_agreement (agreed_on wish accepted.options))
-        (window_small wish.mode (asked_mode accepted.options) wish.window accepted.given (accepted_values wish accepted.options accepted.given accepted.accepts)) mps none
+    agreed : Agreed
+    agreed = bounded_agreement (agreed_on wish accepted.options)
+
+    by : (mode : Mode) → wish.mode ≡ mode → ((a : Agreed) × (carrier ≡ Plain a None) × (wish.mode ≡ Basic)) ⊎ ((a : Agreed) × IsNew wish a carrier)
+    by Basic is = inl (agreed, accepted.is ∙ ap (λ m. carrier_by m agreed) is, is)
+    by Enhanced is = inr (
+      agreed,
+      record {
+        is = accepted.is ∙ ap (λ m. carrier_by m agreed) is;
+        small = window_small wish.mode (asked_mode accepted.options) wish.window accepted.given (accepted_values wish accepted.options accepted.given accepted.accepts);
+        frame_is = refl;
+      },
+    )
+
+new_attends : (wish : Wish) (frame : ℕ) (pdus : List (List ℕ)) (opened : Bool) (carrier : Carrier) → wish.mps ≡ frame → frames_in frame pdus ≡ [] → IsAccepted wish carrier → CarrierAttends wish frame pdus opened (Some carrier)
+new_attends wish frame pdus opened carrier mps none accepted = by (new-carrier wish carrier accepted)
+  where
+    by : ((a : Agreed) × (carrier ≡ Plain a None) × (wish.mode ≡ Basic)) ⊎ ((a : Agreed) × IsNew wish a carrier) → CarrierAttends wish frame pdus opened (Some carrier)
+    by (inl (agreed, is, basic)) = subst (λ c. CarrierAttends wish frame pdus opened (Some c)) (sym is) basic
+    by (inr (agreed, new)) = subst (λ c. CarrierAttends wish frame pdus opened (Some c)) (sym new.is) (attends-new frame pdus opened agreed new.small (new.frame_is ∙ mps) none)
 
 -- in basic mode a new carrier has no machine
 plain_again : (wish : Wish) (frame : ℕ) (pdus : List (List ℕ)) (opened : Bool) (carrier : Carrier) → wish.mode ≡ Basic → IsAccepted wish carrier → CarrierAttends wish frame pdus opened (Some carrier)
@@ -257,125 +271,27 @@ carrier_attends wish frame pdus opened after_opened (Some before) None mps goes 
 carrier_attends wish frame pdus opened after_opened (Some before) (Some after) mps (inl goes) shut attends = beside wish frame pdus opened after_opened before after goes shut attends
 carrier_attends wish frame pdus opened after_opened (Some before) (Some after) mps (inr (closed, accepted)) shut attends = accepted_attends wish frame pdus opened after_opened before after mps closed accepted attends
 
--- a channel that is not open was not open before
-shut_before : (wish : Wish) (C : Carrier → Carrier → Type 0) (before after : Setup) → SetupGoes wish C before after → is_open after ≡ false → is_open before ≡ false
-shut_before wish C before after goes shut = by before.carrier after.carrier before.own after.own refl refl refl refl goes.carrier_goes goes.own_goes
-  where
-    by : (c d : Option Carrier) (o p : Own) → before.carrier ≡ c → after.carrier ≡ d → before.own ≡ o → after.own ≡ p → CarrierGoes wish C (is_open before) c d → OwnGoes o p → is_open before ≡ false
-    by None d o p is_c is_d is_o is_p cs os = ap (λ x. is_some x && is_granted before.own) is_c
-    by (Some c) None o p is_c is_d is_o is_p cs os = elim cs [ ]
-    by (Some c) (Some d) Unasked p is_c is_d is_o is_p cs os = ap (λ x. is_some before.carrier && is_granted x) is_o ∙ and_off (is_some before.carrier)
-    by (Some c) (Some d) (Asking r o) p is_c is_d is_o is_p cs os = ap (λ x. is_some before.carrier && is_granted x) is_o ∙ and_off (is_some before.carrier)
-    by (Some c) (Some d) Granted Unasked is_c is_d is_o is_p cs os = elim os [ ]
-    by (Some c) (Some d) Granted (Asking r o) is_c is_d is_o is_p cs os = elim os [ ]
-    by (Some c) (Some d) Granted Granted is_c is_d is_o is_p cs os =
-        let opened : is_open after ≡ true = ap (λ x. is_some x && is_granted after.own) is_d ∙ ap is_granted is_p in
-        let never : true ≡ false = sym opened ∙ shut in absurd cc
-
--- ---- one step
-
-goes_attends : (wish : Wish) (frame : ℕ) (pdus : List (List ℕ)) (held : Held) (before : Stage) (after : Option Stage) (closed : Bool) (policy : Policy) → policy.wish held.psm ≡ wish → wish.mps ≡ frame → StageAttends wish frame pdus before
-    → StageGoes wish BesideCarrier before after closed → HeldAttends policy frame pdus (option_map (staged held) after)
-goes_attends wish frame pdus held before None closed policy is mps attends goes = tt
-goes_attends wish frame pdus held (Requested request) (Some (Requested again)) closed policy is mps attends goes = attends
-goes_attends wish frame pdus held (Requested request) (Some (Connected peer setup)) closed policy is mps attends (none, silent) =
-    subst (CarrierAttends (policy.wish held.psm) frame pdus (is_open setup)) (sym none) attends
-goes_attends wish frame pdus held (Requested request) (Some (Leaving peer setup other)) closed policy is mps attends goes = tt
-goes_attends wish frame pdus held (Requested request) (Some (Closing peer other)) closed policy is mps attends goes = tt
-goes_attends wish frame pdus held (Requested request) (Some (Crossed peer other)) closed policy is mps attends goes = tt
-goes_attends wish frame pdus held (Connected peer setup) (Some (Requested request)) closed policy is mps attends goes = elim goes [ ]
-goes_attends wish frame pdus held (Connected peer setup) (Some (Connected at after)) closed policy is mps attends (same, goes, silent) =
-    subst (λ w. CarrierAttends w frame pdus (is_open after) after.carrier) (sym is)
-    (carrier_attends wish frame pdus (is_open setup) (is_open after) setup.carrier after.carrier mps goes.carrier_goes (shut_before wish BesideCarrier setup after goes) attends)
-goes_attends wish frame pdus held (Connected peer setup) (Some (Leaving at after request)) closed policy is mps attends goes = tt
-goes_attends wish frame pdus held (Connected peer setup) (Some (Closing at request)) closed policy is mps attends goes = tt
-goes_attends wish frame pdus held (Connected peer setup) (Some (Crossed at request)) closed policy is mps attends goes = tt
-goes_attends wish frame pdus held (Leaving peer setup request) (Some (Requested other)) closed policy is mps attends goes = elim goes [ ]
-goes_attends wish frame pdus held (Leaving peer setup request) (Some (Connected at after)) closed policy is mps attends goes = elim goes [ ]
-goes_attends wish frame pdus held (Leaving peer setup request) (Some (Leaving at after other)) closed policy is mps attends goes = tt
-goes_attends wish frame pdus held (Leaving peer setup request) (Some (Closing at other)) closed policy is mps attends goes = tt
-goes_attends wish frame pdus held (Leaving peer setup request) (Some (Crossed at other)) closed policy is mps attends goes = tt
-goes_attends wish frame pdus held (Closing peer request) (Some (Requested other)) closed policy is mps attends goes = elim goes [ ]
-goes_attends wish frame pdus held (Closing peer request) (Some (Connected at after)) closed policy is mps attends goes = elim goes [ ]
-goes_attends wish frame pdus held (Closing peer request) (Some (Leaving at after other)) closed policy is mps attends goes = tt
-goes_attends wish frame pdus held (Closing peer request) (Some (Closing at other)) closed policy is mps attends goes = tt
-goes_attends wish frame pdus held (Closing peer request) (Some (Crossed at other)) closed policy is mps attends goes = tt
-goes_attends wish frame pdus held (Crossed peer request) (Some (Requested other)) closed policy is mps attends goes = elim goes [ ]
-goes_attends wish frame pdus held (Crossed peer request) (Some (Connected at after)) closed policy is mps attends goes = elim goes [ ]
-goes_attends wish frame pdus held (Crossed peer request) (Some (Leaving at after other)) closed policy is mps attends goes = tt
-goes_attends wish frame pdus held (Crossed peer request) (Some (Closing at other)) closed policy is mps attends goes = tt
-goes_attends wish frame pdus held (Crossed peer request) (Some (Crossed at other)) closed policy is mps attends goes = tt
-
 -- ---- all channels
 
 -- of each endpoint, with the PDUs that came in for it
-pub record AllAttend (policy : Policy) (frame : ℕ) (came : ℕ → List (List ℕ)) (v : Channels) : Type 0 where
-  pub at : (own : ℕ) → HeldAttends policy frame (came own) (find (has_own own) v.held)
-  pub fresh : (own : ℕ) → v.next ≤ own → frames_in frame (came own) ≡ []
-  pub below : (own : ℕ) → v.next ≤ own → find (has_own own) v.held ≡ None
+abbrev pub AllAttend : Policy → (frame : ℕ) (came : ℕ → List (List ℕ)) → Channels → Type 0
+AllAttend policy frame came v = AllKeep policy (λ own. Attended frame (came own)) v
 
 abbrev pub AttendsOn : Policy → (frame : ℕ) (came : ℕ → List (List ℕ)) → Channels → Channels → Type 0
 AttendsOn policy frame came v w = AllAttend policy frame came v → AllAttend policy frame came w
-
-under : (v : Channels) (held : Held) (next own : ℕ) → next ≡ v.next → ((n : ℕ) → v.next ≤ n → find (has_own n) v.held ≡ None) → find (has_own held.own) v.held ≡ Some held → next ≤ own → held.own < own
-under v held next own is below found above = by (nat_lt held.own own) refl
-  where
-    by : (b : Bool) → nat_lt held.own own ≡ b → held.own < own
-    by true less = ltb-true held.own own less
-    by false less =
-        let high : own ≤ held.own = ltb-false held.own own less in
-        let none : find (has_own held.own) v.held ≡ None = below held.own (omega (arith, is, above, high)) in
-        let never : None ≡ Some held = sym none ∙ found in absurd cc
-
-moves_attend : (policy : Policy) (frame : ℕ) (came : ℕ → List (List ℕ)) → ((psm : ℕ) → (policy.wish psm).mps ≡ frame) → (v w : Channels) (held : Held) (after : Option Stage) (more : List ChannelEvent) → Moves policy BesideCarrier v w held after more
-    → AttendsOn policy frame came v w
-moves_attend policy frame came states v w held after more moves all = record {
-  at = at_each (λ n. HeldAttends policy frame (came n) (find (has_own n) v.held)) (λ n. HeldAttends policy frame (came n) (find (has_own n) w.held)) held.own
-      (λ n apart was. subst (HeldAttends policy frame (came n)) (sym (moves.others n apart)) was)
-      (subst (HeldAttends policy frame (came held.own)) (sym moves.becomes)
-      (goes_attends (policy.wish held.psm) frame (came held.own) held held.stage after _ policy refl (states held.psm) (subst (HeldAttends policy frame (came held.own)) moves.found (all.at held.own)) moves.goes))
-      all.at;
-  fresh = λ own above. all.fresh own (omega (arith, moves.next_is, above));
-  below = λ own above. moves.others own (less-apart held.own own (under v held w.next own moves.next_is all.below moves.found above)) ∙ all.below own (omega (arith, moves.next_is, above));
-}
-
-first_attends : (wish : Wish) (frame : ℕ) (pdus : List (List ℕ)) (stage : Stage) → IsFirst stage → frames_in frame pdus ≡ [] → StageAttends wish frame pdus stage
-first_attends wish frame pdus (Requested request) is none = none
-first_attends wish frame pdus (Connected peer setup) is none = subst (λ s. CarrierAttends wish frame pdus (is_open s) s.carrier) (sym is) none
-first_attends wish frame pdus (Leaving peer setup request) is none = tt
-first_attends wish frame pdus (Closing peer request) is none = tt
-first_attends wish frame pdus (Crossed peer request) is none = tt
-
-made_attends : (policy : Policy) (frame : ℕ) (came : ℕ → List (List ℕ)) (v w : Channels) (psm : ℕ) (stage : Stage) → IsFirst stage → w.held ≡ v.held ++ new_held psm v.next stage ∷ [] → w.next ≡ v.next + 1 → AttendsOn policy frame came v w
-made_attends policy frame came v w psm stage is held_is next_is all =
-    let new : Held = new_held psm v.next stage in
-    record {
-      at = at_each (λ n. HeldAttends policy frame (came n) (find (has_own n) v.held)) (λ n. HeldAttends policy frame (came n) (find (has_own n) w.held)) v.next
-          (λ n apart was. subst (HeldAttends policy frame (came n)) (sym (ap (find (has_own n)) held_is ∙ held_others v.held new n apart)) was)
-          (subst (HeldAttends policy frame (came v.next)) (sym (ap (find (has_own v.next)) held_is ∙ held_here v.held new (all.below v.next (omega arith))))
-          (first_attends (policy.wish psm) frame (came v.next) stage is (all.fresh v.next (omega arith))))
-          all.at;
-      fresh = λ own above. all.fresh own (omega (arith, next_is, above));
-      below = λ own above. ap (find (has_own own)) held_is ∙ (held_others v.held new own (less-apart v.next own (omega (arith, next_is, above))) ∙ all.below own (omega (arith, next_is, above)));
-    }
-
-still_attend : (policy : Policy) (frame : ℕ) (came : ℕ → List (List ℕ)) (v w : Channels) → w.held ≡ v.held → w.next ≡ v.next → AttendsOn policy frame came v w
-still_attend policy frame came v w held_is next_is all = record {
-  at = λ own. subst (HeldAttends policy frame (came own)) (sym (ap (find (has_own own)) held_is)) (all.at own);
-  fresh = λ own above. all.fresh own (omega (arith, next_is, above));
-  below = λ own above. ap (find (has_own own)) held_is ∙ all.below own (omega (arith, next_is, above));
-}
 
 beside_same : (carrier : Carrier) → BesideCarrier carrier carrier
 beside_same (Plain agreed waiting) = tt
 beside_same (Retransmitting machine) = inl refl
 
+attends_on : (wish : Wish) (frame : ℕ) (pdus : List (List ℕ)) (leaving opened after_opened : Bool) (before after : Option Carrier) → wish.mps ≡ frame → (after_opened ≡ false → opened ≡ false) → CarrierGoes wish BesideCarrier opened before after
+    → Attended frame pdus wish leaving opened before → Attended frame pdus wish leaving after_opened after
+attends_on wish frame pdus false opened after_opened before after mps shut goes attends = carrier_attends wish frame pdus opened after_opened before after mps goes shut attends
+attends_on wish frame pdus true opened after_opened before after mps shut goes attends = tt
+
 pub walks-attend : (policy : Policy) (frame : ℕ) (came : ℕ → List (List ℕ)) → ((psm : ℕ) → (policy.wish psm).mps ≡ frame) → Walks policy BesideCarrier (AttendsOn policy frame came)
-walks-attend policy frame came states = record {
+walks-attend policy frame came states = walks-keep policy BesideCarrier (λ own. Attended frame (came own)) (record {
   same = beside_same;
-  still = λ v w held_is next_is events_are. still_attend policy frame came v w held_is next_is;
-  tells = λ v w event held_is next_is events_are other. still_attend policy frame came v w held_is next_is;
-  both = λ v u w first second all. second (first all);
-  made = λ v w psm stage is held_is next_is events_are. made_attends policy frame came v w psm stage is held_is next_is;
-  moves = λ v w held after more moves. moves_attend policy frame came states v w held after more moves;
-}
+  goes = λ own psm leaving opened after_opened before after shut goes attends. attends_on (policy.wish psm) frame (came own) leaving opened after_opened before after (states psm) shut goes attends;
+  leaves = λ own psm opened carrier attends. tt;
+})

@@ -16,6 +16,7 @@ use Rattle.channel_model.proofs.Lookups.{own_of, found-has, any-finds, eqb-same}
 use Rattle.channel_laws.specs.Views.{peer_of, life_of, read_at}
 use Rattle.channel_laws.specs.Runs.{Run, run_of}
 use Rattle.channel_laws.specs.Awaited.{asks_for_channel, asks_for_end, is_at, channel_waits, end_waits, RequestsAreAwaited}
+use Rattle.channel_laws.proofs.Both.{both-true}
 use Rattle.channel_laws.proofs.Sound.{ReadsBy, Reads, wanted_by, WantsAt, Wants, IsPlaced, requested-unread, Sound}
 use Rattle.channel_laws.proofs.Running.{all-sound}
 
@@ -26,10 +27,6 @@ both_ways true b there back = sym (there refl)
 both_ways false true there back = back refl
 both_ways false false there back = refl
 
-both_true : (a b : Bool) → (a && b) ≡ true → (a ≡ true) × (b ≡ true)
-both_true true b is = (refl, is)
-both_true false b is = cc
-
 none_of : {X : Type 0} (p : X → Bool) (xs : List X) → list_any p xs ≡ false → find p xs ≡ None
 none_of p [] is = refl
 none_of p (x ∷ xs) is = by (p x) is (none_of p xs)
@@ -38,18 +35,18 @@ none_of p (x ∷ xs) is = by (p x) is (none_of p xs)
     by true any later = cc
     by false any later = later any
 
-any_none : {X : Type 0} (p : X → Bool) (xs : List X) → find p xs ≡ None → list_any p xs ≡ false
-any_none p [] is = refl
-any_none p (x ∷ xs) is = by (p x) is (any_none p xs)
+pub any-none : {X : Type 0} (p : X → Bool) (xs : List X) → find p xs ≡ None → list_any p xs ≡ false
+any-none p [] is = refl
+any-none p (x ∷ xs) is = by (p x) is (any-none p xs)
   where
     by : (t : Bool) → cond t (Some x) (find p xs) ≡ None → (find p xs ≡ None → list_any p xs ≡ false) → (t || list_any p xs) ≡ false
     by true any later = cc
     by false any later = later any
 
 -- a member that is found passes another test too
-any_other : {X : Type 0} (p q : X → Bool) (xs : List X) (found : X) → find p xs ≡ Some found → q found ≡ true → list_any q xs ≡ true
-any_other p q [] found is passes = cc
-any_other {X = X} p q (x ∷ xs) found is passes = by (p x) (q x) refl is (any_other p q xs found)
+pub any-other : {X : Type 0} (p q : X → Bool) (xs : List X) (found : X) → find p xs ≡ Some found → q found ≡ true → list_any q xs ≡ true
+any-other p q [] found is passes = cc
+any-other {X = X} p q (x ∷ xs) found is passes = by (p x) (q x) refl is (any-other p q xs found)
   where
     by : (t u : Bool) → q x ≡ u → cond t (Some x) (find p xs) ≡ Some found → (find p xs ≡ Some found → q found ≡ true → list_any q xs ≡ true) → (u || list_any q xs) ≡ true
     by t true now some later = refl
@@ -87,11 +84,11 @@ still_waits read identifier own one failed given is = by one.wanted refl
   where
     by : (wanted : Option Wanted) → one.wanted ≡ wanted → waits_at own read one ≡ true
     by None none =
-        let parts = both_true (went Out one) (is_call identifier own one) is in
-        let never : true ≡ false = sym (both_true (eqb one.identifier identifier) (has_source own one.wanted) parts.1).1 ∙ ap (has_source own) none in absurd cc
+        let parts = both-true (went Out one) (is_call identifier own one) is in
+        let never : true ≡ false = sym (both-true (eqb one.identifier identifier) (has_source own one.wanted) parts.1).1 ∙ ap (has_source own) none in absurd cc
     by (Some wanted) some =
-        let parts = both_true (went Out one) (is_call identifier own one) is in
-        let named = both_true (eqb one.identifier identifier) (has_source own one.wanted) parts.1 in
+        let parts = both-true (went Out one) (is_call identifier own one) is in
+        let named = both-true (eqb one.identifier identifier) (has_source own one.wanted) parts.1 in
         let source : wanted.source ≡ own = eqb-true wanted.source own (sym (ap (has_source own) some) ∙ named.1) in
         let number : one.identifier ≡ identifier = eqb-true one.identifier identifier named.0 in
         ap (λ t. t && call_waits read one) named.1
@@ -115,14 +112,14 @@ is_waiting : (read : Reading) (own : ℕ) (one : Call) → find (waits_at own re
 is_waiting read own one found is = by one.wanted refl
   where
     by : (wanted : Option Wanted) → one.wanted ≡ wanted → Waiting read own one.identifier
-    by None none = let never : true ≡ false = sym (both_true (has_source own one.wanted) (call_waits read one) is).0 ∙ ap (has_source own) none in absurd cc
+    by None none = let never : true ≡ false = sym (both-true (has_source own one.wanted) (call_waits read one) is).0 ∙ ap (has_source own) none in absurd cc
     by (Some wanted) some =
-        let parts = both_true (has_source own one.wanted) (call_waits read one) is in
+        let parts = both-true (has_source own one.wanted) (call_waits read one) is in
         let source : wanted.source ≡ own = eqb-true wanted.source own (sym (ap (has_source own) some) ∙ parts.0) in
-        let out = both_true (went Out one) (wants read one.identifier one.wanted) parts.1 in
-        let wanting = both_true (not (has_failed read.requests one.identifier wanted.source)) (not (list_any (is_given wanted.source) read.entries)) (sym (ap (wants read one.identifier) some) ∙ out.1) in
+        let out = both-true (went Out one) (wants read one.identifier one.wanted) parts.1 in
+        let wanting = both-true (not (has_failed read.requests one.identifier wanted.source)) (not (list_any (is_given wanted.source) read.entries)) (sym (ap (wants read one.identifier) some) ∙ out.1) in
         record {
-          called = any_other (waits_at own read) (is_own_call one.identifier own) read.requests.calls one found
+          called = any-other (waits_at own read) (is_own_call one.identifier own) read.requests.calls one found
               (ap (λ t. t && is_call one.identifier own one) out.0 ∙ (ap (λ t. t && has_source own one.wanted) (eqb-same one.identifier) ∙ parts.0));
           failed = subst (λ n. has_failed read.requests one.identifier n ≡ false) source (not_true (has_failed read.requests one.identifier wanted.source) wanting.0);
           given = subst (λ n. list_any (is_given n) read.entries ≡ false) source (not_true (list_any (is_given wanted.source) read.entries) wanting.1);
@@ -149,13 +146,13 @@ waits_there policy read v own sound is =
 
 -- and one that is asked for waits
 implied : {X : Type 0} (p q : X → Bool) → ((x : X) → p x ≡ true → q x ≡ true) → (xs : List X) → list_any p xs ≡ true → list_any q xs ≡ true
-implied p q goes xs is = let (found, at, passes) = any-finds p xs is in any_other p q xs found at (goes found passes)
+implied p q goes xs is = let (found, at, passes) = any-finds p xs is in any-other p q xs found at (goes found passes)
 
 asks_back : (policy : Policy) (read : Reading) (held : Held) (stage : Stage) → held.stage ≡ stage → WantsAt read.requests held stage → Reads policy (Some held) (read_at held.own read.entries) → asks_for_channel stage ≡ true → channel_waits held.own read ≡ true
 asks_back policy read held (Requested request) is (answered, failed, only) reads asks =
     let none : read_at held.own read.entries ≡ None = requested-unread policy held request (read_at held.own read.entries) is reads in
     implied (is_own_call request.identifier held.own) (waits_at held.own read)
-    (λ one named. still_waits read request.identifier held.own one failed (any_none (is_given held.own) read.entries none) named) read.requests.calls
+    (λ one named. still_waits read request.identifier held.own one failed (any-none (is_given held.own) read.entries none) named) read.requests.calls
     (made_by read.requests request.identifier held.own (wanted_by held.psm held.own) answered)
 asks_back policy read held (Connected peer setup) is wants reads asks = cc
 asks_back policy read held (Leaving peer setup request) is wants reads asks = cc

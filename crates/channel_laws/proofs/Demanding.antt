@@ -1,7 +1,8 @@
 -- What a host waits for of the options of a channel that it has not begun to end is as it was, but where it asks anew or is
 -- answered.
-use Rattle.std.proofs.Common.{◌≡◌, ℕ, List, map, Bool, true, false, cond, eqb, not, Option, Some, None, refl, sym, ap, subst, ◌∙◌, ◌⊎◌, inl, inr}
-use Rattle.std.specs.Prelude.{find, filter, option_map}
+use Rattle.std.proofs.Common.{◌≡◌, ℕ, List, [], ◌∷◌, map, Bool, true, false, cond, eqb, not, Option, Some, None, refl, sym, ap, subst, ◌∙◌, ◌⊎◌, inl, inr}
+use Rattle.std.specs.Prelude.{find, filter, option_map, is_some}
+use Rattle.std.specs.Option.{option_or}
 use Rattle.std.proofs.lemmas.Bool.{eqb-true}
 use Rattle.ertm_model.specs.declared.reason.ErtmReason.{ErtmReason}
 use Rattle.ertm_model.specs.Value.{Ertm}
@@ -10,20 +11,20 @@ use Rattle.channel_model.specs.declared.errand.Errand.{Errand}
 use Rattle.channel_model.specs.declared.errand.Errand.TheVariants as errands
 use Rattle.channel_model.specs.declared.event.CloseReason.{CloseReason}
 use Rattle.channel_model.specs.declared.event.CloseReason.TheVariants.{OwnClosed, RetryLimit}
-use Rattle.channel_model.specs.Value.{Own, Unasked, Asking, Granted, Carrier, Plain, Retransmitting, Setup, Stage, Requested, Connected, Leaving, Closing, Crossed, Held, Channels}
+use Rattle.channel_model.specs.Value.{Queued, Answer, Ask, Own, Unasked, Asking, Granted, Carrier, Plain, Retransmitting, Setup, Stage, Requested, Connected, Leaving, Closing, Crossed, Held, Channels}
 use Rattle.channel_model.specs.Changing.{has_own, held_at, in_place_of, is_peer, is_open, setup_of, stage_with, to_setup}
-use Rattle.channel_model.specs.Asking.{Fired, StillDue, OnceMore, Spent, fired}
+use Rattle.channel_model.specs.Asking.{new_request, asks, Fired, StillDue, OnceMore, Spent, fired}
 use Rattle.channel_model.specs.Closing.{closes, closes_at, peer_closes_at, ends_at, ends}
-use Rattle.channel_model.specs.Following.{follows_disconnection}
+use Rattle.channel_model.specs.Following.{with_channel, follows_disconnection}
+use Rattle.channel_model.specs.Giving.{own_given, connection_given, configuration_given, disconnection_given, stage_given, counted, gives, carrier_given, carrier_spent, held_given, queue_given, after_given}
 use Rattle.channel_model.specs.Responses.{hears_end}
 use Rattle.channel_model.specs.Carrying.{reason_of, settles_machine, machine_heard, read_by, carries}
 use Rattle.channel_model.specs.Timing.{fires, times_carrier, times_setup, times_stage, times_held, loses_end, times_end_at, times_end}
-use Rattle.channel_model.specs.Calls.{disconnected_at, disconnected_held, disconnected, sends_setup, sends_on, sends_held, sends, carrier_with}
-use Rattle.channel_model.proofs.Lookups.{own_of, found-placed, find-placed, find-others, find-gone}
-use Rattle.channel_model.proofs.Going.{staged}
+use Rattle.channel_model.specs.Calls.{can_connect, connected, asks_features, disconnected_at, disconnected_held, disconnected, sends_setup, sends_on, sends_held, sends, carrier_with}
+use Rattle.channel_model.proofs.Lookups.{own_of, Distinct, found-distinct, found-placed, find-placed, find-others, find-gone, find-append}
+use Rattle.channel_model.proofs.Going.{staged, new_held}
 use Rattle.channel_model.proofs.Walking.{found-own}
 use Rattle.channel_laws.specs.Tries.{own_request}
-use Rattle.channel_laws.specs.Runs.{fired_channel}
 use Rattle.channel_laws.proofs.Lasting.{asked_by}
 
 -- ---- what is waited for
@@ -32,7 +33,7 @@ use Rattle.channel_laws.proofs.Lasting.{asked_by}
 abbrev pub asked_at : Stage → Option (Option ℕ)
 asked_at (Requested request) = None
 asked_at (Connected peer setup) = Some (asked_by (own_request setup.own))
-asked_at (Leaving peer setup request) = None
+asked_at (Leaving peer setup request) = Some (asked_by (own_request setup.own))
 asked_at (Closing peer request) = None
 asked_at (Crossed peer request) = None
 
@@ -117,16 +118,16 @@ pub end-rests : (v : Channels) (held : Option Held) (peer : ℕ) → Rests v (he
 end-rests v None peer = same-rests v v refl
 end-rests v (Some held) peer = either (is_peer peer held.stage) v (ends OwnClosed held v) v (ends_rest v held OwnClosed held.stage) (same-rests v v refl)
 
-left_rests : (v : Channels) (held : Held) (stage : Stage) → find (has_own held.own) v.held ≡ Some held → Rests v (disconnected_at stage held v)
-left_rests v held (Requested request) found = closes_rests v held OwnClosed held.stage found
-left_rests v held (Connected peer setup) found = placed-rests v (disconnected_at (Connected peer setup) held v) held (Leaving peer setup _) found refl (inl refl)
-left_rests v held (Leaving peer setup request) found = same-rests v v refl
-left_rests v held (Closing peer request) found = same-rests v v refl
-left_rests v held (Crossed peer request) found = same-rests v v refl
+left_rests : (v : Channels) (held : Held) (stage : Stage) → held.stage ≡ stage → find (has_own held.own) v.held ≡ Some held → Rests v (disconnected_at stage held v)
+left_rests v held (Requested request) is found = closes_rests v held OwnClosed held.stage found
+left_rests v held (Connected peer setup) is found = placed-rests v (disconnected_at (Connected peer setup) held v) held (Leaving peer setup _) found refl (inr (sym (ap asked_at is)))
+left_rests v held (Leaving peer setup request) is found = same-rests v v refl
+left_rests v held (Closing peer request) is found = same-rests v v refl
+left_rests v held (Crossed peer request) is found = same-rests v v refl
 
 left_held : (v : Channels) (own : ℕ) (held : Option Held) → held_at own v ≡ held → Rests v (disconnected_held held v)
 left_held v own None at = same-rests v v refl
-left_held v own (Some held) at = left_rests v held held.stage (found-own own v held at)
+left_held v own (Some held) at = left_rests v held held.stage refl (found-own own v held at)
 
 pub disconnects-rests : (own : ℕ) (v : Channels) → Rests v (disconnected own v)
 disconnects-rests own v = left_held v own (held_at own v) refl
@@ -139,7 +140,9 @@ setup_stays after setup (Requested request) is same = inl refl
 setup_stays after setup (Connected peer before) is same =
     let whole : before ≡ setup = cc in
     inr (ap (λ o. Some (asked_by (own_request o))) (same ∙ sym (ap (λ (s : Setup). s.own) whole)))
-setup_stays after setup (Leaving peer before request) is same = inl refl
+setup_stays after setup (Leaving peer before request) is same =
+    let whole : before ≡ setup = cc in
+    inr (ap (λ o. Some (asked_by (own_request o))) (same ∙ sym (ap (λ (s : Setup). s.own) whole)))
 setup_stays after setup (Closing peer request) is same = inl refl
 setup_stays after setup (Crossed peer request) is same = inl refl
 
@@ -161,14 +164,14 @@ sent_held v own (Some held) sdu at = sent_on v (setup_of held.stage) sdu held (f
 pub sends-rest : (own : ℕ) (sdu : List ℕ) (v : Channels) → Rests v (sends own sdu v)
 sends-rest own sdu v = sent_held v own (held_at own v) sdu refl
 
-settles_rests : (v : Channels) (closed : Option ErtmReason) (machine : Ertm) (held : Held) (setup : Setup) → find (has_own held.own) v.held ≡ Some held → setup_of held.stage ≡ Some setup → Rests v (settles_machine closed machine held setup v)
-settles_rests v None machine held setup found is = setup-rests v (settles_machine None machine held setup v) held setup (record setup { carrier = Some (Retransmitting machine) }) found is refl refl
-settles_rests v (Some reason) machine held setup found is = closes_rests v held (reason_of reason) held.stage found
+pub settles-rests : (v : Channels) (closed : Option ErtmReason) (machine : Ertm) (held : Held) (setup : Setup) → find (has_own held.own) v.held ≡ Some held → setup_of held.stage ≡ Some setup → Rests v (settles_machine closed machine held setup v)
+settles-rests v None machine held setup found is = setup-rests v (settles_machine None machine held setup v) held setup (record setup { carrier = Some (Retransmitting machine) }) found is refl refl
+settles-rests v (Some reason) machine held setup found is = closes_rests v held (reason_of reason) held.stage found
 
 pub carries-rests : (v : Channels) (carrier : Carrier) (pdu : List ℕ) (held : Held) (setup : Setup) → find (has_own held.own) v.held ≡ Some held → setup_of held.stage ≡ Some setup → Rests v (carries carrier pdu held setup v)
 carries-rests v (Plain agreed waiting) pdu held setup found is = same-rests v v refl
 carries-rests v (Retransmitting machine) pdu held setup found is =
-    let after : Ertm = machine_heard (read_by machine pdu) machine in settles_rests v after.closed after held setup found is
+    let after : Ertm = machine_heard (read_by machine pdu) machine in settles-rests v after.closed after held setup found is
 
 -- ---- the timer
 
@@ -180,7 +183,7 @@ fires_rests v Spent errand spent goes = goes
 timed_carrier : (v : Channels) (carrier : Option Carrier) (held : Held) (setup : Setup) → find (has_own held.own) v.held ≡ Some held → setup_of held.stage ≡ Some setup → Rests v (times_carrier carrier held setup v)
 timed_carrier v None held setup found is = same-rests v v refl
 timed_carrier v (Some (Plain agreed waiting)) held setup found is = same-rests v v refl
-timed_carrier v (Some (Retransmitting machine)) held setup found is = let after : Ertm = timed machine in settles_rests v after.closed after held setup found is
+timed_carrier v (Some (Retransmitting machine)) held setup found is = let after : Ertm = timed machine in settles-rests v after.closed after held setup found is
 
 timed_setup : (v : Channels) (own : Own) (tries : ℕ) (held : Held) (setup : Setup) → find (has_own held.own) v.held ≡ Some held → setup_of held.stage ≡ Some setup → Rests v (times_setup own tries held setup v)
 timed_setup v Unasked tries held setup found is = timed_carrier v setup.carrier held setup found is
@@ -217,8 +220,77 @@ ended_held : (v : Channels) (held : Option Held) (tries : ℕ) → Rests v (time
 ended_held v None tries = same-rests v v refl
 ended_held v (Some held) tries = timed_end v held.stage tries held
 
--- at neither of the two steps of a firing
-pub fires-rest : (tries own : ℕ) (v : Channels) → (let between : Channels = times_held (held_at own v) tries v in Rests v between × Rests between (fired_channel tries own v))
-fires-rest tries own v =
-    let between : Channels = times_held (held_at own v) tries v in
-    (timed_held v own (held_at own v) tries refl, ended_held between (held_at own between) tries)
+pub times-rest : (tries own : ℕ) (v : Channels) → Rests v (times_held (held_at own v) tries v)
+times-rest tries own v = timed_held v own (held_at own v) tries refl
+
+pub ends-rest : (tries own : ℕ) (v : Channels) → Rests v (times_end (held_at own v) tries v)
+ends-rest tries own v = ended_held v (held_at own v) tries
+
+-- ---- the next PDU, and new channels
+
+-- the identifier of a request that is given once more is the same
+own_stays : (own : Own) → asked_by (own_request (own_given own)) ≡ asked_by (own_request own)
+own_stays Unasked = refl
+own_stays (Asking request options) = refl
+own_stays Granted = refl
+
+connection_stays : (stage : Stage) → asked_at (connection_given stage) ≡ asked_at stage
+connection_stays (Requested request) = refl
+connection_stays (Connected peer setup) = refl
+connection_stays (Leaving peer setup request) = refl
+connection_stays (Closing peer request) = refl
+connection_stays (Crossed peer request) = refl
+
+configuration_stays : (stage : Stage) → asked_at (configuration_given stage) ≡ asked_at stage
+configuration_stays (Requested request) = refl
+configuration_stays (Connected peer setup) = ap Some (own_stays setup.own)
+configuration_stays (Leaving peer setup request) = ap Some (own_stays setup.own)
+configuration_stays (Closing peer request) = refl
+configuration_stays (Crossed peer request) = refl
+
+disconnection_stays : (stage : Stage) → asked_at (disconnection_given stage) ≡ asked_at stage
+disconnection_stays (Requested request) = refl
+disconnection_stays (Connected peer setup) = refl
+disconnection_stays (Leaving peer setup request) = refl
+disconnection_stays (Closing peer request) = refl
+disconnection_stays (Crossed peer request) = refl
+
+stage_rests : (v : Channels) (f : Stage → Stage) (own : ℕ) (held : Option Held) → ((stage : Stage) → asked_at (f stage) ≡ asked_at stage) → held_at own v ≡ held → Rests v (stage_given f held v)
+stage_rests v f own None stays at = same-rests v v refl
+stage_rests v f own (Some held) stays at = placed-rests v (stage_given f (Some held) v) held (f held.stage) (found-own own v held at) refl (inr (stays held.stage))
+
+counted_rests : (v : Channels) (errand : Errand) → Rests v (counted errand v)
+counted_rests v (errands.Connection own) = stage_rests v connection_given own (held_at own v) connection_stays refl
+counted_rests v (errands.Configuration own) = stage_rests v configuration_given own (held_at own v) configuration_stays refl
+counted_rests v (errands.Disconnection own) = stage_rests v disconnection_given own (held_at own v) disconnection_stays refl
+counted_rests v errands.Features = same-rests v (counted errands.Features v) refl
+
+spent_rests : (v : Channels) (held : Held) (setup : Option Setup) → find (has_own held.own) v.held ≡ Some held → setup_of held.stage ≡ setup → Rests v (carrier_spent setup held v)
+spent_rests v held None found is = same-rests v v refl
+spent_rests v held (Some setup) found is = setup-rests v (carrier_spent (Some setup) held v) held setup (record setup { carrier = option_map carrier_given setup.carrier }) found is refl refl
+
+given_rests : (v : Channels) (held : Option Held) → Distinct own_of v.held → find gives v.held ≡ held → Rests v (held_given held v)
+given_rests v None lone is = same-rests v v refl
+given_rests v (Some held) lone is = spent_rests v held (setup_of held.stage) (found-distinct own_of gives v.held held lone is) refl
+
+queue_rests : (v : Channels) (queue : List Queued) → Distinct own_of v.held → Rests v (queue_given queue v)
+queue_rests v [] lone = given_rests v (find gives v.held) lone refl
+queue_rests v (Answer command ∷ behind) lone = same-rests v (queue_given (Answer command ∷ behind) v) refl
+queue_rests v (Ask errand ∷ behind) lone = let u : Channels = record v { queue = behind } in both-rest v u (counted errand u) (same-rests v u refl) (counted_rests u errand)
+
+pub gives-rest : (v : Channels) → Distinct own_of v.held → Rests v (after_given v)
+gives-rest v lone = queue_rests v v.queue lone
+
+pub connects-rest : (psm : ℕ) (v : Channels) → Rests v (connected psm v)
+connects-rest psm v = either (can_connect v) v (asks (errands.Connection v.next) (with_channel psm (Requested (new_request v)) v)) v (λ own. subst (λ h. Stays (asked_on h) (asked_on (held_at own v))) (sym (find-append own_of own v.held new)) (by own (find (has_own own) v.held) (eqb v.next own))) (same-rests v v refl)
+  where
+    new : Held
+    new = new_held psm v.next (Requested (new_request v))
+
+    by : (own : ℕ) (found : Option Held) (same : Bool) → Stays (asked_on (option_or found (cond same (Some new) None))) (asked_on found)
+    by own None true = inl refl
+    by own None false = inl refl
+    by own (Some held) same = inr refl
+
+pub asks-rest : (v : Channels) → Rests v (asks_features v)
+asks-rest v = let w : Channels = asks errands.Features (record v { features = Some (new_request v) }) in either (is_some v.features) v v w (same-rests v v refl) (same-rests v w refl)

@@ -258,7 +258,7 @@ stage-fires policy r v held tries (Leaving peer setup request) is at sound = set
 stage-fires policy r v held tries (Closing peer request) is at sound = silent policy r v held.own sound
 stage-fires policy r v held tries (Crossed peer request) is at sound = silent policy r v held.own sound
 
-held-fires : (policy : Policy) (r : Reading) (v : Channels) (tries own : ℕ) (found : Option Held) → find (has_own own) v.held ≡ found → Sound policy r v
+pub held-fires : (policy : Policy) (r : Reading) (v : Channels) (tries own : ℕ) (found : Option Held) → find (has_own own) v.held ≡ found → Sound policy r v
     → (let w : Channels = times_held found tries v in Sound policy (fold read_on r (said_on_firing own v w)) w)
 held-fires policy r v tries own None is sound = silent policy r v own sound
 held-fires policy r v tries own (Some held) is sound =
@@ -356,7 +356,7 @@ end-fires policy r v held tries (Crossed peer request) is at sound =
     let waits : Waits held held.stage peer request = subst (λ s. Waits held s peer request) (sym is) (record { peer_is = refl; asks = refl; life_stays = refl; setup_stays = tt; forgone = refl; ending = tt }) in
     by_times policy r v held.own tries (Disconnection held.own) request (loses_end held) (end-again policy r v held peer request waits at sound) (loses-fires policy r v held peer request waits at sound) sound
 
-ending-fires : (policy : Policy) (r : Reading) (v : Channels) (tries own : ℕ) (found : Option Held) → find (has_own own) v.held ≡ found → Sound policy r v
+pub ending-fires : (policy : Policy) (r : Reading) (v : Channels) (tries own : ℕ) (found : Option Held) → find (has_own own) v.held ≡ found → Sound policy r v
     → (let w : Channels = times_end found tries v in Sound policy (fold read_on r (said_on_firing own v w)) w)
 ending-fires policy r v tries own None is sound = silent policy r v own sound
 ending-fires policy r v tries own (Some held) is sound =
@@ -378,7 +378,7 @@ channel-fires policy r v tries own sound =
 features_kept : (request : Request) (after : Option Request) → after ≡ Some request → features_given_up (Some request) after ≡ []
 features_kept request after is = ap (features_given_up (Some request)) is
 
-features-fires : (policy : Policy) (r : Reading) (v : Channels) (tries : ℕ) (features : Option Request) → v.features ≡ features → Sound policy r v
+pub features-fires : (policy : Policy) (r : Reading) (v : Channels) (tries : ℕ) (features : Option Request) → v.features ≡ features → Sound policy r v
     → (let w : Channels = times_features features tries v in Sound policy (fold read_on r (said_again Features v w ++ features_given_up features w.features)) w)
 features-fires policy r v tries None is sound = subst (λ said. Sound policy (fold read_on r (said ++ [])) v) (sym (none_said v v (λ errand due. due) Features)) sound
 features-fires policy r v tries (Some request) is sound = by (is_due Features v) refl

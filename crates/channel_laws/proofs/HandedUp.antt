@@ -31,8 +31,8 @@ same-sdus frame xs ys same = ap (λ fs. sdus_of (picked 0 fs)) same
 -- ---- a machine hears a PDU
 
 -- what is agreed on stays
-heard_agreed : (found : Answer) (m : Ertm) → (machine_heard found m).agreed ≡ m.agreed
-heard_agreed (Ok frame) m = by m.closed
+pub heard-agreed : (found : Answer) (m : Ertm) → (machine_heard found m).agreed ≡ m.agreed
+heard-agreed (Ok frame) m = by m.closed
   where
     on : (cause : Option ErtmReason) → (heard_by cause frame m).agreed ≡ m.agreed
     on None = refl
@@ -41,7 +41,7 @@ heard_agreed (Ok frame) m = by m.closed
     by : (now : Option ErtmReason) → (open_heard now frame m).agreed ≡ m.agreed
     by None = on (fault frame m)
     by (Some cause) = refl
-heard_agreed (Err refusal) m = by m.closed (refusal_fault refusal)
+heard-agreed (Err refusal) m = by m.closed (refusal_fault refusal)
   where
     by : (now cause : Option ErtmReason) → (closed_by now cause m).agreed ≡ m.agreed
     by (Some reason) cause = refl
@@ -94,7 +94,7 @@ hears-pdu frame pdus opened m pdu attends open' =
         agreed = agreed;
         events = events ++ Comes pdu ∷ [];
         machine_is = ap (λ (x : Course). x.machine) last ∙ machine;
-        agreed_is = heard_agreed found m ∙ attends.agreed_is;
+        agreed_is = heard-agreed found m ∙ attends.agreed_is;
         came_is = ap (λ (x : Course). frames_in frame x.came) last ∙ frames;
         small = attends.small;
         frame_is = attends.frame_is;

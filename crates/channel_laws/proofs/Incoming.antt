@@ -1,47 +1,44 @@
 -- The SDUs that are handed up in a whole run.
 use Rattle.std.proofs.Common.{◌≡◌, ℕ, ◌≤◌, List, [], ◌∷◌, ◌++◌, map, Bool, true, false, cond, ◌||◌, ◌&&◌, eqb, Option, Some, None, refl, sym, ap, subst, ◌∙◌, inl, inr, arith, append_assoc}
-use Rattle.std.specs.Prelude.{find, drop, option_map, option_to_list, slice_get}
-use Rattle.std.specs.Option.{option_and_then}
+use Rattle.std.specs.Prelude.{find, drop, option_to_list, slice_get}
 use Rattle.std.specs.List.{list_any}
 use Rattle.std.proofs.lemmas.Bool.{eqb-true}
 use Rattle.acl_fragments.specs.Pieces.{channel_of}
 use Rattle.capture.specs.declared.flow.Flow.TheVariants.{Into}
-use Rattle.l2cap_signal.specs.Commands.{Command}
-use Rattle.l2cap_signal.specs.Reading.{Answer as Read, answers}
+use Rattle.l2cap_signal.specs.Reading.{answers}
 use Rattle.ertm_frames.specs.Reading.{frames_in}
 use Rattle.link_talk.specs.declared.channel.Channel.{Channel}
 use Rattle.link_talk.specs.declared.party.Party.{Party}
 use Rattle.link_talk.specs.Sayings.{Saying, Carried}
-use Rattle.link_talk.specs.Sayings as sayings
-use Rattle.channel_model.specs.Following.{can_say}
 use Rattle.link_talk.specs.Setups.{is_set}
 use Rattle.link_talk.specs.Channels.{is_alive, Entry, reading}
 use Rattle.link_talk.specs.Carriages.{Carriage}
 use Rattle.link_talk.specs.GrowingLaws.{has_opened}
 use Rattle.link_talk.specs.Sdus.{sdus}
-use Rattle.channel_model.specs.declared.errand.Errand.{Errand}
-use Rattle.channel_model.specs.declared.errand.Errand.TheVariants as errands
 use Rattle.channel_model.specs.declared.event.ChannelEvent.{ChannelEvent}
-use Rattle.channel_model.specs.Value.{Request, Carrier, Plain, Retransmitting, Stage, Requested, Connected, Leaving, Closing, Crossed, Held, Channels}
+use Rattle.channel_model.specs.Value.{Carrier, Plain, Retransmitting, Stage, Requested, Connected, Leaving, Closing, Crossed, Held, Channels}
 use Rattle.channel_model.specs.Policies.{Policy}
 use Rattle.channel_model.specs.Changing.{has_own, held_at, setup_of}
-use Rattle.channel_model.specs.Hearing.{hears_command, hears_commands, up}
+use Rattle.channel_model.specs.Hearing.{hears_commands, up}
 use Rattle.channel_model.specs.Carrying.{takes, takes_on, takes_held, Up, Nothing, sdu_at, up_by, up_on, up_at}
 use Rattle.channel_model.specs.Calls.{carrier_at, carrier_with, connected, asks_features, disconnected, sends, after_event}
-use Rattle.channel_model.specs.Giving.{Given, Signal, Whole, Framed, carrier_given, next_given, after_given, command_of}
-use Rattle.channel_model.specs.Timing.{times_held, times_end, times_features, timed_out}
+use Rattle.channel_model.specs.Giving.{Given, Signal, Whole, Framed, carrier_given, next_given, after_given}
+use Rattle.channel_model.specs.Timing.{timed_out}
 use Rattle.channel_model.specs.Telling.{is_by_machine, closes_for, is_told_closed, is_told_broken}
 use Rattle.channel_model.proofs.Lookups.{own_of, found-has, and_off}
 use Rattle.channel_model.proofs.Going.{Walks}
 use Rattle.channel_model.proofs.Walking.{append_none, found-own, commands-go}
 use Rattle.channel_model.proofs.Calling.{connected-goes, asks-features-goes, disconnected-goes, sends-goes, takes-goes, timed-goes, given-goes}
 use Rattle.channel_laws.specs.Views.{peer_of, life_of, read_at}
-use Rattle.channel_laws.specs.OwnTalk.{spoken, reply_to, exchanged, newest, said_of, asked_between, said_with, said_with_all}
-use Rattle.channel_laws.specs.Runs.{Occurrence, Comes, Connects, AsksFeatures, Disconnects, Sends, Gives, Fires, Tells, forgone_at, forgone_between, given_up, features_given_up, said_again, said_on_firing, said_by_channel, fired_channel, said_by_channels, peer_at, said_by_carrier, said_as, said_in, Run, new_link, run_on, arisen, sdu_up, sdus_up}
+use Rattle.channel_laws.specs.OwnTalk.{asked_between, said_with_all}
+use Rattle.channel_laws.specs.Runs.{Occurrence, Comes, Connects, AsksFeatures, Disconnects, Sends, Gives, Fires, Tells, peer_at, said_by_carrier, said_as, said_in, Run, new_link, run_on, arisen, sdu_up, sdus_up}
 use Rattle.channel_laws.specs.Sdus.{StatesFrame, IsHandedUp, SdusAreRead}
 use Rattle.channel_laws.proofs.Sound.{AgreesIf, ReadsBy, Reads}
 use Rattle.channel_laws.proofs.Telling.{StageTold, HeldTold, RunTold, one_told, nothing_told, Anything}
-use Rattle.channel_laws.proofs.Stretching.{heard_on, NoneComes, comes_in, StaysHeard, opens, carried-here, carried-else, nothing-heard, one-heard, stays-heard}
+use Rattle.link_talk.specs.Carriages.{is_heard}
+use Rattle.channel_laws.proofs.Carriages.{into-here, into-else}
+use Rattle.channel_laws.proofs.Signalling.{bare-asked, bare-left, bare-with_all, bare-fired, bare-comes}
+use Rattle.channel_laws.proofs.Stretching.{heard_on, NoneComes, StaysHeard, opens, nothing-heard, one-heard, stays-heard}
 use Rattle.channel_laws.proofs.Attending.{StageAttends, HeldAttends, AllAttend, AttendsOn, BesideCarrier, submits-aside, gives-aside, fires-aside, walks-attend}
 use Rattle.channel_laws.proofs.Taking.{takes-others}
 use Rattle.channel_laws.proofs.Receiving.{not-broken, up-nothing, Before, Behind, unchanged, connected_comes, left_setup}
@@ -113,77 +110,6 @@ held_comes policy party own pdu earlier ups pdus pdus' so_far now v (Some held) 
 
 -- ---- what is said besides
 
-pub none_append : (xs ys : List Saying) → NoneComes xs → NoneComes ys → NoneComes (xs ++ ys)
-none_append [] ys one other = other
-none_append (x ∷ xs) ys one other = by (comes_in x) one (none_append xs ys)
-  where
-    by : (now : Bool) → (now || list_any comes_in xs) ≡ false → (NoneComes xs → NoneComes ys → NoneComes (xs ++ ys)) → (now || list_any comes_in (xs ++ ys)) ≡ false
-    by true all later = cc
-    by false all later = later all other
-
-none_spoken : (command : Option Command) → NoneComes (map spoken (option_to_list command))
-none_spoken None = refl
-none_spoken (Some command) = refl
-
-none_of : (errand : Option Errand) (w : Channels) → NoneComes (said_of errand w)
-none_of errand w = none_spoken (option_and_then (λ one. command_of one w) errand)
-
-none_if : (b : Bool) (said : List Saying) → NoneComes said → NoneComes (cond b said [])
-none_if true said none = none
-none_if false said none = refl
-
-none_asked : (v w : Channels) → NoneComes (asked_between v w)
-none_asked v w = by (eqb w.identifier v.identifier)
-  where
-    by : (b : Bool) → NoneComes (cond b [] (said_of (newest w.queue) w))
-    by true = refl
-    by false = none_of (newest w.queue) w
-
-none_exchanged : (one : Read) (reply : Option Command) (v : Channels) → NoneComes (exchanged one reply v)
-none_exchanged one reply v = none_if (can_say (option_map (λ (c : Command). c.content) reply) v) (sayings.Command Into one ∷ map spoken (option_to_list reply)) (none_spoken reply)
-
-none_with_all : (policy : Policy) (list : List Read) (v : Channels) → NoneComes (said_with_all policy list v)
-none_with_all policy [] v = refl
-none_with_all policy (one ∷ list) v =
-    none_append (said_with policy one v) (said_with_all policy list (hears_command policy one v))
-    (none_append (exchanged one (reply_to policy one v) v) (asked_between v (hears_command policy one v)) (none_exchanged one (reply_to policy one v) v) (none_asked v (hears_command policy one v)))
-    (none_with_all policy list (hears_command policy one v))
-
-none_forgone : (before after : Option Held) → NoneComes (forgone_between before after)
-none_forgone None after = refl
-none_forgone (Some held) None = by held.stage
-  where
-    by : (stage : Stage) → NoneComes (forgone_at stage held.own)
-    by (Requested request) = refl
-    by (Connected peer setup) = refl
-    by (Leaving peer setup request) = refl
-    by (Closing peer request) = refl
-    by (Crossed peer request) = refl
-none_forgone (Some held) (Some other) = refl
-
-none_features : (before after : Option Request) → NoneComes (features_given_up before after)
-none_features None after = refl
-none_features (Some request) None = refl
-none_features (Some request) (Some other) = refl
-
-none_again : (errand : Errand) (v w : Channels) → NoneComes (said_again errand v w)
-none_again errand v w = none_if _ (said_of (Some errand) w) (none_of (Some errand) w)
-
-none_firing : (own : ℕ) (v w : Channels) → NoneComes (said_on_firing own v w)
-none_firing own v w =
-    none_append (said_again (errands.Connection own) v w) _ (none_again (errands.Connection own) v w)
-    (none_append (said_again (errands.Configuration own) v w) _ (none_again (errands.Configuration own) v w)
-    (none_append (said_again (errands.Disconnection own) v w) _ (none_again (errands.Disconnection own) v w)
-    (none_append (asked_between v w) (given_up own v w) (none_asked v w) (none_forgone (held_at own v) (held_at own w)))))
-
-none_fired : (tries : ℕ) (owns : List ℕ) (v : Channels) → NoneComes (said_by_channels tries owns v)
-none_fired tries [] v = none_append (said_again errands.Features v (times_features v.features tries v)) _ (none_again errands.Features v (times_features v.features tries v)) (none_features v.features (times_features v.features tries v).features)
-none_fired tries (own ∷ owns) v =
-    let between : Channels = times_held (held_at own v) tries v in
-    none_append (said_by_channel tries own v) (said_by_channels tries owns (fired_channel tries own v))
-    (none_append (said_on_firing own v between) (said_on_firing own between (times_end (held_at own between) tries between)) (none_firing own v between) (none_firing own between (times_end (held_at own between) tries between)))
-    (none_fired tries owns (fired_channel tries own v))
-
 none_carrier : (carrier : Option Carrier) (peer : ℕ) (sdu : List ℕ) → NoneComes (said_by_carrier carrier peer sdu)
 none_carrier None peer sdu = refl
 none_carrier (Some (Plain agreed None)) peer sdu = refl
@@ -225,7 +151,7 @@ gains_grow own earlier v w (more, is) was =
 
 -- ---- a run
 
-abbrev channel_at : Channel → (own : ℕ) → Channel
+abbrev pub channel_at : Channel → (own : ℕ) → Channel
 channel_at channel own = record channel { own = own }
 
 pub record RunUp (policy : Policy) (party : Party) (channel : Channel) (run : Run) : Type 0 where
@@ -236,7 +162,7 @@ pub record RunUp (policy : Policy) (party : Party) (channel : Channel) (run : Ru
 with_came : (policy : Policy) (frame : ℕ) (came came' : ℕ → List (List ℕ)) (v : Channels) → ((own : ℕ) → came' own ≡ came own) → AllAttend policy frame came v → AllAttend policy frame came' v
 with_came policy frame came came' v same all = record {
   at = λ own. subst (λ p. HeldAttends policy frame p (find (has_own own) v.held)) (sym (same own)) (all.at own);
-  fresh = λ own above. ap (frames_in frame) (same own) ∙ all.fresh own above;
+  fresh = λ own psm above. ap (frames_in frame) (same own) ∙ all.fresh own psm above;
   below = all.below;
 }
 
@@ -290,7 +216,7 @@ before_comes : (policy : Policy) (party : Party) (channel : Channel) (run : Run)
     Before policy party channel.own pdu run.told run.up (heard_on channel run.said) (heard_on channel more) (sdus party channel Into run.said) (sdus party channel Into more) (read_at channel.own (reading run.said).entries))
 before_comes policy party channel run pdu sound same =
     let one : Carriage = record { flow = Into; pdu = pdu } in
-    let now = carried-here channel run.said pdu sound.core.distinct same in
+    let now = into-here is_heard channel run.said pdu same in
     record {
       passes = λ shut.
           let stays : StaysHeard party channel run.said (run.said ++ Carried Into pdu ∷ []) = nothing-heard party channel run.said (Carried Into pdu) (now ∙ ap (λ t. cond t (one ∷ []) []) shut) in
@@ -327,7 +253,7 @@ takes_at policy party channel run pdu sound so_far own = by (eqb (channel_of pdu
         (gains_grow own run.told run.value (takes own pdu run.value) (takes-goes policy Anything Gains (walks_gain policy) own pdu run.value (λ machine open'. tt))))
     by false is =
         let k : ℕ = channel_of pdu in
-        let stays = nothing-heard party (channel_at channel own) run.said (Carried Into pdu) (carried-else (channel_at channel own) run.said pdu is) in (
+        let stays = nothing-heard party (channel_at channel own) run.said (Carried Into pdu) (into-else is_heard (channel_at channel own) run.said pdu is) in (
           subst (HeldAttends policy party.frame (heard_on (channel_at channel own) (run.said ++ Carried Into pdu ∷ []))) (sym ((takes-others k pdu run.value).others own is))
               (subst (λ p. HeldAttends policy party.frame p (find (has_own own) run.value.held)) (sym stays.heard_is) (so_far.attend.at own)),
           still_handed _ _ (sdus_up own run.up) _ (sdus party (channel_at channel own) Into run.said) _
@@ -342,10 +268,10 @@ fresh_heard policy party channel run pdu sound own none = by (eqb (channel_of pd
   where
     by : (same : Bool) → eqb (channel_of pdu) own ≡ same → heard_on (channel_at channel own) (run.said ++ Carried Into pdu ∷ []) ≡ heard_on (channel_at channel own) run.said
     by true is = ((before_comes policy party (channel_at channel own) run pdu sound is).passes (ap opens none)).0
-    by false is = (nothing-heard party (channel_at channel own) run.said (Carried Into pdu) (carried-else (channel_at channel own) run.said pdu is)).heard_is
+    by false is = (nothing-heard party (channel_at channel own) run.said (Carried Into pdu) (into-else is_heard (channel_at channel own) run.said pdu is)).heard_is
 
-fresh_held : (own k : ℕ) (pdu : List ℕ) (v : Channels) → find (has_own own) v.held ≡ None → find (has_own own) (takes k pdu v).held ≡ None
-fresh_held own k pdu v none = by (eqb k own) refl
+pub fresh-held : (own k : ℕ) (pdu : List ℕ) (v : Channels) → find (has_own own) v.held ≡ None → find (has_own own) (takes k pdu v).held ≡ None
+fresh-held own k pdu v none = by (eqb k own) refl
   where
     by : (same : Bool) → eqb k own ≡ same → find (has_own own) (takes k pdu v).held ≡ None
     by true is =
@@ -363,17 +289,17 @@ carried_up policy party channel run pdu sound so_far told =
     let next_is : w.next ≡ run.value.next = (takes-others k pdu run.value).next_is in
     let at : (own : ℕ) → At policy party channel run.told (run.up ++ up_at k pdu run.value ∷ []) (run.said ++ (Carried Into pdu ∷ asked)) w own = λ own.
     subst (λ s. At policy party channel run.told (run.up ++ up_at k pdu run.value ∷ []) s w own) whole
-    (commands_behind policy party channel run.told (run.up ++ up_at k pdu run.value ∷ []) before asked w own (none_asked run.value w) (takes_at policy party channel run pdu sound so_far own)) in
+    (commands_behind policy party channel run.told (run.up ++ up_at k pdu run.value ∷ []) before asked w own (bare-comes asked (bare-asked run.value w)) (takes_at policy party channel run pdu sound so_far own)) in
     record {
       told = told;
       attend = record {
         at = λ own. (at own).0;
-        fresh = λ own above.
+        fresh = λ own psm above.
             let high : run.value.next ≤ own = omega (arith, next_is, above) in
             ap (λ s. frames_in party.frame (heard_on (channel_at channel own) s)) (sym whole)
-            ∙ (ap (frames_in party.frame) ((stays-heard party (channel_at channel own) asked before (none_asked run.value w)).heard_is
-            ∙ fresh_heard policy party channel run pdu sound own (sound.core.read_below own high)) ∙ so_far.attend.fresh own high);
-        below = λ own above. fresh_held own k pdu run.value (so_far.attend.below own (omega (arith, next_is, above)));
+            ∙ (ap (frames_in party.frame) ((stays-heard party (channel_at channel own) asked before (bare-comes asked (bare-asked run.value w))).heard_is
+            ∙ fresh_heard policy party channel run pdu sound own (sound.core.read_below own high)) ∙ so_far.attend.fresh own psm high);
+        below = λ own above. fresh-held own k pdu run.value (so_far.attend.below own (omega (arith, next_is, above)));
       };
       handed = λ own. subst (λ es. IsHandedUp (is_told_broken own (es ++ w.events)) (sdus_up own (run.up ++ up_at k pdu run.value ∷ [])) (sdus party (channel_at channel own) Into (run.said ++ (Carried Into pdu ∷ asked)))) (append_none run.told) (at own).1;
     }
@@ -391,7 +317,7 @@ beside_sent sdu (Retransmitting machine) = inr (submits-aside sdu machine)
 comes_up : (policy : Policy) (party : Party) (channel : Channel) (run : Run) (pdu : List ℕ) (signals : Bool) → StatesFrame policy party → IsSound policy run → RunUp policy party channel run → RunTold (comes_run policy run pdu signals)
     → RunUp policy party channel (comes_run policy run pdu signals)
 comes_up policy party channel run pdu true states sound so_far told =
-    quiet_up policy party channel run (said_with_all policy (answers (drop 4 pdu)) run.value) [] (hears_commands policy (answers (drop 4 pdu)) run.value) (none_with_all policy (answers (drop 4 pdu)) run.value)
+    quiet_up policy party channel run (said_with_all policy (answers (drop 4 pdu)) run.value) [] (hears_commands policy (answers (drop 4 pdu)) run.value) (bare-comes (said_with_all policy (answers (drop 4 pdu)) run.value) (bare-with_all policy (answers (drop 4 pdu)) run.value))
     (commands-go policy BesideCarrier (AttendsOn policy party.frame (λ own. heard_on (channel_at channel own) run.said)) (walks-attend policy party.frame (λ own. heard_on (channel_at channel own) run.said) states) (answers (drop 4 pdu)) run.value)
     (gains_on run (hears_commands policy (answers (drop 4 pdu)) run.value) (commands-go policy Anything Gains (walks_gain policy) (answers (drop 4 pdu)) run.value)) so_far told
 comes_up policy party channel run pdu false states sound so_far told = carried_up policy party channel run pdu sound so_far told
@@ -404,14 +330,14 @@ one_up : (policy : Policy) (party : Party) (channel : Channel) (run : Run) (more
     → RunUp policy party channel (run_on policy run more)
 one_up policy party channel run (Comes pdu) states sound so_far told = comes_up policy party channel run pdu (eqb (channel_of pdu) 0x0001) states sound so_far told
 one_up policy party channel run (Connects psm) states sound so_far told =
-    quiet_up policy party channel run (said_in policy (Connects psm) run.value) [] (connected psm run.value) (none_asked run.value (connected psm run.value))
+    quiet_up policy party channel run (said_in policy (Connects psm) run.value) [] (connected psm run.value) (bare-comes (said_in policy (Connects psm) run.value) (bare-asked run.value (connected psm run.value)))
     (connected-goes policy BesideCarrier _ (walks-attend policy party.frame (λ own. heard_on (channel_at channel own) run.said) states) psm run.value) (gains_on run (connected psm run.value) (connected-goes policy Anything Gains (walks_gain policy) psm run.value)) so_far told
 one_up policy party channel run AsksFeatures states sound so_far told =
-    quiet_up policy party channel run (said_in policy AsksFeatures run.value) [] (asks_features run.value) (none_asked run.value (asks_features run.value))
+    quiet_up policy party channel run (said_in policy AsksFeatures run.value) [] (asks_features run.value) (bare-comes (said_in policy AsksFeatures run.value) (bare-asked run.value (asks_features run.value)))
     (asks-features-goes policy BesideCarrier _ (walks-attend policy party.frame (λ own. heard_on (channel_at channel own) run.said) states) run.value) (gains_on run (asks_features run.value) (asks-features-goes policy Anything Gains (walks_gain policy) run.value)) so_far told
 one_up policy party channel run (Disconnects own) states sound so_far told =
     let w : Channels = disconnected own run.value in
-    quiet_up policy party channel run (said_in policy (Disconnects own) run.value) [] w (none_append (asked_between run.value w) (given_up own run.value w) (none_asked run.value w) (none_forgone (held_at own run.value) (held_at own w)))
+    quiet_up policy party channel run (said_in policy (Disconnects own) run.value) [] w (bare-comes (said_in policy (Disconnects own) run.value) (bare-left own run.value w))
     (disconnected-goes policy BesideCarrier _ (walks-attend policy party.frame (λ n. heard_on (channel_at channel n) run.said) states) own run.value) (gains_on run w (disconnected-goes policy Anything Gains (walks_gain policy) own run.value)) so_far told
 one_up policy party channel run (Sends own sdu) states sound so_far told =
     quiet_up policy party channel run (said_in policy (Sends own sdu) run.value) [] (sends own sdu run.value) (none_carrier (carrier_at own run.value) (peer_at (held_at own run.value)) sdu)
@@ -422,7 +348,7 @@ one_up policy party channel run (Gives pdu) states sound so_far told =
     (given-goes policy BesideCarrier _ (walks-attend policy party.frame (λ n. heard_on (channel_at channel n) run.said) states) run.value beside_given sound.core.lone)
     (gains_on run (after_given run.value) (given-goes policy Anything Gains (walks_gain policy) run.value (λ carrier. tt) sound.core.lone)) so_far told
 one_up policy party channel run Fires states sound so_far told =
-    quiet_up policy party channel run (said_in policy Fires run.value) [] (timed_out policy run.value) (none_fired policy.tries (map (λ held. held.own) run.value.held) run.value)
+    quiet_up policy party channel run (said_in policy Fires run.value) [] (timed_out policy run.value) (bare-comes (said_in policy Fires run.value) (bare-fired policy.tries (map (λ held. held.own) run.value.held) run.value))
     (timed-goes policy BesideCarrier _ (walks-attend policy party.frame (λ n. heard_on (channel_at channel n) run.said) states) run.value (λ machine open'. inr (fires-aside machine open')))
     (gains_on run (timed_out policy run.value) (timed-goes policy Anything Gains (walks_gain policy) run.value (λ machine open'. tt))) so_far told
 one_up policy party channel run Tells states sound so_far told =
@@ -433,7 +359,7 @@ one_up policy party channel run Tells states sound so_far told =
 first_up : (policy : Policy) (party : Party) (channel : Channel) → RunUp policy party channel new_link
 first_up policy party channel = record {
   told = nothing_told;
-  attend = record { at = λ own. tt; fresh = λ own above. refl; below = λ own above. refl };
+  attend = record { at = λ own. tt; fresh = λ own psm above. refl; below = λ own above. refl };
   handed = λ own. inl refl;
 }
 

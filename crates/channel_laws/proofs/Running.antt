@@ -99,7 +99,7 @@ one-more policy run r Tells sound = record { core = sound.core; kept = sound.kep
 abbrev pub IsSound : Policy → Run → Type 0
 IsSound policy run = Sound policy (reading run.said) run.value
 
-run-more : (policy : Policy) (run : Run) (more : Occurrence) → IsSound policy run → IsSound policy (run_on policy run more)
+pub run-more : (policy : Policy) (run : Run) (more : Occurrence) → IsSound policy run → IsSound policy (run_on policy run more)
 run-more policy run more sound =
     subst (λ x. Sound policy x (value_after policy more run.value)) (sym (fold-append read_on nothing_read run.said (said_in policy more run.value))) (one-more policy run (reading run.said) more sound)
 

@@ -30,8 +30,15 @@ use Rattle.channel_model.specs.Calls.{can_connect}
 use Rattle.channel_model.proofs.Lookups.{own_of, Distinct, found-has, eqb-away, find-append, found-distinct}
 use Rattle.channel_model.proofs.Going.{new_held}
 use Rattle.channel_model.proofs.Walking.{found-own}
-use Rattle.channel_laws.specs.Runs.{Occurrence, Comes, Connects, AsksFeatures, Disconnects, Sends, Gives, Fires, Tells, value_after, Run, new_link, run_of}
-use Rattle.channel_laws.specs.Tries.{for_channel, own_request, for_options, for_end, request_at, request_of, one_if, copies, is_firing, TriesAreKept, FiringsAloneRepeat}
+use Rattle.channel_laws.specs.Runs.{Occurrence, Comes, Connects, AsksFeatures, Disconnects, Sends, Gives, Fires, Tells, value_after, Run, new_link, run_on, run_of}
+use Rattle.std.proofs.lemmas.List.Sums.{fold-append}
+use Rattle.talk_laws.proofs.Passes.{from_end}
+use Rattle.ertm_model.specs.declared.reason.ErtmReason.{ErtmReason}
+use Rattle.ertm_model.specs.Value.{Ertm}
+use Rattle.channel_model.specs.declared.event.CloseReason.{CloseReason}
+use Rattle.channel_model.specs.Closing.{closes_at, ends_at}
+use Rattle.channel_model.specs.Carrying.{reason_of, settles_machine}
+use Rattle.channel_laws.specs.Tries.{firings, FiringsAreCounted, for_channel, own_request, for_options, for_end, request_at, request_of, one_if, copies, is_firing, TriesAreKept, FiringsAloneRepeat}
 use Rattle.channel_laws.proofs.Running.{IsSound, along, all-sound}
 use Rattle.channel_laws.proofs.Trying.{copies-less, copies-append, copies-none, copies-asked, copies-others, same-self, By, Tame, both-tame, still-tame, same-tame, same-requests, Here, rests-here, goes-tame}
 use Rattle.channel_laws.proofs.Sparing.{closes-tame, ends-tame, setup-tame, follows-tame, grant-tame, response-tame, end-tame, settles-tame, takes-tame, disconnects-tame, sends-tame}
@@ -350,9 +357,82 @@ same_is errands.Features (errands.Configuration n) is = cc
 same_is errands.Features (errands.Disconnection n) is = cc
 same_is errands.Features errands.Features is = refl
 
+-- ---- the timer
+
+-- how often each was given so far
+abbrev Below : (low : ℕ) → Channels → Type 0
+Below low v = (e : Errand) (r : Request) → request_of e v ≡ Some r → r.given ≤ low
+
+abbrev Holds : (most low : ℕ) → Channels → Type 0
+Holds most low v = Kept most v × Below low v
+
+-- one that may be given again
+abbrev Bound : (most low tries : ℕ) → Type 0
+Bound most low tries = (given : ℕ) → given ≤ low → nat_le tries given ≡ false → given < most
+
+-- with nothing that waits to be given
+abbrev cleared : Channels → Channels
+cleared v = record v { queue = [] }
+
+-- a step that looks at nothing that waits gives nothing
+abbrev Alike : Channels → Channels → Type 0
+Alike v w = (w.held ≡ v.held) × (w.features ≡ v.features)
+
+record Spends (v w : Channels) : Type 0 where
+  tame : Tame v w
+  bare : Channels
+  alike : Alike w bare
+  also : Tame (cleared v) bare
+
+spends_on : (most low : ℕ) (v w : Channels) → 1 ≤ most → 1 ≤ low → Spends v w → Holds most low v → Holds most low w
+spends_on most low v w some one spends (so_far, below) = (kept most v w some spends.tame so_far, λ e r is. by e r (spends.also e r (same-requests w spends.bare spends.alike.0 spends.alike.1 e ∙ is)))
+  where
+    by : (e : Errand) (r : Request) → By (copies e spends.bare.queue) 0 (request_of e (cleared v)) r → r.given ≤ low
+    by e r (inl new) = omega (arith, new, one)
+    by e r (inr (was, was_is, less)) = let bound = below e was (sym (same-requests v (cleared v) refl refl e) ∙ was_is) in omega (arith, less, bound)
+
+closes_alike : (v : Channels) (held : Held) (reason : CloseReason) (stage : Stage) → Alike (closes_at stage reason held v) (closes_at stage reason held (cleared v))
+closes_alike v held reason (Requested request) = (refl, refl)
+closes_alike v held reason (Connected peer setup) = (refl, refl)
+closes_alike v held reason (Leaving peer setup request) = (refl, refl)
+closes_alike v held reason (Closing peer request) = (refl, refl)
+closes_alike v held reason (Crossed peer request) = (refl, refl)
+
+closes_spends : (v : Channels) (held : Held) (reason : CloseReason) → find (has_own held.own) v.held ≡ Some held → Spends v (closes reason held v)
+closes_spends v held reason found = record { tame = closes-tame v held reason found; bare = closes reason held (cleared v); alike = closes_alike v held reason held.stage; also = closes-tame (cleared v) held reason found }
+
+ends_alike : (v : Channels) (held : Held) (reason : CloseReason) (stage : Stage) → Alike (ends_at stage reason held v) (ends_at stage reason held (cleared v))
+ends_alike v held reason (Requested request) = (refl, refl)
+ends_alike v held reason (Connected peer setup) = (refl, refl)
+ends_alike v held reason (Leaving peer setup request) = (refl, refl)
+ends_alike v held reason (Closing peer request) = (refl, refl)
+ends_alike v held reason (Crossed peer request) = (refl, refl)
+
+ends_spends : (v : Channels) (held : Held) → Spends v (ends RetryLimit held v)
+ends_spends v held = record { tame = ends-tame v held RetryLimit held.stage; bare = ends RetryLimit held (cleared v); alike = ends_alike v held RetryLimit held.stage; also = ends-tame (cleared v) held RetryLimit held.stage }
+
+loses_tame : (v : Channels) (held : Held) → Tame v (loses_end held v)
+loses_tame v held = let u : Channels = ends RetryLimit held v in both-tame v u (loses_end held v) (ends-tame v held RetryLimit held.stage) (still-tame u (loses_end held v) refl refl (λ e. omega arith))
+
+loses_spends : (v : Channels) (held : Held) → Spends v (loses_end held v)
+loses_spends v held = record { tame = loses_tame v held; bare = loses_end held (cleared v); alike = ends_alike v held RetryLimit held.stage; also = loses_tame (cleared v) held }
+
+settles_spends : (v : Channels) (closed : Option ErtmReason) (machine : Ertm) (held : Held) (setup : Setup) → find (has_own held.own) v.held ≡ Some held → setup_of held.stage ≡ Some setup → Spends v (settles_machine closed machine held setup v)
+settles_spends v None machine held setup found is = record { tame = settles-tame v None machine held setup found is; bare = settles_machine None machine held setup (cleared v); alike = (refl, refl); also = settles-tame (cleared v) None machine held setup found is }
+settles_spends v (Some reason) machine held setup found is = closes_spends v held (reason_of reason) found
+
+features_spends : (v : Channels) → Spends v (loses_features v)
+features_spends v = record {
+  tame = features_tame v (loses_features v) refl refl (λ e. omega arith);
+  bare = loses_features (cleared v);
+  alike = (refl, refl);
+  also = features_tame (cleared v) (loses_features (cleared v)) refl refl (λ e. omega arith);
+}
+
 -- a request is given once more
-fires_kept : (most tries : ℕ) (v : Channels) (errand : Errand) (request : Request) (spent : Channels → Channels) → 1 ≤ most → tries ≤ most → request_of errand v ≡ Some request → Tame v (spent v) → Kept most v → Kept most (times tries errand request spent v)
-fires_kept most tries v errand request spent some low at tame so_far = by (is_due errand v) refl (nat_le tries request.given) refl
+fires_kept : (most low tries : ℕ) (v : Channels) (errand : Errand) (request : Request) (spent : Channels → Channels) → 1 ≤ most → 1 ≤ low → Bound most low tries → request_of errand v ≡ Some request → Spends v (spent v) → Holds most low v
+    → Holds most low (times tries errand request spent v)
+fires_kept most low tries v errand request spent some one bound at spends (so_far, below) = by (is_due errand v) refl (nat_le tries request.given) refl
   where
     again : is_due errand v ≡ false → nat_le tries request.given ≡ false → Kept most (queued (Ask errand) v)
     again new more e r is = here (same_errand e errand) refl
@@ -367,72 +447,69 @@ fires_kept most tries v errand request spent some low at tame so_far = by (is_du
             let found : Some r ≡ Some request = sym was ∙ (ap (λ x. request_of x v) it ∙ at) in
             let one : r ≡ request = cc in
             let given : r.given ≡ request.given = ap (λ (x : Request). x.given) one in
-            let below : request.given < tries = leb-false tries request.given more in
+            let less : request.given < most = bound request.given (below errand request at) more in
             let whole = copies-append e v.queue (Ask errand) ∙ ap (λ t. copies e v.queue + one_if t) same in
-            omega (arith, none, given, below, whole, low)
+            omega (arith, none, given, less, whole)
         here false same =
             let whole = copies-append e v.queue (Ask errand) ∙ ap (λ t. copies e v.queue + one_if t) same in
-            let bound = so_far e r was in
-            omega (arith, whole, bound)
+            let few = so_far e r was in
+            omega (arith, whole, few)
 
-    by : (due : Bool) → is_due errand v ≡ due → (most' : Bool) → nat_le tries request.given ≡ most' → Kept most (fires (cond due StillDue (cond most' Spent OnceMore)) errand spent v)
-    by true d most' m = so_far
-    by false d true m = kept most v (spent v) some tame so_far
-    by false d false m = again d m
+    by : (due : Bool) → is_due errand v ≡ due → (most' : Bool) → nat_le tries request.given ≡ most' → Holds most low (fires (cond due StillDue (cond most' Spent OnceMore)) errand spent v)
+    by true d most' m = (so_far, below)
+    by false d true m = spends_on most low v (spent v) some one spends (so_far, below)
+    by false d false m = (again d m, λ e r is. below e r (sym (same-requests v (queued (Ask errand) v) refl refl e) ∙ is))
 
-carrier_kept : (most : ℕ) (v : Channels) (carrier : Option Carrier) (held : Held) (setup : Setup) → 1 ≤ most → find (has_own held.own) v.held ≡ Some held → setup_of held.stage ≡ Some setup → Kept most v → Kept most (times_carrier carrier held setup v)
-carrier_kept most v None held setup some found is so_far = so_far
-carrier_kept most v (Some (Plain agreed waits)) held setup some found is so_far = so_far
-carrier_kept most v (Some (Retransmitting machine)) held setup some found is so_far =
-    kept most v (times_carrier (Some (Retransmitting machine)) held setup v) some (settles-tame v (timed machine).closed (timed machine) held setup found is) so_far
+carrier_kept : (most low : ℕ) (v : Channels) (carrier : Option Carrier) (held : Held) (setup : Setup) → 1 ≤ most → 1 ≤ low → find (has_own held.own) v.held ≡ Some held → setup_of held.stage ≡ Some setup → Holds most low v → Holds most low (times_carrier carrier held setup v)
+carrier_kept most low v None held setup some one found is so_far = so_far
+carrier_kept most low v (Some (Plain agreed waits)) held setup some one found is so_far = so_far
+carrier_kept most low v (Some (Retransmitting machine)) held setup some one found is so_far =
+    spends_on most low v (times_carrier (Some (Retransmitting machine)) held setup v) some one (settles_spends v (timed machine).closed (timed machine) held setup found is) so_far
 
-setup_kept : (most tries : ℕ) (v : Channels) (own : Own) (held : Held) (setup : Setup) → setup.own ≡ own → 1 ≤ most → tries ≤ most → find (has_own held.own) v.held ≡ Some held → setup_of held.stage ≡ Some setup → for_options held.stage ≡ own_request setup.own → Kept most v
-    → Kept most (times_setup own tries held setup v)
-setup_kept most tries v Unasked held setup own_is some low found is asks so_far = carrier_kept most v setup.carrier held setup some found is so_far
-setup_kept most tries v (Asking request options) held setup own_is some low found is asks so_far =
-    fires_kept most tries v (errands.Configuration held.own) request (closes RetryLimit held) some low (ap (request_at for_options) found ∙ (asks ∙ ap own_request own_is)) (closes-tame v held RetryLimit found) so_far
-setup_kept most tries v Granted held setup own_is some low found is asks so_far = carrier_kept most v setup.carrier held setup some found is so_far
+setup_kept : (most low tries : ℕ) (v : Channels) (own : Own) (held : Held) (setup : Setup) → setup.own ≡ own → 1 ≤ most → 1 ≤ low → Bound most low tries → find (has_own held.own) v.held ≡ Some held → setup_of held.stage ≡ Some setup → for_options held.stage ≡ own_request setup.own → Holds most low v
+    → Holds most low (times_setup own tries held setup v)
+setup_kept most low tries v Unasked held setup own_is some one bound found is asks so_far = carrier_kept most low v setup.carrier held setup some one found is so_far
+setup_kept most low tries v (Asking request options) held setup own_is some one bound found is asks so_far =
+    fires_kept most low tries v (errands.Configuration held.own) request (closes RetryLimit held) some one bound (ap (request_at for_options) found ∙ (asks ∙ ap own_request own_is)) (closes_spends v held RetryLimit found) so_far
+setup_kept most low tries v Granted held setup own_is some one bound found is asks so_far = carrier_kept most low v setup.carrier held setup some one found is so_far
 
-stage_kept : (most tries : ℕ) (v : Channels) (stage : Stage) (held : Held) → held.stage ≡ stage → 1 ≤ most → tries ≤ most → find (has_own held.own) v.held ≡ Some held → Kept most v → Kept most (times_stage stage tries held v)
-stage_kept most tries v (Requested request) held is some low found so_far =
-    fires_kept most tries v (errands.Connection held.own) request (closes RetryLimit held) some low (ap (request_at for_channel) found ∙ ap for_channel is) (closes-tame v held RetryLimit found) so_far
-stage_kept most tries v (Connected peer setup) held is some low found so_far = setup_kept most tries v setup.own held setup refl some low found (ap setup_of is) (ap for_options is) so_far
-stage_kept most tries v (Leaving peer setup request) held is some low found so_far = setup_kept most tries v setup.own held setup refl some low found (ap setup_of is) (ap for_options is) so_far
-stage_kept most tries v (Closing peer request) held is some low found so_far = so_far
-stage_kept most tries v (Crossed peer request) held is some low found so_far = so_far
+stage_kept : (most low tries : ℕ) (v : Channels) (stage : Stage) (held : Held) → held.stage ≡ stage → 1 ≤ most → 1 ≤ low → Bound most low tries → find (has_own held.own) v.held ≡ Some held → Holds most low v → Holds most low (times_stage stage tries held v)
+stage_kept most low tries v (Requested request) held is some one bound found so_far =
+    fires_kept most low tries v (errands.Connection held.own) request (closes RetryLimit held) some one bound (ap (request_at for_channel) found ∙ ap for_channel is) (closes_spends v held RetryLimit found) so_far
+stage_kept most low tries v (Connected peer setup) held is some one bound found so_far = setup_kept most low tries v setup.own held setup refl some one bound found (ap setup_of is) (ap for_options is) so_far
+stage_kept most low tries v (Leaving peer setup request) held is some one bound found so_far = setup_kept most low tries v setup.own held setup refl some one bound found (ap setup_of is) (ap for_options is) so_far
+stage_kept most low tries v (Closing peer request) held is some one bound found so_far = so_far
+stage_kept most low tries v (Crossed peer request) held is some one bound found so_far = so_far
 
-held_kept : (most tries own : ℕ) (v : Channels) (held : Option Held) → 1 ≤ most → tries ≤ most → find (has_own own) v.held ≡ held → Kept most v → Kept most (times_held held tries v)
-held_kept most tries own v None some low is so_far = so_far
-held_kept most tries own v (Some held) some low is so_far = stage_kept most tries v held.stage held refl some low (found-own own v held is) so_far
+held_kept : (most low tries own : ℕ) (v : Channels) (held : Option Held) → 1 ≤ most → 1 ≤ low → Bound most low tries → find (has_own own) v.held ≡ held → Holds most low v → Holds most low (times_held held tries v)
+held_kept most low tries own v None some one bound is so_far = so_far
+held_kept most low tries own v (Some held) some one bound is so_far = stage_kept most low tries v held.stage held refl some one bound (found-own own v held is) so_far
 
-loses_tame : (v : Channels) (held : Held) → Tame v (loses_end held v)
-loses_tame v held = let u : Channels = ends RetryLimit held v in both-tame v u (loses_end held v) (ends-tame v held RetryLimit held.stage) (still-tame u (loses_end held v) refl refl (λ e. omega arith))
+end_kept : (most low tries : ℕ) (v : Channels) (stage : Stage) (held : Held) → held.stage ≡ stage → 1 ≤ most → 1 ≤ low → Bound most low tries → find (has_own held.own) v.held ≡ Some held → Holds most low v → Holds most low (times_end_at stage tries held v)
+end_kept most low tries v (Requested request) held is some one bound found so_far = so_far
+end_kept most low tries v (Connected peer setup) held is some one bound found so_far = so_far
+end_kept most low tries v (Leaving peer setup request) held is some one bound found so_far =
+    fires_kept most low tries v (errands.Disconnection held.own) request (ends RetryLimit held) some one bound (ap (request_at for_end) found ∙ ap for_end is) (ends_spends v held) so_far
+end_kept most low tries v (Closing peer request) held is some one bound found so_far =
+    fires_kept most low tries v (errands.Disconnection held.own) request (loses_end held) some one bound (ap (request_at for_end) found ∙ ap for_end is) (loses_spends v held) so_far
+end_kept most low tries v (Crossed peer request) held is some one bound found so_far =
+    fires_kept most low tries v (errands.Disconnection held.own) request (loses_end held) some one bound (ap (request_at for_end) found ∙ ap for_end is) (loses_spends v held) so_far
 
-end_kept : (most tries : ℕ) (v : Channels) (stage : Stage) (held : Held) → held.stage ≡ stage → 1 ≤ most → tries ≤ most → find (has_own held.own) v.held ≡ Some held → Kept most v → Kept most (times_end_at stage tries held v)
-end_kept most tries v (Requested request) held is some low found so_far = so_far
-end_kept most tries v (Connected peer setup) held is some low found so_far = so_far
-end_kept most tries v (Leaving peer setup request) held is some low found so_far =
-    fires_kept most tries v (errands.Disconnection held.own) request (ends RetryLimit held) some low (ap (request_at for_end) found ∙ ap for_end is) (ends-tame v held RetryLimit held.stage) so_far
-end_kept most tries v (Closing peer request) held is some low found so_far =
-    fires_kept most tries v (errands.Disconnection held.own) request (loses_end held) some low (ap (request_at for_end) found ∙ ap for_end is) (loses_tame v held) so_far
-end_kept most tries v (Crossed peer request) held is some low found so_far =
-    fires_kept most tries v (errands.Disconnection held.own) request (loses_end held) some low (ap (request_at for_end) found ∙ ap for_end is) (loses_tame v held) so_far
+ended_kept : (most low tries own : ℕ) (v : Channels) (held : Option Held) → 1 ≤ most → 1 ≤ low → Bound most low tries → find (has_own own) v.held ≡ held → Holds most low v → Holds most low (times_end held tries v)
+ended_kept most low tries own v None some one bound is so_far = so_far
+ended_kept most low tries own v (Some held) some one bound is so_far = end_kept most low tries v held.stage held refl some one bound (found-own own v held is) so_far
 
-ended_kept : (most tries own : ℕ) (v : Channels) (held : Option Held) → 1 ≤ most → tries ≤ most → find (has_own own) v.held ≡ held → Kept most v → Kept most (times_end held tries v)
-ended_kept most tries own v None some low is so_far = so_far
-ended_kept most tries own v (Some held) some low is so_far = end_kept most tries v held.stage held refl some low (found-own own v held is) so_far
-
-channels_kept : (most tries : ℕ) (owns : List ℕ) (v : Channels) → 1 ≤ most → tries ≤ most → Kept most v → Kept most (times_channels tries owns v)
-channels_kept most tries [] v some low so_far = so_far
-channels_kept most tries (own ∷ owns) v some low so_far =
+channels_kept : (most low tries : ℕ) (owns : List ℕ) (v : Channels) → 1 ≤ most → 1 ≤ low → Bound most low tries → Holds most low v → Holds most low (times_channels tries owns v)
+channels_kept most low tries [] v some one bound so_far = so_far
+channels_kept most low tries (own ∷ owns) v some one bound so_far =
     let u : Channels = times_held (held_at own v) tries v in
     let w : Channels = times_end (held_at own u) tries u in
-    channels_kept most tries owns w some low (ended_kept most tries own u (held_at own u) some low refl (held_kept most tries own v (held_at own v) some low refl so_far))
+    channels_kept most low tries owns w some one bound (ended_kept most low tries own u (held_at own u) some one bound refl (held_kept most low tries own v (held_at own v) some one bound refl so_far))
 
-features_kept : (most tries : ℕ) (v : Channels) (features : Option Request) → v.features ≡ features → 1 ≤ most → tries ≤ most → Kept most v → Kept most (times_features features tries v)
-features_kept most tries v None is some low so_far = so_far
-features_kept most tries v (Some request) is some low so_far =
-    fires_kept most tries v errands.Features request loses_features some low is (features_tame v (loses_features v) refl refl (λ e. omega arith)) so_far
+features_kept : (most low tries : ℕ) (v : Channels) (features : Option Request) → v.features ≡ features → 1 ≤ most → 1 ≤ low → Bound most low tries → Holds most low v → Holds most low (times_features features tries v)
+features_kept most low tries v None is some one bound so_far = so_far
+features_kept most low tries v (Some request) is some one bound so_far =
+    fires_kept most low tries v errands.Features request loses_features some one bound is (features_spends v) so_far
 
 -- whatever happens but a firing
 one_tame : (policy : Policy) (more : Occurrence) (v : Channels) → is_firing more ≡ false → find (has_own v.next) v.held ≡ None → Distinct own_of v.held → Tame v (value_after policy more v)
@@ -445,10 +522,23 @@ one_tame policy (Gives pdu) v other none lone = gives_tame v v.queue refl lone
 one_tame policy Fires v other none lone = cc
 one_tame policy Tells v other none lone = still-tame v (value_after policy Tells v) refl refl (λ e. omega arith)
 
+timed_holds : (policy : Policy) (most low : ℕ) (v : Channels) → 1 ≤ most → 1 ≤ low → Bound most low policy.tries → Holds most low v → Holds most low (timed_out policy v)
+timed_holds policy most low v some one bound so_far =
+    let u : Channels = times_channels policy.tries (map (λ held. held.own) v.held) v in
+    features_kept most low policy.tries u u.features refl some one bound (channels_kept most low policy.tries (map (λ held. held.own) v.held) v some one bound so_far)
+
+-- at most as often as the host tries
 timed_kept : (policy : Policy) (most : ℕ) (v : Channels) → 1 ≤ most → policy.tries ≤ most → Kept most v → Kept most (timed_out policy v)
 timed_kept policy most v some low so_far =
-    let u : Channels = times_channels policy.tries (map (λ held. held.own) v.held) v in
-    features_kept most policy.tries u u.features refl some low (channels_kept most policy.tries (map (λ held. held.own) v.held) v some low so_far)
+    (timed_holds policy most most v some some (λ given few more. let less = leb-false policy.tries given more in omega (arith, less, low)) (so_far, λ e r is. let all = so_far e r is in omega (arith, all))).0
+
+-- at most once more often
+timed_more : (policy : Policy) (n : ℕ) (v : Channels) → 1 ≤ n → Kept n v → Kept (n + 1) (timed_out policy v)
+timed_more policy n v some so_far =
+    (timed_holds policy (n + 1) n v (omega (arith, some)) some (λ given few more. omega (arith, few)) (
+      λ e r is. let all = so_far e r is in omega (arith, all),
+      λ e r is. let all = so_far e r is in omega (arith, all),
+    )).0
 
 one_kept : (policy : Policy) (most : ℕ) (more : Occurrence) (v : Channels) (firing : Bool) → is_firing more ≡ firing → 1 ≤ most → policy.tries ≤ most → find (has_own v.next) v.held ≡ None → Distinct own_of v.held → Kept most v → Kept most (value_after policy more v)
 one_kept policy most more v false is some low none lone so_far = kept most v (value_after policy more v) some (one_tame policy more v is none lone) so_far
@@ -476,3 +566,31 @@ firings-alone_repeat policy list more other errand request is =
     let run : Run = run_of policy list in
     let sound : IsSound policy run = all-sound policy list in
     one_tame policy more run.value other (sound.core.held_below run.value.next (omega arith)) sound.core.lone errand request is
+
+-- ---- firings
+
+firings_more : (list : List Occurrence) (more : Occurrence) → firings (list ++ more ∷ []) ≡ one_if (is_firing more) + firings list
+firings_more [] more = refl
+firings_more (one ∷ list) more = let later = firings_more list more in omega (arith, later)
+
+counted_more : (policy : Policy) (list : List Occurrence) (more : Occurrence) (firing : Bool) → is_firing more ≡ firing → Kept (1 + firings list) (run_of policy list).value → Kept (1 + (one_if firing + firings list)) (value_after policy more (run_of policy list).value)
+counted_more policy list more false is so_far = λ e r at.
+    let sound : IsSound policy (run_of policy list) = all-sound policy list in
+    let tame = one_tame policy more (run_of policy list).value is (sound.core.held_below (run_of policy list).value.next (omega arith)) sound.core.lone in
+    let few = kept (1 + firings list) (run_of policy list).value (value_after policy more (run_of policy list).value) (omega arith) tame so_far e r at in omega (arith, few)
+counted_more policy list Fires true is so_far = λ e r at. let bound = timed_more policy (1 + firings list) (run_of policy list).value (omega arith) so_far e r at in omega (arith, bound)
+counted_more policy list (Comes pdu) true is so_far = cc
+counted_more policy list (Connects psm) true is so_far = cc
+counted_more policy list AsksFeatures true is so_far = cc
+counted_more policy list (Disconnects own) true is so_far = cc
+counted_more policy list (Sends own sdu) true is so_far = cc
+counted_more policy list (Gives pdu) true is so_far = cc
+counted_more policy list Tells true is so_far = cc
+
+pub firings-are_counted : FiringsAreCounted
+firings-are_counted policy list = from_end (λ past. Kept (1 + firings past) (run_of policy past).value) (first_kept 1) step list
+  where
+    step : (past : List Occurrence) (more : Occurrence) → Kept (1 + firings past) (run_of policy past).value → Kept (1 + firings (past ++ more ∷ [])) (run_of policy (past ++ more ∷ [])).value
+    step past more so_far =
+        subst (λ n. Kept (1 + n) (run_of policy (past ++ more ∷ [])).value) (sym (firings_more past more))
+        (subst (λ (run : Run). Kept (1 + (one_if (is_firing more) + firings past)) run.value) (sym (fold-append (run_on policy) new_link past (more ∷ []))) (counted_more policy past more (is_firing more) refl so_far))

@@ -1,10 +1,8 @@
 -- What a channel carries changes only with PDUs on channels.
-use Rattle.std.proofs.Common.{◌≡◌, ℕ, ◌%◌, List, [], ◌∷◌, ◌++◌, Bool, true, false, cond, ◌&&◌, ◌||◌, eqb, Option, Some, None, refl, sym, ap, subst, ◌∙◌, ◌⊎◌, inl, inr, append-nil, append_assoc}
+use Rattle.std.proofs.Common.{◌≡◌, ℕ, ◌%◌, List, [], ◌∷◌, ◌++◌, Bool, true, false, cond, ◌||◌, eqb, Option, Some, None, refl, sym, ap, subst, ◌∙◌, ◌⊎◌, inl, inr, append-nil, append_assoc}
 use Rattle.std.specs.Prelude.{find, drop}
 use Rattle.std.specs.List.{list_any, filter_map}
-use Rattle.std.proofs.lemmas.Bool.{eqb-true}
 use Rattle.std.proofs.lemmas.List.Elements.{filter_map-append}
-use Rattle.acl_fragments.specs.Pieces.{channel_of}
 use Rattle.capture.specs.declared.flow.Flow.TheVariants.{Out, Into}
 use Rattle.ertm_frames.specs.Segments.{Segment}
 use Rattle.ertm_frames.specs.Joining.{Joining, At, Stopped, Misplaced, Begins, Ends, ended, ended_by, joint, joined_by}
@@ -17,7 +15,7 @@ use Rattle.link_talk.specs.declared.channel.Channel.{Channel}
 use Rattle.link_talk.specs.declared.party.Party.{Party}
 use Rattle.link_talk.specs.Sayings.{Saying, Command, Carried, GaveUp}
 use Rattle.link_talk.specs.Channels.{Entry, reading}
-use Rattle.link_talk.specs.Carriages.{Carriage, one_way, is_open, is_heard, takes, taker, is_on, carried, stretch, pdus_of, has_own, mode_of}
+use Rattle.link_talk.specs.Carriages.{Carriage, one_way, is_heard, taker, is_on, carried, stretch, pdus_of, has_own, mode_of}
 use Rattle.link_talk.specs.Sdus.{sdus_by, sdus}
 use Rattle.link_talk.specs.GrowingLaws.{has_opened}
 use Rattle.link_talk.proofs.Growing.{stretch-grows, mode-stands}
@@ -25,9 +23,7 @@ use Rattle.talk_laws.specs.Sdus.{sdus_with, heard_so_far, segment_of}
 use Rattle.talk_laws.proofs.Passes.{from_end}
 use Rattle.talk_laws.proofs.Owning.{alone, unopened-carries}
 use Rattle.talk_laws.proofs.Sdus.{sdus-more}
-use Rattle.channel_model.proofs.Lookups.{Distinct, not_found, and_off}
-use Rattle.channel_laws.specs.Views.{read_at, is_own}
-use Rattle.channel_laws.proofs.Entries.{own_read}
+use Rattle.channel_laws.proofs.Carriages.{counted_in}
 
 -- ---- one saying more
 
@@ -86,51 +82,10 @@ pub record StaysHeard (party : Party) (channel : Channel) (before after : List S
 
 -- the channel that was read takes what comes in
 abbrev pub opens : Option Entry → Bool
-opens None = false
-opens (Some entry) = is_open entry
-
-none_on : (own : ℕ) (channel : Channel) (entries : List Entry) → eqb own channel.own ≡ false → is_on channel (find (takes is_heard Into own) entries) ≡ false
-none_on own channel [] apart = refl
-none_on own channel (entry ∷ entries) apart = by (is_open entry) (eqb entry.channel.own own) refl (none_on own channel entries apart)
-  where
-    by : (opened same : Bool) → eqb entry.channel.own own ≡ same → is_on channel (find (takes is_heard Into own) entries) ≡ false → is_on channel (cond (opened && same) (Some entry) (find (takes is_heard Into own) entries)) ≡ false
-    by true true is later = ap (λ n. eqb n channel.own) (eqb-true entry.channel.own own is) ∙ apart
-    by true false is later = later
-    by false same is later = later
-
-none_with : (own : ℕ) (entries : List Entry) → read_at own entries ≡ None → find (takes is_heard Into own) entries ≡ None
-none_with own [] none = refl
-none_with own (entry ∷ entries) none =
-    let parts = not_found (is_own own entry) entry (read_at own entries) none in
-    ap (λ t. cond (is_open entry && t) (Some entry) (find (takes is_heard Into own) entries)) parts.0
-    ∙ (ap (λ t. cond t (Some entry) (find (takes is_heard Into own) entries)) (and_off (is_open entry)) ∙ none_with own entries parts.1)
-
-is_taker : (channel : Channel) (entries : List Entry) → Distinct own_read entries → is_on channel (find (takes is_heard Into channel.own) entries) ≡ opens (read_at channel.own entries)
-is_taker channel [] distinct = refl
-is_taker channel (entry ∷ entries) (lone, distinct) = by (eqb entry.channel.own channel.own) refl (is_open entry) refl (is_taker channel entries distinct)
-  where
-    by : (same : Bool) → eqb entry.channel.own channel.own ≡ same → (opened : Bool) → is_open entry ≡ opened → is_on channel (find (takes is_heard Into channel.own) entries) ≡ opens (read_at channel.own entries)
-        → is_on channel (cond (opened && same) (Some entry) (find (takes is_heard Into channel.own) entries)) ≡ opens (cond same (Some entry) (read_at channel.own entries))
-    by true is true now later = is ∙ sym now
-    by true is false now later = ap (is_on channel) (none_with channel.own entries (ap (λ n. read_at n entries) (sym (eqb-true entry.channel.own channel.own is)) ∙ lone)) ∙ sym now
-    by false is true now later = later
-    by false is false now later = later
+opens found = counted_in is_heard found
 
 abbrev came_on : (pdu : List ℕ) → Carriage
 came_on pdu = record { flow = Into; pdu = pdu }
-
--- which PDUs that come in a channel carries
-pub carried-here : (channel : Channel) (said : List Saying) (pdu : List ℕ) → Distinct own_read (reading said).entries → eqb (channel_of pdu) channel.own ≡ true
-    → (let one : Carriage = record { flow = Into; pdu = pdu } in carried is_heard channel said (Carried Into pdu) ≡ cond (opens (read_at channel.own (reading said).entries)) (one ∷ []) [])
-carried-here channel said pdu distinct same =
-    let one : Carriage = record { flow = Into; pdu = pdu } in
-    ap (λ n. cond (is_on channel (find (takes is_heard Into n) (reading said).entries)) (one ∷ []) []) (eqb-true (channel_of pdu) channel.own same)
-    ∙ ap (λ t. cond t (one ∷ []) []) (is_taker channel (reading said).entries distinct)
-
-pub carried-else : (channel : Channel) (said : List Saying) (pdu : List ℕ) → eqb (channel_of pdu) channel.own ≡ false → carried is_heard channel said (Carried Into pdu) ≡ []
-carried-else channel said pdu apart =
-    let one : Carriage = record { flow = Into; pdu = pdu } in
-    ap (λ t. cond t (one ∷ []) []) (none_on (channel_of pdu) channel (reading said).entries apart)
 
 -- ---- what stays
 

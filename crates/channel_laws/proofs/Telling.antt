@@ -1,8 +1,7 @@
 -- What is told of a channel is how it is held.
-use Rattle.std.proofs.Common.{◌≡◌, ℕ, ◌+◌, ◌<◌, ◌≤◌, List, [], ◌∷◌, ◌++◌, Bool, true, false, cond, ◌||◌, eqb, Option, Some, None, refl, sym, ap, subst, ◌∙◌, arith, append_assoc}
-use Rattle.std.specs.Prelude.{find, drop, option_map, option_to_list, is_some, slice_get, nat_lt}
+use Rattle.std.proofs.Common.{◌≡◌, ℕ, ◌+◌, ◌≤◌, List, [], ◌∷◌, ◌++◌, Bool, true, false, cond, ◌||◌, eqb, Option, Some, None, refl, sym, ap, subst, ◌∙◌, arith, append_assoc}
+use Rattle.std.specs.Prelude.{find, drop, option_map, option_to_list, is_some, slice_get}
 use Rattle.std.specs.List.{list_any}
-use Rattle.std.proofs.lemmas.Bool.{ltb-true, ltb-false}
 use Rattle.l2cap_config.specs.declared.wish.Wish.{Wish}
 use Rattle.acl_fragments.specs.Pieces.{channel_of}
 use Rattle.l2cap_signal.specs.Reading.{answers}
@@ -20,6 +19,7 @@ use Rattle.channel_model.proofs.Calling.{connected-goes, asks-features-goes, dis
 use Rattle.channel_laws.specs.Runs.{Occurrence, Comes, Connects, AsksFeatures, Disconnects, Sends, Gives, Fires, Tells, Run, new_link, run_on, value_after}
 use Rattle.channel_laws.proofs.Sound.{at_each}
 use Rattle.channel_laws.proofs.Steps.{less-apart}
+use Rattle.channel_laws.proofs.Keeping.{under}
 use Rattle.channel_laws.proofs.Inviting.{held_others, held_here}
 
 -- a channel, and whether anything arose that tells that it is closed
@@ -105,20 +105,10 @@ moves_told policy C v w held after more moves earlier told =
           (goes_told (policy.wish held.psm) C held.stage after held (is_told_closed held.own (earlier ++ v.events)) (is_told_closed held.own more) here moves.goes)))
           told.at;
       fresh = λ own above.
-          let apart : eqb held.own own ≡ false = less-apart held.own own (under own above) in
+          let apart : eqb held.own own ≡ false = less-apart held.own own (under v held w.next own moves.next_is told.below moves.found above) in
           none_more own earlier v.events more w.events moves.events_are (moves.only own apart) ∙ told.fresh own (omega (arith, moves.next_is, above));
-      below = λ own above. moves.others own (less-apart held.own own (under own above)) ∙ told.below own (omega (arith, moves.next_is, above));
+      below = λ own above. moves.others own (less-apart held.own own (under v held w.next own moves.next_is told.below moves.found above)) ∙ told.below own (omega (arith, moves.next_is, above));
     }
-  where
-    under : (own : ℕ) → w.next ≤ own → held.own < own
-    under own above = lower (nat_lt held.own own) refl
-      where
-        lower : (b : Bool) → nat_lt held.own own ≡ b → held.own < own
-        lower true is = ltb-true held.own own is
-        lower false is =
-            let high : own ≤ held.own = ltb-false held.own own is in
-            let none : find (has_own held.own) v.held ≡ None = told.below held.own (omega (arith, moves.next_is, above, high)) in
-            let never : None ≡ Some held = sym none ∙ moves.found in absurd cc
 
 first_told : (stage : Stage) → IsFirst stage → StageTold stage false
 first_told (Requested request) is = refl

@@ -25,6 +25,7 @@ use Rattle.channel_model.specs.Following.{remembers, says}
 use Rattle.channel_laws.specs.OwnTalk.{command_with, asked_between}
 use Rattle.channel_laws.specs.Views.{asked_mode, carrier_mode}
 use Rattle.channel_model.proofs.Lookups.{found-placed}
+use Rattle.channel_laws.proofs.Both.{and-left, and-right}
 use Rattle.channel_laws.proofs.Sound.{Agrees, AgreesIf, CarrierIs, IsAgain, RepeatsIn, part_of, Sound}
 use Rattle.channel_laws.proofs.Agreeing.{answer-agrees, refused-answers, part-answers, whole-answers, carrier-is}
 use Rattle.channel_laws.proofs.Questions.{heard, exchange, asked-none, IsNew}
@@ -45,20 +46,12 @@ some_mapped (Some carrier) is = refl
 both_true : (a b : Bool) → a ≡ true → b ≡ true → (a && b) ≡ true
 both_true a b one two = ap (λ t. t && b) one ∙ two
 
-and_left : (a b : Bool) → (a && b) ≡ true → a ≡ true
-and_left true b is = refl
-and_left false b is = is
-
-and_right : (a b : Bool) → (a && b) ≡ true → b ≡ true
-and_right true b is = is
-and_right false b is = cc
-
 pub asked-set : (wish : Wish) (setup : Setup) (said : read.Setup) → Agrees wish setup said → is_some (asked_mode wish setup.own) ≡ true → is_some setup.carrier ≡ true → is_set said ≡ true
 asked-set wish setup said agrees own carrier =
     both_true (is_some said.asked) (is_some said.accepted) (ap is_some agrees.set_up.asked_is ∙ own) (ap is_some agrees.set_up.accepted_is ∙ some_mapped setup.carrier carrier)
 
 pub open-set : (wish : Wish) (setup : Setup) (said : read.Setup) → Agrees wish setup said → is_open setup ≡ true → is_set said ≡ true
-open-set wish setup said agrees open' = asked-set wish setup said agrees (some_asked wish setup.own (and_right (is_some setup.carrier) (is_granted setup.own) open')) (and_left (is_some setup.carrier) (is_granted setup.own) open')
+open-set wish setup said agrees open' = asked-set wish setup said agrees (some_asked wish setup.own (and-right (is_some setup.carrier) (is_granted setup.own) open')) (and-left (is_some setup.carrier) (is_granted setup.own) open')
 
 -- ---- what all verdicts share
 

@@ -3,11 +3,15 @@ use Rattle.std.specs.Prelude.{ℕ, ◌≡◌, ◌&&◌, Bool, true, false, is_so
 use Rattle.std.specs.List.{list_any}
 use Rattle.link_talk.specs.Requests.{has_source}
 use Rattle.link_talk.specs.Channels.{Entry, waits_for_end, Reading, reading}
-use Rattle.link_talk.specs.Waits.{call_waits, information_waits}
-use Rattle.channel_model.specs.Value.{Stage, Requested, Connected, Leaving, Closing, Crossed, Held}
+use Rattle.link_talk.specs.declared.channel.Channel.{Channel}
+use Rattle.link_talk.specs.declared.party.Party.{Party}
+use Rattle.link_talk.specs.Waits.{call_waits, information_waits, options_wait}
+use Rattle.channel_model.specs.Value.{Setup, Stage, Requested, Connected, Leaving, Closing, Crossed, Held}
 use Rattle.channel_model.specs.Policies.{Policy}
 use Rattle.channel_model.specs.Changing.{held_at}
+use Rattle.channel_model.specs.Calls.{setup_on, own_waits}
 use Rattle.channel_laws.specs.Runs.{Occurrence, Run, run_of}
+use Rattle.channel_laws.specs.Sdus.{StatesFrame}
 use Rattle.channel_laws.specs.Views.{read_at}
 
 -- ---- as they are held
@@ -54,3 +58,9 @@ RequestsAreAwaited = (policy : Policy) (list : List Occurrence) (own : ℕ) → 
 -- And for the peer's features exactly where its own talk says that information is waited for.
 abbrev pub FeaturesAreAwaited : Type 0
 FeaturesAreAwaited = (policy : Policy) (list : List Occurrence) → information_waits (run_of policy list).said ≡ is_some (run_of policy list).value.features
+
+-- Of a channel that is there, and that its host has not closed: a request of the host for its options waits
+-- exactly where its own talk says so.
+abbrev pub OptionsAreAwaited : Type 0
+OptionsAreAwaited = (policy : Policy) (party : Party) (list : List Occurrence) (channel : Channel) (setup : Setup) → StatesFrame policy party
+    → setup_on (held_at channel.own (run_of policy list).value) ≡ Some setup → options_wait party (run_of policy list).said channel ≡ own_waits setup.own

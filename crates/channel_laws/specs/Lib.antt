@@ -8,4 +8,10 @@ pub mod Pairs
 pub mod Endpoints
 pub mod Repeats
 pub mod Awaited
+pub mod Frames
+pub mod Armed
+pub mod Acceptance
+pub mod Ends
+pub mod Signals
+pub mod Belonging
 pub mod Tries

@@ -82,3 +82,12 @@ IsNotRepeated before after errand request =
 abbrev pub FiringsAloneRepeat : Type 0
 FiringsAloneRepeat = (policy : Policy) (list : List Occurrence) (more : Occurrence) → is_firing more ≡ false
     → (errand : Errand) (request : Request) → request_of errand (value_after policy more (run_of policy list).value) ≡ Some request → IsNotRepeated (run_of policy list).value (value_after policy more (run_of policy list).value) errand request
+
+abbrev pub firings : List Occurrence → ℕ
+firings [] = 0
+firings (more ∷ list) = one_if (is_firing more) + firings list
+
+-- Whatever happens: a request that waits for its answer was given, with the copies of it that wait, at most once more often
+-- than the timer fired. So it is given for the t-th time only behind t - 1 firings.
+abbrev pub FiringsAreCounted : Type 0
+FiringsAreCounted = (policy : Policy) (list : List Occurrence) (errand : Errand) (request : Request) → request_of errand (run_of policy list).value ≡ Some request → copies errand (run_of policy list).value.queue + request.given ≤ 1 + firings list

@@ -1,13 +1,19 @@
 //! Laws of the channels of one host.
 
-ghost use Rattle.channel_laws.specs.Awaited.{FeaturesAreAwaited, RequestsAreAwaited};
+ghost use Rattle.channel_laws.specs.Acceptance.{SendsBehindAcceptance};
+ghost use Rattle.channel_laws.specs.Armed.{ArmedIsWhatWaits};
+ghost use Rattle.channel_laws.specs.Awaited.{FeaturesAreAwaited, OptionsAreAwaited, RequestsAreAwaited};
 ghost use Rattle.channel_laws.specs.CheckWords.{CheckWordsAreRead};
 ghost use Rattle.channel_laws.specs.Endpoints.{EndpointsNameOneChannel};
+ghost use Rattle.channel_laws.specs.Ends.{EachEndUtters};
+ghost use Rattle.channel_laws.specs.Frames.{FramesAreHeld};
 ghost use Rattle.channel_laws.specs.Laws.{ChannelsAreRead, EndpointsAreNew};
 ghost use Rattle.channel_laws.specs.Pairs.{EachEndRuns};
 ghost use Rattle.channel_laws.specs.Repeats.{RepeatsAreAnswered};
 ghost use Rattle.channel_laws.specs.Sdus.{SdusAreRead};
-ghost use Rattle.channel_laws.specs.Tries.{FiringsAloneRepeat, TriesAreKept};
+ghost use Rattle.channel_laws.specs.Belonging.{PledgesWereSaid, ChannelsBelong};
+ghost use Rattle.channel_laws.specs.Signals.{AnswersAreSaid};
+ghost use Rattle.channel_laws.specs.Tries.{FiringsAloneRepeat, FiringsAreCounted, TriesAreKept};
 
 /// What a host holds of each of its endpoints is what its own talk says, whatever it asks for, whatever
 /// PDUs come in on whatever channels, and whenever its timer fires: which channels there are, how far each
@@ -39,6 +45,12 @@ pub fn each_end_runs()
     ensures { EachEndRuns }
 {}
 
+/// On a link that loses, repeats and damages, each end is a host that utters what it is, if its turns do: the laws of
+/// one host on frames, on what waits and on acceptance hold at both.
+pub fn each_end_utters()
+    ensures { EachEndUtters }
+{}
+
 /// An endpoint of a host names one channel for as long as the link is up, so what is under way for it is for no
 /// earlier channel and for no later one.
 pub fn endpoints_name_one_channel()
@@ -62,6 +74,46 @@ pub fn features_are_awaited()
     ensures { FeaturesAreAwaited }
 {}
 
+/// A request of a host for the options of a channel waits for its answer exactly where its own talk says so, as
+/// long as the channel is there and its host has not closed it.
+pub fn options_are_awaited()
+    ensures { OptionsAreAwaited }
+{}
+
+/// Of an enhanced channel a host holds as many frames as its own talk says that are not acknowledged, and its machine
+/// is armed exactly where the talk says that a frame or a poll waits, if what it gives goes out as its octets.
+pub fn frames_are_held()
+    ensures { FramesAreHeld }
+{}
+
+/// The channels of a host are armed exactly where its own talk says that something waits: a request for a channel,
+/// for options, for the end of a channel or for information, a frame or a poll; requests for services are not theirs.
+pub fn armed_is_what_waits()
+    ensures { ArmedIsWhatWaits }
+{}
+
+/// A host says an SDU or a frame only on a channel that is there, where its own talk so far says that it accepted the
+/// peer's request for options, and that its own one was made and waits no more.
+pub fn sends_behind_acceptance()
+    ensures { SendsBehindAcceptance }
+{}
+
+/// Each answer that waits to be given stands in the own talk of its host, so one that is given was said before.
+pub fn answers_are_said()
+    ensures { AnswersAreSaid }
+{}
+
+/// Whatever a link loses, repeats and damages: each response, and each request for a channel, that one end heard the other said.
+pub fn pledges_were_said()
+    ensures { PledgesWereSaid }
+{}
+
+/// Whatever a link loses, repeats and damages: a channel of one end was granted by it where the other asked for it with the
+/// same PSM, or was asked for by it and granted by the other's response to that, each with its own endpoint.
+pub fn channels_belong()
+    ensures { ChannelsBelong }
+{}
+
 /// A host gives a request that waits for its answer at most as often as it tries, and once where it tries less.
 pub fn tries_are_kept()
     ensures { TriesAreKept }
@@ -70,4 +122,10 @@ pub fn tries_are_kept()
 /// A request is to be given once more only because the timer fired.
 pub fn firings_alone_repeat()
     ensures { FiringsAloneRepeat }
+{}
+
+/// A request that waits was given at most once more often than the timer of its host fired, with the copies of it that
+/// wait: for the t-th time only behind t - 1 firings.
+pub fn firings_are_counted()
+    ensures { FiringsAreCounted }
 {}

@@ -1,0 +1,344 @@
+-- All that happens to a host, with what is said of it, step by step.
+use Rattle.std.proofs.Common.{◌≡◌, ℕ, List, [], ◌∷◌, ◌++◌, fold, map, drop, Bool, true, false, cond, eqb, not, Option, Some, None, Ok, Err, refl, sym, ap, subst, ◌∙◌, ◌⊎◌, inl, inr, append_assoc, append-nil}
+use Rattle.std.specs.Prelude.{is_some, nat_le}
+use Rattle.std.specs.List.{AllByRecursion}
+use Rattle.std.proofs.lemmas.List.Sums.{fold-append}
+use Rattle.acl_fragments.specs.Pieces.{channel_of}
+use Rattle.capture.specs.declared.flow.Flow.TheVariants.{Into}
+use Rattle.l2cap_signal.specs.Commands.{Command, Content, reject, connection_request, connection_response, configuration_request, configuration_response, disconnection_request, disconnection_response, echo_request, echo_response, information_request, information_response}
+use Rattle.l2cap_signal.specs.Reading.{Answer as Read, answers}
+use Rattle.l2cap_signal.specs.declared.refusal.SignalRefusal.TheVariants.{ZeroIdentifier, BadLength, UnknownCode, AboveMtu}
+use Rattle.link_talk.specs.Sayings.{Saying, Carried}
+use Rattle.link_talk.specs.Channels.{nothing_read, read_on, reading}
+use Rattle.channel_model.specs.declared.errand.Errand.TheVariants as errands
+use Rattle.channel_model.specs.declared.event.ChannelEvent.TheVariants.{Features}
+use Rattle.channel_model.specs.declared.request_kind.RequestKind.{RequestKind}
+use Rattle.channel_model.specs.declared.request_kind.RequestKind.TheVariants as kinds
+use Rattle.channel_model.specs.Value.{Queued, Answer, Ask, Request, Remembered, Channels, no_channels}
+use Rattle.channel_model.specs.Policies.{Policy}
+use Rattle.channel_model.specs.Changing.{has_room, held_at, is_due, forgets, tells}
+use Rattle.channel_model.specs.Asking.{new_request, asks, StillDue, OnceMore, Spent}
+use Rattle.channel_model.specs.Answers.{kind_of_code, remembered, not_understood, too_long, answer_to}
+use Rattle.channel_model.specs.Following.{follows, remembers, says, can_say, hears_new, hears_again, hears_kind}
+use Rattle.channel_model.specs.Responses.{has_identifier, hears_features, features_in}
+use Rattle.channel_model.specs.Hearing.{hears_content, hears_malformed, is_response_code, is_kind, hears_unread, hears_command, hears_commands}
+use Rattle.channel_model.specs.Carrying.{takes}
+use Rattle.channel_model.specs.Timing.{fires, times_held, times_end, loses_features, times_features, times_channels}
+use Rattle.channel_model.specs.Calls.{asks_features}
+use Rattle.channel_laws.specs.OwnTalk.{command_with, response_by, response_to, response_malformed, response_unread, command_if, exchanged, asked_between, said_with, said_with_all}
+use Rattle.channel_laws.specs.Runs.{Occurrence, Comes, Connects, AsksFeatures, Disconnects, Sends, Gives, Fires, Tells, said_on_firing, said_by_channel, fired_channel, said_by_features, said_by_channels, said_in, value_after, run_of}
+use Rattle.channel_model.proofs.Lookups.{own_of, Distinct}
+use Rattle.channel_laws.proofs.Sound.{Sound}
+use Rattle.channel_laws.proofs.Commands.{IsTold, hears-any}
+use Rattle.channel_laws.proofs.Told.{all-told}
+use Rattle.channel_laws.proofs.Firing.{held-fires, ending-fires, features-fires}
+use Rattle.channel_laws.proofs.Running.{along, run-more}
+use Rattle.channel_laws.proofs.Lasting.{answers_of, follows-lasts, grant-lasts, response-lasts, end-lasts, takes-lasts, connects-lasts, disconnects-last, sends-last, gives-last, times-last, ends-last}
+use Rattle.channel_laws.proofs.Replying.{is_response, IsReply, IsReplied, Replies, replied, replies-with, answer-reply}
+
+-- ---- what each step keeps
+
+-- the same but for what waits and what is remembered
+pub record IsAlike (v u : Channels) : Type 0 where
+  pub held_is : u.held ≡ v.held
+  pub next_is : u.next ≡ v.next
+  pub identifier_is : u.identifier ≡ v.identifier
+  pub features_is : u.features ≡ v.features
+
+-- nothing more waits to be answered, or the answer to a command waits, for which there was room
+abbrev pub WaitsSo : (v u : Channels) (identifier : ℕ) → Option Content → Type 0
+WaitsSo v u identifier response =
+    (answers_of u.queue ≡ answers_of v.queue) ⊎ ((content : Content) × (response ≡ Some content) × (has_room v ≡ true) × (answers_of u.queue ≡ answers_of v.queue ++ command_with identifier content ∷ []))
+
+-- a command that is no response of the peer
+abbrev pub is_asking : Read → Bool
+is_asking (Ok command) = not (is_response command.content)
+is_asking (Err refusal) = true
+
+-- what happens alone: no PDU that comes in, and no firing
+abbrev pub is_single : Occurrence → Bool
+is_single (Comes pdu) = false
+is_single (Connects psm) = true
+is_single AsksFeatures = true
+is_single (Disconnects own) = true
+is_single (Sends own sdu) = true
+is_single (Gives pdu) = true
+is_single Fires = false
+is_single Tells = true
+
+-- from some channels to others, with what is said of it
+abbrev pub Goes : Policy → (J : List Saying → Channels → Type 0) → (past : List Saying) (v : Channels) (said : List Saying) (w : Channels) → Type 0
+Goes policy J past v said w = Sound policy (reading past) v → J past v → Sound policy (reading (past ++ said)) w → J (past ++ said) w
+
+-- something between all that was said and the channels that each of the steps keeps of which all that happens is made;
+-- besides, something that always holds of the channels
+pub record Converses (policy : Policy) (K : Channels → Type 0) (J : List Saying → Channels → Type 0) : Type 0 where
+  pub first : K no_channels
+  pub kept : (v : Channels) (more : Occurrence) → Distinct own_of v.held → K v → K (value_after policy more v)
+  -- the peer asks, and is answered
+  pub asked : (past : List Saying) (v u : Channels) (one : Read) (identifier : ℕ) (response : Option Content) (content : Content) → is_asking one ≡ true → IsReply response → IsAlike v u → WaitsSo v u identifier response
+      → Goes policy J past v (exchanged one (command_if identifier response) v ++ asked_between v (follows policy content u)) (follows policy content u)
+  -- the peer responds
+  pub answered : (past : List Saying) (v : Channels) (identifier : ℕ) (content : Content) → is_response content ≡ true
+      → Goes policy J past v (exchanged (Ok (command_with identifier content)) None v ++ asked_between v (hears_content policy identifier content v)) (hears_content policy identifier content v)
+  pub taken : (past : List Saying) (v : Channels) (pdu : List ℕ) → K v → Goes policy J past v (Carried Into pdu ∷ asked_between v (takes (channel_of pdu) pdu v)) (takes (channel_of pdu) pdu v)
+  -- what the timer finds of a channel: what it waits for, and its end
+  pub waits : (past : List Saying) (v : Channels) (tries own : ℕ) → Goes policy J past v (said_on_firing own v (times_held (held_at own v) tries v)) (times_held (held_at own v) tries v)
+  pub ends : (past : List Saying) (v : Channels) (tries own : ℕ) → Goes policy J past v (said_on_firing own v (times_end (held_at own v) tries v)) (times_end (held_at own v) tries v)
+  pub loses : (past : List Saying) (v : Channels) (tries : ℕ) → Goes policy J past v (said_by_features tries v) (times_features v.features tries v)
+  pub single : (past : List Saying) (v : Channels) (more : Occurrence) → is_single more ≡ true → K v → Goes policy J past v (said_in policy more v) (value_after policy more v)
+
+-- what is remembered are responses
+abbrev Both : (J : List Saying → Channels → Type 0) → List Saying → Channels → Type 0
+Both J past v = J past v × Replies v.memory
+
+abbrev GoesBoth : Policy → (J : List Saying → Channels → Type 0) → (past : List Saying) (v : Channels) (said : List Saying) (w : Channels) → Type 0
+GoesBoth policy J past v said w = Sound policy (reading past) v → Both J past v → Sound policy (reading (past ++ said)) w → Both J (past ++ said) w
+
+-- ---- a request of the peer
+
+same_alike : (v : Channels) → IsAlike v v
+same_alike v = record { held_is = refl; next_is = refl; identifier_is = refl; features_is = refl }
+
+says_alike : (identifier : ℕ) (response : Option Content) (v : Channels) → IsAlike v (says identifier response v)
+says_alike identifier None v = same_alike v
+says_alike identifier (Some content) v = record { held_is = refl; next_is = refl; identifier_is = refl; features_is = refl }
+
+answers_more : (queue : List Queued) (command : Command) → answers_of (queue ++ Answer command ∷ []) ≡ answers_of queue ++ command ∷ []
+answers_more [] command = refl
+answers_more (Answer other ∷ queue) command = ap (λ cs. other ∷ cs) (answers_more queue command)
+answers_more (Ask errand ∷ queue) command = answers_more queue command
+
+says_waits : (identifier : ℕ) (response : Option Content) (v t : Channels) → t.queue ≡ v.queue → can_say response v ≡ true → WaitsSo v (says identifier response t) identifier response
+says_waits identifier None v t same can = inl (ap answers_of same)
+says_waits identifier (Some content) v t same can = inr (content, refl, can, answers_more t.queue (command_with identifier content) ∙ ap (λ q. answers_of q ++ command_with identifier content ∷ []) same)
+
+says_memory : (identifier : ℕ) (response : Option Content) (v : Channels) → (says identifier response v).memory ≡ v.memory
+says_memory identifier None v = refl
+says_memory identifier (Some content) v = refl
+
+remembered_alike : (kind : RequestKind) (identifier : ℕ) (response : Option Content) (v : Channels) → IsAlike v (says identifier response (remembers kind identifier response v))
+remembered_alike kind identifier None v = record { held_is = refl; next_is = refl; identifier_is = refl; features_is = refl }
+remembered_alike kind identifier (Some content) v = record { held_is = refl; next_is = refl; identifier_is = refl; features_is = refl }
+
+-- the answer to it is said, and something follows
+abbrev Answers : Policy → (J : List Saying → Channels → Type 0) → List Saying → Channels → Read → (identifier : ℕ) → Option Content → Channels → Type 0
+Answers policy J past v one identifier response w = GoesBoth policy J past v (exchanged one (command_if identifier response) v ++ asked_between v w) w
+
+step : (policy : Policy) (K : Channels → Type 0) (J : List Saying → Channels → Type 0) (c : Converses policy K J) (past : List Saying) (v u : Channels) (one : Read) (identifier : ℕ) (response : Option Content) (content : Content) → is_asking one ≡ true → IsReply response → IsAlike v u
+    → WaitsSo v u identifier response → (Replies v.memory → Replies u.memory) → Answers policy J past v one identifier response (follows policy content u)
+step policy K J c past v u one identifier response content asking reply alike waits replies sound (holds, known) after =
+    (c.asked past v u one identifier response content asking reply alike waits sound holds after, subst Replies (sym (follows-lasts policy content u).1) (replies known))
+
+new_goes : (policy : Policy) (K : Channels → Type 0) (J : List Saying → Channels → Type 0) (c : Converses policy K J) (past : List Saying) (v : Channels) (kind : RequestKind) (one : Read) (identifier : ℕ) (response : Option Content) (content : Content) → is_asking one ≡ true → IsReply response
+    → Answers policy J past v one identifier response (hears_new kind identifier response (follows policy content) v)
+new_goes policy K J c past v kind one identifier response content asking reply = by (can_say response v) refl
+  where
+    last : Remembered
+    last = record { identifier = identifier; response = response }
+
+    t : Channels
+    t = remembers kind identifier response v
+
+    u : Channels
+    u = says identifier response t
+
+    by : (can : Bool) → can_say response v ≡ can → Answers policy J past v one identifier response (cond can (follows policy content u) v)
+    by true can = step policy K J c past v u one identifier response content asking reply (remembered_alike kind identifier response v) (says_waits identifier response v t refl can)
+        (λ known. subst Replies (sym (says_memory identifier response t)) (replies-with kind last v.memory reply known))
+    by false can = step policy K J c past v v one identifier response (echo_response []) asking reply (same_alike v) (inl refl) (λ known. known)
+
+again_goes : (policy : Policy) (K : Channels → Type 0) (J : List Saying → Channels → Type 0) (c : Converses policy K J) (past : List Saying) (v : Channels) (one : Read) (identifier : ℕ) (response : Option Content) → is_asking one ≡ true → IsReply response
+    → Answers policy J past v one identifier response (hears_again identifier response v)
+again_goes policy K J c past v one identifier response asking reply = by (can_say response v) refl
+  where
+    by : (can : Bool) → can_say response v ≡ can → Answers policy J past v one identifier response (cond can (says identifier response v) v)
+    by true can = step policy K J c past v (says identifier response v) one identifier response (echo_response []) asking reply (says_alike identifier response v) (says_waits identifier response v v refl can)
+        (λ known. subst Replies (sym (says_memory identifier response v)) known)
+    by false can = step policy K J c past v v one identifier response (echo_response []) asking reply (same_alike v) (inl refl) (λ known. known)
+
+kind_goes : (policy : Policy) (K : Channels → Type 0) (J : List Saying → Channels → Type 0) (c : Converses policy K J) (past : List Saying) (v : Channels) (last : Option Remembered) (kind : RequestKind) (one : Read) (identifier : ℕ) (fresh : Option Content) (content : Content) → is_asking one ≡ true
+    → (Replies v.memory → IsReplied last) → IsReply fresh → Answers policy J past v one identifier (response_by last identifier fresh) (hears_kind last kind identifier fresh (follows policy content) v)
+kind_goes policy K J c past v None kind one identifier fresh content asking is reply = new_goes policy K J c past v kind one identifier fresh content asking reply
+kind_goes policy K J c past v (Some last) kind one identifier fresh content asking is reply = by (eqb last.identifier identifier)
+  where
+    by : (same : Bool) → Answers policy J past v one identifier (cond same last.response fresh) (cond same (hears_again identifier last.response v) (hears_new kind identifier fresh (follows policy content) v))
+    by true = λ sound both. again_goes policy K J c past v one identifier last.response asking (is both.1) sound both
+    by false = new_goes policy K J c past v kind one identifier fresh content asking reply
+
+-- ---- a command
+
+-- what is heard besides, and what is remembered
+replied_goes : (policy : Policy) (K : Channels → Type 0) (J : List Saying → Channels → Type 0) (c : Converses policy K J) (past : List Saying) (v : Channels) (identifier : ℕ) (content : Content) → is_response content ≡ true → (hears_content policy identifier content v).memory ≡ v.memory
+    → Answers policy J past v (Ok (command_with identifier content)) identifier None (hears_content policy identifier content v)
+replied_goes policy K J c past v identifier content is same sound (holds, known) after = (c.answered past v identifier content is sound holds after, subst Replies (sym same) known)
+
+features_memory : (identifier : ℕ) (given : Option ℕ) (v : Channels) → (hears_features identifier given v).memory ≡ v.memory
+features_memory identifier given v = by (has_identifier identifier v.features)
+  where
+    by : (b : Bool) → (cond b (tells (Features given) (forgets errands.Features (record v { features = None }))) v).memory ≡ v.memory
+    by true = refl
+    by false = refl
+
+asking_goes : (policy : Policy) (K : Channels → Type 0) (J : List Saying → Channels → Type 0) (c : Converses policy K J) (past : List Saying) (v : Channels) (kind : RequestKind) (identifier : ℕ) (content : Content) → not (is_response content) ≡ true
+    → Answers policy J past v (Ok (command_with identifier content)) identifier (response_by (remembered kind v.memory) identifier (answer_to policy content v)) (hears_kind (remembered kind v.memory) kind identifier (answer_to policy content v) (follows policy content) v)
+asking_goes policy K J c past v kind identifier content asking =
+    kind_goes policy K J c past v (remembered kind v.memory) kind (Ok (command_with identifier content)) identifier (answer_to policy content v) content asking (replied kind v.memory) (answer-reply policy content v)
+
+content_goes : (policy : Policy) (K : Channels → Type 0) (J : List Saying → Channels → Type 0) (c : Converses policy K J) (past : List Saying) (v : Channels) (identifier : ℕ) (content : Content)
+    → Answers policy J past v (Ok (command_with identifier content)) identifier (response_to policy identifier content v) (hears_content policy identifier content v)
+content_goes policy K J c past v identifier (reject reason rest) = replied_goes policy K J c past v identifier (reject reason rest) refl (features_memory identifier None v)
+content_goes policy K J c past v identifier (connection_request psm source) = asking_goes policy K J c past v kinds.Connection identifier (connection_request psm source) refl
+content_goes policy K J c past v identifier (connection_response destination source answer status) =
+    replied_goes policy K J c past v identifier (connection_response destination source answer status) refl (grant-lasts v (held_at source v) policy identifier destination answer).1
+content_goes policy K J c past v identifier (configuration_request destination flags options) = asking_goes policy K J c past v kinds.Configuration identifier (configuration_request destination flags options) refl
+content_goes policy K J c past v identifier (configuration_response source flags answer options) =
+    replied_goes policy K J c past v identifier (configuration_response source flags answer options) refl (response-lasts v (held_at source v) policy identifier answer options).1
+content_goes policy K J c past v identifier (disconnection_request destination source) = asking_goes policy K J c past v kinds.Disconnection identifier (disconnection_request destination source) refl
+content_goes policy K J c past v identifier (disconnection_response destination source) = replied_goes policy K J c past v identifier (disconnection_response destination source) refl (end-lasts v (held_at source v) destination).1
+content_goes policy K J c past v identifier (echo_request octets) = asking_goes policy K J c past v kinds.Echo identifier (echo_request octets) refl
+content_goes policy K J c past v identifier (echo_response octets) = replied_goes policy K J c past v identifier (echo_response octets) refl refl
+content_goes policy K J c past v identifier (information_request kind) = asking_goes policy K J c past v kinds.Information identifier (information_request kind) refl
+content_goes policy K J c past v identifier (information_response kind answer rest) = replied_goes policy K J c past v identifier (information_response kind answer rest) refl (features_memory identifier (features_in kind answer rest) v)
+
+-- one that is refused, and follows from nothing
+none_goes : (policy : Policy) (K : Channels → Type 0) (J : List Saying → Channels → Type 0) (c : Converses policy K J) (past : List Saying) (v : Channels) (one : Read) → is_asking one ≡ true → Answers policy J past v one 0 None v
+none_goes policy K J c past v one asking = step policy K J c past v v one 0 None (echo_response []) asking tt (same_alike v) (inl refl) (λ known. known)
+
+malformed_goes : (policy : Policy) (K : Channels → Type 0) (J : List Saying → Channels → Type 0) (c : Converses policy K J) (past : List Saying) (v : Channels) (kind : Option RequestKind) (one : Read) (identifier : ℕ) → is_asking one ≡ true
+    → Answers policy J past v one identifier (response_malformed kind identifier v) (cond (is_kind kind) (hears_malformed kind identifier v) (hears_again identifier (Some not_understood) v))
+malformed_goes policy K J c past v None one identifier asking = again_goes policy K J c past v one identifier (Some not_understood) asking refl
+malformed_goes policy K J c past v (Some kind) one identifier asking = kind_goes policy K J c past v (remembered kind v.memory) kind one identifier (Some not_understood) (echo_response []) asking (replied kind v.memory) refl
+
+unread_goes : (policy : Policy) (K : Channels → Type 0) (J : List Saying → Channels → Type 0) (c : Converses policy K J) (past : List Saying) (v : Channels) (one : Read) (code identifier : ℕ) → is_asking one ≡ true
+    → Answers policy J past v one identifier (response_unread code identifier v) (hears_unread code identifier v)
+unread_goes policy K J c past v one code identifier asking = by (eqb identifier 0) (is_response_code code)
+  where
+    kind : Option RequestKind
+    kind = kind_of_code code
+
+    by : (zero response : Bool)
+        → Answers policy J past v one identifier (cond zero None (cond response None (response_malformed kind identifier v))) (cond zero v (cond response v (cond (is_kind kind) (hears_malformed kind identifier v) (hears_again identifier (Some not_understood) v))))
+    by true response = none_goes policy K J c past v one asking
+    by false true = none_goes policy K J c past v one asking
+    by false false = malformed_goes policy K J c past v kind one identifier asking
+
+long_goes : (policy : Policy) (K : Channels → Type 0) (J : List Saying → Channels → Type 0) (c : Converses policy K J) (past : List Saying) (v : Channels) (one : Read) (identifier : ℕ) (zero : Bool) → is_asking one ≡ true
+    → Answers policy J past v one identifier (cond zero None (Some too_long)) (cond zero v (hears_again identifier (Some too_long) v))
+long_goes policy K J c past v one identifier true asking = none_goes policy K J c past v one asking
+long_goes policy K J c past v one identifier false asking = again_goes policy K J c past v one identifier (Some too_long) asking refl
+
+command_goes : (policy : Policy) (K : Channels → Type 0) (J : List Saying → Channels → Type 0) (c : Converses policy K J) (past : List Saying) (v : Channels) (one : Read) → GoesBoth policy J past v (said_with policy one v) (hears_command policy one v)
+command_goes policy K J c past v (Ok command) = content_goes policy K J c past v command.identifier command.content
+command_goes policy K J c past v (Err (ZeroIdentifier code identifier)) = none_goes policy K J c past v (Err (ZeroIdentifier code identifier)) refl
+command_goes policy K J c past v (Err (BadLength code None)) = none_goes policy K J c past v (Err (BadLength code None)) refl
+command_goes policy K J c past v (Err (BadLength code (Some identifier))) = unread_goes policy K J c past v (Err (BadLength code (Some identifier))) code identifier refl
+command_goes policy K J c past v (Err (UnknownCode code None)) = none_goes policy K J c past v (Err (UnknownCode code None)) refl
+command_goes policy K J c past v (Err (UnknownCode code (Some identifier))) = unread_goes policy K J c past v (Err (UnknownCode code (Some identifier))) code identifier refl
+command_goes policy K J c past v (Err (AboveMtu code None)) = none_goes policy K J c past v (Err (AboveMtu code None)) refl
+command_goes policy K J c past v (Err (AboveMtu code (Some identifier))) = long_goes policy K J c past v (Err (AboveMtu code (Some identifier))) identifier (eqb identifier 0) refl
+
+-- ---- one thing after the other
+
+-- with what is known of the channels
+abbrev Stands : Policy → (J : List Saying → Channels → Type 0) → List Saying → Channels → Type 0
+Stands policy J past v = Sound policy (reading past) v × Both J past v
+
+pub reading-on : (past said : List Saying) → reading (past ++ said) ≡ fold read_on (reading past) said
+reading-on past said = fold-append read_on nothing_read past said
+
+stands_on : (policy : Policy) (J : List Saying → Channels → Type 0) (past said : List Saying) (v w : Channels) → GoesBoth policy J past v said w → (Sound policy (reading past) v → Sound policy (fold read_on (reading past) said) w) → Stands policy J past v → Stands policy J (past ++ said) w
+stands_on policy J past said v w goes sounds (sound, both) =
+    let after : Sound policy (reading (past ++ said)) w = subst (λ r. Sound policy r w) (sym (reading-on past said)) (sounds sound) in (after, goes sound both after)
+
+stands_behind : (policy : Policy) (J : List Saying → Channels → Type 0) (past xs ys : List Saying) (w : Channels) → Stands policy J ((past ++ xs) ++ ys) w → Stands policy J (past ++ (xs ++ ys)) w
+stands_behind policy J past xs ys w stands = subst (λ said. Stands policy J said w) (append_assoc past xs ys) stands
+
+commands_go : (policy : Policy) (K : Channels → Type 0) (J : List Saying → Channels → Type 0) (c : Converses policy K J) (past : List Saying) (v : Channels) (list : List Read) → AllByRecursion IsTold list → Stands policy J past v
+    → Stands policy J (past ++ said_with_all policy list v) (hears_commands policy list v)
+commands_go policy K J c past v [] told stands = subst (λ said. Stands policy J said v) (sym (append-nil past)) stands
+commands_go policy K J c past v (one ∷ list) (told, all) stands =
+    let w : Channels = hears_command policy one v in
+    stands_behind policy J past (said_with policy one v) (said_with_all policy list w) (hears_commands policy list w)
+    (commands_go policy K J c (past ++ said_with policy one v) w list all (stands_on policy J past (said_with policy one v) v w (command_goes policy K J c past v one) (hears-any policy (reading past) v one told) stands))
+
+-- ---- the timer
+
+held_go : (policy : Policy) (K : Channels → Type 0) (J : List Saying → Channels → Type 0) (c : Converses policy K J) (past : List Saying) (v : Channels) (tries own : ℕ) → Stands policy J past v → Stands policy J (past ++ said_by_channel tries own v) (fired_channel tries own v)
+held_go policy K J c past v tries own stands =
+    let between : Channels = times_held (held_at own v) tries v in
+    let next : Channels = times_end (held_at own between) tries between in
+    stands_behind policy J past (said_on_firing own v between) (said_on_firing own between next) next
+    (stands_on policy J (past ++ said_on_firing own v between) (said_on_firing own between next) between next
+    (λ sound (holds, known) after. (c.ends (past ++ said_on_firing own v between) between tries own sound holds after, subst Replies (sym (ends-last tries own between).1) known))
+    (ending-fires policy (reading (past ++ said_on_firing own v between)) between tries own (held_at own between) refl)
+    (stands_on policy J past (said_on_firing own v between) v between
+    (λ sound (holds, known) after. (c.waits past v tries own sound holds after, subst Replies (sym (times-last tries own v).1) known)) (held-fires policy (reading past) v tries own (held_at own v) refl) stands))
+
+features_lost : (tries : ℕ) (v : Channels) (features : Option Request) → (times_features features tries v).memory ≡ v.memory
+features_lost tries v None = refl
+features_lost tries v (Some request) = by (is_due errands.Features v) (nat_le tries request.given)
+  where
+    by : (due most : Bool) → (fires (cond due StillDue (cond most Spent OnceMore)) errands.Features loses_features v).memory ≡ v.memory
+    by true most = refl
+    by false true = refl
+    by false false = refl
+
+channels_fire : (policy : Policy) (K : Channels → Type 0) (J : List Saying → Channels → Type 0) (c : Converses policy K J) (past : List Saying) (v : Channels) (tries : ℕ) (owns : List ℕ) → Stands policy J past v
+    → (let after : Channels = times_channels tries owns v in Stands policy J (past ++ said_by_channels tries owns v) (times_features after.features tries after))
+channels_fire policy K J c past v tries [] stands =
+    stands_on policy J past (said_by_features tries v) v (times_features v.features tries v)
+    (λ sound (holds, known) after. (c.loses past v tries sound holds after, subst Replies (sym (features_lost tries v v.features)) known)) (features-fires policy (reading past) v tries v.features refl) stands
+channels_fire policy K J c past v tries (own ∷ owns) stands =
+    let next : Channels = fired_channel tries own v in
+    let after : Channels = times_channels tries owns next in
+    stands_behind policy J past (said_by_channel tries own v) (said_by_channels tries owns next) (times_features after.features tries after)
+    (channels_fire policy K J c (past ++ said_by_channel tries own v) next tries owns (held_go policy K J c past v tries own stands))
+
+-- ---- whatever happens
+
+comes_go : (policy : Policy) (K : Channels → Type 0) (J : List Saying → Channels → Type 0) (c : Converses policy K J) (past : List Saying) (v : Channels) (pdu : List ℕ) (signals : Bool) → K v → Stands policy J past v
+    → (let said : List Saying = past ++ cond signals (said_with_all policy (answers (drop 4 pdu)) v) (Carried Into pdu ∷ asked_between v (takes (channel_of pdu) pdu v)) in
+    let w : Channels = cond signals (hears_commands policy (answers (drop 4 pdu)) v) (takes (channel_of pdu) pdu v) in Sound policy (reading said) w → Both J said w)
+comes_go policy K J c past v pdu true known_of stands after = (commands_go policy K J c past v (answers (drop 4 pdu)) (all-told (drop 4 pdu)) stands).1
+comes_go policy K J c past v pdu false known_of (sound, (holds, known)) after = (c.taken past v pdu known_of sound holds after, subst Replies (sym (takes-lasts (channel_of pdu) pdu v).1) known)
+
+asks_memory : (v : Channels) → (asks_features v).memory ≡ v.memory
+asks_memory v = by (is_some v.features)
+  where
+    by : (some : Bool) → (cond some v (asks errands.Features (record v { features = Some (new_request v) }))).memory ≡ v.memory
+    by true = refl
+    by false = refl
+
+-- of what happens alone nothing is remembered
+single_memory : (policy : Policy) (more : Occurrence) (v : Channels) → is_single more ≡ true → (value_after policy more v).memory ≡ v.memory
+single_memory policy (Comes pdu) v is = cc
+single_memory policy (Connects psm) v is = (connects-lasts psm v).1
+single_memory policy AsksFeatures v is = asks_memory v
+single_memory policy (Disconnects own) v is = (disconnects-last own v).1
+single_memory policy (Sends own sdu) v is = (sends-last own sdu v).1
+single_memory policy (Gives pdu) v is = (gives-last v).1
+single_memory policy Fires v is = cc
+single_memory policy Tells v is = refl
+
+single_goes : (policy : Policy) (K : Channels → Type 0) (J : List Saying → Channels → Type 0) (c : Converses policy K J) (past : List Saying) (v : Channels) (more : Occurrence) → is_single more ≡ true → K v → Stands policy J past v → Sound policy (reading (past ++ said_in policy more v)) (value_after policy more v)
+    → Both J (past ++ said_in policy more v) (value_after policy more v)
+single_goes policy K J c past v more is known_of (sound, (holds, known)) after = (c.single past v more is known_of sound holds after, subst Replies (sym (single_memory policy more v is)) known)
+
+occurs_go : (policy : Policy) (K : Channels → Type 0) (J : List Saying → Channels → Type 0) (c : Converses policy K J) (past : List Saying) (v : Channels) (more : Occurrence) → K v → Stands policy J past v → Sound policy (reading (past ++ said_in policy more v)) (value_after policy more v)
+    → Both J (past ++ said_in policy more v) (value_after policy more v)
+occurs_go policy K J c past v (Comes pdu) known stands after = comes_go policy K J c past v pdu (eqb (channel_of pdu) 0x0001) known stands after
+occurs_go policy K J c past v (Connects psm) known stands after = single_goes policy K J c past v (Connects psm) refl known stands after
+occurs_go policy K J c past v AsksFeatures known stands after = single_goes policy K J c past v AsksFeatures refl known stands after
+occurs_go policy K J c past v (Disconnects own) known stands after = single_goes policy K J c past v (Disconnects own) refl known stands after
+occurs_go policy K J c past v (Sends own sdu) known stands after = single_goes policy K J c past v (Sends own sdu) refl known stands after
+occurs_go policy K J c past v (Gives pdu) known stands after = single_goes policy K J c past v (Gives pdu) refl known stands after
+occurs_go policy K J c past v Fires known stands after = (channels_fire policy K J c past v policy.tries (map (λ held. held.own) v.held) stands).1
+occurs_go policy K J c past v Tells known stands after = single_goes policy K J c past v Tells refl known stands after
+
+-- what holds at first holds of all runs
+pub conversed : (policy : Policy) (K : Channels → Type 0) (J : List Saying → Channels → Type 0) → Converses policy K J → J [] no_channels → (list : List Occurrence) → J (run_of policy list).said (run_of policy list).value
+conversed policy K J c first list =
+    let (sound, (known, (holds, replies))) = along policy (λ run. K run.value × Both J run.said run.value) (c.first, (first, record { connection = tt; configuration = tt; disconnection = tt; echo = tt; information = tt }))
+    (λ run more sound (known, both). (c.kept run.value more sound.core.lone known, occurs_go policy K J c run.said run.value more known (sound, both) (run-more policy run more sound))) list in
+    holds
