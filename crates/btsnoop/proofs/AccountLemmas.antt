@@ -1,6 +1,5 @@
 -- A reader's value accounts for all that it was fed, step by step.
 use Rattle.std.proofs.Common.{◌≡◌, ℕ, ◌+◌, ◌≤◌, List, [], ◌∷◌, ◌++◌, length, take, Option, None, Some, Result, Ok, Err, refl, sym, ap, subst, ◌∙◌, append_assoc, length-append, arith}
-use Rattle.std.specs.Prelude.{min}
 use Rattle.std.specs.List.{AllByRecursion}
 use Rattle.std.proofs.lemmas.List.{append-nil, length-take-le}
 use Rattle.h4_framing.specs.Framing.{counted}
@@ -8,7 +7,6 @@ use Rattle.btsnoop.specs.declared.refusal.SnoopRefusal.{SnoopRefusal}
 use Rattle.btsnoop.specs.declared.refusal.SnoopRefusal.TheVariants.{Truncated}
 use Rattle.btsnoop.specs.declared.fields.Part.{Part}
 use Rattle.btsnoop.specs.declared.fields.Part.TheVariants.{Header, Body}
-use Rattle.btsnoop.specs.declared.record.Record.{Record as LentRecord}
 use Rattle.btsnoop.specs.declared.reader.SnoopTaken.{SnoopTaken}
 use Rattle.btsnoop.specs.declared.reader.SnoopTaken.TheVariants as taken
 use Rattle.btsnoop.specs.Files.{Record, plain_record, IsRecord, IsFile, file_header, record_octets, records_octets, file_of}

@@ -1,5 +1,5 @@
 -- A file header or a record in a buffer, to which more octets are added.
-use Rattle.std.proofs.Common.{◌≡◌, ℕ, ◌+◌, ◌-◌, ◌<◌, ◌≤◌, List, [], ◌++◌, length, take, drop, min, Option, None, Some, refl, sym, ap, subst, ◌∙◌, append_assoc, length-append, arith, inl, inr}
+use Rattle.std.proofs.Common.{◌≡◌, ℕ, ◌+◌, ◌-◌, ◌<◌, ◌≤◌, List, [], ◌++◌, length, take, drop, min, None, refl, sym, ap, ◌∙◌, append_assoc, length-append, arith, inl, inr}
 use Rattle.std.proofs.lemmas.List.{append-nil, length-take, length-drop, take_all, take_at, drop_all, take-append-drop}
 use Rattle.std.proofs.lemmas.Bool.{cases_lt, cases_eq}
 use Rattle.std.proofs.Math.Seq.{take-add}
@@ -7,7 +7,7 @@ use Rattle.bt_base.specs.Octets.{IsOctets}
 use Rattle.h4_framing.proofs.OctetLists.{IsOctets-append}
 use Rattle.btsnoop.specs.declared.fields.Part.{Part}
 use Rattle.btsnoop.specs.Fields.{fault_in, told_length, IsUnfinished}
-use Rattle.btsnoop.proofs.FieldLemmas.{Fault, head, Settled, fault_kept, told_kept, told_settled, told_short, told_least}
+use Rattle.btsnoop.proofs.FieldLemmas.{head, Settled, fault_kept, told_kept, told_settled, told_short, told_least}
 
 parts : (u : ℕ) (held piece : List ℕ) → (held ++ take u piece) ++ drop u piece ≡ held ++ piece
 parts u held piece = append_assoc held (take u piece) (drop u piece) ∙ ap (λ (xs : List ℕ). held ++ xs) (take-append-drop u piece)

@@ -1,13 +1,13 @@
 -- A file header and a record from their octets, and their octets from them.
-use Rattle.std.proofs.Common.{◌≡◌, ℕ, ◌+◌, ◌<◌, ◌≤◌, ◌^◌, List, [], ◌∷◌, ◌++◌, length, take, drop, None, refl, sym, ap, subst, ◌∙◌, arith, length-append}
+use Rattle.std.proofs.Common.{◌≡◌, ℕ, ◌+◌, ◌<◌, ◌≤◌, ◌^◌, List, ◌++◌, length, take, drop, None, refl, sym, ap, ◌∙◌, arith, length-append}
 use Rattle.std.proofs.lemmas.List.{length-drop, length-take-le, take_at, drop_at}
-use Rattle.byteorder.specs.Endian.{big_bytes, big_number}
+use Rattle.byteorder.specs.Endian.{big_bytes}
 use Rattle.byteorder.specs.Numbers.{big_from-lt, big_number-reads_back}
 use Rattle.bt_base.specs.Octets.{IsOctets, be32}
 use Rattle.bt_base.proofs.OctetLemmas.{be32-front, be32-number}
 use Rattle.h4_framing.proofs.OctetLists.{IsOctets-drop, IsOctets-take}
 use Rattle.btsnoop.specs.declared.fields.Part.TheVariants.{Header, Body}
-use Rattle.btsnoop.specs.Files.{Record, IsRecord, identification, version, uart_datalink, longest_packet, file_header, record_octets}
+use Rattle.btsnoop.specs.Files.{Record, IsRecord, identification, version, uart_datalink, file_header, record_octets}
 use Rattle.btsnoop.specs.Fields.{field, fault_in, told_length, record_at}
 use Rattle.btsnoop.proofs.Parts.{long_front, header_parts, record_parts}
 use Rattle.btsnoop.proofs.FieldLemmas.{sound_header, header_sound, head_is, sound_body, body_sound, told_body}

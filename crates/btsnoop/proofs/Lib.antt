@@ -6,3 +6,6 @@ pub mod LeadingLemmas
 pub mod TakingLemmas
 pub mod ReadingLemmas
 pub mod AccountLemmas
+pub mod Growing
+pub mod Telling
+pub mod Converted

@@ -33,6 +33,22 @@ pub six_parts : (a b c d e f : List ℕ) → ((((a ++ b) ++ c) ++ d) ++ e) ++ f 
 six_parts a b c d e f = simp append_assoc
 
 -- a part, and what stands behind it
+-- one known part more behind others
+part_added : (t old new front part known : List ℕ) → old ≡ t ++ front → new ≡ old ++ part → part ≡ known → new ≡ t ++ (front ++ known)
+part_added t old new front part known so_far more is = more ∙ ap (λ (xs : List ℕ). xs ++ part) so_far ∙ ap (λ (xs : List ℕ). (t ++ front) ++ xs) is ∙ append_assoc t front known
+
+-- six parts added one after the other, of which five are known
+pub six_added : (t t1 t2 t3 t4 t5 t6 a a' b b' d d' e e' f f' g : List ℕ) → t1 ≡ t ++ a → a ≡ a' → t2 ≡ t1 ++ b → b ≡ b' → t3 ≡ t2 ++ d → d ≡ d' → t4 ≡ t3 ++ e → e ≡ e' → t5 ≡ t4 ++ f → f ≡ f' → t6 ≡ t5 ++ g
+    → t6 ≡ t ++ (a' ++ (b' ++ (d' ++ (e' ++ (f' ++ g)))))
+six_added t t1 t2 t3 t4 t5 t6 a a' b b' d d' e e' f f' g p1 q1 p2 q2 p3 q3 p4 q4 p5 q5 p6 =
+    let s1 : t1 ≡ t ++ a' = p1 ∙ ap (λ (xs : List ℕ). t ++ xs) q1 in
+    let s2 = part_added t t1 t2 a' b b' s1 p2 q2 in
+    let s3 = part_added t t2 t3 (a' ++ b') d d' s2 p3 q3 in
+    let s4 = part_added t t3 t4 ((a' ++ b') ++ d') e e' s3 p4 q4 in
+    let s5 = part_added t t4 t5 (((a' ++ b') ++ d') ++ e') f f' s4 p5 q5 in
+    let s6 = part_added t t5 t6 ((((a' ++ b') ++ d') ++ e') ++ f') g g s5 p6 refl in
+    s6 ∙ ap (λ (xs : List ℕ). t ++ xs) (six_parts a' b' d' e' f' g)
+
 pub next_part : (a p : ℕ) (xs : List ℕ) → take a (drop p xs) ++ drop (p + a) xs ≡ drop p xs
 next_part a p xs = ap (λ (t : List ℕ). take a (drop p xs) ++ t) (sym (drop-drop a p xs)) ∙ take-append-drop a (drop p xs)
 

@@ -1,19 +1,18 @@
 -- Octets are read in one way, and each list of octets is read.
-use Rattle.std.proofs.Common.{◌≡◌, ◌≢◌, ℕ, zero, suc, ◌+◌, ◌-◌, ◌<◌, ◌≤◌, List, [], ◌∷◌, ◌++◌, length, take, drop, Option, None, Some, refl, sym, ap, subst, ◌∙◌, append_assoc, length-append, arith, inl, inr}
+use Rattle.std.proofs.Common.{◌≡◌, ℕ, zero, suc, ◌+◌, ◌<◌, ◌≤◌, List, [], ◌∷◌, ◌++◌, length, take, drop, Option, None, Some, refl, sym, ap, subst, ◌∙◌, append_assoc, length-append, arith, inl, inr}
 use Rattle.std.specs.List.{AllByRecursion}
 use Rattle.std.proofs.lemmas.List.{append-nil, length-take-le, length-drop, take-append-drop, drop_at}
 use Rattle.std.proofs.lemmas.Bool.{cases_lt}
 use Rattle.bt_base.specs.Octets.{IsOctets}
 use Rattle.h4_framing.proofs.OctetLists.{IsOctets-take, IsOctets-drop}
-use Rattle.btsnoop.specs.declared.refusal.SnoopRefusal.{SnoopRefusal}
 use Rattle.btsnoop.specs.declared.refusal.SnoopRefusal.TheVariants.{Truncated}
 use Rattle.btsnoop.specs.declared.fields.Part.{Part}
 use Rattle.btsnoop.specs.declared.fields.Part.TheVariants.{Header, Body}
 use Rattle.btsnoop.specs.Files.{Record, IsRecord, IsFile, file_header, record_octets, records_octets, file_of}
-use Rattle.btsnoop.specs.Fields.{field, fault_in, told_length, record_at, IsUnfinished}
+use Rattle.btsnoop.specs.Fields.{fault_in, told_length, record_at, IsUnfinished}
 use Rattle.btsnoop.specs.Reading.{lead, IsCut, Stops, AtEnd, Within, Wrong, Reads}
 use Rattle.btsnoop.proofs.FieldLemmas.{Fault, told_header, told_least, nothing_unfinished}
-use Rattle.btsnoop.proofs.Items.{header_whole, header_front, header_size, record_whole, record_size, Front, record_front, one_record}
+use Rattle.btsnoop.proofs.Items.{header_whole, header_front, header_size, record_whole, record_size, record_front, one_record}
 use Rattle.btsnoop.proofs.TakingLemmas.{leading_front, record_told}
 
 abbrev Ending : Type 0

@@ -1,6 +1,6 @@
 -- What a btsnoop file is: the layout of RFC 1761, with the datalinks and the flags of Bluetooth. In all numbers the
 -- highest octet stands first.
-use Rattle.std.specs.Prelude.{ℕ, ◌≡◌, ◌<◌, ◌≤◌, ◌^◌, List, [], ◌∷◌, ◌++◌, length}
+use Rattle.std.specs.Prelude.{ℕ, ◌≡◌, ◌<◌, ◌≤◌, ◌^◌, List, ◌++◌, length}
 use Rattle.std.specs.List.{flat_map, AllByRecursion}
 use Rattle.byteorder.specs.Endian.{big_bytes}
 use Rattle.bt_base.specs.Octets.{IsOctets, be32}

@@ -7,7 +7,7 @@ use Rattle.btsnoop.specs.declared.reader.SnoopTaken.{SnoopTaken}
 use Rattle.btsnoop.specs.Files.{Record, IsRecord, IsFile, record_octets}
 use Rattle.btsnoop.specs.Reading.{Reads}
 use Rattle.btsnoop.specs.Taking.{Progress, no_progress, EndsWith}
-use Rattle.btsnoop.specs.Accounts.{Accounts, TakesAll, all_used, all_given}
+use Rattle.btsnoop.specs.Accounts.{TakesAll, all_used, all_given}
 
 -- No record's octets begin another's.
 abbrev pub NoRecordBeginsAnother : Type 0

@@ -6,3 +6,5 @@ pub mod Gathering
 pub mod Taking
 pub mod Accounts
 pub mod Laws
+pub mod Converting
+pub mod Converter

@@ -1,5 +1,5 @@
 -- What contracts see of a reader, and what it makes of a piece of a file.
-use Rattle.std.specs.Prelude.{ℕ, ◌≡◌, ◌≢◌, ◌+◌, ◌<◌, ◌≤◌, List, [], ◌++◌, length, take, Option, None, Some, Result, Ok, Err, MatchOption}
+use Rattle.std.specs.Prelude.{ℕ, ◌≡◌, ◌+◌, ◌<◌, ◌≤◌, List, [], ◌++◌, length, take, Option, None, Some, Result, Ok, Err, MatchOption}
 use Rattle.h4_framing.specs.Framing.{counted}
 use Rattle.btsnoop.specs.declared.refusal.SnoopRefusal.{SnoopRefusal}
 use Rattle.btsnoop.specs.declared.refusal.SnoopRefusal.TheVariants.{Truncated}

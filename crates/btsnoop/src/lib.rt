@@ -1,6 +1,10 @@
 //! The captures that phones and analysers write: btsnoop files, read in any pieces and written.
 #![tactic(auto)]
 
+mod converting;
+#[cfg(test)]
+mod converting_tests;
+mod fault;
 mod fields;
 mod gathering;
 pub mod laws;
@@ -11,6 +15,8 @@ mod refusal;
 mod tests;
 mod writing;
 
+pub use converting::convert;
+pub use fault::SnoopFault;
 pub use reader::{Reader, SnoopTaken};
 pub use record::Record;
 pub use refusal::SnoopRefusal;

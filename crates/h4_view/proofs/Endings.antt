@@ -12,7 +12,7 @@ use Rattle.h4_framing.specs.Framing.{Framing, counted}
 use Rattle.h4_framing.specs.Accounts.{Accounts}
 use Rattle.h4_framing.proofs.LengthLemmas.{front_short}
 use Rattle.h4_view.specs.declared.refusal.ViewRefusal.{ViewRefusal}
-use Rattle.h4_view.specs.declared.refusal.ViewRefusal.TheVariants.{BadIndicator, Truncated, TooLong}
+use Rattle.h4_view.specs.declared.refusal.ViewRefusal.TheVariants.{BadIndicator, Truncated, TooLong, BadTag, BadRecord}
 use Rattle.h4_view.specs.declared.refusal.ViewFault.{ViewFault}
 use Rattle.h4_view.specs.declared.refusal.ViewFault.TheVariants.{Refused, ReadFault, WriteFault, NoMemory}
 use Rattle.h4_view.specs.declared.links.Links.{Links}
@@ -31,6 +31,8 @@ ends_by : (verdict : Option (ViewRefusal × ℕ)) (octets : List ℕ) (packets :
     → length octets < input_limit → EndsView framing verdict → Stops (length (spellings packets)) framing.held verdict
 ends_by None octets packets framing accounts sound keeps below ends = ends
 ends_by (Some (BadIndicator, place)) octets packets framing accounts sound keeps below ends = absurd ends
+ends_by (Some (BadTag, place)) octets packets framing accounts sound keeps below ends = absurd ends
+ends_by (Some (BadRecord, place)) octets packets framing accounts sound keeps below ends = absurd ends
 ends_by (Some (Truncated, place)) octets packets framing accounts sound keeps below (at, some, (n, least, within)) =
     let behind = held_behind octets packets framing accounts sound in
     let size : length octets ≡ length (spellings packets) + length framing.held = ap length behind.0 ∙ length-append (spellings packets) framing.held in
@@ -125,6 +127,8 @@ limit_by None octets rest left packets framing accounts sound keeps full left-is
     let none : rest ≡ [] = rw left-is at ends.1 in ap (λ (t : List ℕ). t ++ rest) ends.0 ∙ none
 limit_by (Some (BadIndicator, place)) octets rest left packets framing accounts sound keeps full left-is ends = absurd ends
 limit_by (Some (Truncated, place)) octets rest left packets framing accounts sound keeps full left-is ends = absurd ends
+limit_by (Some (BadTag, place)) octets rest left packets framing accounts sound keeps full left-is ends = absurd ends
+limit_by (Some (BadRecord, place)) octets rest left packets framing accounts sound keeps full left-is ends = absurd ends
 limit_by (Some (TooLong, place)) octets rest left packets framing accounts sound keeps full left-is ends =
     let behind = held_behind octets packets framing accounts sound in
     let from : ℕ = length (spellings packets) in

@@ -1,5 +1,6 @@
 -- What a piece gives stands under its packet's line, and is known afterwards.
-use Rattle.std.proofs.Common.{◌≡◌, ℕ, List, [], ◌∷◌, ◌++◌, Bool, true, false, cond, fold, refl, sym, ap, subst, ◌∙◌, append_assoc, codes}
+use Rattle.std.proofs.Common.{◌≡◌, ℕ, List, [], ◌∷◌, ◌++◌, Option, Some, None, Bool, true, false, cond, fold, refl, sym, ap, subst, ◌∙◌, append_assoc, codes}
+use Rattle.std.specs.List.{AllByRecursion}
 use Rattle.std.proofs.lemmas.List.{append-nil}
 use Rattle.std.proofs.lemmas.List.Sums.{fold-append}
 use Rattle.hci_packets.specs.declared.acl.Boundary.{Boundary}
@@ -14,7 +15,9 @@ use Rattle.seen_channels.specs.declared.channels.Channels.{Channels}
 use Rattle.seen_channels.specs.Tellings.{Learnt}
 use Rattle.seen_channels.specs.Tables.{Keeps}
 use Rattle.h4_view.specs.Pdus.{Said, pdu_limit, turned, direction_after, goes, given, said_in, said_from, said, with_pdu, known, learnt}
-use Rattle.h4_view.specs.Details.{answer_text, HeardPdus, Shown, goes_on}
+use Rattle.h4_view.specs.declared.links.Link.{Link}
+use Rattle.h4_view.specs.Details.{answer_text, joined_text, IsJoinerOf, IsSpare, IsLink, HeardPdus, goes_on}
+use Rattle.h4_view.specs.Lanes.{lane_text, learnt_with, LaneShown, LaneKept}
 
 -- which way the pieces go with one more
 pub direction-last : (past : List Piece) (p : Piece) → direction_after (past ++ p ∷ []) ≡ goes past p
@@ -49,24 +52,61 @@ more_goes_on (lent.Dropped reason) e = absurd cc
 pub joined_shows : (old new : Held) (boundary : Boundary) (piece text mid text' : List ℕ) (direction : Direction) (channels channels' : Channels) (on : Bool) (result : Joined) → Joins old boundary piece result new
     → on ≡ goes_on result.got
     → mid ≡ text ++ cond result.unfinished (codes "  unfinished\n") [] → HeardPdus direction (plain_answer result.got) mid text' channels channels'
-    → (past : List Piece) → old.limit ≡ pdu_limit → HoldsOpen past old → Keeps (learnt past) channels → direction ≡ turned (direction_after past) boundary
-    → Shown past (record { boundary = boundary; octets = piece }) text text' new channels' on
-joined_shows old new boundary piece text mid text' direction channels channels' on result joins on_is first heard past limit holds keeps way =
+    → (past : List Piece) (known : Learnt) → old.limit ≡ pdu_limit → HoldsOpen past old → Keeps known channels
+    → LaneShown past known direction (record { boundary = boundary; octets = piece }) text text' new channels' on
+joined_shows old new boundary piece text mid text' direction channels channels' on result joins on_is first heard past known limit holds keeps =
     let p : Piece = record { boundary = boundary; octets = piece } in
     let follows = joins.past past holds in
     let got : plain_answer result.got ≡ given past p = subst (λ (k : ℕ). plain_answer result.got ≡ answer k (open_after k past) (starts boundary) piece) limit follows.got in
     let unfinished : result.unfinished ≡ leaves_unfinished (open_after pdu_limit past) (starts boundary) = subst (λ (k : ℕ). result.unfinished ≡ leaves_unfinished (open_after k past) (starts boundary)) limit follows.unfinished in
-    let hears = heard (learnt past) keeps in
-    let same : HeardPdus (goes past p) (given past p) mid text' channels channels' = subst (λ (d : Direction). HeardPdus d (given past p) mid text' channels channels') way (subst (λ (a : Answer). HeardPdus direction a mid text' channels channels') got heard) in
-    let shown = same (learnt past) keeps in
+    let same : HeardPdus direction (given past p) mid text' channels channels' = subst (λ (a : Answer). HeardPdus direction a mid text' channels channels') got heard in
+    let shown = same known keeps in
     record {
       written =
           shown.0
-          ∙ ap (λ (t : List ℕ). t ++ answer_text (learnt past) (goes past p) (given past p)) first
-          ∙ append_assoc text (cond result.unfinished (codes "  unfinished\n") []) (answer_text (learnt past) (goes past p) (given past p))
-          ∙ ap (λ (b : Bool). text ++ (cond b (codes "  unfinished\n") [] ++ answer_text (learnt past) (goes past p) (given past p))) unfinished;
+          ∙ ap (λ (t : List ℕ). t ++ answer_text known direction (given past p)) first
+          ∙ append_assoc text (cond result.unfinished (codes "  unfinished\n") []) (answer_text known direction (given past p))
+          ∙ ap (λ (b : Bool). text ++ (cond b (codes "  unfinished\n") [] ++ answer_text known direction (given past p))) unfinished;
       limit = ap (λ (h : Held). h.limit) joins.call.held ∙ limit;
       holds = follows.holds;
       ends = λ e. ap (λ (h : Held). h.octets) joins.call.held ∙ is_kept (answer old.limit old.octets (starts boundary) piece) _ on (λ m. on_is ∙ more_goes_on result.got (joins.call.got ∙ m)) e;
-      channels = subst (λ (l : Learnt). Keeps l channels') (sym (learnt-last past p)) shown.1;
+      channels = shown.1;
     }
+
+-- a piece of a link whose pieces go through one joiner
+pub link_more : (past : List Piece) (p : Piece) (old new : Link) (text text' : List ℕ) (direction : Direction) → IsLink past old → direction ≡ turned old.direction p.boundary
+    → LaneKept past (learnt past) direction p text text' new.joiner new.channels → new.direction ≡ direction → (text' ≡ text ++ joined_text past p) × IsLink (past ++ p ∷ []) new
+link_more past p old new text text' direction is turns kept set =
+    let way : direction ≡ goes past p = turns ∙ ap (λ (d : Direction). turned d p.boundary) is.direction in (
+      kept.written ∙ ap (λ (d : Direction). text ++ lane_text past (learnt past) d p) way,
+      record {
+        joiner = kept.joiner;
+        direction = set ∙ way ∙ sym (direction-last past p);
+        channels = subst (λ (l : Learnt). Keeps l new.channels) (ap (λ (d : Direction). learnt_with past (learnt past) d p) way ∙ sym (learnt-last past p)) kept.channels;
+      },
+    )
+
+spare_more : (js : List Held) (j : Held) → AllByRecursion IsSpare js → IsSpare j → AllByRecursion IsSpare (js ++ j ∷ [])
+spare_more [] j each is = (is, tt)
+spare_more (k ∷ js) j (first, each) is = (first, spare_more js j each is)
+
+-- what holds the open group is kept, or is spare where no group is open
+kept_by : (past : List Piece) (p : Piece) (lane' : Option Held) (joiner' : Held) (js js' : List Held) (on : Bool) → joiner'.limit ≡ pdu_limit → HoldsOpen (past ++ p ∷ []) joiner' → (on ≡ false → joiner'.octets ≡ [])
+    → lane' ≡ cond on (Some joiner') None → js' ≡ cond on js (js ++ joiner' ∷ []) → AllByRecursion IsSpare js → IsJoinerOf (past ++ p ∷ []) lane' × AllByRecursion IsSpare js'
+kept_by past p lane' joiner' js js' true limit holds ends lane-is js-is spare =
+    (subst (λ (o : Option Held). IsJoinerOf (past ++ p ∷ []) o) (sym lane-is) (limit, subst (λ (k : ℕ). joiner'.octets ≡ open_after k (past ++ p ∷ [])) limit holds), subst (AllByRecursion IsSpare) (sym js-is) spare)
+kept_by past p lane' joiner' js js' false limit holds ends lane-is js-is spare = (
+  subst (λ (o : Option Held). IsJoinerOf (past ++ p ∷ []) o) (sym lane-is) (sym (subst (λ (k : ℕ). joiner'.octets ≡ open_after k (past ++ p ∷ [])) limit holds) ∙ ends refl),
+  subst (AllByRecursion IsSpare) (sym js-is) (spare_more js joiner' spare (limit, ends refl)),
+)
+
+pub lane_kept : (past : List Piece) (known : Learnt) (direction : Direction) (p : Piece) (text text' : List ℕ) (kept lane lane' : Option Held) (joiner joiner' : Held) (channels channels' : Channels) (js0 js1 js2 : List Held) (on : Bool) → kept ≡ lane
+    → (AllByRecursion IsSpare js0 → (pieces : List Piece) → IsJoinerOf pieces kept → IsJoinerOf pieces (Some joiner)) → (AllByRecursion IsSpare js0 → AllByRecursion IsSpare js1)
+    → ((past : List Piece) (known : Learnt) → joiner.limit ≡ pdu_limit → HoldsOpen past joiner → Keeps known channels → LaneShown past known direction p text text' joiner' channels' on)
+    → lane' ≡ cond on (Some joiner') None → js2 ≡ cond on js1 (js1 ++ joiner' ∷ []) → IsJoinerOf past lane → Keeps known channels → AllByRecursion IsSpare js0
+    → LaneKept past known direction p text text' lane' channels' × AllByRecursion IsSpare js2
+lane_kept past known direction p text text' kept lane lane' joiner joiner' channels channels' js0 js1 js2 on same take first show lane-is js-is is keeps spare =
+    let j = take spare past (subst (λ (o : Option Held). IsJoinerOf past o) (sym same) is) in
+    let shown = show past known j.0 (j.1 ∙ ap (λ (k : ℕ). open_after k past) (sym j.0)) keeps in
+    let done = kept_by past p lane' joiner' js1 js2 on shown.limit shown.holds shown.ends lane-is js-is (first spare) in
+    (record { written = shown.written; joiner = done.0; channels = shown.channels }, done.1)

@@ -6,3 +6,6 @@ pub mod Showing
 pub mod Stands
 pub mod Endings
 pub mod OneView
+pub mod BothWays
+pub mod TaggedLines
+pub mod TaggedEnds

@@ -17,7 +17,7 @@ use Rattle.acl_fragments.specs.declared.joined.Got.{Got}
 use Rattle.acl_fragments.specs.declared.joined.Got.TheVariants as lent
 use Rattle.acl_fragments.specs.Pieces.{Piece, starts}
 use Rattle.acl_fragments.specs.Answers.{Answer, Pdu, More, Dropped, open_after, leaves_unfinished}
-use Rattle.acl_fragments.specs.Joiners.{Held, HoldsOpen}
+use Rattle.acl_fragments.specs.Joiners.{Held}
 use Rattle.h4_view.specs.Texts.{word_text}
 use Rattle.seen_channels.specs.declared.direction.Direction.{Direction}
 use Rattle.seen_channels.specs.declared.channels.Channels.{Channels}
@@ -142,14 +142,6 @@ abbrev pub goes_on : Got → Bool
 goes_on (lent.Pdu channel pdu) = false
 goes_on lent.More = true
 goes_on (lent.Dropped reason) = false
-
--- a piece was shown and joined
-pub record Shown (past : List Piece) (piece : Piece) (text text' : List ℕ) (joiner' : Held) (channels' : Channels) (on : Bool) : Type 0 where
-  pub written : text' ≡ text ++ joined_text past piece
-  pub limit : joiner'.limit ≡ pdu_limit
-  pub holds : HoldsOpen (past ++ piece ∷ []) joiner'
-  pub ends : on ≡ false → joiner'.octets ≡ []
-  pub channels : Keeps (learnt (past ++ piece ∷ [])) channels'
 
 -- the handle, if there is one, is the one whose link the event tells the end of
 abbrev pub ClosesBy : ℕ → List ℕ → Option ℕ → Type 0

@@ -4,7 +4,11 @@ pub mod Signals
 pub mod Pdus
 pub mod Nested
 pub mod Details
+pub mod Lanes
+pub mod Both
 pub mod Lines
+pub mod Tagged
+pub mod TaggedTelling
 pub mod Shows
 pub mod Standing
 pub mod View

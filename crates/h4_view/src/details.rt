@@ -37,7 +37,7 @@ fn push_bad(text: &mut Text, refusal: HciRefusal) -> Result<(), NoMemory>
 }
 
 /// The handle whose link these parameters of an event tell the end of.
-fn closed_by(code: u8, params: &[u8]) -> Option<usize>
+pub(crate) fn closed_by(code: u8, params: &[u8]) -> Option<usize>
     ensures { ClosesBy code params.now result }
 {
     match event_of(code, params) {
@@ -48,7 +48,7 @@ fn closed_by(code: u8, params: &[u8]) -> Option<usize>
     }
 }
 
-fn push_bad_event(text: &mut Text, code: u8, params: &[u8]) -> Result<(), NoMemory>
+pub(crate) fn push_bad_event(text: &mut Text, code: u8, params: &[u8]) -> Result<(), NoMemory>
     ensures { OnOk result (text.new.items ≡ text.old.items ++ bad_text (event_refusal code params.now)) }
 {
     match event_of(code, params) {
@@ -57,7 +57,7 @@ fn push_bad_event(text: &mut Text, code: u8, params: &[u8]) -> Result<(), NoMemo
     }
 }
 
-fn push_bad_command(text: &mut Text, opcode: u16, params: &[u8]) -> Result<(), NoMemory>
+pub(crate) fn push_bad_command(text: &mut Text, opcode: u16, params: &[u8]) -> Result<(), NoMemory>
     ensures { OnOk result (text.new.items ≡ text.old.items ++ bad_text (command_refusal opcode params.now)) }
 {
     match command_of(opcode, params) {

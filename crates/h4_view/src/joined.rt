@@ -9,7 +9,8 @@ ghost use Rattle.acl_fragments.specs.Joiners.{HoldsOpen, plain_answer};
 ghost use Rattle.seen_channels.specs.Tellings.{Learnt};
 ghost use Rattle.seen_channels.specs.Tables.{Keeps};
 ghost use Rattle.h4_view.specs.Pdus.{pdu_limit, direction_after, turned, said_in, with_pdu, learnt};
-ghost use Rattle.h4_view.specs.Details.{drop_name, answer_text, joined_text, link_of, under, IsSpare, IsLink, IsLinkOf, Shown, Knows, HeardPdus, goes_on};
+ghost use Rattle.h4_view.specs.Details.{drop_name, answer_text, joined_text, link_of, under, IsJoinerOf, IsSpare, IsLink, IsLinkOf, Knows, HeardPdus, goes_on};
+ghost use Rattle.h4_view.specs.Lanes.{LaneShown, LaneKept};
 
 use crate::line::{Text, push_decimal, push_hex, push_reason, push_text};
 use crate::links::{Link, Links, keep_joiner, take_joiner};
@@ -122,8 +123,8 @@ fn push_joined(
     boundary: Boundary,
     octets: &[u8],
 ) -> Result<bool, NoMemory>
-    ensures { IfOk result (λ goes_on. (past : List Piece) → joiner.old.limit ≡ pdu_limit → HoldsOpen past joiner.old → Keeps (learnt past) channels.old → direction ≡ turned (direction_after past) boundary →
-        Shown past (record { boundary = boundary; octets = octets.now }) text.old.items text.new.items joiner.new channels.new goes_on) }
+    ensures { IfOk result (λ goes_on. (past : List Piece) (known : Learnt) → joiner.old.limit ≡ pdu_limit → HoldsOpen past joiner.old → Keeps known channels.old →
+        LaneShown past known direction (record { boundary = boundary; octets = octets.now }) text.old.items text.new.items joiner.new channels.new goes_on) }
 {
     let joined = joiner.take(boundary, octets);
     let on = goes_on(joined.got);
@@ -132,9 +133,30 @@ fn push_joined(
     Ok(on)
 }
 
+/// Adds what a piece gives that goes that way. What holds the open group of its direction is taken
+/// from its place, and put there again while a group is open.
+pub(crate) fn push_on_lane(
+    alloc: Global,
+    text: &mut Text,
+    spare: &mut Vec<Joiner>,
+    lane: &mut Option<Joiner>,
+    channels: &mut Channels,
+    direction: Direction,
+    boundary: Boundary,
+    octets: &[u8],
+) -> Result<(), NoMemory>
+    ensures { OnOk result ((past : List Piece) (known : Learnt) → IsJoinerOf past lane.old → Keeps known channels.old → AllByRecursion IsSpare spare.old.items →
+        LaneKept past known direction (record { boundary = boundary; octets = octets.now }) text.old.items text.new.items lane.new channels.new × AllByRecursion IsSpare spare.new.items) }
+{
+    let mut joiner = take_joiner(alloc, lane.take(), spare)?;
+    let goes_on = push_joined(text, channels, &mut joiner, direction, boundary, octets)?;
+    *lane = keep_joiner(spare, joiner, goes_on)?;
+    Ok(())
+}
+
 /// The number of the handle and the boundary of a piece, where its packet's word has them and it is
 /// no broadcast.
-fn link_of(word: u16) -> Option<(usize, Boundary)>
+pub(crate) fn link_of(word: u16) -> Option<(usize, Boundary)>
     ensures value { result ≡ link_of word }
     ensures range { IfSome result (λ link. link.0 < 0x0F00) }
 {
@@ -157,18 +179,18 @@ fn push_on_link(
         (text.new.items ≡ text.old.items ++ joined_text past (record { boundary = boundary; octets = octets.now }))
         × IsLink (past ++ record { boundary = boundary; octets = octets.now } ∷ []) link.new × AllByRecursion IsSpare spare.new.items) }
 {
-    let mut joiner = take_joiner(alloc, link.joiner.take(), spare)?;
     let direction = turned(link.direction, boundary);
-    let goes_on = push_joined(
+    push_on_lane(
+        alloc,
         text,
+        spare,
+        &mut link.joiner,
         &mut link.channels,
-        &mut joiner,
         direction,
         boundary,
         octets,
     )?;
     link.direction = direction;
-    link.joiner = keep_joiner(spare, joiner, goes_on)?;
     Ok(())
 }
 

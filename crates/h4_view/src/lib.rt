@@ -1,6 +1,7 @@
 //! Captures as text: a line for each packet of a stream.
 #![tactic(auto)]
 
+mod both_links;
 mod details;
 mod joined;
 pub mod laws;
@@ -12,9 +13,13 @@ mod piece;
 mod raw;
 mod refusal;
 mod signals;
+mod tagged;
+#[cfg(test)]
+mod tagged_tests;
 
 pub use raw::view_raw;
 pub use refusal::{ViewFault, ViewRefusal};
+pub use tagged::view_tagged;
 
 #[cfg(test)]
 mod tests;

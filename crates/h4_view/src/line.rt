@@ -83,7 +83,7 @@ fn push_counted(text: &mut Text, kind: &str, word: u16, length: usize) -> Result
     push_decimal(text, length as u64)
 }
 
-fn push_packet(text: &mut Text, unit: &Unit<'_>) -> Result<(), NoMemory>
+pub(crate) fn push_packet(text: &mut Text, unit: &Unit<'_>) -> Result<(), NoMemory>
     ensures { OnOk result (text.new.items ≡ text.old.items ++ packet_text (packet unit.now)) }
 {
     match *unit {

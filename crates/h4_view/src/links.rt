@@ -14,7 +14,7 @@ use std::alloc::Global;
 const PDU_LIMIT: u32 = 65_539;
 
 /// How many handles there are.
-const HANDLES: usize = 0x0F00;
+pub(crate) const HANDLES: usize = 0x0F00;
 
 /// What is kept of a link.
 #[derive(Drop)]

@@ -220,7 +220,12 @@ fn show_all<S: Source, K: Sink>(
 }
 
 /// Writes the line of a refusal, and answers the refusal, or the fault that came before it.
-fn refuse<K: Sink>(alloc: Global, sink: &mut K, refusal: ViewRefusal, place: u64) -> ViewFault
+pub(crate) fn refuse<K: Sink>(
+    alloc: Global,
+    sink: &mut K,
+    refusal: ViewRefusal,
+    place: u64,
+) -> ViewFault
     ensures wrote { IsRefusal refusal place (K.content sink.old) (K.content sink.new) result }
     ensures blame { Blames {A = ℕ} 0 0 (K.faults sink.old) (K.faults sink.new) (Err result) }
     ensures sink_short { IsAnswered (K.shortages sink.old) (K.shortages sink.new) (result ≡ ViewFault.NoMemory) }

@@ -16,6 +16,10 @@ pub enum ViewRefusal {
     /// The input goes past its greatest length, or ends within a packet that would. The place is
     /// that length.
     TooLong,
+    /// The first octet of an entry of a capture is no tag.
+    BadTag,
+    /// The payload of an entry of a capture is not one of its tag.
+    BadRecord,
 }
 
 /// Why a view stopped before the end of a stream of whole packets.
@@ -66,6 +70,8 @@ impl ViewRefusal {
             ViewRefusal::BadIndicator => "BadIndicator",
             ViewRefusal::Truncated => "Truncated",
             ViewRefusal::TooLong => "TooLong",
+            ViewRefusal::BadTag => "BadTag",
+            ViewRefusal::BadRecord => "BadRecord",
         }
     }
 }

@@ -1,0 +1,28 @@
+use Rattle.h4_view.proofs.TaggedEnds.{whole_views, refused_views, front_views, nothing_views, told_then, new_shown}
+use Rattle.h4_view.proofs.tagged.view_tagged.Goals as goal
+
+pub tell_all-requires : goal.tell_all-requires
+tell_all-requires g c = new_shown _ c.in-Ok.ensures
+
+pub returns-in_default-clause-views : goal.returns-in_default-clause-views
+returns-in_default-clause-views g c = nothing_views (g.S.Source.content c.args.source.now) (g.S.Source.content c.args.source.now) (g.K.Sink.content c.args.sink.now)
+
+pub returns-in-None-clause-views : goal.returns-in-None-clause-views
+returns-in-None-clause-views g c =
+    told_then (g.S.Source.content c.args.source.now)
+    (λ input runs. whole_views _ c.tell_all.new.teller input (g.S.Source.content c.tell_all.new.source) (g.K.Sink.content c.args.sink.now) (g.K.Sink.content c.tell_all.new.sink) c.in-Ok-tell_all.ending c.verdict_of.result c.verdict_of.ensures c.in-None.is runs)
+    c.in-Ok-tell_all.ensures.runs
+
+pub returns-in-Ok-tell_all-clause-views : goal.returns-in-Ok-tell_all-clause-views
+returns-in-Ok-tell_all-clause-views g c =
+    told_then (g.S.Source.content c.args.source.now)
+    (λ input runs. refused_views _ c.tell_all.new.teller input (g.S.Source.content c.tell_all.new.source) (g.K.Sink.content c.args.sink.now) (g.K.Sink.content c.tell_all.new.sink) (g.K.Sink.content c.refuse.new.sink) c.in-Ok-tell_all.ending c.verdict_of.result c.in-Some.refusal c.in-Some.place c.refuse.result c.verdict_of.ensures c.in-Some.is c.refuse.ensures.wrote runs)
+    c.in-Ok-tell_all.ensures.runs
+
+pub returns-in-Err-WriteFault-clause-views : goal.returns-in-Err-WriteFault-clause-views
+returns-in-Err-WriteFault-clause-views g c =
+    told_then (g.S.Source.content c.args.source.now) (λ input runs. front_views _ input (g.K.Sink.content c.args.sink.now) (g.K.Sink.content c.tell_all.new.sink) runs) (rw c.in-Err-WriteFault.field-0-is at c.in-Err-WriteFault.ensures.runs)
+
+pub returns-clause-views : goal.returns-clause-views
+returns-clause-views g c =
+    told_then (g.S.Source.content c.args.source.now) (λ input runs. front_views _ input (g.K.Sink.content c.args.sink.now) (g.K.Sink.content c.tell_all.new.sink) runs) (rw c.in-Err-NoMemory.field-0-is at c.in-Err-NoMemory.ensures.runs)

@@ -1,0 +1,34 @@
+-- What a piece gives where its link's pieces of the same direction, and what is known of the link's channels, are given.
+use Rattle.std.specs.Prelude.{ℕ, ◌≡◌, List, [], ◌∷◌, ◌++◌, Bool, false, cond, fold, codes, Option}
+use Rattle.acl_fragments.specs.Pieces.{Piece, starts}
+use Rattle.acl_fragments.specs.Answers.{open_after, leaves_unfinished}
+use Rattle.acl_fragments.specs.Joiners.{Held, HoldsOpen}
+use Rattle.seen_channels.specs.declared.direction.Direction.{Direction}
+use Rattle.seen_channels.specs.declared.channels.Channels.{Channels}
+use Rattle.seen_channels.specs.Tellings.{Learnt}
+use Rattle.seen_channels.specs.Tables.{Keeps}
+use Rattle.h4_view.specs.Pdus.{pdu_limit, given, said_in, with_pdu}
+use Rattle.h4_view.specs.Details.{answer_text, IsJoinerOf}
+
+-- what stands under the line of a piece that goes that way: first whether it leaves a group unfinished
+abbrev pub lane_text : List Piece → Learnt → Direction → Piece → List ℕ
+lane_text past known direction piece =
+    cond (leaves_unfinished (open_after pdu_limit past) (starts piece.boundary)) (codes "  unfinished\n") [] ++ answer_text known direction (given past piece)
+
+-- what is known with it
+abbrev pub learnt_with : List Piece → Learnt → Direction → Piece → Learnt
+learnt_with past known direction piece = fold with_pdu known (said_in direction (given past piece))
+
+-- a piece was shown and joined
+pub record LaneShown (past : List Piece) (known : Learnt) (direction : Direction) (piece : Piece) (text text' : List ℕ) (joiner' : Held) (channels' : Channels) (on : Bool) : Type 0 where
+  pub written : text' ≡ text ++ lane_text past known direction piece
+  pub limit : joiner'.limit ≡ pdu_limit
+  pub holds : HoldsOpen (past ++ piece ∷ []) joiner'
+  pub ends : on ≡ false → joiner'.octets ≡ []
+  pub channels : Keeps (learnt_with past known direction piece) channels'
+
+-- a piece was shown, and what holds the group of its direction is kept
+pub record LaneKept (past : List Piece) (known : Learnt) (direction : Direction) (piece : Piece) (text text' : List ℕ) (lane' : Option Held) (channels' : Channels) : Type 0 where
+  pub written : text' ≡ text ++ lane_text past known direction piece
+  pub joiner : IsJoinerOf (past ++ piece ∷ []) lane'
+  pub channels : Keeps (learnt_with past known direction piece) channels'
