@@ -9,3 +9,4 @@ pub mod Returning
 pub mod Hearing
 pub mod Stands
 pub mod Laws
+pub mod Calling

@@ -1,7 +1,8 @@
 //! The flow of commands.
 
 ghost use Rattle.std.specs.Prelude.{◌≡◌, [], None, ◌≤◌, length};
-ghost use Rattle.host_link.specs.HostCommands.{start_commands, accepts, opcode};
+ghost use Rattle.host_link.specs.HostCommands.{start_commands, accepts, asks, opcode};
+ghost use Rattle.host_link.specs.Calling.{ends};
 ghost use Rattle.host_link.specs.CommandFlows.{with_command, next_command, after_command, awaits, stated, answered};
 ghost use Rattle.std.specs.List.{list_any};
 
@@ -94,6 +95,20 @@ impl CommandFlow {
             .as_slice()
             .iter()
             .any(|command| command.accepts())
+    }
+
+    /// Whether a command waits that asks for a link.
+    pub fn has_call(&self) -> bool
+        ensures { result ≡ list_any asks self.now.waiting }
+    {
+        self.waiting.as_slice().iter().any(|command| command.asks())
+    }
+
+    /// Whether a command waits that ends a link.
+    pub fn has_end(&self) -> bool
+        ensures { result ≡ list_any ends self.now.waiting }
+    {
+        self.waiting.as_slice().iter().any(|command| command.ends())
     }
 
     /// The controller says how many commands it takes.

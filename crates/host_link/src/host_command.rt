@@ -4,6 +4,7 @@ ghost use Rattle.std.specs.Prelude.{◌≡◌, ◌≤◌, ◌+◌, ◌++◌, len
 ghost use Rattle.h4_framing.specs.Packets.{spelling, IsPacket};
 ghost use Rattle.hci_packets.specs.Commands.{command_params, plain_command, AllowsCommand};
 ghost use Rattle.hci_packets.specs.Units.{command_unit};
+ghost use Rattle.host_link.specs.Calling.{ends};
 ghost use Rattle.host_link.specs.HostCommands.{IsWhole, command_of, command_packet, opcode, asks, accepts};
 
 use crate::opcode::Opcode;
@@ -90,6 +91,13 @@ impl HostCommand {
             self,
             HostCommand::CreateConnection(_) | HostCommand::AcceptConnection(_)
         )
+    }
+
+    /// Whether it is Disconnect.
+    pub fn ends(&self) -> bool
+        ensures { result ≡ ends self.now }
+    {
+        matches!(self, HostCommand::Disconnect(_))
     }
 
     /// Whether it is Accept Connection Request.

@@ -3,6 +3,7 @@
 //! 4.4, 5.4 and 7).
 #![tactic(auto)]
 
+mod calling;
 mod command_flow;
 mod hearing;
 mod host_command;

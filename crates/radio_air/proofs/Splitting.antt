@@ -76,3 +76,28 @@ total_split (suc k) (n ∷ lengths) = let rest = total_split k lengths in omega 
 pub popped : (lengths now : List ℕ) (k n : ℕ) → now ≡ drop k lengths → slice_get now 0 ≡ Some n → drop k lengths ≡ n ∷ drop 1 now
 popped lengths [] k n is first = cc
 popped lengths (m ∷ now) k n is first = let same : m ≡ n = cc in sym is ∙ ap (λ x. x ∷ now) same
+
+-- the length at a place, added to those before it
+pub total_at : (lengths : List ℕ) (k n : ℕ) → slice_get lengths k ≡ Some n → (total (take (suc k) lengths) ≡ total (take k lengths) + n) × (total (take k lengths) + n ≤ total lengths)
+total_at [] zero n is = cc
+total_at [] (suc k) n is = cc
+total_at (m ∷ lengths) zero n is = let first : m ≡ n = cc in (omega (arith, first), omega (arith, first))
+total_at (m ∷ lengths) (suc k) n is = let later = total_at lengths k n is in (omega (arith, later.0), omega (arith, later.1))
+
+-- the frame at a place
+pub split_at : (lengths octets : List ℕ) (k n : ℕ) → slice_get lengths k ≡ Some n → slice_get (split lengths octets) k ≡ Some (take n (drop (total (take k lengths)) octets))
+split_at [] octets zero n is = cc
+split_at [] octets (suc k) n is = cc
+split_at (m ∷ lengths) octets zero n is = let first : m ≡ n = cc in ap (λ (k : ℕ). Some (take k octets)) first
+split_at (m ∷ lengths) octets (suc k) n is = split_at lengths (drop m octets) k n is ∙ ap (λ (xs : List ℕ). Some (take n xs)) (drop-drop (total (take k lengths)) m octets)
+
+pub split_past : (lengths octets : List ℕ) (k : ℕ) → slice_get lengths k ≡ None → slice_get (split lengths octets) k ≡ None
+split_past [] octets zero is = refl
+split_past [] octets (suc k) is = refl
+split_past (m ∷ lengths) octets zero is = cc
+split_past (m ∷ lengths) octets (suc k) is = split_past lengths (drop m octets) k is
+
+pub first_left : (frames : List (List ℕ)) (k : ℕ) → slice_get (drop k frames) 0 ≡ slice_get frames k
+first_left frames zero = refl
+first_left [] (suc k) = refl
+first_left (frame ∷ frames) (suc k) = first_left frames k

@@ -1,6 +1,7 @@
 //! Frames that are put into the air, and that leave it.
 
-ghost use Rattle.std.specs.Prelude.{◌≡◌, ◌≤◌, true, length, OnOk, OnErr, [], ◌%◌, ◌||◌, nat_le};
+ghost use Rattle.std.specs.Prelude.{◌≡◌, ◌≤◌, true, length, OnOk, OnErr, [], ◌%◌, ◌||◌, ◌++◌, nat_le, slice_get};
+ghost use Rattle.std.specs.Option.{option_map};
 ghost use Rattle.h4_framing.specs.Packets.{Acl};
 ghost use Rattle.push_terms.specs.declared.word.Side.{Side};
 ghost use Rattle.push_terms.specs.declared.word.Way.{Way};
@@ -8,7 +9,7 @@ ghost use Rattle.capture.specs.Frames.{way_served};
 ghost use Rattle.radio_air.specs.Queues.{is_crowded};
 ghost use Rattle.radio_air.specs.Words.{meets_on};
 ghost use Rattle.radio_air.specs.Owed.{piece_taken, wants_memory, IsMet};
-ghost use Rattle.radio_air.specs.Radio.{channel, found, piece_from, after_taking, after_acl, after_deed, is_quiet};
+ghost use Rattle.radio_air.specs.Radio.{channel, frames, found, piece_from, after_taking, after_acl, after_deed, is_quiet};
 
 use crate::deed::Deed;
 use crate::fate::Fate;
@@ -64,6 +65,17 @@ impl Radio {
         match way {
             Way::Ab => self.ab.channel(),
             Way::Ba => self.ba.channel(),
+        }
+    }
+
+    /// The first frame that waits in a direction, in two parts that follow one another: it lies in a
+    /// ring. `None` exactly where none waits.
+    pub fn front(&self, way: Way) -> Option<(&[u8], &[u8])>
+        ensures { option_map (λ parts. parts.0.now ++ parts.1.now) result ≡ slice_get (frames way self.now) 0 }
+    {
+        match way {
+            Way::Ab => self.ab.front(),
+            Way::Ba => self.ba.front(),
         }
     }
 

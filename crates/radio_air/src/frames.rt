@@ -1,10 +1,11 @@
 //! Frames in a ring of octets.
 
-ghost use Rattle.std.specs.Prelude.{◌≡◌, ◌≢◌, ◌+◌, ◌≤◌, ◌<◌, ◌^◌, ◌++◌, ◌∷◌, [], length, take, drop, bit_xor, slice_set, slice_index, IfOk, OnOk, OnErr};
+ghost use Rattle.std.specs.Prelude.{◌≡◌, ◌≢◌, ◌+◌, ◌≤◌, ◌<◌, ◌^◌, ◌++◌, ◌∷◌, [], length, take, drop, bit_xor, slice_set, slice_get, slice_index, IfOk, OnOk, OnErr};
+ghost use Rattle.std.specs.Option.{option_map};
 ghost use Rattle.byteorder.specs.Endian.{little_number};
 ghost use Rattle.radio_air.specs.Rings.{total, first_or_nothing, with_first, octets_in, octets_reserved, frames_reserved};
 
-use crate::ring::{append, change, copy_from, make_room, number_at};
+use crate::ring::{append, change, copy_from, make_room, number_at, part};
 use bt_base::NoMemory;
 use circular_buffer::HeapCircularBuffer;
 use std::alloc::Global;
@@ -50,6 +51,22 @@ fn take_lengths(lengths: &mut HeapCircularBuffer<usize>, count: usize) -> usize
             unreachable!()
         };
         octets += length;
+    }
+    octets
+}
+
+/// How many octets the first `count` frames have together, of which it needs as many.
+fn octets_of(lengths: &HeapCircularBuffer<usize>, count: usize) -> usize
+    requires enough { count ≤ length lengths.now.items }
+    requires fits { total lengths.now.items < 2 ^ 64 }
+    ensures { result ≡ total (take count lengths.now.items) }
+{
+    let mut octets = 0;
+    for i in 0..count {
+        let Some(length) = lengths.get(i) else {
+            unreachable!()
+        };
+        octets += *length;
     }
     octets
 }
@@ -155,6 +172,21 @@ impl Frames {
         ensures { into.new ≡ take (length into.old) (drop from (first_or_nothing self.now.frames)) }
     {
         copy_from(&self.octets, from, into);
+    }
+
+    /// The frame behind the first `count`, in two parts that follow one another. `None` where there is
+    /// none.
+    pub(crate) fn behind(&self, count: usize) -> Option<(&[u8], &[u8])>
+        ensures { option_map (λ parts. parts.0.now ++ parts.1.now) result ≡ slice_get self.now.frames count }
+    {
+        match self.lengths.get(count) {
+            Some(length) => {
+                let _no_sum_is_more = self.octets.len();
+                let from = octets_of(&self.lengths, count);
+                Some(part(&self.octets, from, *length))
+            }
+            None => None,
+        }
     }
 
     /// Combines an octet of the first frame by exclusive or with a mask.

@@ -1,6 +1,6 @@
 //! One direction of the air.
 
-ghost use Rattle.std.specs.Prelude.{◌≡◌, ◌≢◌, ◌+◌, ◌*◌, ◌≤◌, ◌<◌, ◌==◌, ◌^◌, ◌++◌, ◌∷◌, [], true, false, length, take, drop, map, IfOk, OnOk, OnErr, nat_lt};
+ghost use Rattle.std.specs.Prelude.{◌≡◌, ◌≢◌, ◌+◌, ◌*◌, ◌≤◌, ◌<◌, ◌==◌, ◌^◌, ◌++◌, ◌∷◌, [], true, false, length, take, drop, map, IfOk, OnOk, OnErr, nat_lt, slice_get};
 ghost use Rattle.std.specs.Option.{option_map};
 ghost use Rattle.h4_framing.specs.Packets.{Acl};
 ghost use Rattle.hci_packets.specs.AclWords.{flag_of};
@@ -212,6 +212,13 @@ impl AirQueue {
         ensures { result ≡ length (first_or_nothing self.now.waiting) }
     {
         self.frames.first_len()
+    }
+
+    /// The first frame that waits, in two parts that follow one another. `None` where none waits.
+    pub(crate) fn front(&self) -> Option<(&[u8], &[u8])>
+        ensures { option_map (λ parts. parts.0.now ++ parts.1.now) result ≡ slice_get self.now.waiting 0 }
+    {
+        self.frames.behind(self.leaving)
     }
 
     /// The channel identifier of the first frame that waits, none where none with a header waits

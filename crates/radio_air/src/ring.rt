@@ -61,6 +61,24 @@ pub(crate) fn copy_from(ring: &HeapCircularBuffer<u8>, from: usize, into: &mut [
     into[front.len()..].copy_from_slice(&back[..left]);
 }
 
+/// The octets of a ring from the place `from` on, as many as `count` says, in two parts: those up to
+/// the end of its block, and those that follow at its front.
+pub(crate) fn part(ring: &HeapCircularBuffer<u8>, from: usize, count: usize) -> (&[u8], &[u8])
+    requires { from + count ≤ length ring.now.items }
+    ensures { result.0.now ++ result.1.now ≡ take count (drop from ring.now.items) }
+{
+    let (front, back) = ring.as_slices();
+    if from >= front.len() {
+        let at = from - front.len();
+        return (&back[at..at + count], &[]);
+    }
+    let front = &front[from..];
+    if count <= front.len() {
+        return (&front[..count], &[]);
+    }
+    (front, &back[..count - front.len()])
+}
+
 /// Combines the octet at a place by exclusive or with a mask.
 pub(crate) fn change(ring: &mut HeapCircularBuffer<u8>, at: usize, mask: u8)
     requires { at < length ring.old.items }

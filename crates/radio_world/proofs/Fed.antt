@@ -5,7 +5,7 @@ use Rattle.h4_framing.specs.Packets.{Packet, Command, Acl, Sync, Event, spelling
 use Rattle.push_terms.specs.declared.word.Side.{Side}
 use Rattle.world_model.specs.Machines.{Upper}
 use Rattle.world_model.specs.Stations.{Station}
-use Rattle.radio_world.specs.Hosts.{Asking, answering, acl_limit, Coming, coming_packet, hears_coming, MakesEfforts, Reacts, Hears, JoinAnswers}
+use Rattle.radio_world.specs.Hosts.{Asking, answering, acl_limit, Coming, coming_packet, hears_coming, MayBeHeard, MakesEfforts, Reacts, Hears, JoinAnswers}
 
 no_spelling : (packet : Packet) → spelling packet ≡ [] → ⊥
 no_spelling (Command opcode params) e = absurd cc
@@ -43,10 +43,10 @@ reacts_before {S} {G} U side Answers change old mid new port port' port'' joins 
 
 pub fed_more :
     {S G P : Type 0} (U : Upper S G) (side : Side) (Answers : P → List G → P → Type 0) (coming : Coming) (octets rest piece more held held' : List ℕ) (old mid new : Asking S G) (port port' port'' : P)
-    → JoinAnswers Answers → IsPacket acl_limit (coming_packet side coming) → octets ≡ spelling (coming_packet side coming) → rest ≢ [] → rest ≡ piece ++ more
+    → JoinAnswers Answers → MayBeHeard old coming → IsPacket acl_limit (coming_packet side coming) → octets ≡ spelling (coming_packet side coming) → rest ≢ [] → rest ≡ piece ++ more
     → IsFed U side Answers coming octets rest held old mid port port' → Hears U side Answers held piece held' mid new port' port''
     → IsFed U side Answers coming octets more held' old new port port''
-fed_more U side Answers coming octets rest piece more held held' old mid new port port' port'' joins is spelled some split fed hears =
+fed_more {S} {G} U side Answers coming octets rest piece more held held' old mid new port port' port'' joins may is spelled some split fed hears =
     let so_far = fed.under_way some in
     let all : spelling (coming_packet side coming) ≡ held ++ (piece ++ more) = sym spelled ∙ fed.split ∙ ap (λ r. fed.before ++ r) split ∙ ap (λ b. b ++ (piece ++ more)) (sym so_far.0) in
     record {
@@ -56,6 +56,6 @@ fed_more U side Answers coming octets rest piece more held held' old mid new por
           let part = hears.part coming more is all left in
           (part.0 ∙ ap (λ b. b ++ piece) so_far.0, part.1 ∙ so_far.1, joins.then port port' port'' [] [] so_far.2 part.2);
       done = λ none.
-          let whole = hears.whole coming is (all ∙ ap (λ m. held ++ (piece ++ m)) none ∙ ap (λ p. held ++ p) (append-nil piece)) in
+          let whole = hears.whole coming (subst (λ (h : Asking S G). MayBeHeard h coming) (sym so_far.1) may) is (all ∙ ap (λ m. held ++ (piece ++ m)) none ∙ ap (λ p. held ++ p) (append-nil piece)) in
           (reacts_before U side Answers (hears_coming U side coming) old mid new port port' port'' joins so_far.1 so_far.2 whole.1, whole.0);
     }

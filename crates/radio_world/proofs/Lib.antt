@@ -7,6 +7,9 @@ mod Advancing
 mod Settling
 mod Reacting
 mod Turned
+mod Starting
 pub mod Standing
+mod Hearing
+mod Blaming
 mod Runs
 mod Closing

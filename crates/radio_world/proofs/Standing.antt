@@ -16,7 +16,8 @@ use Rattle.rest_laws.specs.Premises.{AreOrderly}
 use Rattle.rest_laws.proofs.Resting.{settled_rests}
 use Rattle.radio_world.specs.Hosts.{Asking, answering, JoinAnswers}
 use Rattle.radio_world.specs.Scenes.{Scene, first_scene, Moment, moment, world_at, Plays, Stage, stage, moment_of, Advances}
-use Rattle.radio_world.specs.Standing.{IsCount, IsReached, Stands}
+use Rattle.radio_world.specs.Standing.{IsCount, starting, first_moment, IsReached, Stands}
+use Rattle.radio_world.proofs.Starting.{orderly_from, runs_from, settled_from, rest_from}
 use Rattle.radio_world.specs.Turning.{can_be_done}
 use Rattle.radio_world.proofs.Advancing.{plays_then}
 use Rattle.radio_world.proofs.Settling.{and_both, idle_of}
@@ -35,25 +36,32 @@ reached_then U V RA RB words old new advances reached rest_a rest_b =
       sized = before.sized;
       counted = before.counted;
       few = before.few;
+      first_a = before.first_a;
+      first_b = before.first_b;
+      idle = before.idle;
       happenings = before.happenings ++ advances.happenings;
       plays = plays_then U V before.happenings advances.happenings _ (moment_of old (advances.used_a ++ rest_a) (advances.used_b ++ rest_b)) (moment_of new rest_a rest_b) before.plays (advances.plays rest_a rest_b);
     }
 
 -- where nothing has happened to either host
 pub first_reached :
-    {S T G H : Type 0} (U : Upper S G) (V : Upper T H) (size count : ℕ) (names : List (List ℕ)) (a : Asking S G) (b : Asking T H) → IsSize size → IsCount count → length names ≤ 64
-    → ((rest : List G) → answering rest a ≡ first_station U A) → ((rest : List H) → answering rest b ≡ first_station V B)
+    {S T G H : Type 0} (U : Upper S G) (V : Upper T H) (s : S) (t : T) (size count : ℕ) (names : List (List ℕ)) (a : Asking S G) (b : Asking T H) → U.is_idle s ≡ true
+    → IsSize size → IsCount count → length names ≤ 64
+    → ((rest : List G) → answering rest a ≡ first_station (starting s U) A) → ((rest : List H) → answering rest b ≡ first_station (starting t V) B)
     → (rest_a : List G) (rest_b : List H) → IsReached U V (moment (first_scene size count names) (answering rest_a a) (answering rest_b b))
-first_reached {S} {T} U V size count names a b sized counted few fresh_a fresh_b rest_a rest_b = record {
+first_reached {S} {T} U V s t size count names a b idle sized counted few fresh_a fresh_b rest_a rest_b = record {
   size = size;
   count = count;
   names = names;
   sized = sized;
   counted = counted;
   few = few;
+  first_a = s;
+  first_b = t;
+  idle = idle;
   happenings = [];
-  plays = ap (λ (s : Station S). moment (first_scene size count names) s (answering rest_b b)) (fresh_a rest_a)
-      ∙ ap (λ (s : Station T). moment (first_scene size count names) (first_station U A) s) (fresh_b rest_b);
+  plays = ap (λ (one : Station S). moment (first_scene size count names) one (answering rest_b b)) (fresh_a rest_a)
+      ∙ ap (λ (one : Station T). moment (first_scene size count names) (first_station (starting s U) A) one) (fresh_b rest_b);
 }
 
 pub stands_then :
@@ -68,11 +76,11 @@ stands_then U V RA RB words old new a a' b b' shelf shelf' inbox inbox' trace tr
 }
 
 -- what is noted aside, it is a run of the pure world
-runs_of : {S T G H : Type 0} (U : Upper S G) (V : Upper T H) (happenings : List Happening) (old new : Moment S T) → Plays U V happenings old new → Runs U V happenings (world_at old) (world_at new)
+pub runs_of : {S T G H : Type 0} (U : Upper S G) (V : Upper T H) (happenings : List Happening) (old new : Moment S T) → Plays U V happenings old new → Runs U V happenings (world_at old) (world_at new)
 runs_of U V [] old new same = ap world_at same
 runs_of U V (happening ∷ happenings) old new (mid, happens, plays) = (world_at mid, happens.does, runs_of U V happenings mid new plays)
 
-sizes_of : (size count : ℕ) → IsSize size → IsCount count → AreSizes size count
+pub sizes_of : (size count : ℕ) → IsSize size → IsCount count → AreSizes size count
 sizes_of size count (long, short) (some, few) = record { long = long; some = some; size_fits = omega arith; count_fits = omega arith }
 
 pub at_rest :
@@ -81,8 +89,14 @@ pub at_rest :
 at_rest U V scene a b orderly stands rest_a rest_b =
     let reached = stands.reached rest_a rest_b in
     let few = reached.few in
-    settled_rests U V reached.size reached.count reached.names reached.happenings (world_at (moment scene (answering rest_a a) (answering rest_b b))) orderly (sizes_of reached.size reached.count reached.sized reached.counted) (omega arith)
-    (runs_of U V reached.happenings _ (moment scene (answering rest_a a) (answering rest_b b)) reached.plays) (stands.settled rest_a rest_b)
+    let s = reached.first_a in
+    let t = reached.first_b in
+    let first = first_moment (starting s U) (starting t V) reached.size reached.count reached.names in
+    let now = moment scene (answering rest_a a) (answering rest_b b) in
+    rest_from U V s t (world_at now)
+    (settled_rests (starting s U) (starting t V) reached.size reached.count reached.names reached.happenings (world_at now) (orderly_from U V s t reached.idle orderly)
+    (sizes_of reached.size reached.count reached.sized reached.counted) (omega arith)
+    (runs_from U V s t reached.happenings (world_at first) (world_at now) (runs_of U V reached.happenings first now reached.plays)) (settled_from U V s t (world_at now) (stands.settled rest_a rest_b)))
 
 -- nothing is on its way to a host
 pub stands_quiet : {S T G H : Type 0} (U : Upper S G) (V : Upper T H) (scene : Scene) (a : Asking S G) (b : Asking T H) → Stands U V scene a b → is_quiet scene.medium.radio ≡ true

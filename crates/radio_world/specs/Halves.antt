@@ -11,7 +11,7 @@ use Rattle.world_model.specs.Machines.{Upper}
 use Rattle.world_model.specs.Stations.{Order, Station, Effort, MakesEffort}
 use Rattle.world_model.specs.Worlds.{Happening, Tries, Departure, GivingBack, Piecemeal, Answering, all_entries}
 use Rattle.radio_world.specs.Leaving.{Medium, in_radio, after_leaving}
-use Rattle.radio_world.specs.Hosts.{Asking, answering, Coming, Part, Told, coming_packet, hears_coming}
+use Rattle.radio_world.specs.Hosts.{Asking, answering, Coming, Part, Told, coming_packet, hears_coming, MayBeHeard}
 
 -- what lies between the hosts, and one of them
 pub record Half (S : Type 0) : Type 0 where
@@ -59,6 +59,13 @@ MakesAll {S} U side (motion ∷ motions) old new = (mid : Half S) × Makes U sid
 
 abbrev pub half_of : {S G : Type 0} → Medium → Asking S G → List G → Half S
 half_of medium host answers = record { medium = medium; station = answering answers host }
+
+-- whatever happens between a host and the radio, what comes to it next may be heard
+abbrev pub NextMayBeHeard : {S : Type 0} → Side → Half S → Type 0
+NextMayBeHeard side half = (coming : Coming) → ComesFirst side coming half.medium.radio → MayBeHeard half.station coming
+
+abbrev pub MayAllBeHeard : {S G : Type 0} → Upper S G → Side → Medium → Asking S G → Type 0
+MayAllBeHeard {S} {G} U side medium host = (rest : List G) (motions : List Motion) (half : Half S) → MakesAll U side motions (half_of medium host rest) half → NextMayBeHeard side half
 
 -- What happened between a host and the radio, as the trace gained it. Its ports gave the answers `used`; whatever they answer
 -- later, the host is where these and those lead.

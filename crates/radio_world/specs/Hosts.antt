@@ -3,11 +3,13 @@
 use Rattle.std.specs.Prelude.{ℕ, ◌≡◌, ◌≢◌, ◌≤◌, List, [], ◌∷◌, ◌++◌, map}
 use Rattle.std.specs.List.{AllByRecursion}
 use Rattle.h4_framing.specs.Packets.{Packet, spelling, spellings, IsPacket}
+use Rattle.bt_base.specs.Numbers.{IsHandle}
 use Rattle.acl_fragments.specs.Pieces.{Piece}
 use Rattle.push_terms.specs.declared.word.Side.{Side}
 use Rattle.radio_air.specs.Controllers.{Answer, answer_packet, piece_packet}
 use Rattle.world_model.specs.Machines.{Upper}
 use Rattle.turn_laws.specs.WorldLaws.{handle_of}
+use Rattle.station_laws.specs.Coming.{MayCome}
 use Rattle.world_model.specs.Stations.{Order, order_packet, Station, Effort, MakesEffort, hears_piece, hears_answer}
 
 -- ---- what its ports have still to answer
@@ -67,6 +69,11 @@ abbrev pub hears_coming : {S G : Type 0} → Upper S G → Side → Coming → L
 hears_coming U side (Part handle piece) answers station = hears_piece U answers handle piece station
 hears_coming U side (Told answer) answers station = hears_answer U answers side answer station
 
+-- what a controller of this world may let come to that host: a piece on a handle, and the answer to the command that is awaited
+abbrev pub MayBeHeard : {S : Type 0} → Station S → Coming → Type 0
+MayBeHeard host (Part handle piece) = IsHandle handle
+MayBeHeard host (Told answer) = MayCome host.awaited answer
+
 -- ---- what it does in one reaction
 
 -- efforts, one after the other
@@ -87,11 +94,12 @@ pub record GoesOn {S G : Type 0} (U : Upper S G) (side : Side) (old new : Asking
   pub efforts : List Effort
   pub goes : (rest : List G) → MakesEfforts U side efforts (answering rest old) (answering rest new)
 
--- Octets of a packet come to it, behind those that it holds. It holds them until the packet is whole, and then hears it.
+-- Octets of a packet come to it, behind those that it holds. It holds them until the packet is whole, and then hears it, where
+-- it is one that a controller of this world may let come.
 pub record Hears {S G P : Type 0} (U : Upper S G) (side : Side) (Answers : P → List G → P → Type 0) (held octets held' : List ℕ) (old new : Asking S G) (port port' : P) : Type 0 where
   pub part : (coming : Coming) (left : List ℕ) → IsPacket acl_limit (coming_packet side coming) → spelling (coming_packet side coming) ≡ held ++ (octets ++ left) → left ≢ []
       → (held' ≡ held ++ octets) × (new ≡ old) × Answers port [] port'
-  pub whole : (coming : Coming) → IsPacket acl_limit (coming_packet side coming) → spelling (coming_packet side coming) ≡ held ++ octets
+  pub whole : (coming : Coming) → MayBeHeard old coming → IsPacket acl_limit (coming_packet side coming) → spelling (coming_packet side coming) ≡ held ++ octets
       → (held' ≡ []) × Reacts U side Answers (hears_coming U side coming) old new port port'
 
 -- one list of answers behind another, from port to port

@@ -5,3 +5,5 @@ pub mod Scenes
 pub mod Turning
 pub mod Standing
 pub mod Both
+pub mod Measures
+pub mod Causes

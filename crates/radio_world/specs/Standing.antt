@@ -1,5 +1,5 @@
 -- Where a world stands between two words of its script, and what its end makes of it (this project's own).
-use Rattle.std.specs.Prelude.{ℕ, ◌≤◌, ◌-◌, List, [], ◌∷◌, ◌++◌, Option, length, replicate, unwrap_or, if◌then◌else◌}
+use Rattle.std.specs.Prelude.{ℕ, ◌≡◌, ◌≤◌, true, ◌-◌, List, [], ◌∷◌, ◌++◌, Option, length, replicate, unwrap_or, if◌then◌else◌}
 use Rattle.push_terms.specs.declared.word.Side.TheVariants.{A, B}
 use Rattle.push_terms.specs.declared.outcome.Outcome.{Outcome}
 use Rattle.push_terms.specs.declared.outcome.Outcome.TheVariants.{ScriptEnded}
@@ -12,6 +12,10 @@ use Rattle.world_model.specs.Worlds.{Happening, IsSettled}
 use Rattle.radio_world.specs.Hosts.{Asking, answering}
 use Rattle.radio_world.specs.Scenes.{Scene, first_scene, Moment, moment, world_at, Plays}
 
+-- a machine that is this at first
+abbrev pub starting : {S G : Type 0} → S → Upper S G → Upper S G
+starting s U = record U { first = s }
+
 -- before anything happened
 abbrev pub first_moment : {S T G H : Type 0} → Upper S G → Upper T H → (size count : ℕ) → (names : List (List ℕ)) → Moment S T
 first_moment U V size count names = moment (first_scene size count names) (first_station U A) (first_station V B)
@@ -20,7 +24,8 @@ first_moment U V size count names = moment (first_scene size count names) (first
 abbrev pub IsCount : ℕ → Type 0
 IsCount count = (1 ≤ count) × (count ≤ 64)
 
--- a run of the pure world from its beginning led here
+-- A run of the pure world from its beginning led here. What its machines are at first is theirs, as the settings are that they keep; no
+-- push goes on.
 pub record IsReached {S T G H : Type 0} (U : Upper S G) (V : Upper T H) (at : Moment S T) : Type 0 where
   pub size : ℕ
   pub count : ℕ
@@ -28,8 +33,11 @@ pub record IsReached {S T G H : Type 0} (U : Upper S G) (V : Upper T H) (at : Mo
   pub sized : IsSize size
   pub counted : IsCount count
   pub few : length names ≤ 64
+  pub first_a : S
+  pub first_b : T
+  pub idle : U.is_idle first_a ≡ true
   pub happenings : List Happening
-  pub plays : Plays U V happenings (first_moment U V size count names) at
+  pub plays : Plays U V happenings (first_moment (starting first_a U) (starting first_b V) size count names) at
 
 -- it was reached and all is settled, whatever the ports answer from now on
 pub record Stands {S T G H : Type 0} (U : Upper S G) (V : Upper T H) (scene : Scene) (a : Asking S G) (b : Asking T H) : Type 0 where

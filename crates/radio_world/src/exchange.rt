@@ -3,14 +3,15 @@
 ghost use Rattle.std.specs.Prelude.{◌≡◌, ◌<◌, [], false, true, Ok, OnOk, OnErr};
 ghost use Rattle.radio_air.specs.Radio.{after_offer};
 ghost use Rattle.radio_world.specs.Leaving.{in_radio};
-ghost use Rattle.radio_world.specs.Halves.{Goes, IsStillIn, IsSaidFirst, StaysPut, comes_count};
+ghost use Rattle.radio_world.specs.Halves.{Goes, IsStillIn, IsSaidFirst, MayAllBeHeard, StaysPut, comes_count};
+ghost use Rattle.radio_world.specs.Causes.{Blames};
 
 use crate::fault::WorldFault;
 use crate::feeding::hand_over;
 use crate::host::Host;
 use crate::medium::{ACL_LIMIT, Medium};
 use crate::recording::record;
-use bt_base::Sink;
+use bt_base::{NoMemory, Sink};
 use capture::{Entry, Flow};
 use h4_framing::{Leading, first};
 use push_terms::Side;
@@ -29,10 +30,11 @@ impl Medium {
     ) -> Result<bool, WorldFault>
         requires side { H.side ≡ side }
         requires sound { H.is_sound host.old port.now }
-        ensures goes { OnOk result (Goes H.machine side H.answers self.old self.new (H.station host.old) (H.station host.new) port.now port.now (T.content trace.old) (T.content trace.new)) }
-        ensures none { result ≡ Ok false → (H.station host.old).out ≡ [] × (self.new ≡ self.old) × (H.station host.new ≡ H.station host.old) }
+        ensures goes { OnOk result (Goes H.machine side H.answers self.old self.new (H.station host.old port.now) (H.station host.new port.now) port.now port.now (T.content trace.old) (T.content trace.new)) }
+        ensures none { result ≡ Ok false → (H.station host.old port.now).out ≡ [] × (self.new ≡ self.old) × (H.station host.new port.now ≡ H.station host.old port.now) }
         ensures held { OnOk result (H.held host.new ≡ H.held host.old) }
         ensures sound { OnOk result (H.is_sound host.new port.now) }
+        ensures blames { Blames (T.faults trace.old) (T.faults trace.new) result }
     {
         let offered = host.out();
         let count = offered.len();
@@ -54,13 +56,15 @@ impl Medium {
     ) -> Result<bool, WorldFault>
         requires side { H.side ≡ side }
         requires none_held { H.held host.old ≡ [] }
+        requires heard { MayAllBeHeard H.machine side self.old (H.station host.old port.old) }
         requires sound { H.is_sound host.old port.old }
-        ensures goes { OnOk result (Goes H.machine side H.answers self.old self.new (H.station host.old) (H.station host.new) port.old port.new (T.content trace.old) (T.content trace.new)) }
-        ensures still { result ≡ Ok false → IsStillIn side self.old × (self.new ≡ self.old) × (H.station host.new ≡ H.station host.old) }
-        ensures said { OnErr result (IsSaidFirst side self.old.radio (H.station host.old) (H.station host.new) port.old port.new (T.content trace.old) (T.content trace.new)) }
+        ensures goes { OnOk result (Goes H.machine side H.answers self.old self.new (H.station host.old port.old) (H.station host.new port.new) port.old port.new (T.content trace.old) (T.content trace.new)) }
+        ensures still { result ≡ Ok false → IsStillIn side self.old × (self.new ≡ self.old) × (H.station host.new port.new ≡ H.station host.old port.old) }
+        ensures said { OnErr result (IsSaidFirst side self.old.radio (H.station host.old port.old) (H.station host.new port.new) port.old port.new (T.content trace.old) (T.content trace.new)) }
         ensures shorter { result ≡ Ok true → comes_count side self.new < comes_count side self.old }
         ensures none_held { OnOk result (H.held host.new ≡ []) }
         ensures sound { OnOk result (H.is_sound host.new port.new) }
+        ensures blames { Blames (T.faults trace.old) (T.faults trace.new) result }
     {
         let mut room = [0; LONGEST_UNIT];
         let Some(n) = self.radio.hand(side, &mut room) else {
@@ -90,12 +94,14 @@ impl Medium {
     ) -> Result<bool, WorldFault>
         requires side { H.side ≡ side }
         requires none_held { H.held host.old ≡ [] }
+        requires heard { MayAllBeHeard H.machine side self.old (H.station host.old port.old) }
         requires sound { H.is_sound host.old port.old }
-        ensures goes { OnOk result (Goes H.machine side H.answers self.old self.new (H.station host.old) (H.station host.new) port.old port.new (T.content trace.old) (T.content trace.new)) }
+        ensures goes { OnOk result (Goes H.machine side H.answers self.old self.new (H.station host.old port.old) (H.station host.new port.new) port.old port.new (T.content trace.old) (T.content trace.new)) }
         ensures still { OnOk result (IsStillIn side self.new) }
-        ensures none { result ≡ Ok false → (self.new ≡ self.old) × (H.station host.new ≡ H.station host.old) }
+        ensures none { result ≡ Ok false → (self.new ≡ self.old) × (H.station host.new port.new ≡ H.station host.old port.old) }
         ensures none_held { OnOk result (H.held host.new ≡ []) }
         ensures sound { OnOk result (H.is_sound host.new port.new) }
+        ensures blames { Blames (T.faults trace.old) (T.faults trace.new) result }
     {
         let mut moved = false;
         while self.move_into(side, host, port, trace)? {
@@ -105,7 +111,7 @@ impl Medium {
     }
 
     /// A controller gives back the packets of its host that it took.
-    fn give_back(&mut self, side: Side) -> Result<(), WorldFault>
+    fn give_back(&mut self, side: Side) -> Result<(), NoMemory>
         ensures { OnOk result (self.new ≡ in_radio (after_offer side self.old.radio) self.old) }
     {
         self.radio.offered(side)?;
@@ -123,12 +129,14 @@ impl Medium {
     ) -> Result<bool, WorldFault>
         requires side { H.side ≡ side }
         requires none_held { H.held host.old ≡ [] }
+        requires heard { MayAllBeHeard H.machine side self.old (H.station host.old port.old) }
         requires sound { H.is_sound host.old port.old }
-        ensures goes { OnOk result (Goes H.machine side H.answers self.old self.new (H.station host.old) (H.station host.new) port.old port.new (T.content trace.old) (T.content trace.new)) }
+        ensures goes { OnOk result (Goes H.machine side H.answers self.old self.new (H.station host.old port.old) (H.station host.new port.new) port.old port.new (T.content trace.old) (T.content trace.new)) }
         ensures still { OnOk result (IsStillIn side self.new) }
-        ensures none { result ≡ Ok false → StaysPut side self.old self.new (H.station host.old) (H.station host.new) }
+        ensures none { result ≡ Ok false → StaysPut side self.old self.new (H.station host.old port.old) (H.station host.new port.new) }
         ensures none_held { OnOk result (H.held host.new ≡ []) }
         ensures sound { OnOk result (H.is_sound host.new port.new) }
+        ensures blames { Blames (T.faults trace.old) (T.faults trace.new) result }
     {
         let left = self.move_out(side, host, port, trace)?;
         self.give_back(side)?;

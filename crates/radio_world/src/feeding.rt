@@ -2,22 +2,23 @@
 
 ghost use Rattle.std.specs.Prelude.{◌≡◌, ◌≤◌, [], OnOk};
 ghost use Rattle.h4_framing.specs.Packets.{spelling, IsPacket};
-ghost use Rattle.radio_world.specs.Hosts.{Coming, coming_packet, hears_coming, acl_limit, Reacts};
+ghost use Rattle.radio_world.specs.Hosts.{Coming, coming_packet, hears_coming, acl_limit, MayBeHeard, Reacts};
 
-use crate::fault::WorldFault;
 use crate::host::Host;
+use bt_base::NoMemory;
 
-/// Hands the octets of a packet to a host, at most `chunk` at a time: the host hears it.
+/// Hands the octets of a packet to a host, at most `chunk` at a time: the host hears it, where it may
+/// come.
 pub(crate) fn hand_over<P, H: Host<P>>(
     host: &mut H,
     octets: &[u8],
     chunk: usize,
     port: &mut P,
-) -> Result<(), WorldFault>
+) -> Result<(), NoMemory>
     requires some { 1 ≤ chunk }
     requires none_held { H.held host.old ≡ [] }
     requires sound { H.is_sound host.old port.old }
-    ensures hears { OnOk result ((coming : Coming) → IsPacket acl_limit (coming_packet H.side coming) → octets.now ≡ spelling (coming_packet H.side coming) → Reacts H.machine H.side H.answers (hears_coming H.machine H.side coming) (H.station host.old) (H.station host.new) port.old port.new × (H.held host.new ≡ [])) }
+    ensures hears { OnOk result ((coming : Coming) → MayBeHeard (H.station host.old port.old) coming → IsPacket acl_limit (coming_packet H.side coming) → octets.now ≡ spelling (coming_packet H.side coming) → Reacts H.machine H.side H.answers (hears_coming H.machine H.side coming) (H.station host.old port.old) (H.station host.new port.new) port.old port.new × (H.held host.new ≡ [])) }
     ensures sound { OnOk result (H.is_sound host.new port.new) }
 {
     let mut rest = octets;

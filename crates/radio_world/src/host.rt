@@ -1,10 +1,11 @@
 //! A host as the world sees it.
 
-ghost use Rattle.std.specs.Prelude.{◌≡◌, ◌≤◌, [], ℕ, true, List, length, OnOk};
+ghost use Rattle.std.specs.Prelude.{◌≡◌, ◌≤◌, [], ℕ, true, List, length, OnOk, OnErr};
 ghost use Rattle.push_script.specs.Names.{utf16_length};
 ghost use Rattle.push_terms.specs.declared.word.Side.{Side};
 ghost use Rattle.world_model.specs.Machines.{Upper, TimerFired, Cancelled, Opening};
 ghost use Rattle.world_model.specs.Stations.{IsStopped, told};
+ghost use Rattle.radio_world.specs.Measures.{IsMostOf};
 ghost use Rattle.radio_world.specs.Hosts.{Asking, answering, order_octets, AreSent, Reacts, GoesOn, Hears, JoinAnswers};
 
 use bt_base::NoMemory;
@@ -13,8 +14,9 @@ use push_terms::Outcome;
 /// A host as the world sees it: octets in, octets out. `P` is the port that it works on.
 ///
 /// A clause sees the half of it that faces its controller, and above it a pure machine, which is
-/// given what the port answers in each reaction. A call that answers `NoMemory`, which comes only
-/// where the port found none, leaves the host as it may be: it is called no more.
+/// given what the port answers in each reaction. What it is may be told by what its port holds as
+/// well. A call that answers `NoMemory`, which comes only where the port found none (`lacked`),
+/// leaves the host as it may be: it is called no more.
 pub trait Host<P>: Drop {
     /// What its machine is at a moment.
     ghost State: { Type 0 };
@@ -28,8 +30,8 @@ pub trait Host<P>: Drop {
     /// Which of the two hosts it is.
     ghost side: { Side };
 
-    /// What it is, for all that its port may answer from now on.
-    ghost station: { Self → Asking State Answer };
+    /// What it is, beside its port, for all that this may answer from now on.
+    ghost station: { Self → P → Asking State Answer };
 
     /// The octets that it holds of a packet which is not whole yet.
     ghost held: { Self → List ℕ };
@@ -40,82 +42,90 @@ pub trait Host<P>: Drop {
     /// The port gave these answers, one after the other, from one state to another.
     ghost answers: { P → List Answer → P → Type 0 };
 
+    /// The port found no memory, from one state to another: nothing, where a host does not say what
+    /// that is.
+    ghost lacked: { P → P → Type 0 } = { λ _ _. Unit {0} };
+
     /// The octets for its controller.
     fn out(&self) -> &[u8]
-        ensures octets { result.now ≡ order_octets side (station self.now).out }
-        ensures sent { AreSent side (station self.now).out };
+        ensures octets { (port : P) → result.now ≡ order_octets side (station self.now port).out }
+        ensures sent { (port : P) → AreSent side (station self.now port).out };
 
     /// Its controller took all `n` octets of `out`. It puts out then what it held back for want of
     /// room; its port is not asked.
     fn taken(&mut self, n: usize, port: &P)
-        requires all { n ≡ length (order_octets side (station self.old).out) }
+        requires all { n ≡ length (order_octets side (station self.old port.now).out) }
         requires sound { is_sound self.old port.now }
-        ensures goes { GoesOn machine side (record (station self.old) { out = [] }) (station self.new) }
+        ensures goes { GoesOn machine side (record (station self.old port.now) { out = [] }) (station self.new port.now) }
         ensures held { held self.new ≡ held self.old }
         ensures sound { is_sound self.new port.now };
 
     /// Takes octets of its controller.
     fn feed(&mut self, octets: &[u8], port: &mut P) -> Result<(), NoMemory>
         requires sound { is_sound self.old port.old }
-        ensures hears { OnOk result (Hears machine side answers (held self.old) octets.now (held self.new) (station self.old) (station self.new) port.old port.new) }
-        ensures sound { OnOk result (is_sound self.new port.new) };
+        ensures hears { OnOk result (Hears machine side answers (held self.old) octets.now (held self.new) (station self.old port.old) (station self.new port.new) port.old port.new) }
+        ensures sound { OnOk result (is_sound self.new port.new) }
+        ensures lacked { OnErr result (lacked port.old port.new) };
 
     /// Whether something waits for its timer.
     fn armed(&self) -> bool
-        ensures { (rest : List Answer) → result ≡ machine.armed ((station self.now).upper rest) };
+        ensures { (port : P) (rest : List Answer) → result ≡ machine.armed ((station self.now port).upper rest) };
 
     /// Its timer fires.
     fn on_timer(&mut self, port: &mut P) -> Result<(), NoMemory>
         requires sound { is_sound self.old port.old }
-        ensures reacts { OnOk result (Reacts machine side answers (λ used. told machine used TimerFired) (station self.old) (station self.new) port.old port.new) }
+        ensures reacts { OnOk result (Reacts machine side answers (λ used. told machine used TimerFired) (station self.old port.old) (station self.new port.new) port.old port.new) }
         ensures held { OnOk result (held self.new ≡ held self.old) }
-        ensures sound { OnOk result (is_sound self.new port.new) };
+        ensures sound { OnOk result (is_sound self.new port.new) }
+        ensures lacked { OnErr result (lacked port.old port.new) };
 
     /// Whether its channel of that number has a check word.
     fn has_fcs(&self, channel: u16) -> bool
-        ensures { (rest : List Answer) → result ≡ machine.has_check ((station self.now).upper rest) channel };
+        ensures { (port : P) (rest : List Answer) → result ≡ machine.has_check ((station self.now port).upper rest) channel };
 
     /// Lists of answers join.
     ghost joins: { JoinAnswers answers };
 
     /// Where all that it put out was taken, it can do nothing more by itself.
-    ghost stops: { (host : Self) (port : P) → is_sound host port → (station host).out ≡ [] → (rest : List Answer) → IsStopped machine side (answering rest (station host)) };
+    ghost stops: { (host : Self) (port : P) → is_sound host port → (station host port).out ≡ [] → (rest : List Answer) → IsStopped machine side (answering rest (station host port)) };
 }
 
 /// A host that pushes objects, one after the other.
 pub trait Client<P>: Host<P> {
     /// Whether no push goes on.
     fn idle(&self) -> bool
-        ensures { (rest : List Self.Answer) → result ≡ Self.machine.is_idle ((Self.station self.now).upper rest) };
+        ensures { (port : P) (rest : List Self.Answer) → result ≡ Self.machine.is_idle ((Self.station self.now port).upper rest) };
 
     /// What came of the last push, once that is fixed.
     fn outcome(&self) -> Option<Outcome>
-        ensures { (rest : List Self.Answer) → result ≡ Self.machine.outcome ((Self.station self.now).upper rest) };
+        ensures { (port : P) (rest : List Self.Answer) → result ≡ Self.machine.outcome ((Self.station self.now port).upper rest) };
 
     /// Whether the push that goes on can still be cancelled.
     fn may_cancel(&self) -> bool
-        ensures { (rest : List Self.Answer) → result ≡ Self.machine.may_cancel ((Self.station self.now).upper rest) };
+        ensures { (port : P) (rest : List Self.Answer) → result ≡ Self.machine.may_cancel ((Self.station self.now port).upper rest) };
 
     /// Begins to push the object of that name. It needs that none is pushed.
     fn push(&mut self, name: &str, port: &mut P) -> Result<(), NoMemory>
-        requires idle { (rest : List Self.Answer) → Self.machine.is_idle ((Self.station self.old).upper rest) ≡ true }
+        requires idle { (rest : List Self.Answer) → Self.machine.is_idle ((Self.station self.old port.old).upper rest) ≡ true }
         requires name { utf16_length name.now ≤ 100 }
         requires sound { Self.is_sound self.old port.old }
-        ensures reacts { OnOk result (Reacts Self.machine Self.side Self.answers (λ used. told Self.machine used (Opening name.now)) (Self.station self.old) (Self.station self.new) port.old port.new) }
+        ensures reacts { OnOk result (Reacts Self.machine Self.side Self.answers (λ used. told Self.machine used (Opening name.now)) (Self.station self.old port.old) (Self.station self.new port.new) port.old port.new) }
         ensures held { OnOk result (Self.held self.new ≡ Self.held self.old) }
-        ensures sound { OnOk result (Self.is_sound self.new port.new) };
+        ensures sound { OnOk result (Self.is_sound self.new port.new) }
+        ensures lacked { OnErr result (Self.lacked port.old port.new) };
 
     /// Cancels the push that goes on. It needs that this can still be done.
     fn cancel(&mut self, port: &mut P) -> Result<(), NoMemory>
-        requires may { (rest : List Self.Answer) → Self.machine.may_cancel ((Self.station self.old).upper rest) ≡ true }
+        requires may { (rest : List Self.Answer) → Self.machine.may_cancel ((Self.station self.old port.old).upper rest) ≡ true }
         requires sound { Self.is_sound self.old port.old }
-        ensures reacts { OnOk result (Reacts Self.machine Self.side Self.answers (λ used. told Self.machine used Cancelled) (Self.station self.old) (Self.station self.new) port.old port.new) }
+        ensures reacts { OnOk result (Reacts Self.machine Self.side Self.answers (λ used. told Self.machine used Cancelled) (Self.station self.old port.old) (Self.station self.new port.new) port.old port.new) }
         ensures held { OnOk result (Self.held self.new ≡ Self.held self.old) }
-        ensures sound { OnOk result (Self.is_sound self.new port.new) };
+        ensures sound { OnOk result (Self.is_sound self.new port.new) }
+        ensures lacked { OnErr result (Self.lacked port.old port.new) };
 }
 
 /// A host that notes how far it came with what its channels limit.
-pub trait Measured {
+pub trait Measured<P>: Host<P> {
     /// The most frames of one enhanced channel that were sent and not acknowledged, so far.
     ghost frames_sent: { Self → ℕ };
 
@@ -129,6 +139,11 @@ pub trait Measured {
     /// How many credits of an RFCOMM channel it held at most.
     fn greatest_credits(&self) -> u16
         ensures { result ≡ credits_held self.now };
+
+    /// Its machine notes them at each hearing and at each saying.
+    ghost frames_noted: { IsMostOf Self.Host.machine Self.Host.station frames_sent };
+
+    ghost credits_noted: { IsMostOf Self.Host.machine Self.Host.station credits_held };
 }
 
 /// A host that stores objects.

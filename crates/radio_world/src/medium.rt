@@ -10,6 +10,7 @@ ghost use Rattle.radio_air.specs.Radio.{after_packet};
 ghost use Rattle.radio_world.specs.Hosts.{acl_limit, order_octets, AreSent};
 ghost use Rattle.radio_world.specs.Leaving.{first_medium, in_radio, noted, after_all, leaving_entries, BreaksOff};
 ghost use Rattle.world_model.specs.Stations.{Order};
+ghost use Rattle.radio_world.specs.Causes.{Blames};
 
 use crate::fault::WorldFault;
 use crate::recording::record;
@@ -84,6 +85,7 @@ impl Medium {
         ensures medium { OnOk result (self.new ≡ noted side (in_radio (after_packet side (packet unit.entry) self.old.radio) self.old)) }
         ensures written { OnOk result (T.content trace.new ≡ gained (T.content trace.old) (entry_octets (Moved side Flow.Out (packet unit.entry)))) }
         ensures front { GainedFront (T.content trace.old) (T.content trace.new) (entry_octets (Moved side Flow.Out (packet unit.entry))) }
+        ensures blames { Blames (T.faults trace.old) (T.faults trace.new) result }
     {
         let entry = Entry::Moved {
             side,
@@ -105,6 +107,7 @@ impl Medium {
     ) -> Result<(), WorldFault>
         ensures moved { OnOk result ((orders : List Order) → AreSent side orders → octets.now ≡ order_octets side orders → (self.new ≡ after_all side orders self.old) × (T.content trace.new ≡ gained (T.content trace.old) (capture_octets (leaving_entries side orders)))) }
         ensures broken { OnErr result ((orders : List Order) → AreSent side orders → octets.now ≡ order_octets side orders → BreaksOff (leaving_entries side orders) (T.content trace.old) (T.content trace.new)) }
+        ensures blames { Blames (T.faults trace.old) (T.faults trace.new) result }
     {
         let mut rest = octets;
         while let Leading::Whole(unit, n) = first(rest, ACL_LIMIT) {

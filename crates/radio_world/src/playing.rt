@@ -12,6 +12,7 @@ ghost use Rattle.radio_world.specs.Scenes.{stage, moment, Advances};
 ghost use Rattle.radio_air.specs.Radio.{found};
 ghost use Rattle.radio_world.specs.Turning.{can_be_done};
 ghost use Rattle.radio_world.specs.Standing.{IsReached, Stands, last_ended, last_entries, all_outcomes};
+ghost use Rattle.radio_world.specs.Causes.{Blames};
 
 use crate::fault::WorldFault;
 use crate::host::{Client, Host};
@@ -33,14 +34,15 @@ impl Scene {
         inbox: &mut Q,
         trace: &mut T,
     ) -> Result<(), WorldFault>
-        requires reached { (rest_a : List A.Host.Answer) (rest_b : List B.Answer) → IsReached A.Host.machine B.machine (moment self.old (answering rest_a (A.Host.station a.old)) (answering rest_b (B.station b.old))) }
+        requires reached { (rest_a : List A.Host.Answer) (rest_b : List B.Answer) → IsReached A.Host.machine B.machine (moment self.old (answering rest_a (A.Host.station a.old shelf.old)) (answering rest_b (B.station b.old inbox.old))) }
         requires sides { (A.Host.side ≡ sides.A) × (B.side ≡ sides.B) }
         requires none_held { (A.Host.held a.old ≡ []) × (B.held b.old ≡ []) }
         requires sound { A.Host.is_sound a.old shelf.old × B.is_sound b.old inbox.old }
-        ensures advances { OnOk result (Advances A.Host.machine B.machine A.Host.answers B.answers [] (stage self.old (A.Host.station a.old) (B.station b.old) shelf.old inbox.old (T.content trace.old)) (stage self.new (A.Host.station a.new) (B.station b.new) shelf.new inbox.new (T.content trace.new))) }
-        ensures stands { OnOk result (Stands A.Host.machine B.machine self.new (A.Host.station a.new) (B.station b.new)) }
+        ensures advances { OnOk result (Advances A.Host.machine B.machine A.Host.answers B.answers [] (stage self.old (A.Host.station a.old shelf.old) (B.station b.old inbox.old) shelf.old inbox.old (T.content trace.old)) (stage self.new (A.Host.station a.new shelf.new) (B.station b.new inbox.new) shelf.new inbox.new (T.content trace.new))) }
+        ensures stands { OnOk result (Stands A.Host.machine B.machine self.new (A.Host.station a.new shelf.new) (B.station b.new inbox.new)) }
         ensures none_held { OnOk result ((A.Host.held a.new ≡ []) × (B.held b.new ≡ [])) }
         ensures sound { OnOk result (A.Host.is_sound a.new shelf.new × B.is_sound b.new inbox.new) }
+        ensures blames { Blames (T.faults trace.old) (T.faults trace.new) result }
     {
         self.settle(a, shelf, b, inbox, trace)?;
         Ok(())
@@ -81,16 +83,17 @@ impl Scene {
         trace: &mut T,
     ) -> Result<(), WorldFault>
         requires orderly { AreOrderly A.Host.machine B.machine }
-        requires stands { Stands A.Host.machine B.machine self.old (A.Host.station a.old) (B.station b.old) }
-        requires finds { (rest_a : List A.Host.Answer) (rest_b : List B.Answer) → can_be_done A.Host.machine B.machine (found word self.old.medium.radio) self.old.pushes ((A.Host.station a.old).upper rest_a) ((B.station b.old).upper rest_b) ≡ true }
+        requires stands { Stands A.Host.machine B.machine self.old (A.Host.station a.old shelf.old) (B.station b.old inbox.old) }
+        requires finds { (rest_a : List A.Host.Answer) (rest_b : List B.Answer) → can_be_done A.Host.machine B.machine (found word self.old.medium.radio) self.old.pushes ((A.Host.station a.old shelf.old).upper rest_a) ((B.station b.old inbox.old).upper rest_b) ≡ true }
         requires word { IsWord word }
         requires sides { (A.Host.side ≡ sides.A) × (B.side ≡ sides.B) }
         requires none_held { (A.Host.held a.old ≡ []) × (B.held b.old ≡ []) }
         requires sound { A.Host.is_sound a.old shelf.old × B.is_sound b.old inbox.old }
-        ensures advances { OnOk result (Advances A.Host.machine B.machine A.Host.answers B.answers (word ∷ []) (stage self.old (A.Host.station a.old) (B.station b.old) shelf.old inbox.old (T.content trace.old)) (stage self.new (A.Host.station a.new) (B.station b.new) shelf.new inbox.new (T.content trace.new))) }
-        ensures stands { OnOk result (Stands A.Host.machine B.machine self.new (A.Host.station a.new) (B.station b.new)) }
+        ensures advances { OnOk result (Advances A.Host.machine B.machine A.Host.answers B.answers (word ∷ []) (stage self.old (A.Host.station a.old shelf.old) (B.station b.old inbox.old) shelf.old inbox.old (T.content trace.old)) (stage self.new (A.Host.station a.new shelf.new) (B.station b.new inbox.new) shelf.new inbox.new (T.content trace.new))) }
+        ensures stands { OnOk result (Stands A.Host.machine B.machine self.new (A.Host.station a.new shelf.new) (B.station b.new inbox.new)) }
         ensures none_held { OnOk result ((A.Host.held a.new ≡ []) × (B.held b.new ≡ [])) }
         ensures sound { OnOk result (A.Host.is_sound a.new shelf.new × B.is_sound b.new inbox.new) }
+        ensures blames { Blames (T.faults trace.old) (T.faults trace.new) result }
     {
         if self.is_count_full() {
             return Err(WorldFault::NoMemory);
@@ -117,15 +120,16 @@ impl Scene {
         trace: &mut T,
     ) -> Result<(), WorldFault>
         requires orderly { AreOrderly A.Host.machine B.machine }
-        requires stands { Stands A.Host.machine B.machine self.old (A.Host.station a.old) (B.station b.old) }
+        requires stands { Stands A.Host.machine B.machine self.old (A.Host.station a.old shelf.old) (B.station b.old inbox.old) }
         requires word { IsWord word }
         requires sides { (A.Host.side ≡ sides.A) × (B.side ≡ sides.B) }
         requires none_held { (A.Host.held a.old ≡ []) × (B.held b.old ≡ []) }
         requires sound { A.Host.is_sound a.old shelf.old × B.is_sound b.old inbox.old }
-        ensures turns { OnOk result (Advances A.Host.machine B.machine A.Host.answers B.answers (replicate count word) (stage self.old (A.Host.station a.old) (B.station b.old) shelf.old inbox.old (T.content trace.old)) (stage self.new (A.Host.station a.new) (B.station b.new) shelf.new inbox.new (T.content trace.new))) }
-        ensures stands { OnOk result (Stands A.Host.machine B.machine self.new (A.Host.station a.new) (B.station b.new)) }
+        ensures turns { OnOk result (Advances A.Host.machine B.machine A.Host.answers B.answers (replicate count word) (stage self.old (A.Host.station a.old shelf.old) (B.station b.old inbox.old) shelf.old inbox.old (T.content trace.old)) (stage self.new (A.Host.station a.new shelf.new) (B.station b.new inbox.new) shelf.new inbox.new (T.content trace.new))) }
+        ensures stands { OnOk result (Stands A.Host.machine B.machine self.new (A.Host.station a.new shelf.new) (B.station b.new inbox.new)) }
         ensures none_held { OnOk result ((A.Host.held a.new ≡ []) × (B.held b.new ≡ [])) }
         ensures sound { OnOk result (A.Host.is_sound a.new shelf.new × B.is_sound b.new inbox.new) }
+        ensures blames { Blames (T.faults trace.old) (T.faults trace.new) result }
     {
         for done in 0..count {
             if !self.finds(word, a, b) {
@@ -148,14 +152,15 @@ impl Scene {
         trace: &mut T,
     ) -> Result<(), WorldFault>
         requires orderly { AreOrderly A.Host.machine B.machine }
-        requires stands { Stands A.Host.machine B.machine self.old (A.Host.station a.old) (B.station b.old) }
+        requires stands { Stands A.Host.machine B.machine self.old (A.Host.station a.old shelf.old) (B.station b.old inbox.old) }
         requires sides { (A.Host.side ≡ sides.A) × (B.side ≡ sides.B) }
         requires none_held { (A.Host.held a.old ≡ []) × (B.held b.old ≡ []) }
         requires sound { A.Host.is_sound a.old shelf.old × B.is_sound b.old inbox.old }
-        ensures turns { OnOk result (Advances A.Host.machine B.machine A.Host.answers B.answers (words_of script.now) (stage self.old (A.Host.station a.old) (B.station b.old) shelf.old inbox.old (T.content trace.old)) (stage self.new (A.Host.station a.new) (B.station b.new) shelf.new inbox.new (T.content trace.new))) }
-        ensures stands { OnOk result (Stands A.Host.machine B.machine self.new (A.Host.station a.new) (B.station b.new)) }
+        ensures turns { OnOk result (Advances A.Host.machine B.machine A.Host.answers B.answers (words_of script.now) (stage self.old (A.Host.station a.old shelf.old) (B.station b.old inbox.old) shelf.old inbox.old (T.content trace.old)) (stage self.new (A.Host.station a.new shelf.new) (B.station b.new inbox.new) shelf.new inbox.new (T.content trace.new))) }
+        ensures stands { OnOk result (Stands A.Host.machine B.machine self.new (A.Host.station a.new shelf.new) (B.station b.new inbox.new)) }
         ensures none_held { OnOk result ((A.Host.held a.new ≡ []) × (B.held b.new ≡ [])) }
         ensures sound { OnOk result (A.Host.is_sound a.new shelf.new × B.is_sound b.new inbox.new) }
+        ensures blames { Blames (T.faults trace.old) (T.faults trace.new) result }
     {
         for i in 0..script.len() {
             let Some((count, word)) = script.at(i) else {
@@ -170,6 +175,7 @@ impl Scene {
     fn end_last<T: Sink>(&mut self, came: Option<Outcome>, trace: &mut T) -> Result<(), WorldFault>
         ensures scene { OnOk result (self.new ≡ record self.old { pushes = last_ended came self.old.pushes }) }
         ensures written { OnOk result (T.content trace.new ≡ gained (T.content trace.old) (capture_octets (last_entries came self.old.pushes))) }
+        ensures blames { Blames (T.faults trace.old) (T.faults trace.new) result }
     {
         if !self.pushes.going() {
             return Ok(());
@@ -190,6 +196,7 @@ impl Scene {
         ensures each { OnOk result (length self.new.pushes.outcomes ≡ length self.old.pushes.names) }
         ensures medium { OnOk result (self.new.medium ≡ self.old.medium) }
         ensures written { OnOk result (T.content trace.new ≡ gained (T.content trace.old) (capture_octets (last_entries came self.old.pushes))) }
+        ensures blames { Blames (T.faults trace.old) (T.faults trace.new) result }
     {
         self.end_last(came, trace)?;
         self.pushes.close();

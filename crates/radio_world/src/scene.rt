@@ -7,9 +7,11 @@ ghost use Rattle.capture.specs.Entries.{Ended, entry_octets};
 ghost use Rattle.radio_air.specs.Radio.{is_apart, is_quiet};
 ghost use Rattle.world_model.specs.Pushes.{next_name, one_ended};
 ghost use Rattle.radio_world.specs.Hosts.{answering};
-ghost use Rattle.radio_world.specs.Halves.{Goes, IsStillIn, StaysPut};
+ghost use Rattle.radio_world.specs.Halves.{Goes, IsStillIn, MayAllBeHeard, StaysPut};
 ghost use Rattle.radio_world.specs.Scenes.{stage, moment, world_at, may_end, Advances, Begins, Ends};
+ghost use Rattle.radio_world.specs.Standing.{IsReached};
 ghost use Rattle.world_model.specs.Worlds.{IsSettled};
+ghost use Rattle.radio_world.specs.Causes.{Blames};
 
 use crate::fault::WorldFault;
 use crate::host::{Client, Host};
@@ -50,10 +52,11 @@ impl Scene {
         trace: &mut T,
     ) -> Result<bool, WorldFault>
         requires sound { A.Host.is_sound a.old shelf.old }
-        ensures begins { result ≡ Ok true → Begins A.Host.machine A.Host.side A.Host.answers self.old self.new (A.Host.station a.old) (A.Host.station a.new) shelf.old shelf.new (T.content trace.old) (T.content trace.new) }
-        ensures none { result ≡ Ok false → (self.new ≡ self.old) × (a.new ≡ a.old) × (shelf.new ≡ shelf.old) × (T.content trace.new ≡ T.content trace.old) × ((rest : List A.Host.Answer) → A.Host.machine.is_idle ((A.Host.station a.old).upper rest) ≡ true → next_name self.old.pushes ≡ None) }
+        ensures begins { result ≡ Ok true → Begins A.Host.machine A.Host.side A.Host.answers self.old self.new (A.Host.station a.old shelf.old) (A.Host.station a.new shelf.new) shelf.old shelf.new (T.content trace.old) (T.content trace.new) }
+        ensures none { result ≡ Ok false → (self.new ≡ self.old) × (a.new ≡ a.old) × (shelf.new ≡ shelf.old) × (T.content trace.new ≡ T.content trace.old) × ((rest : List A.Host.Answer) → A.Host.machine.is_idle ((A.Host.station a.old shelf.old).upper rest) ≡ true → next_name self.old.pushes ≡ None) }
         ensures held { OnOk result (A.Host.held a.new ≡ A.Host.held a.old) }
         ensures sound { OnOk result (A.Host.is_sound a.new shelf.new) }
+        ensures blames { Blames (T.faults trace.old) (T.faults trace.new) result }
     {
         if !a.idle() {
             return Ok(false);
@@ -72,6 +75,7 @@ impl Scene {
         requires { self.old.pushes.going ≡ true }
         ensures scene { OnOk result (self.new ≡ record self.old { pushes = one_ended outcome self.old.pushes }) }
         ensures written { OnOk result (T.content trace.new ≡ gained (T.content trace.old) (entry_octets (Ended self.old.pushes.begun outcome))) }
+        ensures blames { Blames (T.faults trace.old) (T.faults trace.new) result }
     {
         record(&Entry::Ended(self.pushes.begun(), outcome), trace)?;
         self.pushes.end(outcome);
@@ -92,9 +96,10 @@ impl Scene {
         a: &A,
         trace: &mut T,
     ) -> Result<bool, WorldFault>
-        ensures ends { result ≡ Ok true → Ends A.Host.machine self.old self.new (A.Host.station a.now) (T.content trace.old) (T.content trace.new) }
+        ensures ends { result ≡ Ok true → (shelf : P) → Ends A.Host.machine self.old self.new (A.Host.station a.now shelf) (T.content trace.old) (T.content trace.new) }
         ensures none { result ≡ Ok false → (self.new ≡ self.old) × (T.content trace.new ≡ T.content trace.old) }
-        ensures early { result ≡ Ok false → may_end self.old ≡ true → (rest : List A.Host.Answer) → A.Host.machine.is_idle ((A.Host.station a.now).upper rest) ≡ true → A.Host.machine.outcome ((A.Host.station a.now).upper rest) ≡ None }
+        ensures early { result ≡ Ok false → may_end self.old ≡ true → (shelf : P) (rest : List A.Host.Answer) → A.Host.machine.is_idle ((A.Host.station a.now shelf).upper rest) ≡ true → A.Host.machine.outcome ((A.Host.station a.now shelf).upper rest) ≡ None }
+        ensures blames { Blames (T.faults trace.old) (T.faults trace.new) result }
     {
         if !self.may_end() || !a.idle() {
             return Ok(false);
@@ -116,19 +121,22 @@ impl Scene {
     ) -> Result<bool, WorldFault>
         requires side { H.side ≡ side }
         requires none_held { H.held host.old ≡ [] }
+        requires heard { MayAllBeHeard H.machine side self.old.medium (H.station host.old port.old) }
         requires sound { H.is_sound host.old port.old }
-        ensures goes { OnOk result (Goes H.machine side H.answers self.old.medium self.new.medium (H.station host.old) (H.station host.new) port.old port.new (T.content trace.old) (T.content trace.new)) }
+        ensures goes { OnOk result (Goes H.machine side H.answers self.old.medium self.new.medium (H.station host.old port.old) (H.station host.new port.new) port.old port.new (T.content trace.old) (T.content trace.new)) }
         ensures scene { OnOk result ((self.new.pushes ≡ self.old.pushes) × (self.new.turned ≡ self.old.turned)) }
         ensures still { OnOk result (IsStillIn side self.new.medium) }
-        ensures none { result ≡ Ok false → StaysPut side self.old.medium self.new.medium (H.station host.old) (H.station host.new) }
+        ensures none { result ≡ Ok false → StaysPut side self.old.medium self.new.medium (H.station host.old port.old) (H.station host.new port.new) }
         ensures none_held { OnOk result (H.held host.new ≡ []) }
         ensures sound { OnOk result (H.is_sound host.new port.new) }
+        ensures blames { Blames (T.faults trace.old) (T.faults trace.new) result }
     {
         let moved = self.medium.exchange(side, host, port, trace)?;
         Ok(moved)
     }
 
     /// A round: the next push begins, all moves, and a push may end. False where nothing happened.
+    /// It needs what a run of the pure world led to.
     fn round<P, A: Client<P>, Q, B: Host<Q>, T: Sink>(
         &mut self,
         a: &mut A,
@@ -137,13 +145,15 @@ impl Scene {
         inbox: &mut Q,
         trace: &mut T,
     ) -> Result<bool, WorldFault>
+        requires reached { (rest_a : List A.Host.Answer) (rest_b : List B.Answer) → IsReached A.Host.machine B.machine (moment self.old (answering rest_a (A.Host.station a.old shelf.old)) (answering rest_b (B.station b.old inbox.old))) }
         requires sides { (A.Host.side ≡ sides.A) × (B.side ≡ sides.B) }
         requires none_held { (A.Host.held a.old ≡ []) × (B.held b.old ≡ []) }
         requires sound { A.Host.is_sound a.old shelf.old × B.is_sound b.old inbox.old }
-        ensures advances { OnOk result (Advances A.Host.machine B.machine A.Host.answers B.answers [] (stage self.old (A.Host.station a.old) (B.station b.old) shelf.old inbox.old (T.content trace.old)) (stage self.new (A.Host.station a.new) (B.station b.new) shelf.new inbox.new (T.content trace.new))) }
-        ensures settled { result ≡ Ok false → (rest_a : List A.Host.Answer) (rest_b : List B.Answer) → IsSettled A.Host.machine B.machine (world_at (moment self.new (answering rest_a (A.Host.station a.new)) (answering rest_b (B.station b.new)))) }
+        ensures advances { OnOk result (Advances A.Host.machine B.machine A.Host.answers B.answers [] (stage self.old (A.Host.station a.old shelf.old) (B.station b.old inbox.old) shelf.old inbox.old (T.content trace.old)) (stage self.new (A.Host.station a.new shelf.new) (B.station b.new inbox.new) shelf.new inbox.new (T.content trace.new))) }
+        ensures settled { result ≡ Ok false → (rest_a : List A.Host.Answer) (rest_b : List B.Answer) → IsSettled A.Host.machine B.machine (world_at (moment self.new (answering rest_a (A.Host.station a.new shelf.new)) (answering rest_b (B.station b.new inbox.new)))) }
         ensures none_held { OnOk result ((A.Host.held a.new ≡ []) × (B.held b.new ≡ [])) }
         ensures sound { OnOk result (A.Host.is_sound a.new shelf.new × B.is_sound b.new inbox.new) }
+        ensures blames { Blames (T.faults trace.old) (T.faults trace.new) result }
     {
         let began = self.begin(a, shelf, trace)?;
         let moved_a = self.exchange(Side::A, a, shelf, trace)?;
@@ -152,7 +162,8 @@ impl Scene {
         Ok(began | moved_a | moved_b | ended)
     }
 
-    /// Rounds, until in one nothing happens: then all is settled.
+    /// Rounds, until in one nothing happens: then all is settled. It needs what a run of the pure world
+    /// led to.
     pub(crate) fn settle<P, A: Client<P>, Q, B: Host<Q>, T: Sink>(
         &mut self,
         a: &mut A,
@@ -161,13 +172,15 @@ impl Scene {
         inbox: &mut Q,
         trace: &mut T,
     ) -> Result<(), WorldFault>
+        requires reached { (rest_a : List A.Host.Answer) (rest_b : List B.Answer) → IsReached A.Host.machine B.machine (moment self.old (answering rest_a (A.Host.station a.old shelf.old)) (answering rest_b (B.station b.old inbox.old))) }
         requires sides { (A.Host.side ≡ sides.A) × (B.side ≡ sides.B) }
         requires none_held { (A.Host.held a.old ≡ []) × (B.held b.old ≡ []) }
         requires sound { A.Host.is_sound a.old shelf.old × B.is_sound b.old inbox.old }
-        ensures advances { OnOk result (Advances A.Host.machine B.machine A.Host.answers B.answers [] (stage self.old (A.Host.station a.old) (B.station b.old) shelf.old inbox.old (T.content trace.old)) (stage self.new (A.Host.station a.new) (B.station b.new) shelf.new inbox.new (T.content trace.new))) }
-        ensures settled { OnOk result ((rest_a : List A.Host.Answer) (rest_b : List B.Answer) → IsSettled A.Host.machine B.machine (world_at (moment self.new (answering rest_a (A.Host.station a.new)) (answering rest_b (B.station b.new))))) }
+        ensures advances { OnOk result (Advances A.Host.machine B.machine A.Host.answers B.answers [] (stage self.old (A.Host.station a.old shelf.old) (B.station b.old inbox.old) shelf.old inbox.old (T.content trace.old)) (stage self.new (A.Host.station a.new shelf.new) (B.station b.new inbox.new) shelf.new inbox.new (T.content trace.new))) }
+        ensures settled { OnOk result ((rest_a : List A.Host.Answer) (rest_b : List B.Answer) → IsSettled A.Host.machine B.machine (world_at (moment self.new (answering rest_a (A.Host.station a.new shelf.new)) (answering rest_b (B.station b.new inbox.new))))) }
         ensures none_held { OnOk result ((A.Host.held a.new ≡ []) × (B.held b.new ≡ [])) }
         ensures sound { OnOk result (A.Host.is_sound a.new shelf.new × B.is_sound b.new inbox.new) }
+        ensures blames { Blames (T.faults trace.old) (T.faults trace.new) result }
     {
         for _ in 0..MOST_ROUNDS {
             if !self.round(a, shelf, b, inbox, trace)? {

@@ -12,6 +12,7 @@ ghost use Rattle.radio_world.specs.Hosts.{answering, Reacts};
 ghost use Rattle.radio_world.specs.Leaving.{in_radio};
 ghost use Rattle.radio_world.specs.Scenes.{stage, moment, world_at, Advances};
 ghost use Rattle.radio_world.specs.Turning.{can_be_done, fires, cancels, done_by, is_checked};
+ghost use Rattle.radio_world.specs.Causes.{Blames};
 
 use crate::fault::WorldFault;
 use crate::host::{Client, Host};
@@ -26,7 +27,7 @@ use radio_air::Deed;
 /// The timer of a host fires, if it is armed.
 fn fire<P, H: Host<P>>(host: &mut H, port: &mut P) -> Result<(), NoMemory>
     requires sound { H.is_sound host.old port.old }
-    ensures reacts { OnOk result (Reacts H.machine H.side H.answers (λ used. fired H.machine used) (H.station host.old) (H.station host.new) port.old port.new) }
+    ensures reacts { OnOk result (Reacts H.machine H.side H.answers (λ used. fired H.machine used) (H.station host.old port.old) (H.station host.new port.new) port.old port.new) }
     ensures held { OnOk result (H.held host.new ≡ H.held host.old) }
     ensures sound { OnOk result (H.is_sound host.new port.new) }
 {
@@ -67,9 +68,9 @@ fn cancels(deed: Deed) -> bool
 
 /// Host a does of a word what it has to, beside the air. It needs that this can be done.
 fn client_acts<P, A: Client<P>>(deed: Deed, a: &mut A, shelf: &mut P) -> Result<(), NoMemory>
-    requires cancelled { cancels sides.A deed ≡ true → (rest : List A.Host.Answer) → A.Host.machine.may_cancel ((A.Host.station a.old).upper rest) ≡ true }
+    requires cancelled { cancels sides.A deed ≡ true → (rest : List A.Host.Answer) → A.Host.machine.may_cancel ((A.Host.station a.old shelf.old).upper rest) ≡ true }
     requires sound { A.Host.is_sound a.old shelf.old }
-    ensures reacts { OnOk result (Reacts A.Host.machine A.Host.side A.Host.answers (done_by A.Host.machine sides.A deed) (A.Host.station a.old) (A.Host.station a.new) shelf.old shelf.new) }
+    ensures reacts { OnOk result (Reacts A.Host.machine A.Host.side A.Host.answers (done_by A.Host.machine sides.A deed) (A.Host.station a.old shelf.old) (A.Host.station a.new shelf.new) shelf.old shelf.new) }
     ensures held { OnOk result (A.Host.held a.new ≡ A.Host.held a.old) }
     ensures sound { OnOk result (A.Host.is_sound a.new shelf.new) }
 {
@@ -87,7 +88,7 @@ fn client_acts<P, A: Client<P>>(deed: Deed, a: &mut A, shelf: &mut P) -> Result<
 /// Host b does of a word what it has to, beside the air.
 fn server_acts<Q, B: Host<Q>>(deed: Deed, b: &mut B, inbox: &mut Q) -> Result<(), NoMemory>
     requires sound { B.is_sound b.old inbox.old }
-    ensures reacts { OnOk result (Reacts B.machine B.side B.answers (done_by B.machine sides.B deed) (B.station b.old) (B.station b.new) inbox.old inbox.new) }
+    ensures reacts { OnOk result (Reacts B.machine B.side B.answers (done_by B.machine sides.B deed) (B.station b.old inbox.old) (B.station b.new inbox.new) inbox.old inbox.new) }
     ensures held { OnOk result (B.held b.new ≡ B.held b.old) }
     ensures sound { OnOk result (B.is_sound b.new inbox.new) }
 {
@@ -113,7 +114,7 @@ impl Medium {
 impl Scene {
     /// Whether what a word finds can be done.
     fn can_be_done<P, A: Client<P>, Q, B: Host<Q>>(&self, deed: Deed, a: &A, b: &B) -> bool
-        ensures { (rest_a : List A.Host.Answer) (rest_b : List B.Answer) → result ≡ can_be_done A.Host.machine B.machine deed self.now.pushes ((A.Host.station a.now).upper rest_a) ((B.station b.now).upper rest_b) }
+        ensures { (shelf : P) (inbox : Q) (rest_a : List A.Host.Answer) (rest_b : List B.Answer) → result ≡ can_be_done A.Host.machine B.machine deed self.now.pushes ((A.Host.station a.now shelf).upper rest_a) ((B.station b.now inbox).upper rest_b) }
     {
         match deed {
             Deed::Nothing => false,
@@ -141,7 +142,7 @@ impl Scene {
     /// It needs that nothing is on its way to either host.
     pub(crate) fn finds<P, A: Client<P>, Q, B: Host<Q>>(&self, word: Word, a: &A, b: &B) -> bool
         requires { is_quiet self.now.medium.radio ≡ true }
-        ensures { (rest_a : List A.Host.Answer) (rest_b : List B.Answer) → result ≡ can_be_done A.Host.machine B.machine (found word self.now.medium.radio) self.now.pushes ((A.Host.station a.now).upper rest_a) ((B.station b.now).upper rest_b) }
+        ensures { (shelf : P) (inbox : Q) (rest_a : List A.Host.Answer) (rest_b : List B.Answer) → result ≡ can_be_done A.Host.machine B.machine (found word self.now.medium.radio) self.now.pushes ((A.Host.station a.now shelf).upper rest_a) ((B.station b.now inbox).upper rest_b) }
     {
         let deed = self.found(word);
         self.can_be_done(deed, a, b)
@@ -150,7 +151,7 @@ impl Scene {
     /// Whether the receiver of the frame that meets its fate has a check word for its channel.
     fn is_checked<P, A: Host<P>, Q, B: Host<Q>>(&self, deed: Deed, a: &A, b: &B) -> bool
         requires { is_quiet self.now.medium.radio ≡ true }
-        ensures { (rest_a : List A.Answer) (rest_b : List B.Answer) → result ≡ is_checked A.machine B.machine deed self.now.medium.radio ((A.station a.now).upper rest_a) ((B.station b.now).upper rest_b) }
+        ensures { (shelf : P) (inbox : Q) (rest_a : List A.Answer) (rest_b : List B.Answer) → result ≡ is_checked A.machine B.machine deed self.now.medium.radio ((A.station a.now shelf).upper rest_a) ((B.station b.now inbox).upper rest_b) }
     {
         let Deed::Meets(way, _) = deed else {
             return false;
@@ -173,6 +174,7 @@ impl Scene {
         requires few { self.old.turned + 1 < 2 ^ 64 }
         ensures scene { OnOk result (self.new ≡ record self.old { medium = in_radio (after_deed checked (found word self.old.medium.radio) self.old.medium.radio) self.old.medium; turned = self.old.turned + 1 }) }
         ensures written { OnOk result (T.content trace.new ≡ gained (T.content trace.old) (entry_octets (Acted (self.old.turned + 1) word))) }
+        ensures blames { Blames (T.faults trace.old) (T.faults trace.new) result }
     {
         let ordinal = self.turned + 1;
         record(&Entry::Acted { ordinal, word }, trace)?;
@@ -193,16 +195,17 @@ impl Scene {
         inbox: &mut Q,
         trace: &mut T,
     ) -> Result<(), WorldFault>
-        requires rest { (rest_a : List A.Host.Answer) (rest_b : List B.Answer) → IsAtRest A.Host.machine B.machine (world_at (moment self.old (answering rest_a (A.Host.station a.old)) (answering rest_b (B.station b.old)))) }
+        requires rest { (rest_a : List A.Host.Answer) (rest_b : List B.Answer) → IsAtRest A.Host.machine B.machine (world_at (moment self.old (answering rest_a (A.Host.station a.old shelf.old)) (answering rest_b (B.station b.old inbox.old)))) }
         requires quiet { is_quiet self.old.medium.radio ≡ true }
-        requires finds { (rest_a : List A.Host.Answer) (rest_b : List B.Answer) → can_be_done A.Host.machine B.machine (found word self.old.medium.radio) self.old.pushes ((A.Host.station a.old).upper rest_a) ((B.station b.old).upper rest_b) ≡ true }
+        requires finds { (rest_a : List A.Host.Answer) (rest_b : List B.Answer) → can_be_done A.Host.machine B.machine (found word self.old.medium.radio) self.old.pushes ((A.Host.station a.old shelf.old).upper rest_a) ((B.station b.old inbox.old).upper rest_b) ≡ true }
         requires word { IsWord word }
         requires few { self.old.turned + 1 < 2 ^ 64 }
         requires sides { (A.Host.side ≡ sides.A) × (B.side ≡ sides.B) }
         requires sound { A.Host.is_sound a.old shelf.old × B.is_sound b.old inbox.old }
-        ensures advances { OnOk result (Advances A.Host.machine B.machine A.Host.answers B.answers (word ∷ []) (stage self.old (A.Host.station a.old) (B.station b.old) shelf.old inbox.old (T.content trace.old)) (stage self.new (A.Host.station a.new) (B.station b.new) shelf.new inbox.new (T.content trace.new))) }
+        ensures advances { OnOk result (Advances A.Host.machine B.machine A.Host.answers B.answers (word ∷ []) (stage self.old (A.Host.station a.old shelf.old) (B.station b.old inbox.old) shelf.old inbox.old (T.content trace.old)) (stage self.new (A.Host.station a.new shelf.new) (B.station b.new inbox.new) shelf.new inbox.new (T.content trace.new))) }
         ensures held { OnOk result ((A.Host.held a.new ≡ A.Host.held a.old) × (B.held b.new ≡ B.held b.old)) }
         ensures sound { OnOk result (A.Host.is_sound a.new shelf.new × B.is_sound b.new inbox.new) }
+        ensures blames { Blames (T.faults trace.old) (T.faults trace.new) result }
     {
         let deed = self.found(word);
         let checked = self.is_checked(deed, a, b);

@@ -1,6 +1,8 @@
 //! The simulated world: two hosts, their controllers and the air between them.
 
-ghost use Rattle.std.specs.Prelude.{◌≡◌, ◌∷◌, [], List, length, min, IfOk, OnOk};
+ghost use Rattle.std.specs.Prelude.{◌≡◌, ◌∷◌, ◌++◌, [], List, length, min, slice_get, IfOk, OnOk};
+ghost use Rattle.std.specs.Option.{option_map};
+ghost use Rattle.radio_air.specs.Radio.{frames};
 ghost use Rattle.bt_base.specs.Streams.{gained};
 ghost use Rattle.push_script.specs.Runs.{IsWord};
 ghost use Rattle.capture.specs.Air.{words_of};
@@ -10,6 +12,7 @@ ghost use Rattle.rest_laws.specs.Premises.{AreOrderly};
 ghost use Rattle.radio_world.specs.Hosts.{answering};
 ghost use Rattle.radio_world.specs.Scenes.{first_scene, stage, moment, Advances};
 ghost use Rattle.radio_world.specs.Standing.{IsReached, Stands, last_ended, last_entries, all_outcomes};
+ghost use Rattle.radio_world.specs.Causes.{Blames};
 
 use crate::fault::WorldFault;
 use crate::host::{Client, Host, Keeps, Measured};
@@ -18,7 +21,7 @@ use crate::ordering::Pushes;
 use crate::scene::Scene;
 use bt_base::{NoMemory, Sink};
 use push_script::{Runs, Scenario};
-use push_terms::{Outcome, Peaks, Word};
+use push_terms::{Outcome, Peaks, Way, Word};
 use std::alloc::Global;
 use std::marker::Model;
 
@@ -82,10 +85,10 @@ impl<A: Drop, B: Drop> World<A, B> {
     }
 
     /// The greatest numbers that were reached so far. Those of the buffers stand still at 65,535.
-    pub fn peaks(&self) -> Peaks
+    pub fn peaks<P, Q>(&self) -> Peaks
     where
-        A: Measured,
-        B: Measured,
+        A: Measured<P>,
+        B: Measured<Q>,
         ensures buffers_a { result.buffers_a ≡ min self.now.scene.medium.peak_a 65535 }
         ensures buffers_b { result.buffers_b ≡ min self.now.scene.medium.peak_b 65535 }
         ensures windows { (result.window_a ≡ A.frames_sent self.now.a) × (result.window_b ≡ B.frames_sent self.now.b) }
@@ -99,6 +102,14 @@ impl<A: Drop, B: Drop> World<A, B> {
             credits_a: self.a.greatest_credits(),
             credits_b: self.b.greatest_credits(),
         }
+    }
+
+    /// The frame that waits first in a direction, in two parts that follow one another. `None` exactly
+    /// where none waits. It may be asked after a fault as well.
+    pub fn front(&self, way: Way) -> Option<(&[u8], &[u8])>
+        ensures { option_map (λ parts. parts.0.now ++ parts.1.now) result ≡ slice_get (frames way self.now.scene.medium.radio) 0 }
+    {
+        self.scene.medium.radio.front(way)
     }
 
     /// Lets both hosts start and begins the first push: all moves that can. It comes once and first.
@@ -116,14 +127,15 @@ impl<A: Drop, B: Drop> World<A, B> {
     where
         A: Client<P>,
         B: Host<Q>,
-        requires reached { (rest_a : List A.Host.Answer) (rest_b : List B.Answer) → IsReached A.Host.machine B.machine (moment self.old.scene (answering rest_a (A.Host.station self.old.a)) (answering rest_b (B.station self.old.b))) }
+        requires reached { (rest_a : List A.Host.Answer) (rest_b : List B.Answer) → IsReached A.Host.machine B.machine (moment self.old.scene (answering rest_a (A.Host.station self.old.a shelf.old)) (answering rest_b (B.station self.old.b inbox.old))) }
         requires sides { (A.Host.side ≡ sides.A) × (B.side ≡ sides.B) }
         requires none_held { (A.Host.held self.old.a ≡ []) × (B.held self.old.b ≡ []) }
         requires sound { A.Host.is_sound self.old.a shelf.old × B.is_sound self.old.b inbox.old }
-        ensures advances { OnOk result (Advances A.Host.machine B.machine A.Host.answers B.answers [] (stage self.old.scene (A.Host.station self.old.a) (B.station self.old.b) shelf.old inbox.old (T.content trace.old)) (stage self.new.scene (A.Host.station self.new.a) (B.station self.new.b) shelf.new inbox.new (T.content trace.new))) }
-        ensures stands { OnOk result (Stands A.Host.machine B.machine self.new.scene (A.Host.station self.new.a) (B.station self.new.b)) }
+        ensures advances { OnOk result (Advances A.Host.machine B.machine A.Host.answers B.answers [] (stage self.old.scene (A.Host.station self.old.a shelf.old) (B.station self.old.b inbox.old) shelf.old inbox.old (T.content trace.old)) (stage self.new.scene (A.Host.station self.new.a shelf.new) (B.station self.new.b inbox.new) shelf.new inbox.new (T.content trace.new))) }
+        ensures stands { OnOk result (Stands A.Host.machine B.machine self.new.scene (A.Host.station self.new.a shelf.new) (B.station self.new.b inbox.new)) }
         ensures none_held { OnOk result ((A.Host.held self.new.a ≡ []) × (B.held self.new.b ≡ [])) }
         ensures sound { OnOk result (A.Host.is_sound self.new.a shelf.new × B.is_sound self.new.b inbox.new) }
+        ensures blames { Blames (T.faults trace.old) (T.faults trace.new) result }
     {
         self.scene
             .start(&mut self.a, shelf, &mut self.b, inbox, trace)?;
@@ -149,15 +161,16 @@ impl<A: Drop, B: Drop> World<A, B> {
         A: Client<P>,
         B: Host<Q>,
         requires orderly { AreOrderly A.Host.machine B.machine }
-        requires stands { Stands A.Host.machine B.machine self.old.scene (A.Host.station self.old.a) (B.station self.old.b) }
+        requires stands { Stands A.Host.machine B.machine self.old.scene (A.Host.station self.old.a shelf.old) (B.station self.old.b inbox.old) }
         requires word { IsWord word }
         requires sides { (A.Host.side ≡ sides.A) × (B.side ≡ sides.B) }
         requires none_held { (A.Host.held self.old.a ≡ []) × (B.held self.old.b ≡ []) }
         requires sound { A.Host.is_sound self.old.a shelf.old × B.is_sound self.old.b inbox.old }
-        ensures turns { OnOk result (Advances A.Host.machine B.machine A.Host.answers B.answers (word ∷ []) (stage self.old.scene (A.Host.station self.old.a) (B.station self.old.b) shelf.old inbox.old (T.content trace.old)) (stage self.new.scene (A.Host.station self.new.a) (B.station self.new.b) shelf.new inbox.new (T.content trace.new))) }
-        ensures stands { OnOk result (Stands A.Host.machine B.machine self.new.scene (A.Host.station self.new.a) (B.station self.new.b)) }
+        ensures turns { OnOk result (Advances A.Host.machine B.machine A.Host.answers B.answers (word ∷ []) (stage self.old.scene (A.Host.station self.old.a shelf.old) (B.station self.old.b inbox.old) shelf.old inbox.old (T.content trace.old)) (stage self.new.scene (A.Host.station self.new.a shelf.new) (B.station self.new.b inbox.new) shelf.new inbox.new (T.content trace.new))) }
+        ensures stands { OnOk result (Stands A.Host.machine B.machine self.new.scene (A.Host.station self.new.a shelf.new) (B.station self.new.b inbox.new)) }
         ensures none_held { OnOk result ((A.Host.held self.new.a ≡ []) × (B.held self.new.b ≡ [])) }
         ensures sound { OnOk result (A.Host.is_sound self.new.a shelf.new × B.is_sound self.new.b inbox.new) }
+        ensures blames { Blames (T.faults trace.old) (T.faults trace.new) result }
     {
         self.scene
             .turn_times(1, word, &mut self.a, shelf, &mut self.b, inbox, trace)?;
@@ -177,14 +190,15 @@ impl<A: Drop, B: Drop> World<A, B> {
         A: Client<P>,
         B: Host<Q>,
         requires orderly { AreOrderly A.Host.machine B.machine }
-        requires stands { Stands A.Host.machine B.machine self.old.scene (A.Host.station self.old.a) (B.station self.old.b) }
+        requires stands { Stands A.Host.machine B.machine self.old.scene (A.Host.station self.old.a shelf.old) (B.station self.old.b inbox.old) }
         requires sides { (A.Host.side ≡ sides.A) × (B.side ≡ sides.B) }
         requires none_held { (A.Host.held self.old.a ≡ []) × (B.held self.old.b ≡ []) }
         requires sound { A.Host.is_sound self.old.a shelf.old × B.is_sound self.old.b inbox.old }
-        ensures turns { OnOk result (Advances A.Host.machine B.machine A.Host.answers B.answers (words_of script.now) (stage self.old.scene (A.Host.station self.old.a) (B.station self.old.b) shelf.old inbox.old (T.content trace.old)) (stage self.new.scene (A.Host.station self.new.a) (B.station self.new.b) shelf.new inbox.new (T.content trace.new))) }
-        ensures stands { OnOk result (Stands A.Host.machine B.machine self.new.scene (A.Host.station self.new.a) (B.station self.new.b)) }
+        ensures turns { OnOk result (Advances A.Host.machine B.machine A.Host.answers B.answers (words_of script.now) (stage self.old.scene (A.Host.station self.old.a shelf.old) (B.station self.old.b inbox.old) shelf.old inbox.old (T.content trace.old)) (stage self.new.scene (A.Host.station self.new.a shelf.new) (B.station self.new.b inbox.new) shelf.new inbox.new (T.content trace.new))) }
+        ensures stands { OnOk result (Stands A.Host.machine B.machine self.new.scene (A.Host.station self.new.a shelf.new) (B.station self.new.b inbox.new)) }
         ensures none_held { OnOk result ((A.Host.held self.new.a ≡ []) × (B.held self.new.b ≡ [])) }
         ensures sound { OnOk result (A.Host.is_sound self.new.a shelf.new × B.is_sound self.new.b inbox.new) }
+        ensures blames { Blames (T.faults trace.old) (T.faults trace.new) result }
     {
         self.scene
             .turn_all(script, &mut self.a, shelf, &mut self.b, inbox, trace)?;
@@ -197,11 +211,12 @@ impl<A: Drop, B: Drop> World<A, B> {
     pub fn finish<P, T: Sink>(&mut self, trace: &mut T, _shelf: &P) -> Result<(), WorldFault>
     where
         A: Client<P>,
-        ensures outcomes { OnOk result ((rest : List A.Host.Answer) → self.new.scene.pushes.outcomes ≡ all_outcomes (last_ended (A.Host.machine.outcome ((A.Host.station self.old.a).upper rest)) self.old.scene.pushes)) }
+        ensures outcomes { OnOk result ((rest : List A.Host.Answer) → self.new.scene.pushes.outcomes ≡ all_outcomes (last_ended (A.Host.machine.outcome ((A.Host.station self.old.a _shelf.now).upper rest)) self.old.scene.pushes)) }
         ensures each { OnOk result (length self.new.scene.pushes.outcomes ≡ length self.old.scene.pushes.names) }
-        ensures written { OnOk result ((rest : List A.Host.Answer) → T.content trace.new ≡ gained (T.content trace.old) (capture_octets (last_entries (A.Host.machine.outcome ((A.Host.station self.old.a).upper rest)) self.old.scene.pushes))) }
+        ensures written { OnOk result ((rest : List A.Host.Answer) → T.content trace.new ≡ gained (T.content trace.old) (capture_octets (last_entries (A.Host.machine.outcome ((A.Host.station self.old.a _shelf.now).upper rest)) self.old.scene.pushes))) }
         ensures hosts { (self.new.a ≡ self.old.a) × (self.new.b ≡ self.old.b) }
         ensures medium { OnOk result (self.new.scene.medium ≡ self.old.scene.medium) }
+        ensures blames { Blames (T.faults trace.old) (T.faults trace.new) result }
     {
         let came = self.a.outcome();
         self.scene.finish(came, trace)?;

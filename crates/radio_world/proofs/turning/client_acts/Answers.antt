@@ -10,17 +10,17 @@ cancel-requires-clause-may g c = c.requires.cancelled (sym c.cancels.ensures ∙
 pub returns-then-fires-clause-reacts : goal.returns-then-fires-clause-reacts
 returns-then-fires-clause-reacts g c =
     let host = g.A.Host in
-    doing_fired host.machine host.side host.answers (fires A c.args.deed) (cancels A c.args.deed) (host.station c.args.a.now) (host.station c.fire.new.host) c.args.shelf.now c.fire.new.port
+    doing_fired host.machine host.side host.answers (fires A c.args.deed) (cancels A c.args.deed) (host.station c.args.a.now c.args.shelf.now) (host.station c.fire.new.host c.fire.new.port) c.args.shelf.now c.fire.new.port
     (sym c.fires.ensures ∙ c.if-fires.true) c.in_ok-fire.ensures.reacts
 
 pub returns-then-not-cancels-clause-reacts : goal.returns-then-not-cancels-clause-reacts
 returns-then-not-cancels-clause-reacts g c =
     let host = g.A.Host in
-    doing_nothing host.machine host.side host.answers (fires A c.args.deed) (cancels A c.args.deed) (host.station c.args.a.now) c.args.shelf.now g.met.A.Host.joins
+    doing_nothing host.machine host.side host.answers (fires A c.args.deed) (cancels A c.args.deed) (host.station c.args.a.now c.args.shelf.now) c.args.shelf.now g.met.A.Host.joins
     (sym c.fires.ensures ∙ c.if-fires.false) (sym c.cancels.ensures ∙ c.if-not-cancels.true)
 
 pub returns-clause-reacts : goal.returns-clause-reacts
 returns-clause-reacts g c =
     let host = g.A.Host in
-    doing_cancelled host.machine host.side host.answers (fires A c.args.deed) (cancels A c.args.deed) (host.station c.args.a.now) (host.station c.cancel.new.self) c.args.shelf.now c.cancel.new.port
+    doing_cancelled host.machine host.side host.answers (fires A c.args.deed) (cancels A c.args.deed) (host.station c.args.a.now c.args.shelf.now) (host.station c.cancel.new.self c.cancel.new.port) c.args.shelf.now c.cancel.new.port
     (sym c.fires.ensures ∙ c.if-fires.false) (sym c.cancels.ensures ∙ c.if-not-cancels.false) c.in_ok-cancel.ensures.reacts

@@ -11,6 +11,7 @@ use Rattle.radio_world.specs.Leaving.{Medium, in_radio}
 use Rattle.radio_world.specs.Halves.{Goes, IsStillIn, ComesFirst}
 use Rattle.radio_world.proofs.Moving.{goes_none}
 use Rattle.radio_world.proofs.Entering.{none_comes, stays_as_it_is, IsHanded, handed_first, reads_whole, reads_same, goes_in, comes_less}
+use Rattle.radio_world.proofs.Hearing.{may_next}
 use Rattle.radio_world.proofs.medium.Medium.move_into.Goals as goal
 
 abbrev mk : Radio → ℕ → ℕ → Medium
@@ -31,8 +32,8 @@ returns-in_default-clause-goes g c =
     let still : IsStillIn c.args.side c.args.self.now = subst (λ (m : Medium). IsStillIn c.args.side m) c.self.view_is
     (none_comes c.args.side (mk c.self.inside.radio c.self.inside.peak_a c.self.inside.peak_b) c.hand.result _ c.hand.new.into c.hand.ensures.handed c.in_default.is) in
     let same = with_radio c.args.side c.self.inside.radio c.hand.new.self c.self.inside.peak_a c.self.inside.peak_b c.args.self.now c.hand.ensures.radio c.self.view_is ∙ stays_as_it_is c.args.side c.args.self.now still in
-    subst (λ (m : Medium). Goes host.machine c.args.side host.answers c.args.self.now m (host.station c.args.host.now) (host.station c.args.host.now) c.args.port.now c.args.port.now (g.T.Sink.content c.args.trace.now) (g.T.Sink.content c.args.trace.now)) (sym same)
-    (goes_none host.machine c.args.side host.answers c.args.self.now (host.station c.args.host.now) c.args.port.now (g.T.Sink.content c.args.trace.now) g.met.H.Host.joins)
+    subst (λ (m : Medium). Goes host.machine c.args.side host.answers c.args.self.now m (host.station c.args.host.now c.args.port.now) (host.station c.args.host.now c.args.port.now) c.args.port.now c.args.port.now (g.T.Sink.content c.args.trace.now) (g.T.Sink.content c.args.trace.now)) (sym same)
+    (goes_none host.machine c.args.side host.answers c.args.self.now (host.station c.args.host.now c.args.port.now) c.args.port.now (g.T.Sink.content c.args.trace.now) g.met.H.Host.joins)
 
 pub returns-in_default-clause-still : goal.returns-in_default-clause-still
 returns-in_default-clause-still g c = λ none.
@@ -56,18 +57,19 @@ returns-clause-goes g c =
     let comes : ComesFirst c.args.side handed.coming c.args.self.now.radio = subst (λ (m : Medium). ComesFirst c.args.side handed.coming m.radio) c.self.view_is handed.comes in
     let after = with_radio c.args.side c.self.inside.radio c.hand.new.self c.self.inside.peak_a c.self.inside.peak_b c.args.self.now c.hand.ensures.radio c.self.view_is in
     let heard = at_side host.side c.args.side handed.coming (take c.in-Some.n c.hand.new.into) c.requires.side handed.is handed.front in
-    let reaction = (c.in_ok-hand_over.ensures.hears handed.coming heard.0 heard.1).0 in
-    goes_in host.machine c.args.side host.answers handed.coming (packet c.in-Whole.unit) c.args.self.now _ (host.station c.args.host.now) (host.station c.hand_over.new.host) c.args.port.now c.hand_over.new.port
+    let reaction = (c.in_ok-hand_over.ensures.hears handed.coming (may_next host.machine c.args.side c.args.self.now (host.station c.args.host.now c.args.port.now) c.requires.heard handed.coming comes) heard.0 heard.1).0 in
+    goes_in host.machine c.args.side host.answers handed.coming (packet c.in-Whole.unit) c.args.self.now _ (host.station c.args.host.now c.args.port.now) (host.station c.hand_over.new.host c.hand_over.new.port) c.args.port.now c.hand_over.new.port
     (g.T.Sink.content c.args.trace.now) (g.T.Sink.content c.record.new.trace) comes after read
-    (subst (λ (side : Side). Reacts host.machine side host.answers (hears_coming host.machine side handed.coming) (host.station c.args.host.now) (host.station c.hand_over.new.host) c.args.port.now c.hand_over.new.port) c.requires.side reaction)
+    (subst (λ (side : Side). Reacts host.machine side host.answers (hears_coming host.machine side handed.coming) (host.station c.args.host.now c.args.port.now) (host.station c.hand_over.new.host c.hand_over.new.port) c.args.port.now c.hand_over.new.port) c.requires.side reaction)
     c.in_ok-record.ensures.ok
 
 pub returns-clause-none_held : goal.returns-clause-none_held
 returns-clause-none_held g c =
     let medium = mk c.self.inside.radio c.self.inside.peak_a c.self.inside.peak_b in
     let handed : IsHanded c.args.side c.self.inside.radio c.in-Some.n c.hand.new.into = handed_first c.args.side medium c.hand.result c.in-Some.n _ c.hand.new.into c.hand.ensures.handed c.in-Some.is in
+    let comes : ComesFirst c.args.side handed.coming c.args.self.now.radio = subst (λ (m : Medium). ComesFirst c.args.side handed.coming m.radio) c.self.view_is handed.comes in
     let heard = at_side g.H.Host.side c.args.side handed.coming (take c.in-Some.n c.hand.new.into) c.requires.side handed.is handed.front in
-    (c.in_ok-hand_over.ensures.hears handed.coming heard.0 heard.1).1
+    (c.in_ok-hand_over.ensures.hears handed.coming (may_next g.H.Host.machine c.args.side c.args.self.now (g.H.Host.station c.args.host.now c.args.port.now) c.requires.heard handed.coming comes) heard.0 heard.1).1
 
 pub returns-clause-shorter : goal.returns-clause-shorter
 returns-clause-shorter g c = λ moved.

@@ -9,7 +9,7 @@ use Rattle.radio_world.proofs.medium.Medium.move_out.Goals as goal
 pub returns-then-count-eq0-clause-goes : goal.returns-then-count-eq0-clause-goes
 returns-then-count-eq0-clause-goes g c =
     let host = g.H.Host in
-    goes_none host.machine c.args.side host.answers c.args.self.now (host.station c.args.host.now) c.args.port.now (g.T.Sink.content c.args.trace.now) g.met.H.Host.joins
+    goes_none host.machine c.args.side host.answers c.args.self.now (host.station c.args.host.now c.args.port.now) c.args.port.now (g.T.Sink.content c.args.trace.now) g.met.H.Host.joins
 
 nothing : (xs : List ℕ) → length xs ≡ 0 → xs ≡ []
 nothing [] none = refl
@@ -18,17 +18,17 @@ nothing (x ∷ xs) none = absurd (omega arith)
 pub returns-then-count-eq0-clause-none : goal.returns-then-count-eq0-clause-none
 returns-then-count-eq0-clause-none g c = λ is.
     let host = g.H.Host in
-    let orders : List Order = (host.station c.args.host.now).out in
-    let octets : c.out-offered.result.now ≡ order_octets c.args.side orders = c.out-offered.ensures.octets ∙ ap (λ s. order_octets s orders) c.requires.side in
+    let orders : List Order = (host.station c.args.host.now c.args.port.now).out in
+    let octets : c.out-offered.result.now ≡ order_octets c.args.side orders = c.out-offered.ensures.octets c.args.port.now ∙ ap (λ s. order_octets s orders) c.requires.side in
     (none_offered c.args.side orders (sym octets ∙ nothing c.out-offered.result.now c.if-count-eq0.true), refl, refl)
 
 pub returns-clause-goes : goal.returns-clause-goes
 returns-clause-goes g c =
     let host = g.H.Host in
-    let orders : List Order = (host.station c.args.host.now).out in
-    let sent : AreSent c.args.side orders = subst (λ (s : Side). AreSent s orders) c.requires.side c.out-offered.ensures.sent in
-    let octets : c.out-offered.result.now ≡ order_octets c.args.side orders = c.out-offered.ensures.octets ∙ ap (λ s. order_octets s orders) c.requires.side in
+    let orders : List Order = (host.station c.args.host.now c.args.port.now).out in
+    let sent : AreSent c.args.side orders = subst (λ (s : Side). AreSent s orders) c.requires.side (c.out-offered.ensures.sent c.args.port.now) in
+    let octets : c.out-offered.result.now ≡ order_octets c.args.side orders = c.out-offered.ensures.octets c.args.port.now ∙ ap (λ s. order_octets s orders) c.requires.side in
     let moved = c.in_ok-take_all.ensures.moved orders sent octets in
-    let goes = subst (λ (s : Side). GoesOn host.machine s (record (host.station c.args.host.now) { out = [] }) (host.station c.taken.new.self)) c.requires.side c.taken.ensures.goes in
-    goes_out host.machine c.args.side host.answers c.args.self.now c.take_all.new.self (host.station c.args.host.now) (host.station c.taken.new.self) c.args.port.now
+    let goes = subst (λ (s : Side). GoesOn host.machine s (record (host.station c.args.host.now c.args.port.now) { out = [] }) (host.station c.taken.new.self c.args.port.now)) c.requires.side c.taken.ensures.goes in
+    goes_out host.machine c.args.side host.answers c.args.self.now c.take_all.new.self (host.station c.args.host.now c.args.port.now) (host.station c.taken.new.self c.args.port.now) c.args.port.now
     (g.T.Sink.content c.args.trace.now) (g.T.Sink.content c.take_all.new.trace) g.met.H.Host.joins moved.0 goes moved.1

@@ -13,7 +13,7 @@ pub client_acts-requires-clause-cancelled : goal.client_acts-requires-clause-can
 client_acts-requires-clause-cancelled g c = λ is rest.
     let one = g.A.Host in
     let two = g.B.Host in
-    cancels_may one.machine two.machine (found c.args.word c.args.self.now.medium.radio) c.args.self.now.pushes ((one.station c.args.a.now).upper rest) ((two.station c.args.b.now).upper []) (sym (ap (cancels A) c.found-deed.ensures.deed) ∙ is)
+    cancels_may one.machine two.machine (found c.args.word c.args.self.now.medium.radio) c.args.self.now.pushes ((one.station c.args.a.now c.args.shelf.now).upper rest) ((two.station c.args.b.now c.args.inbox.now).upper []) (sym (ap (cancels A) c.found-deed.ensures.deed) ∙ is)
     (c.requires.finds rest [])
 
 pub returns-clause-advances : goal.returns-clause-advances
@@ -25,16 +25,16 @@ returns-clause-advances g c =
     let content = g.T.Sink.content in
     let same : c.found-deed.result ≡ deed = c.found-deed.ensures.deed in
     word_advances one.machine two.machine one.answers two.answers c.args.word c.is_checked-checked.result c.args.self.now c.act.new.self
-    (one.station c.args.a.now) (one.station c.client_acts.new.a) (two.station c.args.b.now) (two.station c.server_acts.new.b)
+    (one.station c.args.a.now c.args.shelf.now) (one.station c.client_acts.new.a c.client_acts.new.shelf) (two.station c.args.b.now c.args.inbox.now) (two.station c.server_acts.new.b c.server_acts.new.inbox)
     c.args.shelf.now c.client_acts.new.shelf c.args.inbox.now c.server_acts.new.inbox (content c.args.trace.now) (content c.act.new.trace)
     c.in_ok-act.ensures.scene c.requires.rest c.requires.word c.requires.finds
     (λ rest_a rest_b.
-    let a = answering rest_a (one.station c.args.a.now) in
-    let b = answering rest_b (two.station c.args.b.now) in
-    ap (λ checked. after_deed checked deed radio) (c.is_checked-checked.ensures rest_a rest_b ∙ ap (λ (d : Deed). is_checked one.machine two.machine d radio a.upper b.upper) same)
+    let a = answering rest_a (one.station c.args.a.now c.args.shelf.now) in
+    let b = answering rest_b (two.station c.args.b.now c.args.inbox.now) in
+    ap (λ checked. after_deed checked deed radio) (c.is_checked-checked.ensures c.args.shelf.now c.args.inbox.now rest_a rest_b ∙ ap (λ (d : Deed). is_checked one.machine two.machine d radio a.upper b.upper) same)
     ∙ asked_right one.machine two.machine deed radio a b (asked_for c.args.word radio c.requires.word) (subst (λ (d : Deed). IsMet d radio) same c.found-deed.ensures.met))
-    (subst (λ (side : Side). Reacts one.machine side one.answers (done_by one.machine A deed) (one.station c.args.a.now) (one.station c.client_acts.new.a) c.args.shelf.now c.client_acts.new.shelf) c.requires.sides.0
-    (subst (λ (d : Deed). Reacts one.machine one.side one.answers (done_by one.machine A d) (one.station c.args.a.now) (one.station c.client_acts.new.a) c.args.shelf.now c.client_acts.new.shelf) same c.in_ok-client_acts.ensures.reacts))
-    (subst (λ (side : Side). Reacts two.machine side two.answers (done_by two.machine B deed) (two.station c.args.b.now) (two.station c.server_acts.new.b) c.args.inbox.now c.server_acts.new.inbox) c.requires.sides.1
-    (subst (λ (d : Deed). Reacts two.machine two.side two.answers (done_by two.machine B d) (two.station c.args.b.now) (two.station c.server_acts.new.b) c.args.inbox.now c.server_acts.new.inbox) same c.in_ok-server_acts.ensures.reacts))
+    (subst (λ (side : Side). Reacts one.machine side one.answers (done_by one.machine A deed) (one.station c.args.a.now c.args.shelf.now) (one.station c.client_acts.new.a c.client_acts.new.shelf) c.args.shelf.now c.client_acts.new.shelf) c.requires.sides.0
+    (subst (λ (d : Deed). Reacts one.machine one.side one.answers (done_by one.machine A d) (one.station c.args.a.now c.args.shelf.now) (one.station c.client_acts.new.a c.client_acts.new.shelf) c.args.shelf.now c.client_acts.new.shelf) same c.in_ok-client_acts.ensures.reacts))
+    (subst (λ (side : Side). Reacts two.machine side two.answers (done_by two.machine B deed) (two.station c.args.b.now c.args.inbox.now) (two.station c.server_acts.new.b c.server_acts.new.inbox) c.args.inbox.now c.server_acts.new.inbox) c.requires.sides.1
+    (subst (λ (d : Deed). Reacts two.machine two.side two.answers (done_by two.machine B d) (two.station c.args.b.now c.args.inbox.now) (two.station c.server_acts.new.b c.server_acts.new.inbox) c.args.inbox.now c.server_acts.new.inbox) same c.in_ok-server_acts.ensures.reacts))
     c.in_ok-act.ensures.written

@@ -4,8 +4,8 @@ use Rattle.radio_world.specs.Turning.{can_be_done}
 use Rattle.radio_world.proofs.scene.Scene.finds.Goals as goal
 
 pub returns : goal.returns
-returns g c = λ rest_a rest_b.
+returns g c = λ shelf inbox rest_a rest_b.
     let one = g.A.Host in
     let two = g.B.Host in
-    c.can_be_done.ensures rest_a rest_b
-    ∙ ap (λ (d : Deed). can_be_done one.machine two.machine d c.args.self.now.pushes ((one.station c.args.a.now).upper rest_a) ((two.station c.args.b.now).upper rest_b)) c.found-deed.ensures.deed
+    c.can_be_done.ensures shelf inbox rest_a rest_b
+    ∙ ap (λ (d : Deed). can_be_done one.machine two.machine d c.args.self.now.pushes ((one.station c.args.a.now shelf).upper rest_a) ((two.station c.args.b.now inbox).upper rest_b)) c.found-deed.ensures.deed

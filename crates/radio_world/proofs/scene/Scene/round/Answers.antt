@@ -1,4 +1,4 @@
-use Rattle.std.proofs.Common.{◌≡◌, ◌||◌, [], Bool, true, false, Result, Ok, refl, sym, ap, subst, ◌∙◌}
+use Rattle.std.proofs.Common.{◌≡◌, ◌||◌, [], Bool, true, false, Result, Ok, refl, sym, ap, ap₂, subst, ◌∙◌}
 use Rattle.push_terms.specs.declared.word.Side.{Side}
 use Rattle.radio_world.specs.Hosts.{Asking, answering}
 use Rattle.radio_world.specs.Scenes.{Scene, moment, world_at, Begins}
@@ -7,7 +7,41 @@ use Rattle.world_model.specs.Stations.{IsStopped}
 use Rattle.world_model.specs.Worlds.{IsSettled}
 use Rattle.radio_world.proofs.Advancing.{advances_then, begun_or_not, exchanged_a, exchanged_b, ended_or_not}
 use Rattle.radio_world.proofs.Settling.{settles}
+use Rattle.radio_world.proofs.Standing.{reached_then}
+use Rattle.radio_world.proofs.Hearing.{a_hears, b_hears}
 use Rattle.radio_world.proofs.scene.Scene.round.Goals as goal
+
+pub exchange-requires-clause-heard : goal.exchange-requires-clause-heard
+exchange-requires-clause-heard g c =
+    let one = g.A.Host in
+    let two = g.B.Host in
+    let joins_a = g.met.A.Host.joins in
+    let joins_b = g.met.B.Host.joins in
+    let content = g.T.Sink.content in
+    let began = begun_or_not one.machine two.machine one.answers two.answers c.in_ok-began.began c.args.self.now c.begin.new.self (one.station c.args.a.now c.args.shelf.now) (one.station c.begin.new.a c.begin.new.shelf) (two.station c.args.b.now c.args.inbox.now)
+    c.args.shelf.now c.begin.new.shelf c.args.inbox.now (content c.args.trace.now) (content c.begin.new.trace) joins_a joins_b
+    (λ is. subst (λ (side : Side). Begins one.machine side one.answers c.args.self.now c.begin.new.self (one.station c.args.a.now c.args.shelf.now) (one.station c.begin.new.a c.begin.new.shelf) c.args.shelf.now c.begin.new.shelf (content c.args.trace.now) (content c.begin.new.trace))
+    c.requires.sides.0 (c.in_ok-began.ensures.begins (ap Ok is)))
+    (λ is. let same = c.in_ok-began.ensures.none (ap Ok is) in (same.0, ap₂ one.station same.1 same.2, same.2, same.3)) in
+    a_hears one.machine two.machine c.begin.new.self (one.station c.begin.new.a c.begin.new.shelf) (two.station c.args.b.now c.args.inbox.now)
+    (reached_then one.machine two.machine one.answers two.answers [] _ _ began c.requires.reached)
+
+pub exchange-requires-2-clause-heard : goal.exchange-requires-2-clause-heard
+exchange-requires-2-clause-heard g c =
+    let one = g.A.Host in
+    let two = g.B.Host in
+    let joins_a = g.met.A.Host.joins in
+    let joins_b = g.met.B.Host.joins in
+    let content = g.T.Sink.content in
+    let began = begun_or_not one.machine two.machine one.answers two.answers c.in_ok-began.began c.args.self.now c.begin.new.self (one.station c.args.a.now c.args.shelf.now) (one.station c.begin.new.a c.begin.new.shelf) (two.station c.args.b.now c.args.inbox.now)
+    c.args.shelf.now c.begin.new.shelf c.args.inbox.now (content c.args.trace.now) (content c.begin.new.trace) joins_a joins_b
+    (λ is. subst (λ (side : Side). Begins one.machine side one.answers c.args.self.now c.begin.new.self (one.station c.args.a.now c.args.shelf.now) (one.station c.begin.new.a c.begin.new.shelf) c.args.shelf.now c.begin.new.shelf (content c.args.trace.now) (content c.begin.new.trace))
+    c.requires.sides.0 (c.in_ok-began.ensures.begins (ap Ok is)))
+    (λ is. let same = c.in_ok-began.ensures.none (ap Ok is) in (same.0, ap₂ one.station same.1 same.2, same.2, same.3)) in
+    let moved_a = exchanged_a one.machine two.machine one.answers two.answers c.begin.new.self c.exchange.new.self (one.station c.begin.new.a c.begin.new.shelf) (one.station c.exchange.new.host c.exchange.new.port) (two.station c.args.b.now c.args.inbox.now)
+    c.begin.new.shelf c.exchange.new.port c.args.inbox.now (content c.begin.new.trace) (content c.exchange.new.trace) joins_b c.in_ok-moved_a.ensures.scene c.in_ok-moved_a.ensures.goes in
+    b_hears one.machine two.machine c.exchange.new.self (one.station c.exchange.new.host c.exchange.new.port) (two.station c.args.b.now c.args.inbox.now)
+    (reached_then one.machine two.machine one.answers two.answers [] _ _ moved_a (reached_then one.machine two.machine one.answers two.answers [] _ _ began c.requires.reached))
 
 pub returns-clause-advances : goal.returns-clause-advances
 returns-clause-advances g c =
@@ -16,18 +50,18 @@ returns-clause-advances g c =
     let joins_a = g.met.A.Host.joins in
     let joins_b = g.met.B.Host.joins in
     let content = g.T.Sink.content in
-    let began = begun_or_not one.machine two.machine one.answers two.answers c.in_ok-began.began c.args.self.now c.begin.new.self (one.station c.args.a.now) (one.station c.begin.new.a) (two.station c.args.b.now)
+    let began = begun_or_not one.machine two.machine one.answers two.answers c.in_ok-began.began c.args.self.now c.begin.new.self (one.station c.args.a.now c.args.shelf.now) (one.station c.begin.new.a c.begin.new.shelf) (two.station c.args.b.now c.args.inbox.now)
     c.args.shelf.now c.begin.new.shelf c.args.inbox.now (content c.args.trace.now) (content c.begin.new.trace) joins_a joins_b
-    (λ is. subst (λ (side : Side). Begins one.machine side one.answers c.args.self.now c.begin.new.self (one.station c.args.a.now) (one.station c.begin.new.a) c.args.shelf.now c.begin.new.shelf (content c.args.trace.now) (content c.begin.new.trace))
+    (λ is. subst (λ (side : Side). Begins one.machine side one.answers c.args.self.now c.begin.new.self (one.station c.args.a.now c.args.shelf.now) (one.station c.begin.new.a c.begin.new.shelf) c.args.shelf.now c.begin.new.shelf (content c.args.trace.now) (content c.begin.new.trace))
     c.requires.sides.0 (c.in_ok-began.ensures.begins (ap Ok is)))
-    (λ is. let same = c.in_ok-began.ensures.none (ap Ok is) in (same.0, ap one.station same.1, same.2, same.3)) in
-    let moved_a = exchanged_a one.machine two.machine one.answers two.answers c.begin.new.self c.exchange.new.self (one.station c.begin.new.a) (one.station c.exchange.new.host) (two.station c.args.b.now)
+    (λ is. let same = c.in_ok-began.ensures.none (ap Ok is) in (same.0, ap₂ one.station same.1 same.2, same.2, same.3)) in
+    let moved_a = exchanged_a one.machine two.machine one.answers two.answers c.begin.new.self c.exchange.new.self (one.station c.begin.new.a c.begin.new.shelf) (one.station c.exchange.new.host c.exchange.new.port) (two.station c.args.b.now c.args.inbox.now)
     c.begin.new.shelf c.exchange.new.port c.args.inbox.now (content c.begin.new.trace) (content c.exchange.new.trace) joins_b c.in_ok-moved_a.ensures.scene c.in_ok-moved_a.ensures.goes in
-    let moved_b = exchanged_b one.machine two.machine one.answers two.answers c.exchange.new.self c.exchange-2.new.self (one.station c.exchange.new.host) (two.station c.args.b.now) (two.station c.exchange-2.new.host)
+    let moved_b = exchanged_b one.machine two.machine one.answers two.answers c.exchange.new.self c.exchange-2.new.self (one.station c.exchange.new.host c.exchange.new.port) (two.station c.args.b.now c.args.inbox.now) (two.station c.exchange-2.new.host c.exchange-2.new.port)
     c.exchange.new.port c.args.inbox.now c.exchange-2.new.port (content c.exchange.new.trace) (content c.exchange-2.new.trace) joins_a c.in_ok-moved_b.ensures.scene c.in_ok-moved_b.ensures.goes in
-    let ended = ended_or_not one.machine two.machine one.answers two.answers c.in_ok-ended.ended c.exchange-2.new.self c.end_idle.new.self (one.station c.exchange.new.host) (two.station c.exchange-2.new.host)
+    let ended = ended_or_not one.machine two.machine one.answers two.answers c.in_ok-ended.ended c.exchange-2.new.self c.end_idle.new.self (one.station c.exchange.new.host c.exchange.new.port) (two.station c.exchange-2.new.host c.exchange-2.new.port)
     c.exchange.new.port c.exchange-2.new.port (content c.exchange-2.new.trace) (content c.end_idle.new.trace) joins_a joins_b
-    (λ is. c.in_ok-ended.ensures.ends (ap Ok is)) (λ is. c.in_ok-ended.ensures.none (ap Ok is)) in
+    (λ is. c.in_ok-ended.ensures.ends (ap Ok is) c.exchange.new.port) (λ is. c.in_ok-ended.ensures.none (ap Ok is)) in
     advances_then one.machine two.machine one.answers two.answers [] [] _ _ _ joins_a joins_b
     (advances_then one.machine two.machine one.answers two.answers [] [] _ _ _ joins_a joins_b (advances_then one.machine two.machine one.answers two.answers [] [] _ _ _ joins_a joins_b began moved_a) moved_b) ended
 
@@ -47,12 +81,12 @@ returns-clause-settled g c = λ is rest_a rest_b.
     let put_a = c.in_ok-moved_a.ensures.none (ap Ok none.1) in
     let put_b = c.in_ok-moved_b.ensures.none (ap Ok none.2) in
     let ended = c.in_ok-ended.ensures.none (ap Ok none.3) in
-    subst (λ (s : Scene). IsSettled one.machine two.machine (world_at (moment s (answering rest_a (one.station c.exchange.new.host)) (answering rest_b (two.station c.exchange-2.new.host))))) (sym ended.0)
-    (settles one.machine two.machine c.begin.new.self c.exchange.new.self c.exchange-2.new.self (one.station c.begin.new.a) (one.station c.exchange.new.host) (two.station c.args.b.now) (two.station c.exchange-2.new.host)
-    (λ rest idle. ap (λ (s : Scene). next_name s.pushes) began.0 ∙ began.4 rest (ap (λ (h : Asking one.State one.Answer). one.machine.is_idle (h.upper rest)) (sym (ap one.station began.1)) ∙ idle))
+    subst (λ (s : Scene). IsSettled one.machine two.machine (world_at (moment s (answering rest_a (one.station c.exchange.new.host c.exchange.new.port)) (answering rest_b (two.station c.exchange-2.new.host c.exchange-2.new.port))))) (sym ended.0)
+    (settles one.machine two.machine c.begin.new.self c.exchange.new.self c.exchange-2.new.self (one.station c.begin.new.a c.begin.new.shelf) (one.station c.exchange.new.host c.exchange.new.port) (two.station c.args.b.now c.args.inbox.now) (two.station c.exchange-2.new.host c.exchange-2.new.port)
+    (λ rest idle. ap (λ (s : Scene). next_name s.pushes) began.0 ∙ began.4 rest (ap (λ (h : Asking one.State one.Answer). one.machine.is_idle (h.upper rest)) (sym (ap₂ one.station began.1 began.2)) ∙ idle))
     c.in_ok-moved_a.ensures.still put_a c.in_ok-moved_a.ensures.scene.0
     c.in_ok-moved_b.ensures.still put_b c.in_ok-moved_b.ensures.scene.0
-    (c.in_ok-ended.ensures.early (ap Ok none.3))
-    (λ rest. subst (λ (side : Side). IsStopped one.machine side (answering rest (one.station c.exchange.new.host))) c.requires.sides.0 (g.met.A.Host.stops c.exchange.new.host c.exchange.new.port c.in_ok-moved_a.ensures.sound put_a.none_out rest))
-    (λ rest. subst (λ (side : Side). IsStopped two.machine side (answering rest (two.station c.exchange-2.new.host))) c.requires.sides.1 (g.met.B.Host.stops c.exchange-2.new.host c.exchange-2.new.port c.in_ok-moved_b.ensures.sound put_b.none_out rest))
+    (λ may. c.in_ok-ended.ensures.early (ap Ok none.3) may c.exchange.new.port)
+    (λ rest. subst (λ (side : Side). IsStopped one.machine side (answering rest (one.station c.exchange.new.host c.exchange.new.port))) c.requires.sides.0 (g.met.A.Host.stops c.exchange.new.host c.exchange.new.port c.in_ok-moved_a.ensures.sound put_a.none_out rest))
+    (λ rest. subst (λ (side : Side). IsStopped two.machine side (answering rest (two.station c.exchange-2.new.host c.exchange-2.new.port))) c.requires.sides.1 (g.met.B.Host.stops c.exchange-2.new.host c.exchange-2.new.port c.in_ok-moved_b.ensures.sound put_b.none_out rest))
     rest_a rest_b)

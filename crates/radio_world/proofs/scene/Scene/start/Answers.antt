@@ -7,6 +7,6 @@ returns-clause-stands g c =
     let one = g.A.Host in
     let two = g.B.Host in
     let content = g.T.Sink.content in
-    stands_then one.machine two.machine one.answers two.answers [] c.args.self.now c.settle.new.self (one.station c.args.a.now) (one.station c.settle.new.a) (two.station c.args.b.now) (two.station c.settle.new.b)
+    stands_then one.machine two.machine one.answers two.answers [] c.args.self.now c.settle.new.self (one.station c.args.a.now c.args.shelf.now) (one.station c.settle.new.a c.settle.new.shelf) (two.station c.args.b.now c.args.inbox.now) (two.station c.settle.new.b c.settle.new.inbox)
     c.args.shelf.now c.settle.new.shelf c.args.inbox.now c.settle.new.inbox (content c.args.trace.now) (content c.settle.new.trace)
     c.in_ok-settle.ensures.advances c.requires.reached c.in_ok-settle.ensures.settled

@@ -1,4 +1,4 @@
-use Rattle.std.proofs.Common.{List, take, replicate, sym, subst, ◌∙◌}
+use Rattle.std.proofs.Common.{List, take, replicate, sym, subst, ◌∙◌, arith}
 use Rattle.push_terms.specs.declared.word.Word.{Word}
 use Rattle.capture.specs.Air.{words_of}
 use Rattle.radio_world.specs.Scenes.{stage, Advances}
@@ -10,7 +10,7 @@ pub loop-i-init : goal.loop-i-init
 loop-i-init g c =
     let one = g.A.Host in
     let two = g.B.Host in
-    (advances_none one.machine two.machine one.answers two.answers _ g.met.A.Host.joins g.met.B.Host.joins, c.requires.stands, c.requires.none_held, c.requires.sound)
+    (advances_none one.machine two.machine one.answers two.answers _ g.met.A.Host.joins g.met.B.Host.joins, c.requires.stands, c.requires.none_held, c.requires.sound, omega arith)
 
 pub unreachable-requires : goal.unreachable-requires
 unreachable-requires g c = none_beyond c.args.script.now c.loop-i.i c.len-i-end.result c.len-i-end.ensures.count c.loop-i-test.true (sym c.at.ensures ∙ c.in_default.is)
@@ -23,11 +23,12 @@ loop-i-preserved g c =
     let one = g.A.Host in
     let two = g.B.Host in
     let content = g.T.Sink.content in (
-      subst (λ (words : List Word). Advances one.machine two.machine one.answers two.answers words (stage c.args.self.now (one.station c.args.a.now) (two.station c.args.b.now) c.args.shelf.now c.args.inbox.now (content c.args.trace.now))
-          (stage c.turn_times.new.self (one.station c.turn_times.new.a) (two.station c.turn_times.new.b) c.turn_times.new.shelf c.turn_times.new.inbox (content c.turn_times.new.trace)))
+      subst (λ (words : List Word). Advances one.machine two.machine one.answers two.answers words (stage c.args.self.now (one.station c.args.a.now c.args.shelf.now) (two.station c.args.b.now c.args.inbox.now) c.args.shelf.now c.args.inbox.now (content c.args.trace.now))
+          (stage c.turn_times.new.self (one.station c.turn_times.new.a c.turn_times.new.shelf) (two.station c.turn_times.new.b c.turn_times.new.inbox) c.turn_times.new.shelf c.turn_times.new.inbox (content c.turn_times.new.trace)))
           (run_more c.args.script.now c.loop-i.i c.in-Some.count c.in-Some.word (sym c.at.ensures ∙ c.in-Some.is))
           (advances_then one.machine two.machine one.answers two.answers (words_of (take c.loop-i.i c.args.script.now)) (replicate c.in-Some.count c.in-Some.word) _ _ _ g.met.A.Host.joins g.met.B.Host.joins c.loop-i.invariant.0 c.in_ok-turn_times.ensures.turns),
       c.in_ok-turn_times.ensures.stands,
       c.in_ok-turn_times.ensures.none_held,
       c.in_ok-turn_times.ensures.sound,
+      omega (arith, c.loop-i.invariant.4, c.turn_times.ensures.blames.stays),
     )

@@ -1,25 +1,31 @@
 use Rattle.std.proofs.Common.{[], ◌∷◌, ◌∙◌}
 use Rattle.radio_world.proofs.Advancing.{advances_then}
-use Rattle.radio_world.proofs.Standing.{at_rest, stands_quiet, stands_then}
+use Rattle.radio_world.proofs.Standing.{at_rest, reached_then, stands_quiet, stands_then}
 use Rattle.radio_world.proofs.scene.Scene.turn_found.Goals as goal
 
 pub do_word-requires-clause-rest : goal.do_word-requires-clause-rest
 do_word-requires-clause-rest g c =
     let one = g.A.Host in
     let two = g.B.Host in
-    at_rest one.machine two.machine c.args.self.now (one.station c.args.a.now) (two.station c.args.b.now) c.requires.orderly c.requires.stands
+    at_rest one.machine two.machine c.args.self.now (one.station c.args.a.now c.args.shelf.now) (two.station c.args.b.now c.args.inbox.now) c.requires.orderly c.requires.stands
 
 pub do_word-requires-clause-quiet : goal.do_word-requires-clause-quiet
 do_word-requires-clause-quiet g c =
     let one = g.A.Host in
     let two = g.B.Host in
-    stands_quiet one.machine two.machine c.args.self.now (one.station c.args.a.now) (two.station c.args.b.now) c.requires.stands
+    stands_quiet one.machine two.machine c.args.self.now (one.station c.args.a.now c.args.shelf.now) (two.station c.args.b.now c.args.inbox.now) c.requires.stands
 
 pub do_word-requires-clause-few : goal.do_word-requires-clause-few
 do_word-requires-clause-few g c = c.is_count_full.ensures.room c.if-is_count_full.false
 
 pub settle-requires-clause-none_held : goal.settle-requires-clause-none_held
 settle-requires-clause-none_held g c = (c.in_ok-do_word.ensures.held.0 ∙ c.requires.none_held.0, c.in_ok-do_word.ensures.held.1 ∙ c.requires.none_held.1)
+
+pub settle-requires-clause-reached : goal.settle-requires-clause-reached
+settle-requires-clause-reached g c =
+    let one = g.A.Host in
+    let two = g.B.Host in
+    reached_then one.machine two.machine one.answers two.answers (c.args.word ∷ []) _ _ c.in_ok-do_word.ensures.advances c.requires.stands.reached
 
 pub returns-clause-advances : goal.returns-clause-advances
 returns-clause-advances g c =
@@ -32,7 +38,7 @@ returns-clause-stands g c =
     let one = g.A.Host in
     let two = g.B.Host in
     let content = g.T.Sink.content in
-    stands_then one.machine two.machine one.answers two.answers (c.args.word ∷ []) c.args.self.now c.settle.new.self (one.station c.args.a.now) (one.station c.settle.new.a) (two.station c.args.b.now) (two.station c.settle.new.b)
+    stands_then one.machine two.machine one.answers two.answers (c.args.word ∷ []) c.args.self.now c.settle.new.self (one.station c.args.a.now c.args.shelf.now) (one.station c.settle.new.a c.settle.new.shelf) (two.station c.args.b.now c.args.inbox.now) (two.station c.settle.new.b c.settle.new.inbox)
     c.args.shelf.now c.settle.new.shelf c.args.inbox.now c.settle.new.inbox (content c.args.trace.now) (content c.settle.new.trace)
     (advances_then one.machine two.machine one.answers two.answers (c.args.word ∷ []) [] _ _ _ g.met.A.Host.joins g.met.B.Host.joins c.in_ok-do_word.ensures.advances c.in_ok-settle.ensures.advances)
     c.requires.stands.reached c.in_ok-settle.ensures.settled

@@ -1,4 +1,4 @@
-use Rattle.std.proofs.Common.{rules, ◌<◌, ◌+◌, ◌-◌, List, [], ◌∷◌, replicate, sym, subst, ◌∙◌}
+use Rattle.std.proofs.Common.{rules, ◌<◌, ◌+◌, ◌-◌, List, [], ◌∷◌, replicate, sym, subst, ◌∙◌, arith}
 use Rattle.push_terms.specs.declared.word.Word.{Word}
 use Rattle.radio_world.specs.Scenes.{stage, Advances}
 use Rattle.radio_world.proofs.Advancing.{advances_none, advances_then}
@@ -10,28 +10,29 @@ pub loop-done-init : goal.loop-done-init
 loop-done-init g c =
     let one = g.A.Host in
     let two = g.B.Host in
-    (advances_none one.machine two.machine one.answers two.answers _ g.met.A.Host.joins g.met.B.Host.joins, c.requires.stands, c.requires.none_held, c.requires.sound)
+    (advances_none one.machine two.machine one.answers two.answers _ g.met.A.Host.joins g.met.B.Host.joins, c.requires.stands, c.requires.none_held, c.requires.sound, omega arith)
 
 pub finds-requires : goal.finds-requires
 finds-requires g c =
     let one = g.A.Host in
     let two = g.B.Host in
-    stands_quiet one.machine two.machine c.loop-done.self (one.station c.loop-done.a) (two.station c.loop-done.b) c.loop-done.invariant.1
+    stands_quiet one.machine two.machine c.loop-done.self (one.station c.loop-done.a c.loop-done.shelf) (two.station c.loop-done.b c.loop-done.inbox) c.loop-done.invariant.1
 
 pub turn_found-requires-clause-finds : goal.turn_found-requires-clause-finds
-turn_found-requires-clause-finds g c = λ rest_a rest_b. sym (c.finds.ensures rest_a rest_b) ∙ c.if-not-finds.false
+turn_found-requires-clause-finds g c = λ rest_a rest_b. sym (c.finds.ensures c.loop-done.shelf c.loop-done.inbox rest_a rest_b) ∙ c.if-not-finds.false
 
 pub loop-done-preserved : goal.loop-done-preserved
 loop-done-preserved g c =
     let one = g.A.Host in
     let two = g.B.Host in
     let content = g.T.Sink.content in (
-      subst (λ (words : List Word). Advances one.machine two.machine one.answers two.answers words (stage c.args.self.now (one.station c.args.a.now) (two.station c.args.b.now) c.args.shelf.now c.args.inbox.now (content c.args.trace.now))
-          (stage c.turn_found.new.self (one.station c.turn_found.new.a) (two.station c.turn_found.new.b) c.turn_found.new.shelf c.turn_found.new.inbox (content c.turn_found.new.trace))) (once_more c.loop-done.done c.args.word)
+      subst (λ (words : List Word). Advances one.machine two.machine one.answers two.answers words (stage c.args.self.now (one.station c.args.a.now c.args.shelf.now) (two.station c.args.b.now c.args.inbox.now) c.args.shelf.now c.args.inbox.now (content c.args.trace.now))
+          (stage c.turn_found.new.self (one.station c.turn_found.new.a c.turn_found.new.shelf) (two.station c.turn_found.new.b c.turn_found.new.inbox) c.turn_found.new.shelf c.turn_found.new.inbox (content c.turn_found.new.trace))) (once_more c.loop-done.done c.args.word)
           (advances_then one.machine two.machine one.answers two.answers (replicate c.loop-done.done c.args.word) (c.args.word ∷ []) _ _ _ g.met.A.Host.joins g.met.B.Host.joins c.loop-done.invariant.0 c.in_ok-turn_found.ensures.advances),
       c.in_ok-turn_found.ensures.stands,
       c.in_ok-turn_found.ensures.none_held,
       c.in_ok-turn_found.ensures.sound,
+      omega (arith, c.loop-done.invariant.4, c.turn_found.ensures.blames.stays),
     )
 
 pub returns-then-not-finds-clause-turns : goal.returns-then-not-finds-clause-turns
@@ -41,13 +42,13 @@ returns-then-not-finds-clause-turns g c =
     let content = g.T.Sink.content in
     let below : c.loop-done.done < c.args.count = search rules in
     let rest = c.args.count - c.loop-done.done in
-    subst (λ (words : List Word). Advances one.machine two.machine one.answers two.answers words (stage c.args.self.now (one.station c.args.a.now) (two.station c.args.b.now) c.args.shelf.now c.args.inbox.now (content c.args.trace.now))
-    (stage c.pass_over.new.self (one.station c.loop-done.a) (two.station c.loop-done.b) c.loop-done.shelf c.loop-done.inbox (content c.loop-done.trace))) (times_and_rest c.loop-done.done c.args.count c.args.word below)
+    subst (λ (words : List Word). Advances one.machine two.machine one.answers two.answers words (stage c.args.self.now (one.station c.args.a.now c.args.shelf.now) (two.station c.args.b.now c.args.inbox.now) c.args.shelf.now c.args.inbox.now (content c.args.trace.now))
+    (stage c.pass_over.new.self (one.station c.loop-done.a c.loop-done.shelf) (two.station c.loop-done.b c.loop-done.inbox) c.loop-done.shelf c.loop-done.inbox (content c.loop-done.trace))) (times_and_rest c.loop-done.done c.args.count c.args.word below)
     (advances_then one.machine two.machine one.answers two.answers (replicate c.loop-done.done c.args.word) (replicate rest c.args.word) _ _ _ g.met.A.Host.joins g.met.B.Host.joins c.loop-done.invariant.0
-    (misses_advance one.machine two.machine one.answers two.answers c.args.word rest c.loop-done.self c.pass_over.new.self (one.station c.loop-done.a) (two.station c.loop-done.b) c.loop-done.shelf c.loop-done.inbox (content c.loop-done.trace)
+    (misses_advance one.machine two.machine one.answers two.answers c.args.word rest c.loop-done.self c.pass_over.new.self (one.station c.loop-done.a c.loop-done.shelf) (two.station c.loop-done.b c.loop-done.inbox) c.loop-done.shelf c.loop-done.inbox (content c.loop-done.trace)
     g.met.A.Host.joins g.met.B.Host.joins c.in_ok-pass_over.ensures.ok
-    (at_rest one.machine two.machine c.loop-done.self (one.station c.loop-done.a) (two.station c.loop-done.b) c.requires.orderly c.loop-done.invariant.1)
-    (λ rest_a rest_b. sym (c.finds.ensures rest_a rest_b) ∙ c.if-not-finds.true)))
+    (at_rest one.machine two.machine c.loop-done.self (one.station c.loop-done.a c.loop-done.shelf) (two.station c.loop-done.b c.loop-done.inbox) c.requires.orderly c.loop-done.invariant.1)
+    (λ rest_a rest_b. sym (c.finds.ensures c.loop-done.shelf c.loop-done.inbox rest_a rest_b) ∙ c.if-not-finds.true)))
 
 pub returns-then-not-finds-clause-stands : goal.returns-then-not-finds-clause-stands
 returns-then-not-finds-clause-stands g c =
@@ -55,13 +56,13 @@ returns-then-not-finds-clause-stands g c =
     let two = g.B.Host in
     let content = g.T.Sink.content in
     let rest = c.args.count - c.loop-done.done in
-    misses_stand one.machine two.machine c.loop-done.self c.pass_over.new.self (one.station c.loop-done.a) (two.station c.loop-done.b) (c.loop-done.self.turned + rest) c.in_ok-pass_over.ensures.ok
+    misses_stand one.machine two.machine c.loop-done.self c.pass_over.new.self (one.station c.loop-done.a c.loop-done.shelf) (two.station c.loop-done.b c.loop-done.inbox) (c.loop-done.self.turned + rest) c.in_ok-pass_over.ensures.ok
     (reached_then one.machine two.machine one.answers two.answers (replicate rest c.args.word)
-    (stage c.loop-done.self (one.station c.loop-done.a) (two.station c.loop-done.b) c.loop-done.shelf c.loop-done.inbox (content c.loop-done.trace))
-    (stage c.pass_over.new.self (one.station c.loop-done.a) (two.station c.loop-done.b) c.loop-done.shelf c.loop-done.inbox (content c.loop-done.trace))
-    (misses_advance one.machine two.machine one.answers two.answers c.args.word rest c.loop-done.self c.pass_over.new.self (one.station c.loop-done.a) (two.station c.loop-done.b) c.loop-done.shelf c.loop-done.inbox (content c.loop-done.trace)
+    (stage c.loop-done.self (one.station c.loop-done.a c.loop-done.shelf) (two.station c.loop-done.b c.loop-done.inbox) c.loop-done.shelf c.loop-done.inbox (content c.loop-done.trace))
+    (stage c.pass_over.new.self (one.station c.loop-done.a c.loop-done.shelf) (two.station c.loop-done.b c.loop-done.inbox) c.loop-done.shelf c.loop-done.inbox (content c.loop-done.trace))
+    (misses_advance one.machine two.machine one.answers two.answers c.args.word rest c.loop-done.self c.pass_over.new.self (one.station c.loop-done.a c.loop-done.shelf) (two.station c.loop-done.b c.loop-done.inbox) c.loop-done.shelf c.loop-done.inbox (content c.loop-done.trace)
     g.met.A.Host.joins g.met.B.Host.joins c.in_ok-pass_over.ensures.ok
-    (at_rest one.machine two.machine c.loop-done.self (one.station c.loop-done.a) (two.station c.loop-done.b) c.requires.orderly c.loop-done.invariant.1)
-    (λ rest_a rest_b. sym (c.finds.ensures rest_a rest_b) ∙ c.if-not-finds.true))
+    (at_rest one.machine two.machine c.loop-done.self (one.station c.loop-done.a c.loop-done.shelf) (two.station c.loop-done.b c.loop-done.inbox) c.requires.orderly c.loop-done.invariant.1)
+    (λ rest_a rest_b. sym (c.finds.ensures c.loop-done.shelf c.loop-done.inbox rest_a rest_b) ∙ c.if-not-finds.true))
     c.loop-done.invariant.1.reached)
     c.loop-done.invariant.1

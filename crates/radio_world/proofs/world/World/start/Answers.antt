@@ -9,5 +9,5 @@ pub start-requires-clause-reached : goal.start-requires-clause-reached
 start-requires-clause-reached g c =
     let one = g.A.Host in
     let two = g.B.Host in
-    subst (λ (w : Both g.row.A.Denot g.row.B.Denot). (rest_a : List one.Answer) (rest_b : List two.Answer) → IsReached one.machine two.machine (moment w.scene (answering rest_a (one.station w.a)) (answering rest_b (two.station w.b)))) (sym c.self.view_is)
+    subst (λ (w : Both g.row.A.Denot g.row.B.Denot). (rest_a : List one.Answer) (rest_b : List two.Answer) → IsReached one.machine two.machine (moment w.scene (answering rest_a (one.station w.a c.args.shelf.now)) (answering rest_b (two.station w.b c.args.inbox.now)))) (sym c.self.view_is)
     c.requires.reached

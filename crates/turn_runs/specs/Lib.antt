@@ -1,0 +1,3 @@
+pub mod Laws
+pub mod Embedding
+pub mod Breaking
