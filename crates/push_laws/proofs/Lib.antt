@@ -12,3 +12,6 @@ pub mod Beginning
 pub mod Calling
 pub mod SmallFrames
 pub mod SmallAnswers
+pub mod Talks
+pub mod Answered
+pub mod Pushing
