@@ -15,3 +15,4 @@ pub mod SmallAnswers
 pub mod Talks
 pub mod Answered
 pub mod Pushing
+pub mod Asking
