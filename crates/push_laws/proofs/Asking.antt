@@ -30,13 +30,13 @@ use Rattle.push_laws.proofs.Pushing as state
 
 -- ---- what a client asks, and when
 
-record Whence (ask : Ask) (contact : Contact) (cause : Option Outcome) (place : Option ℕ) : Type 0 where
-  connect : ask ≡ Connect → (contact ≡ Unmet) × (cause ≡ None)
-  put : ask ≡ Put → (contact ≡ Met) × (cause ≡ None)
-  abort : ask ≡ Abort → (contact ≡ Met) × (is_some cause ≡ true) × (is_some place ≡ true)
-  disconnect : ask ≡ Disconnect → (contact ≡ Met) × (is_some cause ≡ true) × (place ≡ None)
+pub record Whence (ask : Ask) (contact : Contact) (cause : Option Outcome) (place : Option ℕ) : Type 0 where
+  pub connect : ask ≡ Connect → (contact ≡ Unmet) × (cause ≡ None)
+  pub put : ask ≡ Put → (contact ≡ Met) × (cause ≡ None)
+  pub abort : ask ≡ Abort → (contact ≡ Met) × (is_some cause ≡ true) × (is_some place ≡ true)
+  pub disconnect : ask ≡ Disconnect → (contact ≡ Met) × (is_some cause ≡ true) × (place ≡ None)
 
-whence : (contact : Contact) (cause : Option Outcome) (place : Option ℕ) → Whence (asks contact cause place) contact cause place
+pub whence : (contact : Contact) (cause : Option Outcome) (place : Option ℕ) → Whence (asks contact cause place) contact cause place
 whence Unmet None place = record { connect = λ e. (refl, refl); put = λ e. absurd (let f : Connect ≡ Put = e in cc); abort = λ e. absurd (let f : Connect ≡ Abort = e in cc); disconnect = λ e. absurd (let f : Connect ≡ Disconnect = e in cc) }
 whence Unmet (Some o) place = record { connect = λ e. absurd (let f : Close ≡ Connect = e in cc); put = λ e. absurd (let f : Close ≡ Put = e in cc); abort = λ e. absurd (let f : Close ≡ Abort = e in cc); disconnect = λ e. absurd (let f : Close ≡ Disconnect = e in cc) }
 whence Met None place = record { connect = λ e. absurd (let f : Put ≡ Connect = e in cc); put = λ e. (refl, refl); abort = λ e. absurd (let f : Put ≡ Abort = e in cc); disconnect = λ e. absurd (let f : Put ≡ Disconnect = e in cc) }
@@ -65,7 +65,7 @@ more sent before packets e = ap (λ xs. xs ++ packets) e
 
 -- ---- CONNECT
 
-connects : (w : Task) (sent : List (List ℕ)) (client : Client) → client.contact ≡ Unmet → client.cause ≡ None → is_waiting client.session.awaited ≡ false → Stands w sent (talk_of client)
+pub connects : (w : Task) (sent : List (List ℕ)) (client : Client) → client.contact ≡ Unmet → client.cause ≡ None → is_waiting client.session.awaited ≡ false → Stands w sent (talk_of client)
     → Stands w (sent ++ connect_octets client.session ∷ []) (talk_of (record client { session = asks_connect client.session; contact = Unmet }))
 connects w sent client unmet free still s = (fixed, by s.1)
   where
@@ -83,7 +83,7 @@ connects w sent client unmet free still s = (fixed, by s.1)
 
 -- ---- ABORT and DISCONNECT
 
-aborts : (w : Task) (sent : List (List ℕ)) (client : Client) → client.contact ≡ Met → is_some client.cause ≡ true → is_some client.session.put ≡ true → Stands w sent (talk_of client)
+pub aborts : (w : Task) (sent : List (List ℕ)) (client : Client) → client.contact ≡ Met → is_some client.cause ≡ true → is_some client.session.put ≡ true → Stands w sent (talk_of client)
     → Stands w (sent ++ abort_octets ∷ []) (talk_of (record client { session = asks_abort client.session }))
 aborts w sent client met caused some s = (fixed, by s.1)
   where
@@ -97,7 +97,7 @@ aborts w sent client met caused some s = (fixed, by s.1)
     by (GivenUp puts at is was wanted has given unput) = absurd (no_place client.session.put some unput)
     by (Gone gone past) = absurd (not_gone client.contact gone met)
 
-leaves : (w : Task) (sent : List (List ℕ)) (client : Client) → client.contact ≡ Met → Stands w sent (talk_of client) → Stands w (sent ++ disconnect_octets ∷ []) (talk_of (record client { session = asks_disconnect client.session; contact = Left }))
+pub leaves : (w : Task) (sent : List (List ℕ)) (client : Client) → client.contact ≡ Met → Stands w sent (talk_of client) → Stands w (sent ++ disconnect_octets ∷ []) (talk_of (record client { session = asks_disconnect client.session; contact = Left }))
 leaves w sent client met s = (fixed, Gone refl (by s.1))
   where
     fixed : Fixed w (asks_disconnect client.session) client.name client.size client.limit
@@ -119,7 +119,7 @@ leaves w sent client met s = (fixed, Gone refl (by s.1))
 -- ---- PUT
 
 -- the part was told, where the packet has octets of the object
-Told : Option (List Object) → Client → List ℕ → Type 0
+abbrev pub Told : Option (List Object) → Client → List ℕ → Type 0
 Told content client part = (length part ≡ put_count client) × (0 < put_count client → IfSome content (λ objects. HasAt (place_of client.session.put) part (octets_of client.name objects)))
 
 written : List ℕ → List ℕ
@@ -129,7 +129,7 @@ goes_on : (w : Task) (puts : List (List ℕ)) (client : Client) (part : List ℕ
     → HasPut client.name client.size puts client.session w.content → Told w.content client part
     → GoesOnTo client.name client.size puts (after_put client.session final (put_count client)) w.content
         (written (packet_octets (put_packet final (ahead_of client.session.wanted client.session.put client.name client.size) part))) (put.Packet (length (packet_octets (put_packet final (ahead_of client.session.wanted client.session.put client.name client.size) part))) final)
-unfolding Told written
+unfolding written
 goes_on w puts client part final is still own f has told =
     let octets = packet_octets (put_packet final (ahead_of client.session.wanted client.session.put client.name client.size) part) in
     puts_in_order.goes_on client.name client.size client.limit puts client.session (after_put client.session final (put_count client)) w.content [] (written octets) (put.Packet (length octets) final) f.short f.small f.most f.least own has
@@ -164,7 +164,7 @@ put_state w sent puts client part false last still own f is met has told =
     (subst (λ (x : List ℕ). HasPut client.name client.size (puts ++ x ∷ []) after w.content) (front_is octets) on)
     (λ e. (refl, own, inr (not (is_some client.session.put), client.session.single, refl)))
 
-puts_stand : (w : Task) (sent : List (List ℕ)) (client : Client) (part : List ℕ) → client.contact ≡ Met → client.cause ≡ None → is_waiting client.session.awaited ≡ false → Told w.content client part → Stands w sent (talk_of client)
+pub puts_stand : (w : Task) (sent : List (List ℕ)) (client : Client) (part : List ℕ) → client.contact ≡ Met → client.cause ≡ None → is_waiting client.session.awaited ≡ false → Told w.content client part → Stands w sent (talk_of client)
     → Stands w (sent ++ put_octets client part ∷ []) (talk_of (record client { session = after_put client.session (is_last_put client) (put_count client) }))
 puts_stand w sent client part met free still told s = (fixed, by s.1)
   where

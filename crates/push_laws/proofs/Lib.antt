@@ -16,3 +16,4 @@ pub mod Talks
 pub mod Answered
 pub mod Pushing
 pub mod Asking
+pub mod Sending
