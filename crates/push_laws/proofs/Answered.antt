@@ -22,6 +22,10 @@ of_result : {A E : Type 0} → (x : Result A E) (P : Result A E → Type 0) → 
 of_result (Ok a) P ok err = ok a refl
 of_result (Err e) P ok err = err e
 
+abbrev option_or : {A : Type 0} → A → Option A → A
+option_or other None = other
+option_or other (Some a) = a
+
 -- ---- what is left
 
 pub record After (session heard : Asking) : Type 0 where
@@ -82,6 +86,33 @@ final_ends session octets e =
     (λ packet is go. let says = says_go packet.code (marks_of packet.headers).parameters (eqb packet.code 0xA0) Done go in let f : Done ≡ Go = says.2 in absurd cc)
     (λ refusal go. absurd (let f : Bad refusal ≡ Go = go in cc)) (inner (answer_read (put_request false true false) (packet_in (phase_of (put_request false true false)) session.maximum octets)) Go e)
 
+-- ---- where it is done
+
+says_done : (refused : ℕ) (parameters matches : Bool) (success : Answered) → (success ≡ Done → ⊥) → (if parameters then Srmp else if matches then success else Refused refused) ≡ Done → ⊥
+says_done refused true matches success other e = let f : Srmp ≡ Done = e in absurd cc
+says_done refused false true success other e = other e
+says_done refused false false success other e = let f : Refused refused ≡ Done = e in absurd cc
+
+put_goes : (first single : Bool) → success_of (put_request first false single) ≡ Done → ⊥
+put_goes true single e = let f : Go ≡ Done = e in absurd cc
+put_goes false true e = let f : Go ≡ Done = e in absurd cc
+put_goes false false e = let f : Go ≡ Done = e in absurd cc
+
+-- no response to CONNECT, or to a PUT that is not the final one, says that it is
+pub connect_not_done : (session : Asking) (octets : List ℕ) → answer_at (asks_connect session).awaited session octets ≡ Some Done → ⊥
+connect_not_done session octets e =
+    of_result (packet_in phase.ConnectResponse session.maximum octets) (λ read. answer_read (option_or (put_request false true false) (asks_connect session).awaited) read ≡ Done → ⊥)
+    (λ packet is done. says_done packet.code (marks_of packet.headers).parameters (eqb packet.code 0xA0) Go (λ f. absurd cc) done)
+    (λ refusal done. let f : Bad refusal ≡ Done = done in absurd cc)
+    (inner (answer_read (option_or (put_request false true false) (asks_connect session).awaited) (packet_in phase.ConnectResponse session.maximum octets)) Done e)
+
+pub put_not_done : (first single : Bool) (session : Asking) (octets : List ℕ) → answer_at (Some (put_request first false single)) session octets ≡ Some Done → ⊥
+put_not_done first single session octets e =
+    of_result (packet_in (phase_of (put_request first false single)) session.maximum octets) (λ read. answer_read (put_request first false single) read ≡ Done → ⊥)
+    (λ packet is done. says_done packet.code (marks_of packet.headers).parameters (eqb packet.code (awaited_code (put_request first false single))) (success_of (put_request first false single)) (put_goes first single) done)
+    (λ refusal done. let f : Bad refusal ≡ Done = done in absurd cc)
+    (inner (answer_read (put_request first false single) (packet_in (phase_of (put_request first false single)) session.maximum octets)) Done e)
+
 -- ---- the limit of what is sent stays wide enough
 
 -- a response to CONNECT that is read states 255 octets at least
@@ -102,10 +133,6 @@ wide_tests false false session going ended x y z = z
 
 both_wide : (a b : ℕ) → 255 ≤ a → 255 ≤ b → 255 ≤ min a b
 both_wide a b x y = omega (arith, x, y)
-
-abbrev option_or : {A : Type 0} → A → Option A → A
-option_or other None = other
-option_or other (Some a) = a
 
 pub connect_wide : (session : Asking) (octets : List ℕ) → 255 ≤ session.limit → 255 ≤ (after_at (asks_connect session).awaited session octets).limit
 connect_wide session octets least =

@@ -23,9 +23,9 @@ use Rattle.push_model.specs.declared.course.Contact.{Contact}
 use Rattle.push_model.specs.declared.course.Contact.TheVariants.{Unmet, Met, Left, Closing}
 use Rattle.push_model.specs.Client.{Client, ends}
 use Rattle.push_model.specs.Steps.{Part, Made, Ask, Connect, Put, Abort, Disconnect, Close, Nothing, asks, next_ask, put_count, is_last_put, put_octets, connect_octets, abort_octets, disconnect_octets, puts_part, puts_from, puts, leaves_by, failing, puts_or_leaves, requests}
-use Rattle.push_laws.specs.Sending.{IsPush, packet_of, Answers}
+use Rattle.push_laws.specs.Sending.{packet_of, Answers}
 use Rattle.push_laws.proofs.Talks.{Talk, talk_of}
-use Rattle.push_laws.proofs.Pushing.{Task, IsSent, connect_of, is_gone, Fixed, State, Fresh, Connecting, Putting, GivenUp, Gone, Stands, MayPutOn, ends_stands}
+use Rattle.push_laws.proofs.Pushing.{Task, HasSent, NotDone, NotCancelled, connect_of, is_gone, Fixed, State, Fresh, Connecting, Putting, GivenUp, Gone, Stands, MayPutOn, ends_stands}
 use Rattle.push_laws.proofs.Pushing as state
 
 -- ---- what a client asks, and when
@@ -44,6 +44,16 @@ whence Met (Some o) None = record { connect = λ e. absurd (let f : Disconnect �
 whence Met (Some o) (Some place) = record { connect = λ e. absurd (let f : Abort ≡ Connect = e in cc); put = λ e. absurd (let f : Abort ≡ Put = e in cc); abort = λ e. (refl, refl, refl); disconnect = λ e. absurd (let f : Abort ≡ Disconnect = e in cc) }
 whence Left cause place = record { connect = λ e. absurd (let f : Close ≡ Connect = e in cc); put = λ e. absurd (let f : Close ≡ Put = e in cc); abort = λ e. absurd (let f : Close ≡ Abort = e in cc); disconnect = λ e. absurd (let f : Close ≡ Disconnect = e in cc) }
 whence Closing cause place = record { connect = λ e. absurd (let f : Nothing ≡ Connect = e in cc); put = λ e. absurd (let f : Nothing ≡ Put = e in cc); abort = λ e. absurd (let f : Nothing ≡ Abort = e in cc); disconnect = λ e. absurd (let f : Nothing ≡ Disconnect = e in cc) }
+
+-- it closes behind a cause, or where it has left already
+pub closes : (contact : Contact) (cause : Option Outcome) (place : Option ℕ) → asks contact cause place ≡ Close → (is_some cause ≡ true) ⊎ (is_gone contact ≡ true)
+closes Unmet None place e = absurd (let f : Connect ≡ Close = e in cc)
+closes Unmet (Some o) place e = inl refl
+closes Met None place e = absurd (let f : Put ≡ Close = e in cc)
+closes Met (Some o) None e = inl refl
+closes Met (Some o) (Some place) e = inl refl
+closes Left cause place e = inr refl
+closes Closing cause place e = inr refl
 
 not_met : (contact : Contact) → contact ≡ Unmet → contact ≡ Met → ⊥
 not_met contact a b = let f : Unmet ≡ Met = sym a ∙ b in cc
@@ -74,12 +84,12 @@ connects w sent client unmet free still s = (fixed, by s.1)
     first : connect_octets client.session ≡ connect_of w
     first = ap (λ (n : ℕ). packet_octets (bare 0x80 (connect_fields n))) s.0.maximum
     by : State w sent client.cause client.contact client.session client.name client.size → State w (sent ++ connect_octets client.session ∷ []) client.cause Unmet (asks_connect client.session) client.name client.size
-    by (Fresh none was waits unput least) = Connecting (more sent [] (connect_octets client.session ∷ []) none ∙ ap (λ (x : List ℕ). x ∷ []) first) refl (λ e. (refl, least free)) refl
-    by (Connecting is was waits unput) = absurd (no_wait (is_waiting client.session.awaited) still (ap is_waiting (waits free).0))
-    by (Putting puts at is met wanted has place) = absurd (not_met client.contact unmet met)
-    by (state.Put puts is met whole waits unput) = absurd (not_met client.contact unmet met)
-    by (GivenUp puts at is met wanted has caused unput) = absurd (not_met client.contact unmet met)
-    by (Gone gone past) = absurd (let f : false ≡ true = sym (ap is_gone unmet) ∙ gone in cc)
+    by (Fresh none was waits unput least other) = Connecting (more sent [] (connect_octets client.session ∷ []) none ∙ ap (λ (x : List ℕ). x ∷ []) first) refl (λ e. (refl, least free)) refl other
+    by (Connecting is was waits unput other) = absurd (no_wait (is_waiting client.session.awaited) still (ap is_waiting (waits free).0))
+    by (Putting puts at is met wanted has place other) = absurd (not_met client.contact unmet met)
+    by (state.Put puts is met whole waits unput other) = absurd (not_met client.contact unmet met)
+    by (GivenUp puts at is met wanted has caused unput other) = absurd (not_met client.contact unmet met)
+    by (Gone gone given past) = absurd (let f : false ≡ true = sym (ap is_gone unmet) ∙ gone in cc)
 
 -- ---- ABORT and DISCONNECT
 
@@ -90,31 +100,31 @@ aborts w sent client met caused some s = (fixed, by s.1)
     fixed : Fixed w (asks_abort client.session) client.name client.size client.limit
     fixed = record { maximum = s.0.maximum; wanted = s.0.wanted; name_is = s.0.name_is; size_is = s.0.size_is; short = s.0.short; small = s.0.small; least = s.0.least; most = s.0.most }
     by : State w sent client.cause client.contact client.session client.name client.size → State w (sent ++ abort_octets ∷ []) client.cause client.contact (asks_abort client.session) client.name client.size
-    by (Fresh none was waits unput least) = absurd (not_met client.contact was met)
-    by (Connecting is was waits unput) = absurd (not_met client.contact was met)
-    by (Putting puts at is was wanted has place) = GivenUp puts at (more sent (connect_of w ∷ puts) (abort_octets ∷ []) is) met wanted has caused refl
-    by (state.Put puts is was whole waits unput) = absurd (no_place client.session.put some unput)
-    by (GivenUp puts at is was wanted has given unput) = absurd (no_place client.session.put some unput)
-    by (Gone gone past) = absurd (not_gone client.contact gone met)
+    by (Fresh none was waits unput least other) = absurd (not_met client.contact was met)
+    by (Connecting is was waits unput other) = absurd (not_met client.contact was met)
+    by (Putting puts at is was wanted has place other) = GivenUp puts at (more sent (connect_of w ∷ puts) (abort_octets ∷ []) is) met wanted has caused refl other
+    by (state.Put puts is was whole waits unput other) = absurd (no_place client.session.put some unput)
+    by (GivenUp puts at is was wanted has given unput other) = absurd (no_place client.session.put some unput)
+    by (Gone gone given past) = absurd (not_gone client.contact gone met)
 
-pub leaves : (w : Task) (sent : List (List ℕ)) (client : Client) → client.contact ≡ Met → Stands w sent (talk_of client) → Stands w (sent ++ disconnect_octets ∷ []) (talk_of (record client { session = asks_disconnect client.session; contact = Left }))
-leaves w sent client met s = (fixed, Gone refl (by s.1))
+pub leaves : (w : Task) (sent : List (List ℕ)) (client : Client) → client.contact ≡ Met → is_some client.cause ≡ true → Stands w sent (talk_of client) → Stands w (sent ++ disconnect_octets ∷ []) (talk_of (record client { session = asks_disconnect client.session; contact = Left }))
+leaves w sent client met caused s = (fixed, Gone refl caused (by s.1))
   where
     fixed : Fixed w (asks_disconnect client.session) client.name client.size client.limit
     fixed = record { maximum = s.0.maximum; wanted = s.0.wanted; name_is = s.0.name_is; size_is = s.0.size_is; short = s.0.short; small = s.0.small; least = s.0.least; most = s.0.most }
-    by : State w sent client.cause client.contact client.session client.name client.size → IsSent w client.name client.size (sent ++ disconnect_octets ∷ [])
-    by (Fresh none was waits unput least) = absurd (not_met client.contact was met)
-    by (Connecting is was waits unput) = absurd (not_met client.contact was met)
-    by (Putting puts at is was wanted has place) = inr (record { puts = puts; gave_up = false; left = true; sent_is = more sent (connect_of w ∷ puts) (disconnect_octets ∷ []) is; puts_are = inr (at, wanted, has) })
-    by (state.Put puts is was whole waits unput) = inr (record { puts = puts; gave_up = false; left = true; sent_is = more sent (connect_of w ∷ puts) (disconnect_octets ∷ []) is; puts_are = inl (whole, refl) })
-    by (GivenUp puts at is was wanted has given unput) = inr (record {
+    by : State w sent client.cause client.contact client.session client.name client.size → HasSent w client.name client.size client.cause (sent ++ disconnect_octets ∷ [])
+    by (Fresh none was waits unput least other) = absurd (not_met client.contact was met)
+    by (Connecting is was waits unput other) = absurd (not_met client.contact was met)
+    by (Putting puts at is was wanted has place other) = inr (record { puts = puts; gave_up = false; left = true; sent_is = more sent (connect_of w ∷ puts) (disconnect_octets ∷ []) is; puts_are = inr (at, wanted, has, other) })
+    by (state.Put puts is was whole waits unput other) = inr (record { puts = puts; gave_up = false; left = true; sent_is = more sent (connect_of w ∷ puts) (disconnect_octets ∷ []) is; puts_are = inl (whole, refl, other) })
+    by (GivenUp puts at is was wanted has given unput other) = inr (record {
       puts = puts;
       gave_up = true;
       left = true;
       sent_is = more sent (connect_of w ∷ (puts ++ abort_octets ∷ [])) (disconnect_octets ∷ []) is ∙ ap (λ (xs : List (List ℕ)). connect_of w ∷ xs) (append_assoc puts (abort_octets ∷ []) (disconnect_octets ∷ []));
-      puts_are = inr (at, wanted, has);
+      puts_are = inr (at, wanted, has, other);
     })
-    by (Gone gone past) = absurd (not_gone client.contact gone met)
+    by (Gone gone given past) = absurd (not_gone client.contact gone met)
 
 -- ---- PUT
 
@@ -144,25 +154,28 @@ front_is : (octets : List ℕ) → take (length octets) (written octets) ≡ oct
 unfolding written
 front_is octets = take-append_seam octets (drop (length octets) [])
 
+not_ended : (cause : Option Outcome) (o : Outcome) → cause ≡ None → cause ≡ Some o → ⊥
+not_ended cause o a b = let f : None ≡ Some o = sym a ∙ b in cc
+
 put_state : (w : Task) (sent puts : List (List ℕ)) (client : Client) (part : List ℕ) (final : Bool) → final ≡ is_last_put client → is_waiting client.session.awaited ≡ false → 255 ≤ client.session.limit → Fixed w client.session client.name client.size client.limit
-    → sent ≡ connect_of w ∷ puts → client.contact ≡ Met → HasPut client.name client.size puts client.session w.content → Told w.content client part
+    → sent ≡ connect_of w ∷ puts → client.contact ≡ Met → client.cause ≡ None → HasPut client.name client.size puts client.session w.content → Told w.content client part
     → State w (sent ++ packet_octets (put_packet final (ahead_of client.session.wanted client.session.put client.name client.size) part) ∷ []) client.cause client.contact (after_put client.session final (put_count client)) client.name client.size
-put_state w sent puts client part true last still own f is met has told =
+put_state w sent puts client part true last still own f is met free has told =
     let octets = packet_octets (put_packet true (ahead_of client.session.wanted client.session.put client.name client.size) part) in
     let whole = goes_on w puts client part true last still own f has told in
     state.Put (puts ++ octets ∷ []) (more sent (connect_of w ∷ puts) (octets ∷ []) is) met
     (subst (λ (b : Bool). IsWhole b client.name client.size (puts ++ octets ∷ []) w.content) f.wanted (subst (λ (x : List ℕ). IsWhole client.session.wanted client.name client.size (puts ++ x ∷ []) w.content) (front_is octets) whole))
-    (λ e. final_of client.session.put client.session.single) refl
+    (λ e. final_of client.session.put client.session.single) refl (not_ended client.cause outcomes.Cancelled free)
   where
     final_of : (place : Option ℕ) (single : Bool) → Some (put_request (not (is_some place)) true single) ≡ Some (put_request false true false)
     final_of place single = refl
-put_state w sent puts client part false last still own f is met has told =
+put_state w sent puts client part false last still own f is met free has told =
     let octets = packet_octets (put_packet false (ahead_of client.session.wanted client.session.put client.name client.size) part) in
     let on = goes_on w puts client part false last still own f has told in
     let after = after_put client.session false (put_count client) in
     Putting (puts ++ octets ∷ []) after (more sent (connect_of w ∷ puts) (octets ∷ []) is) met f.wanted
     (subst (λ (x : List ℕ). HasPut client.name client.size (puts ++ x ∷ []) after w.content) (front_is octets) on)
-    (λ e. (refl, own, inr (not (is_some client.session.put), client.session.single, refl)))
+    (λ e. (refl, own, inr (not (is_some client.session.put), client.session.single, refl))) (not_ended client.cause outcomes.Done free)
 
 pub puts_stand : (w : Task) (sent : List (List ℕ)) (client : Client) (part : List ℕ) → client.contact ≡ Met → client.cause ≡ None → is_waiting client.session.awaited ≡ false → Told w.content client part → Stands w sent (talk_of client)
     → Stands w (sent ++ put_octets client part ∷ []) (talk_of (record client { session = after_put client.session (is_last_put client) (put_count client) }))
@@ -172,10 +185,24 @@ puts_stand w sent client part met free still told s = (fixed, by s.1)
     fixed = record { maximum = s.0.maximum; wanted = s.0.wanted; name_is = s.0.name_is; size_is = s.0.size_is; short = s.0.short; small = s.0.small; least = s.0.least; most = s.0.most }
     by : State w sent client.cause client.contact client.session client.name client.size
         → State w (sent ++ put_octets client part ∷ []) client.cause client.contact (after_put client.session (is_last_put client) (put_count client)) client.name client.size
-    by (Fresh none was waits unput least) = absurd (not_met client.contact was met)
-    by (Connecting is was waits unput) = absurd (not_met client.contact was met)
-    by (Putting puts at is was wanted has place) =
-        put_state w sent puts client part (is_last_put client) refl still (place free).1 s.0 is met (puts_in_order.stays client.name client.size puts at client.session w.content (place free).0 (s.0.wanted ∙ sym wanted) has) told
-    by (state.Put puts is was whole waits unput) = absurd (no_wait (is_waiting client.session.awaited) still (ap is_waiting (waits free)))
-    by (GivenUp puts at is was wanted has given unput) = absurd (not_caused client.cause given free)
-    by (Gone gone past) = absurd (not_gone client.contact gone met)
+    by (Fresh none was waits unput least other) = absurd (not_met client.contact was met)
+    by (Connecting is was waits unput other) = absurd (not_met client.contact was met)
+    by (Putting puts at is was wanted has place other) =
+        put_state w sent puts client part (is_last_put client) refl still (place free).1 s.0 is met free (puts_in_order.stays client.name client.size puts at client.session w.content (place free).0 (s.0.wanted ∙ sym wanted) has) told
+    by (state.Put puts is was whole waits unput other) = absurd (no_wait (is_waiting client.session.awaited) still (ap is_waiting (waits free)))
+    by (GivenUp puts at is was wanted has given unput other) = absurd (not_caused client.cause given free)
+    by (Gone gone given past) = absurd (not_gone client.contact gone met)
+
+-- a client that left has a cause
+pub left_caused : (w : Task) (sent : List (List ℕ)) (client : Client) → is_gone client.contact ≡ true → Stands w sent (talk_of client) → is_some client.cause ≡ true
+left_caused w sent client away s = by s.1
+  where
+    not_away : client.contact ≡ Unmet → ⊥
+    not_away e = let f : false ≡ true = sym (ap is_gone e) ∙ away in cc
+    by : State w sent client.cause client.contact client.session client.name client.size → is_some client.cause ≡ true
+    by (Fresh none was waits unput least other) = absurd (not_away was)
+    by (Connecting is was waits unput other) = absurd (not_away was)
+    by (Putting puts at is was wanted has place other) = absurd (not_gone client.contact away was)
+    by (state.Put puts is was whole waits unput other) = absurd (not_gone client.contact away was)
+    by (GivenUp puts at is was wanted has given unput other) = given
+    by (Gone gone given past) = given

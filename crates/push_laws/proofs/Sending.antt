@@ -1,5 +1,5 @@
 -- What a client sends in one push, whatever it hears.
-use Rattle.std.proofs.Common.{◌≡◌, ℕ, ◌<◌, ◌-◌, ◌++◌, ◌⊎◌, ◌&&◌, ◌||◌, ◌==◌, not, Bool, true, false, List, [], ◌∷◌, length, drop, Option, Some, None, is_some, Result, Ok, Err, refl, sym, ap, subst, ◌∙◌, arith, append-nil, append_assoc, if◌then◌else◌}
+use Rattle.std.proofs.Common.{◌≡◌, ℕ, ◌<◌, ◌-◌, ◌++◌, ◌⊎◌, inl, inr, ◌&&◌, ◌||◌, ◌==◌, not, Bool, true, false, List, [], ◌∷◌, length, drop, Option, Some, None, is_some, is_none, Result, Ok, Err, refl, sym, ap, subst, ◌∙◌, arith, append-nil, append_assoc, if◌then◌else◌}
 use Rattle.std.proofs.lemmas.Bool.{eqb-true, cond-true, cond-false}
 use Rattle.bt_base.specs.declared.ports.PortFault.{PortFault}
 use Rattle.bt_base.specs.declared.ports.PortFault.TheVariants as fault
@@ -14,11 +14,12 @@ use Rattle.rfcomm_model.specs.Machine.{is_ready, taken_count}
 use Rattle.rfcomm_model.specs.Saying.{Said, next}
 use Rattle.sdp_client.specs.Asking.{is_due, after_request, request_octets}
 use Rattle.obex_session.specs.NextPut.{is_waiting}
+use Rattle.obex_session.specs.Views.{is_final_put}
 use Rattle.push_model.specs.declared.course.Contact.TheVariants.{Met, Closing}
 use Rattle.push_model.specs.declared.course.Point.TheVariants.{Due, Asked}
 use Rattle.push_model.specs.declared.course.Stage.{Stage}
 use Rattle.push_model.specs.declared.course.Stage.TheVariants.{Rest, Link, SearchChannel, Search, SearchEnd, Features, ObjectChannel, Object, ObjectEnd, LinkEnd, Over}
-use Rattle.push_model.specs.Client.{Client, ends, ends_by, may_cancel, with_object}
+use Rattle.push_model.specs.Client.{Client, ends, ends_by, is_rest, may_cancel, with_object}
 use Rattle.push_model.specs.Events.{search_psm}
 use Rattle.push_model.specs.Laws.{Deed, Hears, Asks, Finishes, Cancels, done, all_done}
 use Rattle.push_model.specs.Payloads.{Octets}
@@ -27,8 +28,8 @@ use Rattle.push_model.specs.Steps as steps
 use Rattle.push_model.specs.Steps.{Part, Stepped, Made, Ask, Connect, Put, Abort, Disconnect, Close, Nothing, next_ask, may_ask, put_count, puts_part, puts_from, puts, leaves_by, failing, puts_or_leaves, requests, sends_direct, asks_direct, steps_direct, filled, said_by, says, sends_muxed, takes_some, asks_muxed, goes_muxed, steps_muxed, steps_object, tells_end, steps_at, rests, sends_sdu}
 use Rattle.push_laws.specs.Sending.{packet_of, packet_asked, packets_behind, packets_muxed, packets_through, packets_by, packets_sent, sdus_of, Answers, AnswersTo, AllAnswer, MayPush, IsPush, SendsOnePush}
 use Rattle.push_laws.proofs.Talks.{Talk, talk_of, news_keeps}
-use Rattle.push_laws.proofs.Pushing.{Task, IsSent, Fixed, Fresh, Gone, Stands, connect_of, sent_of, ends_stands, kept}
-use Rattle.push_laws.proofs.Asking.{Told, whence, connects, aborts, leaves, puts_stand}
+use Rattle.push_laws.proofs.Pushing.{Task, HasSent, Fixed, Fresh, Gone, Stands, Suits, suits_any, is_gone, sent_of, ends_stands, kept}
+use Rattle.push_laws.proofs.Asking.{Told, whence, closes, connects, aborts, leaves, puts_stand, left_caused}
 
 -- ---- a request
 
@@ -38,22 +39,27 @@ MadeStands w sent request = Stands w (sent ++ packet_of request.outcome request)
 nothing_more : (w : Task) (sent : List (List ℕ)) (t : Talk) → Stands w sent t → Stands w (sent ++ []) t
 nothing_more w sent t s = subst (λ (xs : List (List ℕ)). Stands w xs t) (sym (append-nil sent)) s
 
-leaves_stand : (w : Task) (sent : List (List ℕ)) (ask : Ask) (client : Client) (parts : List Part) → ask ≡ next_ask client → client.contact ≡ Met → Stands w sent (talk_of client) → MadeStands w sent (leaves_by ask client parts)
-leaves_stand w sent Connect client parts is met s = leaves w sent client met s
-leaves_stand w sent Put client parts is met s = leaves w sent client met s
-leaves_stand w sent Abort client parts is met s = let when = (whence client.contact client.cause client.session.put).abort (sym is) in aborts w sent client met when.1 when.2 s
-leaves_stand w sent Disconnect client parts is met s = leaves w sent client met s
-leaves_stand w sent Close client parts is met s = leaves w sent client met s
-leaves_stand w sent Nothing client parts is met s = leaves w sent client met s
+leaves_stand : (w : Task) (sent : List (List ℕ)) (ask : Ask) (client : Client) (parts : List Part) → ask ≡ next_ask client → client.contact ≡ Met → is_some client.cause ≡ true → Stands w sent (talk_of client) → MadeStands w sent (leaves_by ask client parts)
+leaves_stand w sent Connect client parts is met caused s = leaves w sent client met caused s
+leaves_stand w sent Put client parts is met caused s = leaves w sent client met caused s
+leaves_stand w sent Abort client parts is met caused s = let when = (whence client.contact client.cause client.session.put).abort (sym is) in aborts w sent client met caused when.2 s
+leaves_stand w sent Disconnect client parts is met caused s = leaves w sent client met caused s
+leaves_stand w sent Close client parts is met caused s = leaves w sent client met caused s
+leaves_stand w sent Nothing client parts is met caused s = leaves w sent client met caused s
 
 same_contact : (cause : Option Outcome) (o : Outcome) (client : Client) → (ends_by cause o client).contact ≡ client.contact
 same_contact None o client = refl
 same_contact (Some earlier) o client = refl
 
+has_ended : (cause : Option Outcome) (o : Outcome) (client : Client) → cause ≡ client.cause → is_some (ends_by cause o client).cause ≡ true
+has_ended None o client is = refl
+has_ended (Some earlier) o client is = ap is_some (sym is)
+
 failing_stands : (w : Task) (sent : List (List ℕ)) (client : Client) (parts : List Part) → client.contact ≡ Met → Stands w sent (talk_of client) → MadeStands w sent (failing client parts)
 failing_stands w sent client parts met s =
     let ended = ends outcomes.ShelfFault client in
-    leaves_stand w sent (next_ask ended) ended parts refl (same_contact client.cause outcomes.ShelfFault client ∙ met) (ends_stands w sent outcomes.ShelfFault client s)
+    leaves_stand w sent (next_ask ended) ended parts refl (same_contact client.cause outcomes.ShelfFault client ∙ met) (has_ended client.cause outcomes.ShelfFault client refl)
+    (ends_stands w sent outcomes.ShelfFault client (λ e. suits_any outcomes.ShelfFault client.session refl) s)
 
 part_stands : (w : Task) (sent : List (List ℕ)) (part : Part) (client : Client) (parts : List Part) → client.contact ≡ Met → client.cause ≡ None → is_waiting client.session.awaited ≡ false
     → ((octets : List ℕ) → part ≡ Ok octets → Told w.content client octets) → Stands w sent (talk_of client) → MadeStands w sent (puts_or_leaves (puts_part part client parts).outcome (puts_part part client parts))
@@ -91,7 +97,7 @@ abort_stands : (w : Task) (sent : List (List ℕ)) (client : Client) (parts : Li
 abort_stands w sent client parts is s = let when = (whence client.contact client.cause client.session.put).abort (sym is) in aborts w sent client when.0 when.1 when.2 s
 
 leave_stands : (w : Task) (sent : List (List ℕ)) (client : Client) (parts : List Part) → Disconnect ≡ next_ask client → Stands w sent (talk_of client) → MadeStands w sent (requests Disconnect client parts)
-leave_stands w sent client parts is s = let when = (whence client.contact client.cause client.session.put).disconnect (sym is) in leaves w sent client when.0 s
+leave_stands w sent client parts is s = let when = (whence client.contact client.cause client.session.put).disconnect (sym is) in leaves w sent client when.0 when.1 s
 
 -- ---- over L2CAP
 
@@ -160,7 +166,11 @@ muxed : (w : Task) (sent : List (List ℕ)) (ask : Ask) (quiet : Client) (parts 
     → Stands w (sent ++ (if takes_some quiet.mux then packet_asked ask (record quiet { rest = [] }) parts else [])) (talk_of (asks_muxed ask quiet parts).client)
 muxed w sent Close quiet parts is still answers s =
     let closing : Client = record quiet { mux = mux.leaves quiet.mux; contact = Closing } in
-    none_if w sent (takes_some quiet.mux) (talk_of (says closing parts).client) (says_talk (Stands w sent) closing parts (s.0, Gone refl (sent_of w sent (talk_of quiet) s)))
+    none_if w sent (takes_some quiet.mux) (talk_of (says closing parts).client) (says_talk (Stands w sent) closing parts (s.0, Gone refl (caused (closes quiet.contact quiet.cause quiet.session.put (sym is))) (sent_of w sent (talk_of quiet) s)))
+  where
+    caused : (is_some quiet.cause ≡ true) ⊎ (is_gone quiet.contact ≡ true) → is_some quiet.cause ≡ true
+    caused (inl given) = given
+    caused (inr gone) = left_caused w sent quiet gone s
 muxed w sent Nothing quiet parts is still answers s = none_if w sent (takes_some quiet.mux) (talk_of quiet) s
 muxed w sent Connect quiet parts is still answers s = through w sent (takes_some quiet.mux) Connect quiet parts (connects_stand w sent (record quiet { rest = [] }) parts is still s) s
 muxed w sent Put quiet parts is still answers s = through w sent (takes_some quiet.mux) Put quiet parts (put_stands w sent (record quiet { rest = [] }) parts is still (alike w quiet [] quiet.mux quiet.frame parts answers) s) s
@@ -292,13 +302,32 @@ steps_by w sent false false true client parts f g o answers s =
 
 -- ---- all deeds
 
+final_stays : (a b final : Bool) → final ≡ true → (a && (b && not final)) ≡ true → ⊥
+final_stays true true true f e = let g : false ≡ true = e in absurd cc
+final_stays true false true f e = let g : false ≡ true = e in absurd cc
+final_stays false b true f e = let g : false ≡ true = e in absurd cc
+final_stays a b false f e = let g : false ≡ true = f in absurd cc
+
+-- nothing is cancelled behind the final PUT
+cancel_suits : (client : Client) → may_cancel client ≡ true → Suits outcomes.Cancelled client.session
+cancel_suits client may = record {
+  early = λ early e. let f : outcomes.Cancelled ≡ outcomes.Done = same_outcome outcomes.Cancelled outcomes.Done e in absurd cc;
+  late = λ late e. final_stays (not (is_rest client.stage)) (is_none client.cause) (is_final_put client.session.awaited) (ap is_final_put late) may;
+}
+  where
+    same_outcome : (a b : Outcome) → Some a ≡ Some b → a ≡ b
+    same_outcome a b is = cc
+
+cancels : (w : Task) (sent : List (List ℕ)) (may : Bool) (client : Client) → may ≡ may_cancel client → Stands w sent (talk_of client) → Stands w sent (talk_of (if may then ends outcomes.Cancelled client else client))
+cancels w sent true client is s = ends_stands w sent outcomes.Cancelled client (λ e. cancel_suits client (sym is)) s
+cancels w sent false client is s = s
+
 deed_stands : (w : Task) (sent : List (List ℕ)) (deed : Deed) (client : Client) → AnswersTo w.content deed client → Stands w sent (talk_of client) → Stands w (sent ++ packets_by deed client) (talk_of (done deed client))
 unfolding Steps
 deed_stands w sent (Hears news) client answers s = nothing_more w sent (talk_of (done (Hears news) client)) (news_keeps (Stands w sent) (kept w sent) news client s)
 deed_stands w sent (Asks parts) client answers s = steps_by w sent client.failed client.given (is_object client.stage) client parts refl refl refl answers s
 deed_stands w sent Finishes client answers s = nothing_more w sent (talk_of client) s
-deed_stands w sent Cancels client answers s =
-    nothing_more w sent (talk_of (done Cancels client)) (talk_either (Stands w sent) (may_cancel client) (ends outcomes.Cancelled client) client (ends_stands w sent outcomes.Cancelled client s) s)
+deed_stands w sent Cancels client answers s = nothing_more w sent (talk_of (done Cancels client)) (cancels w sent (may_cancel client) client refl s)
 
 all_stand : (w : Task) (sent : List (List ℕ)) (deeds : List Deed) (client : Client) → AllAnswer w.content deeds client → Stands w sent (talk_of client) → Stands w (sent ++ packets_sent deeds client) (talk_of (all_done deeds client))
 all_stand w sent [] client answers s = nothing_more w sent (talk_of client) s
@@ -308,11 +337,14 @@ all_stand w sent (deed ∷ deeds) client answers s =
 
 -- ---- the law
 
+no_cause : (o : Outcome) → None ≡ Some o → ⊥
+no_cause o e = cc
+
 pub sends-one_push : SendsOnePush
 sends-one_push client name size content deeds may answers =
     let w : Task = record { maximum = client.session.maximum; wanted = client.session.wanted; name = name; size = size; content = content } in
     let begun = with_object name size client in
     let fixed : Fixed w begun.session name size client.limit = record { maximum = refl; wanted = refl; name_is = refl; size_is = refl; short = may.short; small = may.small; least = may.least; most = may.most } in
     let after = talk_of (all_done deeds begun) in
-    let stands = all_stand w [] deeds begun answers (fixed, Fresh refl refl refl refl (λ e. may.own)) in
-    subst (λ (n : ℕ). IsSent w name n (packets_sent deeds begun)) stands.0.size_is (subst (λ (n : List ℕ). IsSent w n after.size (packets_sent deeds begun)) stands.0.name_is (sent_of w (packets_sent deeds begun) after stands))
+    let stands = all_stand w [] deeds begun answers (fixed, Fresh refl refl refl refl (λ e. may.own) (λ e. no_cause outcomes.Done e)) in
+    subst (λ (n : ℕ). HasSent w name n after.cause (packets_sent deeds begun)) stands.0.size_is (subst (λ (n : List ℕ). HasSent w n after.size after.cause (packets_sent deeds begun)) stands.0.name_is (sent_of w (packets_sent deeds begun) after stands))

@@ -5,12 +5,14 @@ use Rattle.bt_base.specs.declared.ports.PortFault.{PortFault}
 use Rattle.bt_base.specs.declared.settings.Transport.{Transport}
 use Rattle.bt_base.specs.declared.settings.Transport.TheVariants.{L2cap, Rfcomm}
 use Rattle.bt_base.specs.Objects.{Object, octets_of, HasAt}
+use Rattle.push_terms.specs.declared.outcome.Outcome.{Outcome}
+use Rattle.push_terms.specs.declared.outcome.Outcome.TheVariants.{Done, Cancelled}
 use Rattle.rfcomm_model.specs.Saying.{Said, next}
 use Rattle.obex_session.specs.Asking.{Asking}
 use Rattle.obex_session.specs.ObjectPuts.{HasPut, IsWhole}
 use Rattle.obex_session.specs.PutPackets.{units_in, place_of}
 use Rattle.push_model.specs.Client.{Client, with_object}
-use Rattle.push_model.specs.Laws.{Deed, Hears, Asks, Finishes, Cancels, done}
+use Rattle.push_model.specs.Laws.{Deed, Hears, Asks, Finishes, Cancels, done, all_done}
 use Rattle.push_model.specs.Payloads.{Payload, Octets, Framed}
 use Rattle.push_model.specs.Responding.{is_object}
 use Rattle.push_model.specs.Steps.{Part, Step, Wait, MakeLink, AskFeatures, OpenChannel, SendSdu, CloseChannel, BreakLink, Ended, NoMemory, Ask, Connect, Put, Abort, Disconnect, Close, Nothing, Made, requests, next_ask, may_ask, filled, takes_some, put_count, steps, connect_octets, abort_octets, disconnect_octets}
@@ -93,18 +95,23 @@ AllAnswer content (deed ∷ deeds) client = AnswersTo content deed client × All
 abbrev pub end_of : Bool → Bool → List (List ℕ)
 end_of gave_up left = (if gave_up then abort_octets ∷ [] else []) ++ (if left then disconnect_octets ∷ [] else [])
 
--- of the PUTs these were sent: all of the object, and then it was not given up, or a front of them
-abbrev pub ArePuts : Bool → List ℕ → ℕ → Option (List Object) → List (List ℕ) → Bool → Type 0
-ArePuts wanted name size content puts gave_up =
-    (IsWhole wanted name size puts content × (gave_up ≡ false)) ⊎ ((session : Asking) × (session.wanted ≡ wanted) × HasPut name size puts session content)
+-- Of the PUTs these were sent: all of the object, and then it is not given up and the push is not cancelled; or a front of
+-- them, and then the push is not done.
+abbrev pub ArePuts : Bool → List ℕ → ℕ → Option (List Object) → Option Outcome → List (List ℕ) → Bool → Type 0
+ArePuts wanted name size content cause puts gave_up =
+    (IsWhole wanted name size puts content × (gave_up ≡ false) × (cause ≡ Some Cancelled → ⊥)) ⊎ ((session : Asking) × (session.wanted ≡ wanted) × HasPut name size puts session content × (cause ≡ Some Done → ⊥))
 
 -- one CONNECT, the PUTs of the object or a front of them, ABORT and DISCONNECT
-pub record IsPush (connect : List ℕ) (wanted : Bool) (name : List ℕ) (size : ℕ) (content : Option (List Object)) (sent : List (List ℕ)) : Type 0 where
+pub record IsPush (connect : List ℕ) (wanted : Bool) (name : List ℕ) (size : ℕ) (content : Option (List Object)) (cause : Option Outcome) (sent : List (List ℕ)) : Type 0 where
   pub puts : List (List ℕ)
   pub gave_up : Bool
   pub left : Bool
   pub sent_is : sent ≡ connect ∷ (puts ++ end_of gave_up left)
-  pub puts_are : ArePuts wanted name size content puts gave_up
+  pub puts_are : ArePuts wanted name size content cause puts gave_up
+
+-- nothing was sent, or a push
+abbrev pub IsSent : List ℕ → Bool → List ℕ → ℕ → Option (List Object) → Option Outcome → List (List ℕ) → Type 0
+IsSent connect wanted name size content cause sent = ((sent ≡ []) × (cause ≡ Some Done → ⊥)) ⊎ IsPush connect wanted name size content cause sent
 
 -- a client that may begin a push of this object: its own packets and those of its channel have room for any request
 pub record MayPush (client : Client) (name : List ℕ) (size : ℕ) : Type 0 where
@@ -116,7 +123,7 @@ pub record MayPush (client : Client) (name : List ℕ) (size : ℕ) : Type 0 whe
 
 -- From a begin to the next one a client sends nothing, or one CONNECT, the PUTs that spell its object or a front of them,
 -- ABORT and DISCONNECT, whatever it hears, and the body is what the shelf answered: where each answer of the shelf has as
--- many octets as it was asked for.
+-- many octets as it was asked for. Where all PUTs were sent, its outcome is not Cancelled; else it is not Done.
 abbrev pub SendsOnePush : Type 0
 SendsOnePush = (client : Client) (name : List ℕ) (size : ℕ) (content : Option (List Object)) (deeds : List Deed) → MayPush client name size → AllAnswer content deeds (with_object name size client)
-    → (packets_sent deeds (with_object name size client) ≡ []) ⊎ IsPush (connect_octets client.session) client.session.wanted name size content (packets_sent deeds (with_object name size client))
+    → IsSent (connect_octets client.session) client.session.wanted name size content (all_done deeds (with_object name size client)).cause (packets_sent deeds (with_object name size client))
