@@ -17,3 +17,4 @@ pub mod Answered
 pub mod Pushing
 pub mod Asking
 pub mod Sending
+pub mod Spelling

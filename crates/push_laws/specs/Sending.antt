@@ -1,6 +1,6 @@
 -- What a client of Object Push asks of its server in one push (IrOBEX 1.5, 3.4; Object Push Profile 1.2, 4.3): each request
 -- as a packet, in the order in which they go to the channel of the object.
-use Rattle.std.specs.Prelude.{ℕ, ◌≡◌, ◌<◌, ◌≤◌, ◌^◌, ◌⊎◌, ◌||◌, ◌&&◌, Bool, true, false, List, [], ◌∷◌, ◌++◌, length, Option, Some, None, Result, Ok, Err, IfSome, if◌then◌else◌}
+use Rattle.std.specs.Prelude.{ℕ, ◌≡◌, ◌<◌, ◌≤◌, ◌^◌, ◌⊎◌, ◌||◌, ◌&&◌, Bool, true, false, List, [], ◌∷◌, ◌++◌, length, take, Option, Some, None, Result, Ok, Err, IfSome, if◌then◌else◌}
 use Rattle.bt_base.specs.declared.ports.PortFault.{PortFault}
 use Rattle.bt_base.specs.declared.settings.Transport.{Transport}
 use Rattle.bt_base.specs.declared.settings.Transport.TheVariants.{L2cap, Rfcomm}
@@ -8,9 +8,11 @@ use Rattle.bt_base.specs.Objects.{Object, octets_of, HasAt}
 use Rattle.push_terms.specs.declared.outcome.Outcome.{Outcome}
 use Rattle.push_terms.specs.declared.outcome.Outcome.TheVariants.{Done, Cancelled}
 use Rattle.rfcomm_model.specs.Saying.{Said, next}
+use Rattle.obex_headers.specs.Runs.{spelled}
 use Rattle.obex_session.specs.Asking.{Asking}
 use Rattle.obex_session.specs.ObjectPuts.{HasPut, IsWhole}
 use Rattle.obex_session.specs.PutPackets.{units_in, place_of}
+use Rattle.obex_session.specs.Pushes.{Fits}
 use Rattle.push_model.specs.Client.{Client, with_object}
 use Rattle.push_model.specs.Laws.{Deed, Hears, Asks, Finishes, Cancels, done, all_done}
 use Rattle.push_model.specs.Payloads.{Payload, Octets, Framed}
@@ -127,3 +129,18 @@ pub record MayPush (client : Client) (name : List ℕ) (size : ℕ) : Type 0 whe
 abbrev pub SendsOnePush : Type 0
 SendsOnePush = (client : Client) (name : List ℕ) (size : ℕ) (content : Option (List Object)) (deeds : List Deed) → MayPush client name size → AllAnswer content deeds (with_object name size client)
     → IsSent (connect_octets client.session) client.session.wanted name size content (all_done deeds (with_object name size client)).cause (packets_sent deeds (with_object name size client))
+
+-- ---- what a server makes of it
+
+-- what a server hears of a push is a front of it
+pub record SpellsOneObject (name : List ℕ) (object : List ℕ) (cause : Option Outcome) (sent : List (List ℕ)) : Type 0 where
+  -- each front spells the object once, or nothing
+  pub front : (n : ℕ) → (spelled (take n sent) ≡ []) ⊎ (spelled (take n sent) ≡ record { name = units_in name; octets = object } ∷ [])
+  -- what was sent of a push that is done spells it
+  pub done : cause ≡ Some Done → spelled sent ≡ record { name = units_in name; octets = object } ∷ []
+
+-- Where the shelf has the object and answers with its octets, what is sent spells it once or not at all, and a push that is
+-- done spelled it.
+abbrev pub SpellsWhatIsPushed : Type 0
+SpellsWhatIsPushed = (client : Client) (name : List ℕ) (size : ℕ) (objects : List Object) (object : List ℕ) (deeds : List Deed) → MayPush client name size → Fits name size → octets_of name objects ≡ Some object → length object ≡ size
+    → AllAnswer (Some objects) deeds (with_object name size client) → SpellsOneObject name object (all_done deeds (with_object name size client)).cause (packets_sent deeds (with_object name size client))

@@ -1,10 +1,16 @@
 //! Laws of a client of Object Push, for every list of what may happen to it from a begin on.
 
-ghost use Rattle.push_laws.specs.Sending.{SendsOnePush};
+ghost use Rattle.push_laws.specs.Sending.{SendsOnePush, SpellsWhatIsPushed};
 
 /// From a begin to the next one a client sends nothing, or one CONNECT, the PUTs that spell its object or a front of them,
 /// ABORT and DISCONNECT, over L2CAP and over RFCOMM, whatever it hears. The body is what the shelf answered, in one pass.
 /// Where all PUTs were sent, the outcome is never `cancelled`, and where they were not, it is never `done`.
 pub fn sends_one_push()
     ensures { SendsOnePush }
+{}
+
+/// Where the shelf has the object and answers with its octets, each front of what is sent in a push spells the object once
+/// or nothing, and what was sent of a push that is done spells it.
+pub fn spells_what_is_pushed()
+    ensures { SpellsWhatIsPushed }
 {}
