@@ -1,7 +1,6 @@
 -- The session of a client behind a response, by what the response says.
-use Rattle.std.proofs.Common.{◌≡◌, ℕ, ◌≤◌, min, Bool, true, false, eqb, List, Option, Some, None, Result, Ok, Err, refl, sym, ap, ◌∙◌, arith, if◌then◌else◌}
+use Rattle.std.proofs.Common.{◌≡◌, ℕ, ◌≤◌, min, Bool, true, false, eqb, List, Option, Some, None, Result, Ok, Err, refl, ap, arith, if◌then◌else◌}
 use Rattle.std.specs.Prelude.{slice_index}
-use Rattle.obex_headers.specs.declared.fault.ObexRefusal.{ObexRefusal}
 use Rattle.obex_headers.specs.declared.packet.Phase.TheVariants as phase
 use Rattle.obex_headers.specs.Packets.{PlainPacket, maximum_of}
 use Rattle.obex_headers.specs.Reading.{◌>>=◌, headers_in, front_at, packet_in}

@@ -1,30 +1,23 @@
 -- The next request of a client, by where its push is; and what a client sent in one push.
-use Rattle.std.proofs.Common.{◌≡◌, ℕ, zero, suc, ◌≤◌, ◌<◌, ◌^◌, ◌++◌, ◌⊎◌, inl, inr, ◌&&◌, ◌||◌, ◌==◌, not, min, eqb, Bool, true, false, List, [], ◌∷◌, length, take, drop, Option, Some, None, is_some, Result, Ok, Err, refl, sym, ap, subst, ◌∙◌, arith, append-nil, append_assoc, if◌then◌else◌}
+use Rattle.std.proofs.Common.{◌≡◌, ℕ, ◌≤◌, ◌<◌, ◌++◌, ◌⊎◌, inl, inr, not, Bool, true, false, List, [], ◌∷◌, length, take, drop, Option, Some, None, is_some, refl, sym, ap, subst, ◌∙◌, append_assoc}
 use Rattle.std.specs.Prelude.{IfSome}
 use Rattle.std.proofs.Math.Seq.{take-append_seam}
-use Rattle.std.proofs.lemmas.Bool.{eqb-true}
-use Rattle.bt_base.specs.declared.ports.PortFault.{PortFault}
-use Rattle.bt_base.specs.declared.ports.PortFault.TheVariants as fault
-use Rattle.bt_base.specs.declared.settings.Transport.{Transport}
-use Rattle.bt_base.specs.declared.settings.Transport.TheVariants.{L2cap, Rfcomm}
 use Rattle.bt_base.specs.Objects.{Object, octets_of, HasAt}
 use Rattle.push_terms.specs.declared.outcome.Outcome.{Outcome}
 use Rattle.push_terms.specs.declared.outcome.Outcome.TheVariants as outcomes
 use Rattle.obex_headers.specs.Packets.{bare, packet_octets}
 use Rattle.obex_session.specs.declared.client.PutNext.TheVariants as put
-use Rattle.obex_session.specs.Asking.{Asking}
-use Rattle.obex_session.specs.NextPut.{put_request, after_put, is_waiting, left_of, room_for, PutsNext}
+use Rattle.obex_session.specs.NextPut.{put_request, after_put, is_waiting}
 use Rattle.obex_session.specs.ObjectPuts.{HasPut, IsWhole, GoesOnTo}
-use Rattle.obex_session.specs.PutPackets.{units_in, ahead_of, place_of, put_packet}
+use Rattle.obex_session.specs.PutPackets.{ahead_of, place_of, put_packet}
 use Rattle.obex_session.specs.Responses.{connect_fields}
 use Rattle.obex_session.specs.Views.{asks_connect, asks_abort, asks_disconnect}
 use Rattle.obex_session.proofs.ObjectLaws.{puts_in_order}
 use Rattle.push_model.specs.declared.course.Contact.{Contact}
 use Rattle.push_model.specs.declared.course.Contact.TheVariants.{Unmet, Met, Left, Closing}
-use Rattle.push_model.specs.Client.{Client, ends}
-use Rattle.push_model.specs.Steps.{Part, Made, Ask, Connect, Put, Abort, Disconnect, Close, Nothing, asks, next_ask, put_count, is_last_put, put_octets, connect_octets, abort_octets, disconnect_octets, puts_part, puts_from, puts, leaves_by, failing, puts_or_leaves, requests}
-use Rattle.push_laws.specs.Sending.{packet_of, Answers}
-use Rattle.push_laws.proofs.Talks.{Talk, talk_of}
+use Rattle.push_model.specs.Client.{Client}
+use Rattle.push_model.specs.Steps.{Ask, Connect, Put, Abort, Disconnect, Close, Nothing, asks, put_count, is_last_put, put_octets, connect_octets, abort_octets, disconnect_octets, puts}
+use Rattle.push_laws.proofs.Talks.{talk_of}
 use Rattle.push_laws.proofs.Pushing.{Task, HasSent, NotDone, NotCancelled, connect_of, is_gone, Fixed, State, Fresh, Connecting, Putting, GivenUp, Gone, Stands, MayPutOn, ends_stands}
 use Rattle.push_laws.proofs.Pushing as state
 
@@ -81,8 +74,10 @@ connects w sent client unmet free still s = (fixed, by s.1)
   where
     fixed : Fixed w (asks_connect client.session) client.name client.size client.limit
     fixed = record { maximum = s.0.maximum; wanted = s.0.wanted; name_is = s.0.name_is; size_is = s.0.size_is; short = s.0.short; small = s.0.small; least = s.0.least; most = s.0.most }
+
     first : connect_octets client.session ≡ connect_of w
     first = ap (λ (n : ℕ). packet_octets (bare 0x80 (connect_fields n))) s.0.maximum
+
     by : State w sent client.cause client.contact client.session client.name client.size → State w (sent ++ connect_octets client.session ∷ []) client.cause Unmet (asks_connect client.session) client.name client.size
     by (Fresh none was waits unput least other) = Connecting (more sent [] (connect_octets client.session ∷ []) none ∙ ap (λ (x : List ℕ). x ∷ []) first) refl (λ e. (refl, least free)) refl other
     by (Connecting is was waits unput other) = absurd (no_wait (is_waiting client.session.awaited) still (ap is_waiting (waits free).0))
@@ -99,6 +94,7 @@ aborts w sent client met caused some s = (fixed, by s.1)
   where
     fixed : Fixed w (asks_abort client.session) client.name client.size client.limit
     fixed = record { maximum = s.0.maximum; wanted = s.0.wanted; name_is = s.0.name_is; size_is = s.0.size_is; short = s.0.short; small = s.0.small; least = s.0.least; most = s.0.most }
+
     by : State w sent client.cause client.contact client.session client.name client.size → State w (sent ++ abort_octets ∷ []) client.cause client.contact (asks_abort client.session) client.name client.size
     by (Fresh none was waits unput least other) = absurd (not_met client.contact was met)
     by (Connecting is was waits unput other) = absurd (not_met client.contact was met)
@@ -112,6 +108,7 @@ leaves w sent client met caused s = (fixed, Gone refl caused (by s.1))
   where
     fixed : Fixed w (asks_disconnect client.session) client.name client.size client.limit
     fixed = record { maximum = s.0.maximum; wanted = s.0.wanted; name_is = s.0.name_is; size_is = s.0.size_is; short = s.0.short; small = s.0.small; least = s.0.least; most = s.0.most }
+
     by : State w sent client.cause client.contact client.session client.name client.size → HasSent w client.name client.size client.cause (sent ++ disconnect_octets ∷ [])
     by (Fresh none was waits unput least other) = absurd (not_met client.contact was met)
     by (Connecting is was waits unput other) = absurd (not_met client.contact was met)
@@ -138,7 +135,7 @@ written octets = octets ++ drop (length octets) []
 goes_on : (w : Task) (puts : List (List ℕ)) (client : Client) (part : List ℕ) (final : Bool) → final ≡ is_last_put client → is_waiting client.session.awaited ≡ false → 255 ≤ client.session.limit → Fixed w client.session client.name client.size client.limit
     → HasPut client.name client.size puts client.session w.content → Told w.content client part
     → GoesOnTo client.name client.size puts (after_put client.session final (put_count client)) w.content
-        (written (packet_octets (put_packet final (ahead_of client.session.wanted client.session.put client.name client.size) part))) (put.Packet (length (packet_octets (put_packet final (ahead_of client.session.wanted client.session.put client.name client.size) part))) final)
+    (written (packet_octets (put_packet final (ahead_of client.session.wanted client.session.put client.name client.size) part))) (put.Packet (length (packet_octets (put_packet final (ahead_of client.session.wanted client.session.put client.name client.size) part))) final)
 unfolding written
 goes_on w puts client part final is still own f has told =
     let octets = packet_octets (put_packet final (ahead_of client.session.wanted client.session.put client.name client.size) part) in
@@ -183,6 +180,7 @@ puts_stand w sent client part met free still told s = (fixed, by s.1)
   where
     fixed : Fixed w (after_put client.session (is_last_put client) (put_count client)) client.name client.size client.limit
     fixed = record { maximum = s.0.maximum; wanted = s.0.wanted; name_is = s.0.name_is; size_is = s.0.size_is; short = s.0.short; small = s.0.small; least = s.0.least; most = s.0.most }
+
     by : State w sent client.cause client.contact client.session client.name client.size
         → State w (sent ++ put_octets client part ∷ []) client.cause client.contact (after_put client.session (is_last_put client) (put_count client)) client.name client.size
     by (Fresh none was waits unput least other) = absurd (not_met client.contact was met)
@@ -199,6 +197,7 @@ left_caused w sent client away s = by s.1
   where
     not_away : client.contact ≡ Unmet → ⊥
     not_away e = let f : false ≡ true = sym (ap is_gone e) ∙ away in cc
+
     by : State w sent client.cause client.contact client.session client.name client.size → is_some client.cause ≡ true
     by (Fresh none was waits unput least other) = absurd (not_away was)
     by (Connecting is was waits unput other) = absurd (not_away was)

@@ -20,7 +20,7 @@ use Rattle.push_model.specs.Client.{Client, ends, ends_by}
 use Rattle.push_model.specs.Responding.{met, takes, is_success, is_early, hears_answer, hears_response}
 use Rattle.push_model.specs.Steps.{abort_octets}
 use Rattle.push_laws.specs.Sending.{IsSent}
-use Rattle.push_laws.proofs.Answered.{After, Goes, same_session, after_answered, goes_answered, final_ends, connect_wide, put_wide, connect_not_done, put_not_done}
+use Rattle.push_laws.proofs.Answered.{After, same_session, after_answered, goes_answered, final_ends, connect_wide, put_wide, connect_not_done, put_not_done}
 use Rattle.push_laws.proofs.Talks.{Talk, talk_of, is_reserved, Kept}
 
 -- what does not change in a push
@@ -150,13 +150,15 @@ fixed_behind w session heard name size limit after f = record {
 -- the client ends, with another session or the same
 ends_heard : (w : Task) (sent : List (List ℕ)) (cause : Option Outcome) (o : Outcome) (client : Client) (heard : Asking) → cause ≡ client.cause → (client.cause ≡ None → Suits o client.session) → (client.session.awaited ≡ None → heard.awaited ≡ None)
     → After client.session heard → Stands w sent (talk_of client) → Stands w sent (talk_of (ends_by cause o (record client { session = heard })))
-ends_heard w sent None o client heard is suits free after s =
-    (fixed_behind w client.session heard client.name client.size client.limit after s.0,
-    ends_state w sent o client.contact client.session heard client.name client.size (suits (sym is)) free after.none (subst (λ (c : Option Outcome). State w sent c client.contact client.session client.name client.size) (sym is) s.1))
-ends_heard w sent (Some earlier) o client heard is suits free after s =
-    (fixed_behind w client.session heard client.name client.size client.limit after s.0,
-    subst (λ (c : Option Outcome). State w sent c client.contact heard client.name client.size) is
-    (stays_state w sent earlier client.contact client.session heard client.name client.size free after.none (subst (λ (c : Option Outcome). State w sent c client.contact client.session client.name client.size) (sym is) s.1)))
+ends_heard w sent None o client heard is suits free after s = (
+  fixed_behind w client.session heard client.name client.size client.limit after s.0,
+  ends_state w sent o client.contact client.session heard client.name client.size (suits (sym is)) free after.none (subst (λ (c : Option Outcome). State w sent c client.contact client.session client.name client.size) (sym is) s.1),
+)
+ends_heard w sent (Some earlier) o client heard is suits free after s = (
+  fixed_behind w client.session heard client.name client.size client.limit after s.0,
+  subst (λ (c : Option Outcome). State w sent c client.contact heard client.name client.size) is
+      (stays_state w sent earlier client.contact client.session heard client.name client.size free after.none (subst (λ (c : Option Outcome). State w sent c client.contact client.session client.name client.size) (sym is) s.1)),
+)
 
 pub ends_stands : (w : Task) (sent : List (List ℕ)) (o : Outcome) (client : Client) → (client.cause ≡ None → Suits o client.session) → Stands w sent (talk_of client) → Stands w sent (talk_of (ends o client))
 ends_stands w sent o client suits s = ends_heard w sent client.cause o client client.session refl suits (λ e. e) (same_session client.session) s
@@ -225,9 +227,10 @@ ends_behind w sent o packet client suits s =
 
 takes_stands : (w : Task) (sent : List (List ℕ)) (answered : Answered) (packet : List ℕ) (client : Client) → Some answered ≡ answer_at client.session.awaited client.session packet → Stands w sent (talk_of client)
     → Stands w sent (talk_of (takes answered (record client { session = after_at client.session.awaited client.session packet })))
-takes_stands w sent Go packet client is s =
-    (fixed_behind w client.session (after_at client.session.awaited client.session packet) client.name client.size client.limit (after_answered client.session packet) s.0,
-    goes_state w sent client.cause client.contact packet client.session client.name client.size (sym is) s.0.wanted s.1)
+takes_stands w sent Go packet client is s = (
+  fixed_behind w client.session (after_at client.session.awaited client.session packet) client.name client.size client.limit (after_answered client.session packet) s.0,
+  goes_state w sent client.cause client.contact packet client.session client.name client.size (sym is) s.0.wanted s.1,
+)
 takes_stands w sent Done packet client is s = ends_behind w sent outcomes.Done packet client (done_suits client.session packet (sym is)) s
 takes_stands w sent (Refused code) packet client is s = ends_behind w sent (outcomes.Refused code) packet client (suits_any (outcomes.Refused code) client.session refl) s
 takes_stands w sent (Bad refusal) packet client is s = ends_behind w sent (cause_of_obex refusal) packet client (suits_any (cause_of_obex refusal) client.session refl) s

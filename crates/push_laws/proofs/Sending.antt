@@ -1,5 +1,5 @@
 -- What a client sends in one push, whatever it hears.
-use Rattle.std.proofs.Common.{◌≡◌, ℕ, ◌<◌, ◌-◌, ◌++◌, ◌⊎◌, inl, inr, ◌&&◌, ◌||◌, ◌==◌, not, Bool, true, false, List, [], ◌∷◌, length, drop, Option, Some, None, is_some, is_none, Result, Ok, Err, refl, sym, ap, subst, ◌∙◌, arith, append-nil, append_assoc, if◌then◌else◌}
+use Rattle.std.proofs.Common.{◌≡◌, ℕ, ◌-◌, ◌++◌, ◌⊎◌, inl, inr, ◌&&◌, ◌||◌, ◌==◌, not, Bool, true, false, List, [], ◌∷◌, length, drop, Option, Some, None, is_some, is_none, Result, Ok, Err, refl, sym, ap, subst, ◌∙◌, arith, append-nil, append_assoc, if◌then◌else◌}
 use Rattle.std.proofs.lemmas.Bool.{eqb-true, cond-true, cond-false}
 use Rattle.bt_base.specs.declared.ports.PortFault.{PortFault}
 use Rattle.bt_base.specs.declared.ports.PortFault.TheVariants as fault
@@ -26,7 +26,7 @@ use Rattle.push_model.specs.Payloads.{Octets}
 use Rattle.push_model.specs.Responding.{is_object}
 use Rattle.push_model.specs.Steps as steps
 use Rattle.push_model.specs.Steps.{Part, Stepped, Made, Ask, Connect, Put, Abort, Disconnect, Close, Nothing, next_ask, may_ask, put_count, puts_part, puts_from, puts, leaves_by, failing, puts_or_leaves, requests, sends_direct, asks_direct, steps_direct, filled, said_by, says, sends_muxed, takes_some, asks_muxed, goes_muxed, steps_muxed, steps_object, tells_end, steps_at, rests, sends_sdu}
-use Rattle.push_laws.specs.Sending.{packet_of, packet_asked, packets_behind, packets_muxed, packets_through, packets_by, packets_sent, sdus_of, Answers, AnswersTo, AllAnswer, MayPush, IsPush, SendsOnePush}
+use Rattle.push_laws.specs.Sending.{packet_of, packet_asked, packets_behind, packets_muxed, packets_through, packets_by, packets_sent, sdus_of, Answers, AnswersTo, AllAnswer, SendsOnePush}
 use Rattle.push_laws.proofs.Talks.{Talk, talk_of, news_keeps}
 use Rattle.push_laws.proofs.Pushing.{Task, HasSent, Fixed, Fresh, Gone, Stands, Suits, suits_any, is_gone, sent_of, ends_stands, kept}
 use Rattle.push_laws.proofs.Asking.{Told, whence, closes, connects, aborts, leaves, puts_stand, left_caused}
@@ -154,7 +154,7 @@ sent_muxed w sent (Err fault) request s = s
 
 through : (w : Task) (sent : List (List ℕ)) (takes : Bool) (ask : Ask) (quiet : Client) (parts : List Part) → (let request = requests ask (record quiet { rest = [] }) parts in MadeStands w sent request) → Stands w sent (talk_of quiet)
     → Stands w (sent ++ (if takes then (let request = requests ask (record quiet { rest = [] }) parts in packet_of request.outcome request) else []))
-        (talk_of (if takes then (let request = requests ask (record quiet { rest = [] }) parts in sends_muxed request.outcome request) else rests quiet parts).client)
+    (talk_of (if takes then (let request = requests ask (record quiet { rest = [] }) parts in sends_muxed request.outcome request) else rests quiet parts).client)
 through w sent true ask quiet parts made s = let request = requests ask (record quiet { rest = [] }) parts in sent_muxed w sent request.outcome request made
 through w sent false ask quiet parts made s = nothing_more w sent (talk_of quiet) s
 

@@ -1,12 +1,11 @@
 -- What is sent in one push spells its object once, or nothing.
-use Rattle.std.proofs.Common.{◌≡◌, ℕ, ◌+◌, ◌≤◌, ◌<◌, ◌++◌, ◌⊎◌, inl, inr, Bool, true, false, eqb, ◌||◌, List, [], ◌∷◌, length, take, length-append, Option, Some, None, Result, Ok, Err, refl, sym, ap, subst, ◌∙◌, arith, append-nil, if◌then◌else◌}
+use Rattle.std.proofs.Common.{◌≡◌, ℕ, ◌++◌, inl, inr, Bool, true, false, eqb, ◌||◌, List, [], ◌∷◌, length, take, length-append, Option, Some, None, Result, Ok, Err, refl, sym, ap, ◌∙◌, arith, append-nil}
 use Rattle.std.specs.Prelude.{slice_index}
 use Rattle.std.specs.List.{AllByRecursion}
 use Rattle.std.proofs.Math.Seq.{take-append_seam}
 use Rattle.std.proofs.lemmas.Bool.{cond-false}
 use Rattle.bt_base.specs.Objects.{Object, octets_of}
 use Rattle.push_terms.specs.declared.outcome.Outcome.{Outcome}
-use Rattle.push_terms.specs.declared.outcome.Outcome.TheVariants.{Done}
 use Rattle.obex_headers.specs.declared.fault.ObexRefusal.{ObexRefusal}
 use Rattle.obex_headers.specs.declared.packet.Phase.TheVariants.{Request}
 use Rattle.obex_headers.specs.Packets.{PlainPacket}
@@ -14,15 +13,13 @@ use Rattle.obex_headers.specs.Reading.{◌>>=◌, headers_in, front_at, packet_i
 use Rattle.obex_headers.specs.Runs.{put_of, spelled}
 use Rattle.obex_headers.proofs.HeaderLaws.{bind_ok, ok_is}
 use Rattle.obex_session.specs.Asking.{fresh}
-use Rattle.obex_session.specs.ObjectPuts.{HasPut, IsWhole}
-use Rattle.obex_session.specs.PutPackets.{units_in}
 use Rattle.obex_session.specs.Pushes.{IsNoPut, Fits}
 use Rattle.obex_session.proofs.ObjectLaws.{puts_in_order}
 use Rattle.obex_session.proofs.PushLaws.{fronts_are_pushed}
-use Rattle.push_model.specs.Client.{Client, with_object}
+use Rattle.push_model.specs.Client.{with_object}
 use Rattle.push_model.specs.Laws.{all_done}
 use Rattle.push_model.specs.Steps.{connect_octets}
-use Rattle.push_laws.specs.Sending.{end_of, ArePuts, IsPush, IsSent, packets_sent, SpellsOneObject, SpellsWhatIsPushed}
+use Rattle.push_laws.specs.Sending.{end_of, ArePuts, IsSent, packets_sent, SpellsOneObject, SpellsWhatIsPushed}
 use Rattle.push_laws.proofs.Sending.{sends-one_push}
 
 -- ---- packets that are no PUT
@@ -72,9 +69,9 @@ spells connect wanted name size objects object cause sent first fits there len (
       ];
       done = λ e. ap spelled push.sent_is ∙ (ap spelled (sym (all_taken (connect ∷ (push.puts ++ end_of push.gave_up push.left))))
           ∙ elim (fronts_are_pushed.whole (length (connect ∷ (push.puts ++ end_of push.gave_up push.left))) (connect ∷ []) push.puts (end_of push.gave_up push.left) wanted name size objects object (first, tt) (end_no_puts push.gave_up push.left) fits whole.0 there len) [
-        | inl few ↦ absurd (let less = few.0 in let long = length-append push.puts (end_of push.gave_up push.left) in omega (arith, less, long))
-        | inr all ↦ all.1
-      ]);
+            | inl few ↦ absurd (let less = few.0 in let long = length-append push.puts (end_of push.gave_up push.left) in omega (arith, less, long))
+            | inr all ↦ all.1
+          ]);
     }
     by (inr part) = record {
       front = λ n. inl (ap (λ (xs : List (List ℕ)). spelled (take n xs)) push.sent_is

@@ -22,10 +22,10 @@ use Rattle.push_model.specs.declared.course.Contact.{Contact}
 use Rattle.push_model.specs.declared.course.Point.TheVariants.{Due, Asked}
 use Rattle.push_model.specs.declared.course.Stage.{Stage}
 use Rattle.push_model.specs.declared.course.Stage.TheVariants.{Rest, Link, SearchChannel, Search, SearchEnd, Features, ObjectChannel, Object, ObjectEnd, LinkEnd, Over}
-use Rattle.push_model.specs.Causes.{cause_of_link, cause_of_page, cause_of_close, cause_of_machine, cause_of_query, cause_of_mux, cause_of_obex, small_channel, unawaited_response}
+use Rattle.push_model.specs.Causes.{cause_of_link, cause_of_page, cause_of_close, cause_of_query, cause_of_mux, cause_of_obex, small_channel, unawaited_response}
 use Rattle.push_model.specs.Client.{Client, ends, ends_by, ends_if}
 use Rattle.push_model.specs.Streams.{Front, Whole, Partial, Broken, front_of}
-use Rattle.push_model.specs.Responding.{hears_response, is_object, hears_front, hears_stream, hears_end, hears_up, hears_frame, is_left}
+use Rattle.push_model.specs.Responding.{hears_response, is_object, hears_front, hears_stream, hears_end, hears_up, is_left}
 use Rattle.push_model.specs.Events as events
 
 pub record Talk : Type 0 where

@@ -1,6 +1,6 @@
 -- What a client of Object Push asks of its server in one push (IrOBEX 1.5, 3.4; Object Push Profile 1.2, 4.3): each request
 -- as a packet, in the order in which they go to the channel of the object.
-use Rattle.std.specs.Prelude.{ℕ, ◌≡◌, ◌<◌, ◌≤◌, ◌^◌, ◌⊎◌, ◌||◌, ◌&&◌, Bool, true, false, List, [], ◌∷◌, ◌++◌, length, take, Option, Some, None, Result, Ok, Err, IfSome, if◌then◌else◌}
+use Rattle.std.specs.Prelude.{ℕ, ◌≡◌, ◌<◌, ◌≤◌, ◌^◌, ◌⊎◌, ◌||◌, ◌&&◌, Bool, false, List, [], ◌∷◌, ◌++◌, length, take, Option, Some, None, Result, Ok, Err, IfSome, if◌then◌else◌}
 use Rattle.bt_base.specs.declared.ports.PortFault.{PortFault}
 use Rattle.bt_base.specs.declared.settings.Transport.{Transport}
 use Rattle.bt_base.specs.declared.settings.Transport.TheVariants.{L2cap, Rfcomm}
