@@ -18,3 +18,4 @@ pub mod Pushing
 pub mod Asking
 pub mod Sending
 pub mod Spelling
+pub mod Finals

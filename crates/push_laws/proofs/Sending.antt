@@ -115,7 +115,7 @@ direct w sent Put client parts is still answers s = sent_direct w sent (requests
 direct w sent Abort client parts is still answers s = sent_direct w sent (requests Abort client parts).outcome (requests Abort client parts) (abort_stands w sent client parts is s)
 direct w sent Disconnect client parts is still answers s = sent_direct w sent (requests Disconnect client parts).outcome (requests Disconnect client parts) (leave_stands w sent client parts is s)
 
-still_of : (going waiting : Bool) → (not going && not waiting) ≡ true → waiting ≡ false
+pub still_of : (going waiting : Bool) → (not going && not waiting) ≡ true → waiting ≡ false
 still_of true waiting e = absurd (let f : false ≡ true = e in cc)
 still_of false true e = absurd (let f : false ≡ true = e in cc)
 still_of false false e = refl
@@ -133,11 +133,11 @@ direct_by w sent false client parts is answers s = nothing_more w sent (talk_of 
 
 -- ---- over RFCOMM: what the multiplexer takes and says changes nothing of the talk
 
-talk_either : (P : Talk → Type 0) (test : Bool) (a b : Client) → P (talk_of a) → P (talk_of b) → P (talk_of (if test then a else b))
+pub talk_either : (P : Talk → Type 0) (test : Bool) (a b : Client) → P (talk_of a) → P (talk_of b) → P (talk_of (if test then a else b))
 talk_either P true a b x y = x
 talk_either P false a b x y = y
 
-filled_talk : (P : Talk → Type 0) (client : Client) → P (talk_of client) → P (talk_of (filled client))
+pub filled_talk : (P : Talk → Type 0) (client : Client) → P (talk_of client) → P (talk_of (filled client))
 filled_talk P client p =
     talk_either P (is_ready client.mux && not (is_empty client.rest)) (record client { mux = mux.sends client.rest client.mux; rest = drop (taken_count (length client.rest) client.mux) client.rest }) client p p
 
@@ -207,7 +207,7 @@ tells_talk : (P : Talk → Type 0) (cause : Option Outcome) (client : Client) (p
 tells_talk P None client parts p = p
 tells_talk P (Some outcome) client parts p = p
 
-at_talk : (P : Talk → Type 0) (stage : Stage) (client : Client) (parts : List Part) → is_object stage ≡ false → P (talk_of client) → P (talk_of (steps_at stage client parts).client)
+pub at_talk : (P : Talk → Type 0) (stage : Stage) (client : Client) (parts : List Part) → is_object stage ≡ false → P (talk_of client) → P (talk_of (steps_at stage client parts).client)
 at_talk P Rest client parts other p = p
 at_talk P (Link Due) client parts other p = p
 at_talk P (Link Asked) client parts other p = p
@@ -265,7 +265,7 @@ over_both w sent Rfcomm client parts is free works t answers s =
     (cond-true (is_object client.stage) (packets_through client.transport client parts) [] works ∙ ap (λ (x : Transport). packets_through x client parts) (sym t) ∙ cond-false (client.failed || client.given) [] (packets_muxed client parts) free)
     (over_rfcomm w sent client parts answers s)
 
-object_of : (stage : Stage) → is_object stage ≡ true → stage ≡ Object
+pub object_of : (stage : Stage) → is_object stage ≡ true → stage ≡ Object
 object_of Object e = refl
 object_of Rest e = absurd (let f : false ≡ true = e in cc)
 object_of (Link point) e = absurd (let f : false ≡ true = e in cc)

@@ -1,6 +1,6 @@
 -- What a client of Object Push asks of its server in one push (IrOBEX 1.5, 3.4; Object Push Profile 1.2, 4.3): each request
 -- as a packet, in the order in which they go to the channel of the object.
-use Rattle.std.specs.Prelude.{ℕ, ◌≡◌, ◌<◌, ◌≤◌, ◌^◌, ◌⊎◌, ◌||◌, ◌&&◌, Bool, false, List, [], ◌∷◌, ◌++◌, length, take, Option, Some, None, Result, Ok, Err, IfSome, if◌then◌else◌}
+use Rattle.std.specs.Prelude.{ℕ, ◌≡◌, ◌<◌, ◌≤◌, ◌^◌, ◌⊎◌, ◌||◌, ◌&&◌, Bool, true, false, List, [], ◌∷◌, ◌++◌, length, take, Option, Some, None, Result, Ok, Err, IfSome, if◌then◌else◌}
 use Rattle.bt_base.specs.declared.ports.PortFault.{PortFault}
 use Rattle.bt_base.specs.declared.settings.Transport.{Transport}
 use Rattle.bt_base.specs.declared.settings.Transport.TheVariants.{L2cap, Rfcomm}
@@ -10,10 +10,11 @@ use Rattle.push_terms.specs.declared.outcome.Outcome.TheVariants.{Done, Cancelle
 use Rattle.rfcomm_model.specs.Saying.{Said, next}
 use Rattle.obex_headers.specs.Runs.{spelled}
 use Rattle.obex_session.specs.Asking.{Asking}
+use Rattle.obex_session.specs.NextPut.{put_request}
 use Rattle.obex_session.specs.ObjectPuts.{HasPut, IsWhole}
 use Rattle.obex_session.specs.PutPackets.{units_in, place_of}
 use Rattle.obex_session.specs.Pushes.{Fits}
-use Rattle.push_model.specs.Client.{Client, with_object}
+use Rattle.push_model.specs.Client.{Client, may_cancel, with_object}
 use Rattle.push_model.specs.Laws.{Deed, Hears, Asks, Finishes, Cancels, done, all_done}
 use Rattle.push_model.specs.Payloads.{Payload, Octets, Framed}
 use Rattle.push_model.specs.Responding.{is_object}
@@ -144,3 +145,13 @@ pub record SpellsOneObject (name : List ℕ) (object : List ℕ) (cause : Option
 abbrev pub SpellsWhatIsPushed : Type 0
 SpellsWhatIsPushed = (client : Client) (name : List ℕ) (size : ℕ) (objects : List Object) (object : List ℕ) (deeds : List Deed) → MayPush client name size → Fits name size → octets_of name objects ≡ Some object → length object ≡ size
     → AllAnswer (Some objects) deeds (with_object name size client) → SpellsOneObject name object (all_done deeds (with_object name size client)).cause (packets_sent deeds (with_object name size client))
+
+-- ---- behind the final PUT
+
+-- the final PUT of the object was sent, and awaits its response
+abbrev pub AwaitsFinalPut : Client → Type 0
+AwaitsFinalPut client = (client.cause ≡ None) × (client.session.awaited ≡ Some (put_request false true false))
+
+-- From there on a push may not be cancelled, and its outcome is not Cancelled, whatever comes.
+abbrev pub NothingIsCancelledLate : Type 0
+NothingIsCancelledLate = (deeds : List Deed) (client : Client) → AwaitsFinalPut client → (may_cancel (all_done deeds client) ≡ false) × ((all_done deeds client).cause ≡ Some Cancelled → ⊥)
