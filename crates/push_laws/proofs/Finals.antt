@@ -10,15 +10,14 @@ use Rattle.obex_session.specs.declared.client.Answered.TheVariants.{Go, Done, Re
 use Rattle.obex_session.specs.NextPut.{put_request, is_waiting}
 use Rattle.obex_session.specs.Views.{is_final_put, answer_at, after_at}
 use Rattle.push_model.specs.declared.course.Stage.{Stage}
-use Rattle.push_model.specs.declared.course.Stage.TheVariants.{Object}
 use Rattle.push_model.specs.Causes.{cause_of_obex, unknown_parameters, unawaited_response}
 use Rattle.push_model.specs.Client.{Client, ends, ends_by, is_rest, may_cancel}
 use Rattle.push_model.specs.Laws.{Deed, Hears, Asks, Finishes, Cancels, done, all_done}
-use Rattle.push_model.specs.Responding.{takes, hears_answer, hears_response, is_success, is_early, is_object}
+use Rattle.push_model.specs.Responding.{takes, hears_answer, is_success, is_early, is_object}
 use Rattle.push_model.specs.Steps as steps
 use Rattle.push_model.specs.Steps.{Part, Stepped, may_ask, next_ask, asks_direct, asks_muxed, goes_muxed, filled, rests, steps_object, steps_at}
 use Rattle.push_model.proofs.CauseLaws.{first_causes_stay}
-use Rattle.push_laws.specs.Sending.{AwaitsFinalPut, NothingIsCancelledLate}
+use Rattle.push_laws.specs.Sending.{NothingIsCancelledLate}
 use Rattle.push_laws.proofs.Answered.{final_ends}
 use Rattle.push_laws.proofs.Talks.{Talk, talk_of, is_reserved, Kept, news_keeps}
 use Rattle.push_laws.proofs.Pushing.{NotCancelled, suits_any}
