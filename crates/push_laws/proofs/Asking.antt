@@ -18,7 +18,7 @@ use Rattle.push_model.specs.declared.course.Contact.TheVariants.{Unmet, Met, Lef
 use Rattle.push_model.specs.Client.{Client}
 use Rattle.push_model.specs.Steps.{Ask, Connect, Put, Abort, Disconnect, Close, Nothing, asks, put_count, is_last_put, put_octets, connect_octets, abort_octets, disconnect_octets, puts}
 use Rattle.push_laws.proofs.Talks.{talk_of}
-use Rattle.push_laws.proofs.Pushing.{Task, HasSent, NotDone, NotCancelled, connect_of, is_gone, Fixed, State, Fresh, Connecting, Putting, GivenUp, Gone, Stands, MayPutOn, ends_stands}
+use Rattle.push_laws.proofs.Pushing.{Task, not_given_up, HasSent, NotDone, NotCancelled, connect_of, is_gone, Fixed, State, Fresh, Connecting, Putting, GivenUp, Gone, Stands, MayPutOn, ends_stands}
 use Rattle.push_laws.proofs.Pushing as state
 
 -- ---- what a client asks, and when
@@ -81,9 +81,9 @@ connects w sent client unmet free still s = (fixed, by s.1)
     by : State w sent client.cause client.contact client.session client.name client.size → State w (sent ++ connect_octets client.session ∷ []) client.cause Unmet (asks_connect client.session) client.name client.size
     by (Fresh none was waits unput least other) = Connecting (more sent [] (connect_octets client.session ∷ []) none ∙ ap (λ (x : List ℕ). x ∷ []) first) refl (λ e. (refl, least free)) refl other
     by (Connecting is was waits unput other) = absurd (no_wait (is_waiting client.session.awaited) still (ap is_waiting (waits free).0))
-    by (Putting puts at is met wanted has place other) = absurd (not_met client.contact unmet met)
+    by (Putting puts at is met wanted has place other any) = absurd (not_met client.contact unmet met)
     by (state.Put puts is met whole waits unput other) = absurd (not_met client.contact unmet met)
-    by (GivenUp puts at is met wanted has caused unput other) = absurd (not_met client.contact unmet met)
+    by (GivenUp puts at is met wanted has caused unput other any) = absurd (not_met client.contact unmet met)
     by (Gone gone given past) = absurd (let f : false ≡ true = sym (ap is_gone unmet) ∙ gone in cc)
 
 -- ---- ABORT and DISCONNECT
@@ -98,9 +98,9 @@ aborts w sent client met caused some s = (fixed, by s.1)
     by : State w sent client.cause client.contact client.session client.name client.size → State w (sent ++ abort_octets ∷ []) client.cause client.contact (asks_abort client.session) client.name client.size
     by (Fresh none was waits unput least other) = absurd (not_met client.contact was met)
     by (Connecting is was waits unput other) = absurd (not_met client.contact was met)
-    by (Putting puts at is was wanted has place other) = GivenUp puts at (more sent (connect_of w ∷ puts) (abort_octets ∷ []) is) met wanted has caused refl other
+    by (Putting puts at is was wanted has place other any) = GivenUp puts at (more sent (connect_of w ∷ puts) (abort_octets ∷ []) is) met wanted has caused refl other (any some)
     by (state.Put puts is was whole waits unput other) = absurd (no_place client.session.put some unput)
-    by (GivenUp puts at is was wanted has given unput other) = absurd (no_place client.session.put some unput)
+    by (GivenUp puts at is was wanted has given unput other any) = absurd (no_place client.session.put some unput)
     by (Gone gone given past) = absurd (not_gone client.contact gone met)
 
 pub leaves : (w : Task) (sent : List (List ℕ)) (client : Client) → client.contact ≡ Met → is_some client.cause ≡ true → Stands w sent (talk_of client) → Stands w (sent ++ disconnect_octets ∷ []) (talk_of (record client { session = asks_disconnect client.session; contact = Left }))
@@ -112,14 +112,14 @@ leaves w sent client met caused s = (fixed, Gone refl caused (by s.1))
     by : State w sent client.cause client.contact client.session client.name client.size → HasSent w client.name client.size client.cause (sent ++ disconnect_octets ∷ [])
     by (Fresh none was waits unput least other) = absurd (not_met client.contact was met)
     by (Connecting is was waits unput other) = absurd (not_met client.contact was met)
-    by (Putting puts at is was wanted has place other) = inr (record { puts = puts; gave_up = false; left = true; sent_is = more sent (connect_of w ∷ puts) (disconnect_octets ∷ []) is; puts_are = inr (at, wanted, has, other) })
+    by (Putting puts at is was wanted has place other any) = inr (record { puts = puts; gave_up = false; left = true; sent_is = more sent (connect_of w ∷ puts) (disconnect_octets ∷ []) is; puts_are = inr (at, wanted, has, other, λ up none. not_given_up up) })
     by (state.Put puts is was whole waits unput other) = inr (record { puts = puts; gave_up = false; left = true; sent_is = more sent (connect_of w ∷ puts) (disconnect_octets ∷ []) is; puts_are = inl (whole, refl, other) })
-    by (GivenUp puts at is was wanted has given unput other) = inr (record {
+    by (GivenUp puts at is was wanted has given unput other any) = inr (record {
       puts = puts;
       gave_up = true;
       left = true;
       sent_is = more sent (connect_of w ∷ (puts ++ abort_octets ∷ [])) (disconnect_octets ∷ []) is ∙ ap (λ (xs : List (List ℕ)). connect_of w ∷ xs) (append_assoc puts (abort_octets ∷ []) (disconnect_octets ∷ []));
-      puts_are = inr (at, wanted, has, other);
+      puts_are = inr (at, wanted, has, other, λ up. any);
     })
     by (Gone gone given past) = absurd (not_gone client.contact gone met)
 
@@ -154,6 +154,10 @@ front_is octets = take-append_seam octets (drop (length octets) [])
 not_ended : (cause : Option Outcome) (o : Outcome) → cause ≡ None → cause ≡ Some o → ⊥
 not_ended cause o a b = let f : None ≡ Some o = sym a ∙ b in cc
 
+never_empty : (puts : List (List ℕ)) (octets : List ℕ) → puts ++ octets ∷ [] ≡ [] → ⊥
+never_empty [] octets e = absurd cc
+never_empty (first ∷ puts) octets e = absurd cc
+
 put_state : (w : Task) (sent puts : List (List ℕ)) (client : Client) (part : List ℕ) (final : Bool) → final ≡ is_last_put client → is_waiting client.session.awaited ≡ false → 255 ≤ client.session.limit → Fixed w client.session client.name client.size client.limit
     → sent ≡ connect_of w ∷ puts → client.contact ≡ Met → client.cause ≡ None → HasPut client.name client.size puts client.session w.content → Told w.content client part
     → State w (sent ++ packet_octets (put_packet final (ahead_of client.session.wanted client.session.put client.name client.size) part) ∷ []) client.cause client.contact (after_put client.session final (put_count client)) client.name client.size
@@ -172,7 +176,7 @@ put_state w sent puts client part false last still own f is met free has told =
     let after = after_put client.session false (put_count client) in
     Putting (puts ++ octets ∷ []) after (more sent (connect_of w ∷ puts) (octets ∷ []) is) met f.wanted
     (subst (λ (x : List ℕ). HasPut client.name client.size (puts ++ x ∷ []) after w.content) (front_is octets) on)
-    (λ e. (refl, own, inr (not (is_some client.session.put), client.session.single, refl))) (not_ended client.cause outcomes.Done free)
+    (λ e. (refl, own, inr (not (is_some client.session.put), client.session.single, refl))) (not_ended client.cause outcomes.Done free) (λ put. never_empty puts octets)
 
 pub puts_stand : (w : Task) (sent : List (List ℕ)) (client : Client) (part : List ℕ) → client.contact ≡ Met → client.cause ≡ None → is_waiting client.session.awaited ≡ false → Told w.content client part → Stands w sent (talk_of client)
     → Stands w (sent ++ put_octets client part ∷ []) (talk_of (record client { session = after_put client.session (is_last_put client) (put_count client) }))
@@ -185,10 +189,10 @@ puts_stand w sent client part met free still told s = (fixed, by s.1)
         → State w (sent ++ put_octets client part ∷ []) client.cause client.contact (after_put client.session (is_last_put client) (put_count client)) client.name client.size
     by (Fresh none was waits unput least other) = absurd (not_met client.contact was met)
     by (Connecting is was waits unput other) = absurd (not_met client.contact was met)
-    by (Putting puts at is was wanted has place other) =
+    by (Putting puts at is was wanted has place other any) =
         put_state w sent puts client part (is_last_put client) refl still (place free).1 s.0 is met free (puts_in_order.stays client.name client.size puts at client.session w.content (place free).0 (s.0.wanted ∙ sym wanted) has) told
     by (state.Put puts is was whole waits unput other) = absurd (no_wait (is_waiting client.session.awaited) still (ap is_waiting (waits free)))
-    by (GivenUp puts at is was wanted has given unput other) = absurd (not_caused client.cause given free)
+    by (GivenUp puts at is was wanted has given unput other any) = absurd (not_caused client.cause given free)
     by (Gone gone given past) = absurd (not_gone client.contact gone met)
 
 -- a client that left has a cause
@@ -201,7 +205,7 @@ left_caused w sent client away s = by s.1
     by : State w sent client.cause client.contact client.session client.name client.size → is_some client.cause ≡ true
     by (Fresh none was waits unput least other) = absurd (not_away was)
     by (Connecting is was waits unput other) = absurd (not_away was)
-    by (Putting puts at is was wanted has place other) = absurd (not_gone client.contact away was)
+    by (Putting puts at is was wanted has place other any) = absurd (not_gone client.contact away was)
     by (state.Put puts is was whole waits unput other) = absurd (not_gone client.contact away was)
-    by (GivenUp puts at is was wanted has given unput other) = given
+    by (GivenUp puts at is was wanted has given unput other any) = given
     by (Gone gone given past) = given

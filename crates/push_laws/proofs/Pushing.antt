@@ -68,10 +68,10 @@ pub data State (w : Task) (sent : List (List ℕ)) (cause : Option Outcome) (con
   Fresh : sent ≡ [] → contact ≡ Unmet → session.awaited ≡ None → session.put ≡ None → (cause ≡ None → 255 ≤ session.limit) → NotDone cause → State w sent cause contact session name size
   Connecting : sent ≡ connect_of w ∷ [] → contact ≡ Unmet → (cause ≡ None → (session.awaited ≡ (asks_connect session).awaited) × (255 ≤ session.limit)) → session.put ≡ None → NotDone cause → State w sent cause contact session name size
   Putting : (puts : List (List ℕ)) (at : Asking) → sent ≡ connect_of w ∷ puts → contact ≡ Met → at.wanted ≡ w.wanted → HasPut name size puts at w.content
-      → (cause ≡ None → (session.put ≡ at.put) × (255 ≤ session.limit) × MayPutOn session) → NotDone cause → State w sent cause contact session name size
+      → (cause ≡ None → (session.put ≡ at.put) × (255 ≤ session.limit) × MayPutOn session) → NotDone cause → (is_some session.put ≡ true → puts ≡ [] → ⊥) → State w sent cause contact session name size
   Put : (puts : List (List ℕ)) → sent ≡ connect_of w ∷ puts → contact ≡ Met → IsWhole w.wanted name size puts w.content → (cause ≡ None → session.awaited ≡ Some (put_request false true false)) → session.put ≡ None → NotCancelled cause
       → State w sent cause contact session name size
-  GivenUp : (puts : List (List ℕ)) (at : Asking) → sent ≡ connect_of w ∷ (puts ++ abort_octets ∷ []) → contact ≡ Met → at.wanted ≡ w.wanted → HasPut name size puts at w.content → is_some cause ≡ true → session.put ≡ None → NotDone cause
+  GivenUp : (puts : List (List ℕ)) (at : Asking) → sent ≡ connect_of w ∷ (puts ++ abort_octets ∷ []) → contact ≡ Met → at.wanted ≡ w.wanted → HasPut name size puts at w.content → is_some cause ≡ true → session.put ≡ None → NotDone cause → (puts ≡ [] → ⊥)
       → State w sent cause contact session name size
   Gone : is_gone contact ≡ true → is_some cause ≡ true → HasSent w name size cause sent → State w sent cause contact session name size
 
@@ -80,6 +80,17 @@ abbrev pub Stands : Task → List (List ℕ) → Talk → Type 0
 Stands w sent t = Fixed w t.session t.name t.size t.limit × State w sent t.cause t.contact t.session t.name t.size
 
 -- ---- what was sent is a front of a push
+
+pub not_given_up : false ≡ true → ⊥
+not_given_up e = cc
+
+not_some_nat : is_some {T = ℕ} None ≡ true → ⊥
+not_some_nat e = let f : false ≡ true = e in cc
+
+-- a place that there is behind a response was there ahead of it
+put_before : (old new : Option ℕ) → (old ≡ None → new ≡ None) → is_some new ≡ true → is_some old ≡ true
+put_before None new none put = absurd (not_some_nat (sym (ap is_some (none refl)) ∙ put))
+put_before (Some place) new none put = refl
 
 pub sent_of : (w : Task) (sent : List (List ℕ)) (t : Talk) → Stands w sent t → HasSent w t.name t.size t.cause sent
 sent_of w sent t stands = by stands.1
@@ -91,11 +102,11 @@ sent_of w sent t stands = by stands.1
       gave_up = false;
       left = false;
       sent_is = is;
-      puts_are = inr (fresh 0 w.wanted, refl, puts_in_order.begins t.name t.size (fresh 0 w.wanted) w.content refl, other);
+      puts_are = inr (fresh 0 w.wanted, refl, puts_in_order.begins t.name t.size (fresh 0 w.wanted) w.content refl, other, λ up none. not_given_up up);
     })
-    by (Putting puts at is met wanted has place other) = inr (record { puts = puts; gave_up = false; left = false; sent_is = is ∙ ap (λ (xs : List (List ℕ)). connect_of w ∷ xs) (sym (append-nil puts)); puts_are = inr (at, wanted, has, other) })
+    by (Putting puts at is met wanted has place other some) = inr (record { puts = puts; gave_up = false; left = false; sent_is = is ∙ ap (λ (xs : List (List ℕ)). connect_of w ∷ xs) (sym (append-nil puts)); puts_are = inr (at, wanted, has, other, λ up none. not_given_up up) })
     by (Put puts is met whole waits unput other) = inr (record { puts = puts; gave_up = false; left = false; sent_is = is ∙ ap (λ (xs : List (List ℕ)). connect_of w ∷ xs) (sym (append-nil puts)); puts_are = inl (whole, refl, other) })
-    by (GivenUp puts at is met wanted has caused unput other) = inr (record { puts = puts; gave_up = true; left = false; sent_is = is; puts_are = inr (at, wanted, has, other) })
+    by (GivenUp puts at is met wanted has caused unput other some) = inr (record { puts = puts; gave_up = true; left = false; sent_is = is; puts_are = inr (at, wanted, has, other, λ up. some) })
     by (Gone gone caused sent) = sent
 
 -- ---- the push ends
@@ -120,9 +131,9 @@ ends_state : (w : Task) (sent : List (List ℕ)) (o : Outcome) (contact : Contac
     → State w sent None contact session name size → State w sent (Some o) contact heard name size
 ends_state w sent o contact session heard name size suits free none (Fresh is unmet waits unput least other) = Fresh is unmet (free waits) (none unput) (λ e. absurd (never o e)) (suits.early (inl waits))
 ends_state w sent o contact session heard name size suits free none (Connecting is unmet waits unput other) = Connecting is unmet (λ e. absurd (never o e)) (none unput) (suits.early (inr (inl (waits refl).0)))
-ends_state w sent o contact session heard name size suits free none (Putting puts at is met wanted has place other) = Putting puts at is met wanted has (λ e. absurd (never o e)) (suits.early (inr (inr (place refl).2)))
+ends_state w sent o contact session heard name size suits free none (Putting puts at is met wanted has place other some) = Putting puts at is met wanted has (λ e. absurd (never o e)) (suits.early (inr (inr (place refl).2))) (λ put. some (put_before session.put heard.put none put))
 ends_state w sent o contact session heard name size suits free none (Put puts is met whole waits unput other) = Put puts is met whole (λ e. absurd (never o e)) (none unput) (suits.late (waits refl))
-ends_state w sent o contact session heard name size suits free none (GivenUp puts at is met wanted has caused unput other) = absurd (not_some caused)
+ends_state w sent o contact session heard name size suits free none (GivenUp puts at is met wanted has caused unput other some) = absurd (not_some caused)
 ends_state w sent o contact session heard name size suits free none (Gone gone caused past) = absurd (not_some caused)
 
 -- one that it has already, stays
@@ -130,9 +141,9 @@ stays_state : (w : Task) (sent : List (List ℕ)) (o : Outcome) (contact : Conta
     → State w sent (Some o) contact session name size → State w sent (Some o) contact heard name size
 stays_state w sent o contact session heard name size free none (Fresh is unmet waits unput least other) = Fresh is unmet (free waits) (none unput) (λ e. absurd (never o e)) other
 stays_state w sent o contact session heard name size free none (Connecting is unmet waits unput other) = Connecting is unmet (λ e. absurd (never o e)) (none unput) other
-stays_state w sent o contact session heard name size free none (Putting puts at is met wanted has place other) = Putting puts at is met wanted has (λ e. absurd (never o e)) other
+stays_state w sent o contact session heard name size free none (Putting puts at is met wanted has place other some) = Putting puts at is met wanted has (λ e. absurd (never o e)) other (λ put. some (put_before session.put heard.put none put))
 stays_state w sent o contact session heard name size free none (Put puts is met whole waits unput other) = Put puts is met whole (λ e. absurd (never o e)) (none unput) other
-stays_state w sent o contact session heard name size free none (GivenUp puts at is met wanted has caused unput other) = GivenUp puts at is met wanted has caused (none unput) other
+stays_state w sent o contact session heard name size free none (GivenUp puts at is met wanted has caused unput other some) = GivenUp puts at is met wanted has caused (none unput) other some
 stays_state w sent o contact session heard name size free none (Gone gone caused past) = Gone gone caused past
 
 fixed_behind : (w : Task) (session heard : Asking) (name : List ℕ) (size limit : ℕ) → After session heard → Fixed w session name size limit → Fixed w heard name size limit
@@ -208,12 +219,13 @@ goes_state w sent cause contact octets session name size go wanted (Connecting i
     let goes = goes_answered session octets go in
     Putting [] (after_at session.awaited session octets) is (ap met unmet) ((after_answered session octets).wanted ∙ wanted) (puts_in_order.begins name size (after_at session.awaited session octets) w.content (goes.put ∙ unput))
     (λ e. (refl, subst (λ a. 255 ≤ (after_at a session octets).limit) (sym (awaits e).0) (connect_wide session octets (awaits e).1), inl goes.free)) other
-goes_state w sent cause contact octets session name size go wanted (Putting puts at is was agrees has place other) =
+    (λ put. absurd (not_some_nat (sym (ap is_some (goes.put ∙ unput)) ∙ put)))
+goes_state w sent cause contact octets session name size go wanted (Putting puts at is was agrees has place other some) =
     let goes = goes_answered session octets go in
-    Putting puts at is (ap met was) agrees has (λ e. (goes.put ∙ (place e).0, wide_on session octets go (place e).2 (place e).1, inl goes.free)) other
+    Putting puts at is (ap met was) agrees has (λ e. (goes.put ∙ (place e).0, wide_on session octets go (place e).2 (place e).1, inl goes.free)) other (λ put. some (sym (ap is_some goes.put) ∙ put))
 goes_state w sent cause contact octets session name size go wanted (Put puts is was whole awaits unput other) =
     Put puts is (ap met was) whole (λ e. absurd (final_ends session octets (sym (ap (λ a. answer_at a session octets) (awaits e)) ∙ go))) ((goes_answered session octets go).put ∙ unput) other
-goes_state w sent cause contact octets session name size go wanted (GivenUp puts at is was agrees has caused unput other) = GivenUp puts at is (ap met was) agrees has caused ((goes_answered session octets go).put ∙ unput) other
+goes_state w sent cause contact octets session name size go wanted (GivenUp puts at is was agrees has caused unput other some) = GivenUp puts at is (ap met was) agrees has caused ((goes_answered session octets go).put ∙ unput) other some
 goes_state w sent cause contact octets session name size go wanted (Gone gone caused past) = Gone (gone_stays contact gone) caused past
 
 -- ---- a response

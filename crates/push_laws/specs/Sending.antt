@@ -99,10 +99,10 @@ abbrev pub end_of : Bool → Bool → List (List ℕ)
 end_of gave_up left = (if gave_up then abort_octets ∷ [] else []) ++ (if left then disconnect_octets ∷ [] else [])
 
 -- Of the PUTs these were sent: all of the object, and then it is not given up and the push is not cancelled; or a front of
--- them, and then the push is not done.
+-- them, and then the push is not done, and it is given up behind a PUT alone.
 abbrev pub ArePuts : Bool → List ℕ → ℕ → Option (List Object) → Option Outcome → List (List ℕ) → Bool → Type 0
 ArePuts wanted name size content cause puts gave_up =
-    (IsWhole wanted name size puts content × (gave_up ≡ false) × (cause ≡ Some Cancelled → ⊥)) ⊎ ((session : Asking) × (session.wanted ≡ wanted) × HasPut name size puts session content × (cause ≡ Some Done → ⊥))
+    (IsWhole wanted name size puts content × (gave_up ≡ false) × (cause ≡ Some Cancelled → ⊥)) ⊎ ((session : Asking) × (session.wanted ≡ wanted) × HasPut name size puts session content × (cause ≡ Some Done → ⊥) × (gave_up ≡ true → puts ≡ [] → ⊥))
 
 -- one CONNECT, the PUTs of the object or a front of them, ABORT and DISCONNECT
 pub record IsPush (connect : List ℕ) (wanted : Bool) (name : List ℕ) (size : ℕ) (content : Option (List Object)) (cause : Option Outcome) (sent : List (List ℕ)) : Type 0 where
