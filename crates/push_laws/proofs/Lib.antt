@@ -12,3 +12,10 @@ pub mod Beginning
 pub mod Calling
 pub mod SmallFrames
 pub mod SmallAnswers
+pub mod Talks
+pub mod Answered
+pub mod Pushing
+pub mod Asking
+pub mod Sending
+pub mod Spelling
+pub mod Finals

@@ -6,3 +6,4 @@ pub mod Answers
 pub mod Premises
 pub mod Calls
 pub mod Laws
+pub mod Sending

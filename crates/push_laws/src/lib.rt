@@ -1,4 +1,6 @@
-//! Laws of a server of Object Push: what its inbox gains is what the packets spell that it heard, whatever comes.
+//! Laws of Object Push, whatever comes: what a server's inbox gains is what the packets spell that it heard, and what a
+//! client sends in one push spells its object once or nothing.
 #![tactic(auto)]
 
+pub mod client_laws;
 pub mod laws;
