@@ -13,3 +13,6 @@ mod upper;
 
 pub use feed_refusal::FeedRefusal;
 pub use server_host::ServerHost;
+
+#[cfg(test)]
+mod tests;
