@@ -9,3 +9,6 @@ pub mod Sayings
 pub mod Reacting
 pub mod PieceReading
 pub mod Feeding
+pub mod Clients
+pub mod ClientsBeginning
+pub mod ClientsCalls

@@ -8,3 +8,5 @@ pub mod ServingLaws
 pub mod EndpointLists
 pub mod Shells
 pub mod Newness
+pub mod Pushing
+pub mod PushingLaws

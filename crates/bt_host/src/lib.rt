@@ -2,6 +2,8 @@
 //! Object Push Profile 1.2).
 #![tactic(auto)]
 
+mod client_end;
+mod client_host;
 mod end;
 mod endpoints;
 mod feed_refusal;
@@ -11,6 +13,7 @@ mod shell;
 mod stack;
 mod upper;
 
+pub use client_host::ClientHost;
 pub use feed_refusal::FeedRefusal;
 pub use server_host::ServerHost;
 

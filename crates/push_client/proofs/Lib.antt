@@ -5,3 +5,4 @@ pub mod StreamLaws
 pub mod HearingLaws
 pub mod AskingLaws
 pub mod SteppingLaws
+pub mod KeepingLaws

@@ -4,3 +4,4 @@ pub mod Putting
 pub mod Pushing
 pub mod Telling
 pub mod Requesting
+pub mod Ending

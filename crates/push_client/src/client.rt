@@ -14,6 +14,7 @@ ghost use Rattle.push_client.specs.Telling.{news_of};
 
 mod beginning;
 mod channels;
+mod ending;
 mod hearing;
 mod requesting;
 mod searching;

@@ -115,7 +115,7 @@ impl PushClient {
     }
 
     /// An SDU came in on the channel to that PSM.
-    pub(super) fn hear_sdu(&mut self, psm: Psm, sdu: &[u8])
+    pub fn hear_sdu(&mut self, psm: Psm, sdu: &[u8])
         ensures { self.new ≡ sdu_at self.old.stage psm sdu.now self.old }
     {
         let is_search = psm.get() == SEARCH_PSM;

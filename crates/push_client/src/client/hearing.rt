@@ -39,7 +39,7 @@ impl PushClient {
     }
 
     /// The link is there. A push that was given up meanwhile breaks it again.
-    pub(super) fn link_up(&mut self)
+    pub fn link_up(&mut self)
         ensures { self.new ≡ linked_at self.old.stage self.old }
     {
         if !is_paging(self.stage()) {
@@ -54,7 +54,7 @@ impl PushClient {
     }
 
     /// The link is down.
-    pub(super) fn link_down(&mut self, reason: u8)
+    pub fn link_down(&mut self, reason: u8)
         ensures { self.new ≡ hears_news (LinkDown reason) self.old }
     {
         if is_linked(self.stage()) {
@@ -63,7 +63,7 @@ impl PushClient {
     }
 
     /// No link was made.
-    pub(super) fn link_failed(&mut self, status: u8)
+    pub fn link_failed(&mut self, status: u8)
         ensures { self.new ≡ hears_news (LinkFailed status) self.old }
     {
         if is_paging(self.stage()) {

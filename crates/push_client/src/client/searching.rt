@@ -56,7 +56,7 @@ impl PushClient {
 
     /// The timer fired: the request that waits for its reply is sent once more, unless its last sending still waits. Where it
     /// was sent as often as may be, the push ends.
-    pub(super) fn fire(&mut self)
+    pub fn fire(&mut self)
         ensures { self.new ≡ fires self.old }
     {
         if !self.armed() || self.given || self.query.is_due() {

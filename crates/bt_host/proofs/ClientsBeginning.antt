@@ -1,0 +1,204 @@
+-- A push begins at the end of a client.
+use Rattle.std.proofs.Common.{◌≡◌, ◌∙◌, ◌≤◌, ◌&&◌, ◌||◌, not, ℕ, Bool, true, false, List, [], ◌∷◌, ◌++◌, length, refl, sym, ap, subst, true≢false, if◌then◌else◌}
+use Rattle.std.proofs.lemmas.Bool.{false≢true}
+use Rattle.std.specs.Prelude.{Option, Some, None, Result, Ok, Err, IfOk, IfSome}
+use Rattle.std.specs.List.{list_any}
+use Rattle.std.specs.Option.{option_map}
+use Rattle.bt_base.specs.Counts.{HasRisen, HasCause}
+use Rattle.bt_base.specs.Numbers.{IsPsm}
+use Rattle.bt_base.specs.Objects.{Object, octets_of}
+use Rattle.bt_base.specs.declared.ports.PortFault.{PortFault}
+use Rattle.bt_base.specs.declared.ports.PortFault.TheVariants as fault
+use Rattle.push_model.specs.declared.course.Point.TheVariants.{Due, Asked}
+use Rattle.push_model.specs.declared.course.Stage.{Stage}
+use Rattle.push_model.specs.declared.course.Stage.TheVariants.{Rest, Link, SearchChannel, Search, SearchEnd, Features, ObjectChannel, Object as Carries, ObjectEnd, LinkEnd, Over}
+use Rattle.push_model.specs.Client.{Client, begins, begun_by, with_object, is_rest, is_idle}
+use Rattle.push_model.specs.Laws.{links}
+use Rattle.push_model.specs.Steps as course
+use Rattle.push_model.specs.Steps.{Part as Octs, Stepped, steps, steps_at, stepped}
+use Rattle.push_client.specs.Ending as push
+use Rattle.push_client.specs.Pushing.{gone, payload_in, step_of, Begins}
+use Rattle.push_client.specs.Putting.{Comes}
+use Rattle.push_client.specs.declared.step.Step.{Step}
+use Rattle.world_model.specs.Machines.{Opening}
+use Rattle.host_model.specs.Circumstances.{Circumstance, Size, parts_in}
+use Rattle.host_model.specs.Clients as model
+use Rattle.host_model.specs.Clients.{ClientProfile, calls, after_call}
+use Rattle.bt_host.specs.Calls.{Does}
+use Rattle.bt_host.specs.Pushing.{pushing, Pushes, IsDue, IsOf, is_failure, AreOf}
+use Rattle.bt_host.specs.PushingLaws.{Answers, joins}
+use Rattle.bt_host.proofs.Clients.{ended_is, over_if}
+
+-- ---- its link is asked for
+
+due_steps : (client : Client) (parts : List Octs) → IsDue client → steps client parts ≡ course.gives course.MakeLink (Link Asked) client parts
+due_steps client parts due =
+    ap (λ (b : Bool). (if b then (let one : Stepped = record { client = client; step = course.NoMemory; left = parts } in one) else if client.given then course.rests client parts else steps_at client.stage client parts)) due.works
+    ∙ ap (λ (b : Bool). (if b then course.rests client parts else steps_at client.stage client parts)) due.free
+    ∙ ap (λ (s : Stage). steps_at s client parts) due.stage
+
+abbrev asked_link : Client → Client
+asked_link client = record client { stage = Link Asked; given = true }
+
+pub calls_is : (end : ClientProfile) → IsDue end.client → calls end ≡ record end { client = stepped (asked_link end.client); bid = model.Paging }
+calls_is end due = ap (λ (s : Stepped). after_call s.step s.client end) (due_steps end.client [] due)
+
+none_of : (used : List Octs) → used ++ [] ≡ [] → used ≡ []
+none_of [] is = refl
+none_of (answer ∷ used) is = cc
+
+module _ {content : Option (List Object)} {f f' s s' : ℕ} (old new : Client) (result : Step) (lacks : Bool) (due : IsDue old) (k : Comes (steps old) (gone new result) old content f f' s s' lacks) where
+  came : course.gives course.MakeLink (Link Asked) old (k.used ++ []) ≡ gone new result []
+  came = sym (due_steps old (k.used ++ []) due) ∙ k.comes []
+
+  pub asked_is : new ≡ asked_link old
+  asked_is = sym (ap (λ (s : Stepped). s.client) came)
+
+  pub asks_link : course.MakeLink ≡ step_of (payload_in new) result
+  asks_link = ap (λ (s : Stepped). s.step) came
+
+  pub asks_alone : (content' : Option (List Object)) → content' ≡ content → AreOf content content' f f' s s' []
+  asks_alone content' stays = record { content_stays = stays; faults_stay = k.faults_stay; shortages_stay = k.shortages_stay; each = tt; failed = λ some. absurd (false≢true some) }
+
+-- ---- where no link is needed
+
+rest_of : (stage : Stage) → is_rest stage ≡ true → stage ≡ Rest
+rest_of Rest is = refl
+rest_of (Link point) is = absurd (false≢true is)
+rest_of (SearchChannel point) is = absurd (false≢true is)
+rest_of Search is = absurd (false≢true is)
+rest_of (SearchEnd point) is = absurd (false≢true is)
+rest_of (Features point) is = absurd (false≢true is)
+rest_of (ObjectChannel point) is = absurd (false≢true is)
+rest_of Carries is = absurd (false≢true is)
+rest_of (ObjectEnd point) is = absurd (false≢true is)
+rest_of (LinkEnd point) is = absurd (false≢true is)
+rest_of Over is = absurd (false≢true is)
+
+resting_by : (failed given : Bool) (end : ClientProfile)
+    → (let one : Stepped = if failed then record { client = end.client; step = course.NoMemory; left = [] } else if given then course.rests end.client [] else steps_at Rest end.client [] in after_call one.step one.client end) ≡ end
+resting_by true given end = refl
+resting_by false true end = refl
+resting_by false false end = refl
+
+pub calls_none : (end : ClientProfile) → is_idle end.client ≡ true → end ≡ calls end
+calls_none end idle =
+    sym (ap (λ (stage : Stage). (let one : Stepped = if end.client.failed then record { client = end.client; step = course.NoMemory; left = [] } else if end.client.given then course.rests end.client [] else steps_at stage end.client [] in after_call one.step one.client end))
+    (rest_of end.client.stage idle) ∙ resting_by end.client.failed end.client.given end)
+
+-- ---- the push that begins
+
+and_off : (x : Bool) → (x && false) ≡ false
+and_off true = refl
+and_off false = refl
+
+due_ok : (size : ℕ) (name : List ℕ) (client : Client) → client.failed ≡ false → IsDue (push.ended (with_object name size client))
+due_ok size name client works =
+    let new = with_object name size client in
+    subst (λ (b : Bool). IsDue (over_if b new)) (sym (and_off (not (client.failed || false)))) (record { stage = refl; works = works; free = refl })
+
+idle_failed : (name : List ℕ) (client : Client) → client.failed ≡ false → is_idle (push.ended (begun_by (Err fault.Failed) name client)) ≡ true
+idle_failed name client works = ap (λ (b : Bool). is_idle (over_if (not (b || false) && true) (begun_by (Err fault.Failed) name client))) works
+
+due_by : (size : Result ℕ PortFault) (name : List ℕ) (client : Client) → client.failed ≡ false → (begun_by size name client).failed ≡ false → is_idle (push.ended (begun_by size name client)) ≡ false → IsDue (push.ended (begun_by size name client))
+due_by (Ok size) name client works still busy = due_ok size name client works
+due_by (Err fault.Failed) name client works still busy = absurd (true≢false (sym (idle_failed name client works) ∙ busy))
+due_by (Err fault.NoMemory) name client works still busy = absurd (true≢false still)
+
+abbrev keeps_psm : Client → Client → Type 0
+keeps_psm old new = new.psm ≡ old.psm
+
+begun_psm : (size : Result ℕ PortFault) (name : List ℕ) (client : Client) → keeps_psm client (begun_by size name client)
+begun_psm (Ok size) name client = refl
+begun_psm (Err fault.Failed) name client = refl
+begun_psm (Err fault.NoMemory) name client = refl
+
+over_psm : (test : Bool) (client : Client) → keeps_psm client (over_if test client)
+over_psm true client = refl
+over_psm false client = refl
+
+over_failed : (test : Bool) (client : Client) → (over_if test client).failed ≡ client.failed
+over_failed true client = refl
+over_failed false client = refl
+
+begins_is : (size : Result ℕ PortFault) (name : List ℕ) (client : Client) → client.failed ≡ false → begins size name client ≡ begun_by size name client
+begins_is size name client works = ap (λ (b : Bool). (if b then client else begun_by size name client)) works
+
+-- it is begun, and no link is asked for yet
+abbrev pub opening : ClientProfile → Client → ClientProfile
+opening end client = record end { client = client; submitted = None; bid = model.NoBid }
+
+module _ (end : ClientProfile) (mid after : Client) (size : Result ℕ PortFault) (name : List ℕ) (sound : Pushes end) (begun : mid ≡ begins size name end.client) (works : mid.failed ≡ false) (is : after ≡ push.ended mid) where
+  mid_is : mid ≡ begun_by size name end.client
+  mid_is = begun ∙ begins_is size name end.client sound.works
+
+  after_is : after ≡ push.ended (begun_by size name end.client)
+  after_is = is ∙ ap push.ended mid_is
+
+  pub due_then : is_idle after ≡ false → IsDue after
+  due_then busy = subst IsDue (sym after_is) (due_by size name end.client sound.works (sym (ap (λ (c : Client). c.failed) mid_is) ∙ works) (sym (ap is_idle after_is) ∙ busy))
+
+  after_psm : IsPsm after.psm
+  after_psm = subst IsPsm (sym (ap (λ (c : Client). c.psm) is ∙ over_psm (push.tells_end mid) mid ∙ ap (λ (c : Client). c.psm) mid_is ∙ begun_psm size name end.client)) sound.psm
+
+  after_works : after.failed ≡ false
+  after_works = ap (λ (c : Client). c.failed) is ∙ over_failed (push.tells_end mid) mid ∙ works
+
+  pub idle_sound : is_idle after ≡ true → Pushes (opening end after)
+  idle_sound idle = record { works = after_works; called = ap links (rest_of after.stage idle); psm = after_psm; endpoints = sound.endpoints }
+
+  pub due_sound : (new : ClientProfile) → is_idle after ≡ false → new ≡ calls (opening end after) → Pushes new
+  due_sound new busy is_new = subst Pushes (sym (is_new ∙ calls_is (opening end after) (due_then busy))) (record { works = after_works; called = refl; psm = after_psm; endpoints = sound.endpoints })
+
+-- ---- as its profile
+
+after_with : (one : course.Step) (client : Client) (end : ClientProfile) (parts : List Octs) → after_call one client (record end { parts = parts }) ≡ record (after_call one client end) { parts = parts }
+after_with course.Wait client end parts = refl
+after_with course.MakeLink client end parts = refl
+after_with course.AskFeatures client end parts = refl
+after_with (course.OpenChannel psm) client end parts = refl
+after_with (course.SendSdu psm payload) client end parts = refl
+after_with (course.CloseChannel psm) client end parts = refl
+after_with course.BreakLink client end parts = refl
+after_with (course.Ended outcome) client end parts = refl
+after_with course.NoMemory client end parts = refl
+
+told_size : (content : Option (List Object)) (name : List ℕ) (size : ℕ) → IfSome content (λ objects. option_map length (octets_of name objects) ≡ Some size) → IsOf content (Size (Ok size))
+told_size None name size is = tt
+told_size (Some objects) name size is = (name, is)
+
+size_of : (size : Result ℕ PortFault) (content : Option (List Object)) (name : List ℕ) → IfOk size (λ n. IfSome content (λ objects. option_map length (octets_of name objects) ≡ Some n)) → IsOf content (Size size)
+size_of (Ok size) content name is = told_size content name size is
+size_of (Err fault) content name is = tt
+
+size_fails : (size : Result ℕ PortFault) (f f' s s' : ℕ) → HasCause f f' s s' size → list_any is_failure (Size size ∷ []) ≡ true → HasRisen f f'
+size_fails (Ok size) f f' s s' cause some = absurd (false≢true some)
+size_fails (Err fault.Failed) f f' s s' cause some = cause.failed refl
+size_fails (Err fault.NoMemory) f f' s s' cause some = absurd (false≢true some)
+
+pub size_answered : (old new : Client) (name : List ℕ) (content content' : Option (List Object)) (f f' s s' : ℕ) → old.failed ≡ false → (b : Begins old new name content f f' s s') → content' ≡ content → AreOf content content' f f' s s' (Size b.size ∷ [])
+size_answered old new name content content' f f' s s' works b stays =
+    let cause = b.cause works in
+    record {
+      content_stays = stays;
+      faults_stay = cause.faults_stay;
+      shortages_stay = cause.shortages_stay;
+      each = (size_of b.size content name (b.told works), tt);
+      failed = λ some. size_fails b.size f f' s s' cause some;
+    }
+
+module _ {P : Type 0} (content : P → Option (List Object)) (faults shortages : P → ℕ) where
+  pub begin_does : (end new : ClientProfile) (mid after : Client) (name : List ℕ) (first second last : P) → end.client.failed ≡ false
+      → (b : Begins end.client mid name (content first) (faults first) (faults second) (shortages first) (shortages second)) → content second ≡ content first → after ≡ push.ended mid → new ≡ calls (opening end after)
+      → Answers content faults shortages second [] last
+      → Does (Answers content faults shortages) (λ rest. model.told rest (Opening name) (pushing end rest)) (pushing new) first last
+  begin_does end new mid after name first second last works b stays is new_is behind = record {
+    used = Size b.size ∷ [];
+    answered = (joins content faults shortages).then first second last (Size b.size ∷ []) []
+        (size_answered end.client mid name (content first) (content second) (faults first) (faults second) (shortages first) (shortages second) works b stays) behind;
+    does = λ rest.
+        let client_is : model.ended (begins b.size name end.client) ≡ after = ap model.ended (sym b.client) ∙ ended_is mid ∙ sym is in
+        ap (λ (c : Client). calls (record (opening end c) { parts = parts_in rest })) client_is
+        ∙ after_with (steps after []).step (steps after []).client (opening end after) (parts_in rest)
+        ∙ ap (λ (e : ClientProfile). record e { parts = parts_in rest }) (sym new_is);
+  }

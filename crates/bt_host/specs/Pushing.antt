@@ -1,0 +1,91 @@
+-- The end of a client, as its profile (this project's own).
+use Rattle.std.specs.Prelude.{ℕ, ◌≡◌, ◌≤◌, Bool, true, false, List, length, Option, Some, Ok, Err, IfSome}
+use Rattle.std.specs.List.{AllByRecursion, list_any}
+use Rattle.std.specs.Option.{option_map}
+use Rattle.bt_base.specs.Counts.{HasRisen}
+use Rattle.bt_base.specs.Numbers.{IsCid, IsPsm}
+use Rattle.bt_base.specs.Objects.{Object, octets_of, HasAt}
+use Rattle.bt_base.specs.declared.settings.Settings.{Settings}
+use Rattle.host_link.specs.declared.role.Role.TheVariants.{Client}
+use Rattle.host_link.specs.PuttingOut.{started}
+use Rattle.l2cap_channels.specs.Machine.{new_machine}
+use Rattle.bt_base.specs.declared.ports.PortFault.TheVariants.{Failed, NoMemory}
+use Rattle.push_model.specs.Client as push
+use Rattle.push_model.specs.Laws.{links}
+use Rattle.push_model.specs.declared.course.Point.TheVariants.{Due}
+use Rattle.push_model.specs.declared.course.Stage.TheVariants.{Link}
+use Rattle.host_model.specs.Circumstances.{Circumstance, Size, Part, Stored, parts_in}
+use Rattle.host_model.specs.Clients as model
+use Rattle.host_model.specs.Clients.{ClientProfile, client_profile}
+use Rattle.host_model.specs.Endpoints.{Endpoint}
+use Rattle.bt_host.specs.Stacks.{Stacked}
+use Rattle.bt_host.specs.declared.client_end.Bid.{Bid}
+use Rattle.bt_host.specs.declared.client_end.Bid.TheVariants.{Nothing, Paging, Parting}
+
+abbrev pub bid_of : Bid → model.Bid
+bid_of Nothing = model.NoBid
+bid_of Paging = model.Paging
+bid_of Parting = model.Parting
+
+-- with what its shelf is to answer
+abbrev pub pushing : ClientProfile → List Circumstance → ClientProfile
+pushing end rest = record end { parts = parts_in rest }
+
+abbrev pub HasCid : Endpoint → Type 0
+HasCid endpoint = IsCid endpoint.own
+
+-- It was not short of memory, the link of its push is asked for, the PSM of its object is one, and so are its endpoints.
+pub record Pushes (end : ClientProfile) : Type 0 where
+  pub works : end.client.failed ≡ false
+  pub called : links end.client.stage ≡ 0
+  pub psm : IsPsm end.client.psm
+  pub endpoints : AllByRecursion HasCid end.endpoints
+
+-- its link is to be asked for
+pub record IsDue (client : push.Client) : Type 0 where
+  pub stage : client.stage ≡ Link Due
+  pub works : client.failed ≡ false
+  pub free : client.given ≡ false
+
+-- ---- the answers of a shelf
+
+-- the length of an object that it has, or octets that stand in one
+abbrev pub IsOf : Option (List Object) → Circumstance → Type 0
+IsOf content (Size (Ok size)) = IfSome content (λ objects. (name : List ℕ) × (option_map length (octets_of name objects) ≡ Some size))
+IsOf content (Size (Err fault)) = Unit {0}
+IsOf content (Part (Ok part)) = IfSome content (λ objects. (name : List ℕ) × (at : ℕ) × HasAt at part (octets_of name objects))
+IsOf content (Part (Err fault)) = Unit {0}
+IsOf content (Stored answer) = ⊥
+
+abbrev pub is_failure : Circumstance → Bool
+is_failure (Size (Ok size)) = false
+is_failure (Size (Err Failed)) = true
+is_failure (Size (Err NoMemory)) = false
+is_failure (Part (Ok part)) = false
+is_failure (Part (Err Failed)) = true
+is_failure (Part (Err NoMemory)) = false
+is_failure (Stored answer) = false
+
+-- A shelf gave these answers: it has what it tells, and where it failed its count rose. What it has stays.
+pub record AreOf (content content' : Option (List Object)) (faults faults' shortages shortages' : ℕ) (used : List Circumstance) : Type 0 where
+  pub content_stays : content' ≡ content
+  pub faults_stay : faults ≤ faults'
+  pub shortages_stay : shortages ≤ shortages'
+  pub each : AllByRecursion (IsOf content) used
+  pub failed : list_any is_failure used ≡ true → HasRisen faults faults'
+
+-- ---- a client as a host
+
+-- the shelf found no memory
+abbrev pub Lacks : {P : Type 0} → (P → ℕ) → P → P → Type 0
+Lacks shortages first last = HasRisen (shortages first) (shortages last) × (shortages first ≤ shortages last)
+
+abbrev pub pushed_by : {P : Type 0} → ClientProfile → P → List Circumstance → ClientProfile
+pushed_by end port rest = pushing end rest
+
+-- what stands above the line before anything happened
+abbrev pub new_stack : Settings → Stacked ClientProfile
+new_stack settings = record {
+  line = started Client;
+  upper = record { machine = new_machine settings false; end = (client_profile settings).first; may_say = 0 };
+}

@@ -1,0 +1,202 @@
+//! The host that pushes objects.
+
+ghost use Rattle.std.specs.Prelude.{◌≡◌, IfOk};
+ghost use Rattle.bt_host.specs.Pushing.{new_stack};
+
+use crate::client_end::ClientEnd;
+use crate::feed_refusal::FeedRefusal;
+use crate::shell::{ACL_LIMIT, feed_on};
+use crate::stack::{LONGEST_PDU, Stack};
+use crate::upper::Upper;
+use acl_credits::Ledger;
+use bt_base::{NoMemory, Settings, Shelf};
+use h4_framing::{Framer, H4Refusal};
+use host_link::{HostLink, Role};
+use l2cap_channels::Channels;
+use push_terms::Outcome;
+use std::alloc::Global;
+use std::marker::Model;
+
+/// The host that pushes objects of a shelf: octets of its controller in, octets for it out (Object Push Profile 1.2, 4.3).
+///
+/// A clause sees how far it has come in what it was fed, its line, its channels with the client above them, and why it cannot
+/// go on.
+#[derive(Drop)]
+pub struct ClientHost {
+    framer: Framer,
+    stack: Stack<ClientEnd>,
+    refusal: Option<FeedRefusal>,
+}
+
+impl Model for ClientHost {
+    ghost use Rattle.std.specs.Prelude.{◌≡◌, None, false};
+    ghost use Rattle.host_model.specs.Clients.{ClientProfile};
+    ghost use Rattle.bt_host.specs.Refusals.{acl_limit};
+    ghost use Rattle.bt_host.specs.Shells.{Shelled};
+    ghost use Rattle.bt_host.specs.Uppers.{IsOf};
+
+    ghost Value = { Shelled ClientProfile };
+
+    ghost view = { λ host. record { framing = host.framer; stack = host.stack; refusal = host.refusal } };
+
+    ghost invariant = { λ host. (host.framer.limit ≡ acl_limit) × (host.refusal ≡ None → (host.framer.fault ≡ None) × IsOf false host.stack.upper) };
+}
+
+/// What stands above the line of a client before anything happened.
+fn new_stack(alloc: Global, settings: &Settings) -> Result<Stack<ClientEnd>, NoMemory>
+    ensures { IfOk result (λ stack. stack ≡ new_stack settings.now) }
+{
+    let upper = Upper {
+        channels: Channels::new(alloc, settings, false)?,
+        end: ClientEnd::new(alloc, settings)?,
+        may_say: 0,
+    };
+    Ok(Stack {
+        link: HostLink::new(alloc, Role::Client)?,
+        upper,
+        room: vec![in alloc; 0; LONGEST_PDU]?,
+    })
+}
+
+impl ClientHost {
+    ghost use Rattle.std.specs.Prelude.{◌≡◌, ◌≤◌, ◌||◌, None, drop, length, IfOk, OnOk};
+    ghost use Rattle.push_model.specs.Client.{is_idle, may_cancel};
+    ghost use Rattle.push_model.specs.Events.{armed};
+    ghost use Rattle.h4_framing.specs.Taking.{EndsWith};
+    ghost use Rattle.channel_model.specs.Calls as calls;
+    ghost use Rattle.world_model.specs.Machines.{TimerFired};
+    ghost use Rattle.host_model.specs.Clients.{client_profile};
+    ghost use Rattle.host_model.specs.Hosts.{hear};
+    ghost use Rattle.bt_host.specs.Refusals.{fresh_framing};
+    ghost use Rattle.bt_host.specs.Uppers.{asking};
+    ghost use Rattle.bt_host.specs.Stacks.{standing, with_host, Reacts};
+    ghost use Rattle.bt_host.specs.Pushing.{pushed_by, Pushes, Lacks};
+    ghost use Rattle.bt_host.specs.PushingLaws.{Answers};
+    ghost use Rattle.bt_host.specs.Shells.{Feeds};
+
+    /// A client with no push, whose first command stands in `out`. It reserves all memory that it ever needs; `NoMemory` where
+    /// that cannot be had.
+    pub fn new(alloc: Global, settings: &Settings) -> Result<ClientHost, NoMemory>
+        ensures { IfOk result (λ host. host ≡ record { framing = fresh_framing; stack = new_stack settings.now; refusal = None }) }
+    {
+        Ok(ClientHost {
+            framer: Framer::new(alloc, ACL_LIMIT)?,
+            stack: new_stack(alloc, settings)?,
+            refusal: None,
+        })
+    }
+
+    /// Takes octets of the controller: what was held back before goes out, and then the host hears each packet that is whole
+    /// with this piece, and goes on. The rest is held.
+    ///
+    /// `Transport` where the octets are no packets, and `CommandFailed` and `BadBuffers` where a packet says so; what came
+    /// before it was heard. `NoMemory` where the shelf had none. After any of these the same is answered for good, and the
+    /// host stays as it is.
+    pub fn feed<F: Shelf>(&mut self, piece: &[u8], shelf: &mut F) -> Result<(), FeedRefusal>
+        requires works { self.old.refusal ≡ None → Pushes self.old.stack.upper.end }
+        ensures feeds { Feeds (client_profile self.old.stack.upper.machine.settings) (Answers F.content F.faults F.shortages) (Lacks F.shortages) pushed_by piece.now self.old self.new shelf.old shelf.new result }
+        ensures works { OnOk result (Pushes self.new.stack.upper.end) }
+    {
+        if let Some(refusal) = self.refusal {
+            return Err(refusal);
+        }
+        let fed = feed_on(&mut self.framer, &mut self.stack, piece, shelf);
+        self.refusal = fed.err();
+        fed
+    }
+
+    /// The timer fires: requests that wait for their responses are given once more, or given up. `NoMemory` where the shelf
+    /// had none, and then the host goes on no more. It needs a host that refused nothing.
+    pub fn on_timer<F: Shelf>(&mut self, shelf: &mut F) -> Result<(), NoMemory>
+        requires sound { self.old.refusal ≡ None }
+        requires works { Pushes self.old.stack.upper.end }
+        ensures reacts { OnOk result (Reacts (client_profile self.old.stack.upper.machine.settings) (Answers F.content F.faults F.shortages) (λ rest. with_host (hear (client_profile self.old.stack.upper.machine.settings) rest TimerFired (asking pushed_by shelf.old self.old.stack.upper rest)) (standing pushed_by shelf.old self.old.stack rest)) (standing pushed_by shelf.new self.new.stack) shelf.old shelf.new) }
+        ensures sound { OnOk result (self.new.refusal ≡ None) }
+        ensures works { OnOk result (Pushes self.new.stack.upper.end) }
+    {
+        let Ok(()) = self.stack.fire(shelf) else {
+            self.refusal = Some(FeedRefusal::NoMemory);
+            return Err(NoMemory);
+        };
+        Ok(())
+    }
+
+    /// The octets for the controller, in their order.
+    pub fn out(&self) -> &[u8]
+        ensures { result.now ≡ self.now.stack.line.out }
+    {
+        self.stack.link().out()
+    }
+
+    /// The controller took the first `n` octets of `out`. It needs as many there.
+    pub fn taken(&mut self, n: usize)
+        requires { n ≤ length self.old.stack.line.out }
+        ensures { self.new ≡ record self.old { stack = record self.old.stack { line = record self.old.stack.line { out = drop n self.old.stack.line.out } } } }
+    {
+        self.stack.taken(n);
+    }
+
+    /// What the controller holds of the packets that went out.
+    pub fn ledger(&self) -> &Ledger
+        ensures { result.now ≡ self.now.stack.line.ledger }
+    {
+        self.stack.link().ledger()
+    }
+
+    /// The channels of its link.
+    pub fn channels(&self) -> &Channels
+        ensures { result.now ≡ self.now.stack.upper.machine }
+    {
+        self.stack.channels()
+    }
+
+    /// The client.
+    fn client(&self) -> &ClientEnd
+        ensures { result.now ≡ self.now.stack.upper.end }
+    {
+        &self.stack.upper.end
+    }
+
+    /// Whether an own request of signalling or of the search waits for its response, or the machine of a channel for its timer.
+    pub fn armed(&self) -> bool
+        ensures { result ≡ (calls.armed self.now.stack.upper.machine.channels || armed self.now.stack.upper.end.client) }
+    {
+        self.stack.channels().armed() || self.client().is_armed()
+    }
+
+    /// Whether no push goes on: none was begun, or the last one has ended.
+    pub fn idle(&self) -> bool
+        ensures { result ≡ is_idle self.now.stack.upper.end.client }
+    {
+        self.client().is_idle()
+    }
+
+    /// The first cause that came since the last push was begun: its outcome.
+    pub fn outcome(&self) -> Option<Outcome>
+        ensures { result ≡ self.now.stack.upper.end.client.cause }
+    {
+        self.client().outcome()
+    }
+
+    /// Whether the push may be given up: it goes on without a cause, and its final PUT was not made.
+    pub fn may_cancel(&self) -> bool
+        ensures { result ≡ may_cancel self.now.stack.upper.end.client }
+    {
+        self.client().may_cancel()
+    }
+
+    /// Whether its channel of that number has a check word.
+    pub fn has_fcs(&self, cid: u16) -> bool
+        ensures { result ≡ calls.has_fcs cid self.now.stack.upper.machine.channels }
+    {
+        self.stack.channels().has_fcs(cid)
+    }
+
+    /// What the end of the octets means here: `Truncated`, with the place of its first octet, where a packet is not whole.
+    /// After `Transport` it answers that refusal.
+    pub fn end(&self) -> Result<(), (H4Refusal, u64)>
+        ensures { EndsWith self.now.framing result }
+    {
+        self.framer.end()
+    }
+}
