@@ -24,6 +24,9 @@ found given words result form same answer is = subst (λ (ws : List Text). AsksF
 pub found_none : {E : Type 0} (given words : List Text) (result : Result (Option Form) E) → given ≡ words → IfOk result (IsAnswered given) → result ≡ Ok None → (form : Form) → AsksFor words form → ⊥
 found_none given words result same answer is form asks = (subst (λ r. IfOk r (IsAnswered given)) is answer) form (subst (λ (ws : List Text). AsksFor ws form) (sym same) asks)
 
+pub asks_as : (words : List Text) (form other : Form) → AsksFor words form → form ≡ other → AsksFor words other
+asks_as words form other asks is = subst (λ (one : Form). AsksFor words one) is asks
+
 pub not_other : (words : List Text) (form other : Form) → AsksFor words form → (form ≡ other → ⊥) → AsksFor words other → ⊥
 not_other words form other asks differs asks' = differs (asks_once words form other asks asks')
 

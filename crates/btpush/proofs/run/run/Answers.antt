@@ -2,7 +2,7 @@ use Rattle.std.proofs.Common.{◌≡◌, ◌∙◌, List, Option, Ok, Some, None
 use Rattle.command_words.specs.Forms.{AsksFor}
 use Rattle.command_words.specs.declared.form.Form.{Form}
 use Rattle.command_words.specs.declared.form.Form.TheVariants.{Decode, Push, Wire}
-use Rattle.btpush.proofs.Asked.{found, found_none, not_other, none_built, same_wire, nothing_decoded, nothing_pushed, nothing_carried}
+use Rattle.btpush.proofs.Asked.{asks_as, found, found_none, not_other, none_built, same_wire, nothing_decoded, nothing_pushed, nothing_carried}
 use Rattle.btpush.specs.Plays.{stocked}
 use Rattle.btpush.proofs.run.run.Goals as goal
 
@@ -13,6 +13,25 @@ returns-in-Wire-clause-wire g c = λ number asks.
     let form = found _ _ c.form_of.result c.in-Ok-Some.form (ap (λ ws. map string_bytes ws) c.deref.ensures.value) c.form_of.ensures (c.in-Ok-Some.is ∙ ap Ok c.in-Ok-Some.field-0-is) in
     let same = same_wire _ c.in-Ok-Some.form c.in-Wire.number number form c.in-Wire.is asks in
     rw (sym same) c.wire.ensures.wires
+
+-- ---- an object is to be pushed
+
+pub returns-in-Push-clause-trace : goal.returns-in-Push-clause-trace
+returns-in-Push-clause-trace g c = λ other carries. absurd (other (asks_as _ c.in-Ok-Some.form Push (found _ _ c.form_of.result c.in-Ok-Some.form (ap (λ ws. map string_bytes ws) c.deref.ensures.value) c.form_of.ensures (c.in-Ok-Some.is ∙ ap Ok c.in-Ok-Some.field-0-is)) c.in-Push.is))
+
+pub returns-in-Push-clause-shelf : goal.returns-in-Push-clause-shelf
+returns-in-Push-clause-shelf g c = λ other. absurd (other (asks_as _ c.in-Ok-Some.form Push (found _ _ c.form_of.result c.in-Ok-Some.form (ap (λ ws. map string_bytes ws) c.deref.ensures.value) c.form_of.ensures (c.in-Ok-Some.is ∙ ap Ok c.in-Ok-Some.field-0-is)) c.in-Push.is))
+
+pub returns-in-Push-clause-inbox : goal.returns-in-Push-clause-inbox
+returns-in-Push-clause-inbox g c = λ other. absurd (other (asks_as _ c.in-Ok-Some.form Push (found _ _ c.form_of.result c.in-Ok-Some.form (ap (λ ws. map string_bytes ws) c.deref.ensures.value) c.form_of.ensures (c.in-Ok-Some.is ∙ ap Ok c.in-Ok-Some.field-0-is)) c.in-Push.is))
+
+-- ---- units are to be carried
+
+pub returns-in-Wire-clause-words : goal.returns-in-Wire-clause-words
+returns-in-Wire-clause-words g c = λ none. absurd (none (Wire c.in-Wire.number) tt (asks_as _ c.in-Ok-Some.form (Wire c.in-Wire.number) (found _ _ c.form_of.result c.in-Ok-Some.form (ap (λ ws. map string_bytes ws) c.deref.ensures.value) c.form_of.ensures (c.in-Ok-Some.is ∙ ap Ok c.in-Ok-Some.field-0-is)) c.in-Wire.is))
+
+pub returns-in-Wire-clause-trace : goal.returns-in-Wire-clause-trace
+returns-in-Wire-clause-trace g c = λ other carries. absurd (carries (c.in-Wire.number, asks_as _ c.in-Ok-Some.form (Wire c.in-Wire.number) (found _ _ c.form_of.result c.in-Ok-Some.form (ap (λ ws. map string_bytes ws) c.deref.ensures.value) c.form_of.ensures (c.in-Ok-Some.is ∙ ap Ok c.in-Ok-Some.field-0-is)) c.in-Wire.is))
 
 -- ---- the form is not built
 
