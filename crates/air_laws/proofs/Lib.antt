@@ -7,6 +7,7 @@ pub mod Following
 pub mod Turning
 pub mod Resting
 pub mod Obeying
+pub mod Crowding
 pub mod Ending
 pub mod Marking
 pub mod Counting

@@ -1,4 +1,5 @@
 pub mod Accounts
 pub mod AirLaws
+pub mod Crowded
 pub mod Example
 pub mod Heard

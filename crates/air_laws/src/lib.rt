@@ -4,6 +4,7 @@
 
 ghost use Rattle.air_laws.specs.Accounts.{BuffersAreKept, CapturesAreHonest};
 ghost use Rattle.air_laws.specs.AirLaws.{AirIsKept, AirIsObeyed, PushesAreMarked};
+ghost use Rattle.air_laws.specs.Crowded.{CrowdsAreTold, FramesAreTold};
 ghost use Rattle.air_laws.specs.Example.{ExampleRuns};
 ghost use Rattle.air_laws.specs.Heard.{LinksAreHeard};
 ghost use Rattle.world_model.specs.Machines.{Upper};
@@ -16,6 +17,13 @@ pub fn air_is_kept<S, T, G, H>()
 /// A run that is at rest obeyed its words: those without an entry found nothing to act on.
 pub fn air_is_obeyed<S, T, G, H>()
     ensures { (U : Upper S G) (V : Upper T H) → AirIsObeyed U V }
+{}
+
+/// The frames that wait in the air are those that the capture has; so where the radio has no room for one, the capture is
+/// crowded.
+pub fn frames_wait_as_told<S, T, G, H>()
+    ensures frames { (U : Upper S G) (V : Upper T H) → FramesAreTold U V }
+    ensures crowds { (U : Upper S G) (V : Upper T H) → CrowdsAreTold U V }
 {}
 
 /// Pushes are in turn, and the links of each lie within it.

@@ -1,5 +1,7 @@
 -- A host that hears the packets of a piece.
 use Rattle.std.proofs.Common.{◌≡◌, ◌∙◌, ℕ, ◌-◌, List, [], ◌∷◌, ◌++◌, length, take, drop, Option, None, Result, Ok, Err, refl, sym, ap, subst}
+use Rattle.std.specs.Prelude.{OnOk}
+use Rattle.std.proofs.lemmas.Result.{on_ok_weaker}
 use Rattle.h4_framing.specs.declared.refusal.H4Refusal.{H4Refusal}
 use Rattle.h4_framing.specs.declared.unit.Unit.{Unit as Lent}
 use Rattle.h4_framing.specs.declared.framer.Taken.{Taken}
@@ -12,10 +14,11 @@ use Rattle.host_model.specs.Circumstances.{Circumstance}
 use Rattle.host_model.specs.Profiles.{Profile}
 use Rattle.bt_host.specs.declared.feed_refusal.FeedRefusal.{FeedRefusal}
 use Rattle.bt_host.specs.declared.feed_refusal.FeedRefusal.TheVariants.{Transport, CommandFailed, BadBuffers, NoMemory}
+use Rattle.l2cap_channels.specs.Machine.{Machine, with_channels}
 use Rattle.bt_host.specs.Calls.{JoinAnswers}
 use Rattle.bt_host.specs.Refusals.{acl_limit, Refuses, refusal_in}
-use Rattle.bt_host.specs.Stacks.{Stacked, Moment, Reacts, standing, Hears, HearsAll, HearsOne}
-use Rattle.bt_host.specs.Shells.{Shelled, Takes, Stops, Reads, FeedsOn, Feeds}
+use Rattle.bt_host.specs.Stacks.{Stacked, Moment, Reacts, standing, Hears, HearsAll, HearsOne, IsResting}
+use Rattle.bt_host.specs.Shells.{Shelled, Takes, Stops, Reads, FeedsOn, Feeds, ComesToRest}
 use Rattle.bt_host.proofs.PieceReading.{HasRead, read_none, read_packet, read_rest, read_wrong, read_refused}
 
 module _ {E S P : Type 0} (A : Profile S) (Answers : P → List Circumstance → P → Type 0) (pushing : E → P → List Circumstance → S) where
@@ -118,3 +121,17 @@ fed_host profile Answers Lacked pushing piece framing framing' stack stack' refu
     let new : Shelled _ = record { framing = framing'; stack = stack'; refusal = after } in
     subst (λ (n : Shelled _). Feeds (profile n.stack.upper.machine.settings) Answers Lacked pushing piece n new port port' result) view
     (subst (λ (r : Option FeedRefusal). Feeds (profile stack.upper.machine.settings) Answers Lacked pushing piece (record { framing = framing; stack = stack; refusal = r }) new port port' result) (sym none) (feeds, is))
+
+-- a host has come to rest, since what stands above its framer has
+pub comes_to_rest : {E S P : Type 0} (profile : Settings → Profile S) (pushing : E → P → List Circumstance → S) (framing framing' : Framing) (stack stack' : Stacked E) (refusal refusal' : Option FeedRefusal) (now : Shelled E) (port : P)
+    → record { framing = framing; stack = stack; refusal = refusal } ≡ now → stack'.upper.machine.settings ≡ stack.upper.machine.settings → stack'.paged ≡ stack.paged
+    → IsResting (profile stack.upper.machine.settings) pushing (record { stack = stack'; port = port }) → ComesToRest profile pushing now (record { framing = framing'; stack = stack'; refusal = refusal' }) port
+comes_to_rest profile pushing framing framing' stack stack' refusal refusal' now port view settings paged rests =
+    subst (λ (n : Shelled _). ComesToRest profile pushing n (record { framing = framing'; stack = stack'; refusal = refusal' }) port) view (record { rests = rests; settings = settings; paged = paged })
+
+pub rests_noted : {E S P X Y : Type 0} (profile : Settings → Profile S) (pushing : E → P → List Circumstance → S) (framing : Framing) (stack stack' : Stacked E) (refusal refusal' : Option FeedRefusal) (now : Shelled E) (port : P) (noted done : Result X Y)
+    → record { framing = framing; stack = stack; refusal = refusal } ≡ now → noted ≡ done → stack'.upper.machine ≡ with_channels stack.upper.machine stack'.upper.machine.channels → stack'.paged ≡ stack.paged
+    → OnOk done (IsResting (profile stack.upper.machine.settings) pushing (record { stack = stack'; port = port })) → OnOk noted (ComesToRest profile pushing now (record { framing = framing; stack = stack'; refusal = refusal' }) port)
+rests_noted profile pushing framing stack stack' refusal refusal' now port noted done view same machine paged rests =
+    subst (λ (r : Result _ _). OnOk r (ComesToRest profile pushing now (record { framing = framing; stack = stack'; refusal = refusal' }) port)) (sym same)
+    (on_ok_weaker done (λ r. comes_to_rest profile pushing framing framing stack stack' refusal refusal' now port view (ap (λ (m : Machine). m.settings) machine) paged r) rests)

@@ -7,8 +7,16 @@ pub mod Hearings
 pub mod Servers
 pub mod Sayings
 pub mod Reacting
+pub mod Resting
 pub mod PieceReading
 pub mod Feeding
 pub mod Clients
 pub mod ClientsBeginning
 pub mod ClientsCalls
+pub mod Striving
+pub mod Playing
+pub mod Played
+pub mod PlayedServers
+pub mod PlayedClients
+pub mod Naming
+pub mod Beginning

@@ -6,19 +6,21 @@ use Rattle.acl_fragments.specs.Answers as joined
 use Rattle.h4_framing.specs.Packets.{Packet, Command, Acl, Sync, Event}
 use Rattle.hci_packets.specs.Events.{PlainEvent, ConnectionComplete, ConnectionRequest, DisconnectionComplete, CommandComplete, CommandStatus, CompletedPackets, Other}
 use Rattle.channel_model.specs.Giving.{Given, next_given}
+use Rattle.host_link.specs.Calling.{may_end}
 use Rattle.host_link.specs.EventReading.{event_in}
 use Rattle.host_link.specs.Lines.{Line, longest_pdu}
-use Rattle.host_link.specs.PuttingOut.{can_take_pdu, take_pdu, put_pieces, put_command, leaving, is_waiting}
+use Rattle.host_link.specs.PuttingOut.{can_take_pdu, take_pdu, put_pieces, put_command, connecting, leaving, is_waiting}
 use Rattle.host_link.specs.Hearing.{PlainNews, Nothing, LinkUp, LinkFailed, LinkDown, Pdu, news_of, heard, piece_on, piece_news, joined_news, event_news, connection_news, disconnection_news, ends_link}
 use Rattle.host_model.specs.Circumstances.{Circumstance}
 use Rattle.host_model.specs.Profiles.{Profile}
 use Rattle.world_model.specs.Machines.{News}
-use Rattle.host_model.specs.Hosts.{Host, hear, next, says as say_given}
+use Rattle.host_model.specs.Hosts.{Host, hear, next, has_more, says as say_given}
 use Rattle.bt_base.specs.declared.settings.Settings.{Settings}
 use Rattle.bt_host.specs.Calls.{Does, JoinAnswers}
 use Rattle.bt_host.specs.Uppers.{Upward, asking, says, SaysInto, IsTitled, told_of, hears_told}
-use Rattle.bt_host.specs.Stacks.{Stacked, Standing, standing, Deed, Putting, Saying, Ending, Commanding, DoesDeed, DoesAll, Reacts, with_host, after_packet}
+use Rattle.bt_host.specs.Stacks.{Stacked, Standing, standing, Deed, Putting, Saying, Ending, Paging, Commanding, DoesDeed, DoesAll, Reacts, Moment, IsResting, is_asking, with_host, after_packet}
 use Rattle.bt_host.proofs.Calling.{does_map}
+use Rattle.bt_host.proofs.Sayings.{front_is}
 
 does_all_then : {S : Type 0} (A : Profile S) (xs ys : List Deed) (a b c : Standing S) → DoesAll A xs a b → DoesAll A ys b c → DoesAll A (xs ++ ys) a c
 does_all_then A [] ys a b c first second = subst (λ (s : Standing _). DoesAll A ys s c) first second
@@ -54,72 +56,72 @@ module _ {S P : Type 0} (A : Profile S) (Answers : P → List Circumstance → P
 
 -- ---- a PDU is said
 
-front_is : (pdu room : List ℕ) (size : ℕ) → size ≡ length pdu → take size (pdu ++ room) ≡ pdu
-front_is [] room size is = ap (λ n. take n room) is
-front_is (x ∷ pdu) room size is = ap (λ n. take n (x ∷ (pdu ++ room))) is ∙ ap (λ xs. x ∷ xs) (front_is pdu room (length pdu) refl)
-
-pub said_reacts : {E S P : Type 0} (A : Profile S) (Answers : P → List Circumstance → P → Type 0) (pushing : E → P → List Circumstance → S) (line line' : Line) (upper upper' : Upward E) (now : Stacked E) (into into' : List ℕ) (size : ℕ) (first last : P)
-    → record { line = line; upper = upper } ≡ now → SaysInto A Answers (asking pushing first upper) (asking pushing last upper') first last into size into' → can_take_pdu now.line ≡ true → line' ≡ take_pdu (take size into') line
-    → Reacts A Answers (standing pushing first now) (standing pushing last (record { line = line'; upper = upper' })) first last
-said_reacts A Answers pushing line line' upper upper' now into into' size first last view s may is =
-    let may_line : can_take_pdu line ≡ true = ap (λ (n : Stacked _). can_take_pdu n.line) view ∙ may in
-    subst (λ (n : Stacked _). Reacts A Answers (standing pushing first n) (standing pushing last (record { line = line'; upper = upper' })) first last) view
-    (record {
-      used = s.says.used;
-      answered = s.says.answered;
-      deeds = Saying s.pdu ∷ [];
-      reacts = λ rest. (
-        record { line = line'; host = asking pushing last upper' rest },
-        record { may = may_line; next = s.says.does rest; line = is ∙ ap (λ xs. take_pdu xs line) (ap (take size) s.written ∙ front_is s.pdu (drop size into) size s.size_is) },
-        refl,
-      );
-    })
+pub said_reacts : {E S P : Type 0} (A : Profile S) (Answers : P → List Circumstance → P → Type 0) (pushing : E → P → List Circumstance → S) (paged : List ℕ) (line line' : Line) (upper upper' : Upward E) (into into' : List ℕ) (size : ℕ) (first last : P)
+    → SaysInto A Answers (asking pushing first upper) (asking pushing last upper') first last into size into' → can_take_pdu line ≡ true → line' ≡ take_pdu (take size into') line
+    → Reacts A Answers (standing pushing first (record { line = line; upper = upper; paged = paged })) (standing pushing last (record { line = line'; upper = upper'; paged = paged })) first last
+said_reacts A Answers pushing paged line line' upper upper' into into' size first last s may is = record {
+  used = s.says.used;
+  answered = s.says.answered;
+  deeds = Saying s.pdu ∷ [];
+  reacts = λ rest. (
+    record { line = line'; host = asking pushing last upper' rest; paged = paged },
+    record { may = may; next = s.says.does rest; line = is ∙ ap (λ xs. take_pdu xs line) (ap (take size) s.written ∙ front_is s.pdu (drop size into) size s.size_is); paged = refl },
+    refl,
+  );
+}
 
 -- ---- all is said
 
-is_none_given : {S : Type 0} (A : Profile S) (given : Option Given) (count : ℕ) (host : Host S) → (nat_lt 0 count && is_some given) ≡ false → say_given A given count host ≡ None
-is_none_given A None count host off = refl
-is_none_given A (Some given) zero host off = refl
-is_none_given A (Some given) (suc count) host off = absurd (let on : nat_lt 0 (suc count) ≡ true = grind (arith, tests) in true≢false (sym (ap (λ (b : Bool). b && true) on) ∙ off))
+none_given : {S : Type 0} (A : Profile S) (given : Option Given) (count : ℕ) (host : Host S) → (nat_lt 0 count && is_some given) ≡ false → say_given A given count host ≡ None
+none_given A None count host off = refl
+none_given A (Some given) zero host off = refl
+none_given A (Some given) (suc count) host off = absurd (let on : nat_lt 0 (suc count) ≡ true = grind (arith, tests) in true≢false (sym (ap (λ (b : Bool). b && true) on) ∙ off))
 
-pub none_said : {E S P : Type 0} (A : Profile S) (pushing : E → P → List Circumstance → S) (port : P) (upper : Upward E) (rest : List Circumstance) → says upper ≡ false → next A (asking pushing port upper rest) ≡ None
-none_said A pushing port upper rest off = is_none_given A (next_given upper.machine.channels) upper.may_say (asking pushing port upper rest) off
+-- a host that has no more to say says nothing next
+pub none_next : {S : Type 0} (A : Profile S) (host : Host S) → has_more host ≡ false → next A host ≡ None
+none_next A host off = none_given A (next_given host.channels) host.may_say host off
 
 none_left : (pieces : List Piece) → not (length pieces == 0) ≡ false → pieces ≡ []
 none_left [] off = refl
 none_left (piece ∷ pieces) off = absurd (let some : (length (piece ∷ pieces) == 0) ≡ false = grind (arith, tests) in true≢false (sym (ap not some) ∙ off))
 
+no_link : (link : Option ℕ) → is_some link ≡ false → link ≡ None
+no_link None off = refl
+no_link (Some handle) off = absurd (true≢false off)
+
 module _ {E S P : Type 0} (A : Profile S) (Answers : P → List Circumstance → P → Type 0) (join : JoinAnswers Answers) (pushing : E → P → List Circumstance → S) where
-  left_on : (link : Option ℕ) (line : Line) (upper : Upward E) (port : P) → line.link ≡ link → line.pieces ≡ [] → says upper ≡ false → ((rest : List Circumstance) → A.leaves_link (pushing upper.end port rest) ≡ true) → line.ending ≡ false
-      → Reacts A Answers (standing pushing port (record { line = line; upper = upper })) (standing pushing port (record { line = leaving line.link line; upper = upper })) port port
-  left_on None line upper port link pieces none leaves unended =
-      subst (λ (l : Line). Reacts A Answers (standing pushing port (record { line = line; upper = upper })) (standing pushing port (record { line = l; upper = upper })) port port) (sym (ap (λ (one : Option ℕ). leaving one line) link))
-      (reacts_none A Answers join _ port)
-  left_on (Some handle) line upper port link pieces none leaves unended =
-      reacts_deed A Answers join Ending _ _ port
-      (λ rest. (record { handle = handle; link = link; none_waits = pieces; none_next = none_said A pushing port upper rest none; leaves = leaves rest; unended = unended }, refl))
+  -- one deed that changes the line alone
+  line_reacts : (deed : Deed) (line line' : Line) (upper : Upward E) (paged : List ℕ) (now : Stacked E) (port : P) → record { line = line; upper = upper; paged = paged } ≡ now
+      → ((rest : List Circumstance) → DoesDeed A deed (standing pushing port (record { line = line; upper = upper; paged = paged }) rest) (record { line = line'; host = asking pushing port upper rest; paged = paged }))
+      → Reacts A Answers (standing pushing port now) (standing pushing port (record { line = line'; upper = upper; paged = paged })) port port
+  line_reacts deed line line' upper paged now port view does =
+      subst (λ (n : Stacked E). Reacts A Answers (standing pushing port n) (standing pushing port (record { line = line'; upper = upper; paged = paged })) port port) view
+      (reacts_deed A Answers join deed _ _ port does)
 
   -- the end of the link waits to be put out
-  pub left_reacts : (line line' : Line) (upper : Upward E) (now : Stacked E) (port : P) → record { line = line; upper = upper } ≡ now
-      → line.ending ≡ false → is_waiting line ≡ false → says upper ≡ false → ((rest : List Circumstance) → A.leaves_link (pushing upper.end port rest) ≡ true) → line' ≡ leaving line.link line
-      → Reacts A Answers (standing pushing port now) (standing pushing port (record { line = line'; upper = upper })) port port
-  left_reacts line line' upper now port view unended none_waits none leaves is =
-      subst (λ (n : Stacked E). Reacts A Answers (standing pushing port n) (standing pushing port (record { line = line'; upper = upper })) port port) view
-      (subst (λ (l : Line). Reacts A Answers (standing pushing port (record { line = line; upper = upper })) (standing pushing port (record { line = l; upper = upper })) port port) (sym is)
-      (left_on line.link line upper port refl (none_left line.pieces none_waits) none leaves unended))
+  pub left_reacts : (line line' : Line) (upper : Upward E) (paged : List ℕ) (now : Stacked E) (port : P) → record { line = line; upper = upper; paged = paged } ≡ now
+      → may_end line ≡ true → is_waiting line ≡ false → says upper ≡ false → ((rest : List Circumstance) → A.leaves_link (pushing upper.end port rest) ≡ true) → line' ≡ leaving line.link line
+      → Reacts A Answers (standing pushing port now) (standing pushing port (record { line = line'; upper = upper; paged = paged })) port port
+  left_reacts line line' upper paged now port view may none_waits none leaves is =
+      line_reacts Ending line line' upper paged now port view
+      (λ rest. (record { none_waits = none_left line.pieces none_waits; all_said = none; leaves = leaves rest; may = may }, ap (λ (l : Line). record { line = l; host = asking pushing port upper rest; paged = paged }) is))
+
+  -- a link is asked for
+  pub paged_reacts : (line line' : Line) (upper : Upward E) (paged : List ℕ) (now : Stacked E) (port : P) → record { line = line; upper = upper; paged = paged } ≡ now
+      → is_some line.link ≡ false → is_asking line ≡ false → ((rest : List Circumstance) → A.wants_link (pushing upper.end port rest) ≡ true) → line' ≡ connecting paged line
+      → Reacts A Answers (standing pushing port now) (standing pushing port (record { line = line'; upper = upper; paged = paged })) port port
+  paged_reacts line line' upper paged now port view off unasked wants is =
+      line_reacts Paging line line' upper paged now port view
+      (λ rest. (record { off = no_link line.link off; unasked = unasked; wants = wants rest }, ap (λ (l : Line). record { line = l; host = asking pushing port upper rest; paged = paged }) is))
 
   -- pieces are put out, and a command
-  pub pieces_react : (line line' : Line) (upper : Upward E) (now : Stacked E) (port : P) → record { line = line; upper = upper } ≡ now → line' ≡ put_pieces line
-      → Reacts A Answers (standing pushing port now) (standing pushing port (record { line = line'; upper = upper })) port port
-  pieces_react line line' upper now port view is =
-      subst (λ (n : Stacked E). Reacts A Answers (standing pushing port n) (standing pushing port (record { line = line'; upper = upper })) port port) view
-      (reacts_deed A Answers join Putting _ _ port (λ rest. ap (λ (l : Line). record { line = l; host = asking pushing port upper rest }) is))
+  pub pieces_react : (line line' : Line) (upper : Upward E) (paged : List ℕ) (now : Stacked E) (port : P) → record { line = line; upper = upper; paged = paged } ≡ now → line' ≡ put_pieces line
+      → Reacts A Answers (standing pushing port now) (standing pushing port (record { line = line'; upper = upper; paged = paged })) port port
+  pieces_react line line' upper paged now port view is = line_reacts Putting line line' upper paged now port view (λ rest. ap (λ (l : Line). record { line = l; host = asking pushing port upper rest; paged = paged }) is)
 
-  pub command_reacts : (line line' : Line) (upper : Upward E) (now : Stacked E) (port : P) → record { line = line; upper = upper } ≡ now → line' ≡ put_command line
-      → Reacts A Answers (standing pushing port now) (standing pushing port (record { line = line'; upper = upper })) port port
-  command_reacts line line' upper now port view is =
-      subst (λ (n : Stacked E). Reacts A Answers (standing pushing port n) (standing pushing port (record { line = line'; upper = upper })) port port) view
-      (reacts_deed A Answers join Commanding _ _ port (λ rest. ap (λ (l : Line). record { line = l; host = asking pushing port upper rest }) is))
+  pub command_reacts : (line line' : Line) (upper : Upward E) (paged : List ℕ) (now : Stacked E) (port : P) → record { line = line; upper = upper; paged = paged } ≡ now → line' ≡ put_command line
+      → Reacts A Answers (standing pushing port now) (standing pushing port (record { line = line'; upper = upper; paged = paged })) port port
+  command_reacts line line' upper paged now port view is = line_reacts Commanding line line' upper paged now port view (λ rest. ap (λ (l : Line). record { line = l; host = asking pushing port upper rest; paged = paged }) is)
 
 -- ---- a PDU is told with its own channel
 
@@ -165,27 +167,27 @@ titled (Sync word octets) line = titled_piece (piece_on line.link (Sync word oct
 
 -- a change of what stands above comes first
 pub told_reacts : {E S P : Type 0} (A : Profile S) (Answers : P → List Circumstance → P → Type 0) (join : JoinAnswers Answers) (pushing : E → P → List Circumstance → S) (change : List Circumstance → Host S → Host S) (line : Line) (upper upper' : Upward E)
-    (now : Stacked E) (after : List Circumstance → Standing S) (first second third : P) → record { line = line; upper = upper } ≡ now
+    (paged : List ℕ) (now : Stacked E) (after : List Circumstance → Standing S) (first second third : P) → record { line = line; upper = upper; paged = paged } ≡ now
     → Does Answers (λ rest. change rest (asking pushing first upper rest)) (asking pushing second upper') first second
-    → Reacts A Answers (standing pushing second (record { line = line; upper = upper' })) after second third
+    → Reacts A Answers (standing pushing second (record { line = line; upper = upper'; paged = paged })) after second third
     → Reacts A Answers (λ rest. with_host (change rest (asking pushing first now.upper rest)) (standing pushing first now rest)) after first third
-told_reacts A Answers join pushing change line upper upper' now after first second third view does reacts =
+told_reacts A Answers join pushing change line upper upper' paged now after first second third view does reacts =
     subst (λ (n : Stacked _). Reacts A Answers (λ rest. with_host (change rest (asking pushing first n.upper rest)) (standing pushing first n rest)) after first third) view
-    (reacts_after A Answers join _ (standing pushing second (record { line = line; upper = upper' })) after first second third
-    (does_map Answers (λ (h : Host _). record { line = line; host = h }) _ _ first second does) reacts)
+    (reacts_after A Answers join _ (standing pushing second (record { line = line; upper = upper'; paged = paged })) after first second third
+    (does_map Answers (λ (h : Host _). record { line = line; host = h; paged = paged }) _ _ first second does) reacts)
 
 -- a packet comes first
 pub packet_reacts : {E S P : Type 0} (A : Profile S) (Answers : P → List Circumstance → P → Type 0) (join : JoinAnswers Answers) (pushing : E → P → List Circumstance → S) (packet : Packet) (news : PlainNews) (line line' : Line) (upper upper' : Upward E)
-    (now : Stacked E) (after : List Circumstance → Standing S) (first second third : P) → record { line = line; upper = upper } ≡ now → line' ≡ heard packet line → news ≡ news_of packet line
+    (paged : List ℕ) (now : Stacked E) (after : List Circumstance → Standing S) (first second third : P) → record { line = line; upper = upper; paged = paged } ≡ now → line' ≡ heard packet line → news ≡ news_of packet line
     → Does Answers (λ rest. hears_told A rest (told_of news) (asking pushing first upper rest)) (asking pushing second upper') first second
-    → Reacts A Answers (standing pushing second (record { line = line'; upper = upper' })) after second third
+    → Reacts A Answers (standing pushing second (record { line = line'; upper = upper'; paged = paged })) after second third
     → Reacts A Answers (λ rest. after_packet A packet rest (standing pushing first now rest)) after first third
-packet_reacts A Answers join pushing packet news line line' upper upper' now after first second third view line_is news_is does reacts =
+packet_reacts A Answers join pushing packet news line line' upper upper' paged now after first second third view line_is news_is does reacts =
     subst (λ (n : Stacked _). Reacts A Answers (λ rest. after_packet A packet rest (standing pushing first n rest)) after first third) view
-    (subst (λ (l : Line). Reacts A Answers (λ rest. record { line = l; host = hears_told A rest (told_of (news_of packet line)) (asking pushing first upper rest) }) after first third) line_is
-    (subst (λ (k : PlainNews). Reacts A Answers (λ rest. record { line = line'; host = hears_told A rest (told_of k) (asking pushing first upper rest) }) after first third) news_is
-    (reacts_after A Answers join _ (standing pushing second (record { line = line'; upper = upper' })) after first second third
-    (does_map Answers (λ (h : Host _). record { line = line'; host = h }) _ _ first second does) reacts)))
+    (subst (λ (l : Line). Reacts A Answers (λ rest. record { line = l; host = hears_told A rest (told_of (news_of packet line)) (asking pushing first upper rest); paged = paged }) after first third) line_is
+    (subst (λ (k : PlainNews). Reacts A Answers (λ rest. record { line = line'; host = hears_told A rest (told_of k) (asking pushing first upper rest); paged = paged }) after first third) news_is
+    (reacts_after A Answers join _ (standing pushing second (record { line = line'; upper = upper'; paged = paged })) after first second third
+    (does_map Answers (λ (h : Host _). record { line = line'; host = h; paged = paged }) _ _ first second does) reacts)))
 
 pub reacts_by : {S P : Type 0} (profile : Settings → Profile S) (Answers : P → List Circumstance → P → Type 0) (s s' : Settings) (before after : List Circumstance → Standing S) (port port' : P) → s ≡ s' → Reacts (profile s) Answers before after port port'
     → Reacts (profile s') Answers before after port port'
@@ -195,18 +197,21 @@ pub does_by : {S P : Type 0} (profile : Settings → Profile S) (Answers : P →
     → Does Answers (λ rest. hear (profile s) rest news (host rest)) after port port' → Does Answers (λ rest. hear (profile s') rest news (host rest)) after port port'
 does_by profile Answers s s' news host after port port' same x = subst (λ (k : Settings). Does Answers (λ rest. hear (profile k) rest news (host rest)) after port port') same x
 
-pub viewed_reacts : {E S P : Type 0} (profile : Settings → Profile S) (Answers : P → List Circumstance → P → Type 0) (pushing : E → P → List Circumstance → S) (line : Line) (upper : Upward E) (now : Stacked E) (after : List Circumstance → Standing S)
-    (port port' : P) → record { line = line; upper = upper } ≡ now
-    → Reacts (profile upper.machine.settings) Answers (standing pushing port (record { line = line; upper = upper })) after port port'
+pub resting_by : {E S P : Type 0} (profile : Settings → Profile S) (pushing : E → P → List Circumstance → S) (s s' : Settings) (now : Moment E P) → s ≡ s' → IsResting (profile s) pushing now → IsResting (profile s') pushing now
+resting_by profile pushing s s' now same x = subst (λ (k : Settings). IsResting (profile k) pushing now) same x
+
+pub viewed_reacts : {E S P : Type 0} (profile : Settings → Profile S) (Answers : P → List Circumstance → P → Type 0) (pushing : E → P → List Circumstance → S) (line : Line) (upper : Upward E) (paged : List ℕ) (now : Stacked E) (after : List Circumstance → Standing S)
+    (port port' : P) → record { line = line; upper = upper; paged = paged } ≡ now
+    → Reacts (profile upper.machine.settings) Answers (standing pushing port (record { line = line; upper = upper; paged = paged })) after port port'
     → Reacts (profile now.upper.machine.settings) Answers (standing pushing port now) after port port'
-viewed_reacts profile Answers pushing line upper now after port port' view x = subst (λ (n : Stacked _). Reacts (profile n.upper.machine.settings) Answers (standing pushing port n) after port port') view x
+viewed_reacts profile Answers pushing line upper paged now after port port' view x = subst (λ (n : Stacked _). Reacts (profile n.upper.machine.settings) Answers (standing pushing port n) after port port') view x
 
 pub packet_heard : {E S P : Type 0} (profile : Settings → Profile S) (Answers : P → List Circumstance → P → Type 0) (join : JoinAnswers Answers) (pushing : E → P → List Circumstance → S) (packet : Packet) (news : PlainNews) (line line' : Line) (upper upper' : Upward E)
-    (now : Stacked E) (after : List Circumstance → Standing S) (first second third : P) → record { line = line; upper = upper } ≡ now → line' ≡ heard packet line → news ≡ news_of packet line → upper'.machine.settings ≡ upper.machine.settings
+    (paged : List ℕ) (now : Stacked E) (after : List Circumstance → Standing S) (first second third : P) → record { line = line; upper = upper; paged = paged } ≡ now → line' ≡ heard packet line → news ≡ news_of packet line → upper'.machine.settings ≡ upper.machine.settings
     → Does Answers (λ rest. hears_told (profile upper.machine.settings) rest (told_of news) (asking pushing first upper rest)) (asking pushing second upper') first second
-    → Reacts (profile upper'.machine.settings) Answers (standing pushing second (record { line = line'; upper = upper' })) after second third
+    → Reacts (profile upper'.machine.settings) Answers (standing pushing second (record { line = line'; upper = upper'; paged = paged })) after second third
     → Reacts (profile now.upper.machine.settings) Answers (λ rest. after_packet (profile now.upper.machine.settings) packet rest (standing pushing first now rest)) after first third
-packet_heard profile Answers join pushing packet news line line' upper upper' now after first second third view line_is news_is same does reacts =
+packet_heard profile Answers join pushing packet news line line' upper upper' paged now after first second third view line_is news_is same does reacts =
     subst (λ (n : Stacked _). Reacts (profile n.upper.machine.settings) Answers (λ rest. after_packet (profile n.upper.machine.settings) packet rest (standing pushing first n rest)) after first third) view
-    (packet_reacts (profile upper.machine.settings) Answers join pushing packet news line line' upper upper' (record { line = line; upper = upper }) after first second third refl line_is news_is does
+    (packet_reacts (profile upper.machine.settings) Answers join pushing packet news line line' upper upper' paged (record { line = line; upper = upper; paged = paged }) after first second third refl line_is news_is does
     (reacts_by profile Answers upper'.machine.settings upper.machine.settings _ after second third same reacts))

@@ -1,6 +1,7 @@
 -- What the half of a host above its line says.
-use Rattle.std.proofs.Common.{◌≡◌, ◌∙◌, ◌≤◌, ◌<◌, ◌-◌, ◌&&◌, nat_lt, ℕ, suc, Bool, true, false, List, [], ◌++◌, length, refl, sym, ap, subst, true≢false, arith, tests, if◌then◌else◌}
-use Rattle.std.specs.Prelude.{Option, Some, None, drop}
+use Rattle.std.proofs.Common.{◌≡◌, ◌∙◌, ◌≤◌, ◌<◌, ◌-◌, ◌&&◌, nat_lt, ℕ, suc, Bool, true, false, List, [], ◌∷◌, ◌++◌, length, refl, sym, ap, subst, true≢false, arith, tests, if◌then◌else◌}
+use Rattle.std.specs.Prelude.{Option, Some, None, take, drop}
+use Rattle.bt_base.specs.Octets.{IsOctets}
 use Rattle.bt_base.specs.declared.settings.Settings.{Settings}
 use Rattle.channel_model.specs.Value.{Channels}
 use Rattle.channel_model.specs.Giving.{Given, IsPdu, next_given, after_given}
@@ -22,21 +23,25 @@ first_of false b both = absurd (true≢false (sym both))
 pub one_less : {E : Type 0} (upper : Upward E) → says upper ≡ true → upper.may_say ≡ suc (upper.may_say - 1)
 one_less upper holds = let some = first_of (nat_lt 0 upper.may_say) _ holds in grind (arith, tests, some)
 
+pub front_is : (pdu room : List ℕ) (size : ℕ) → size ≡ length pdu → take size (pdu ++ room) ≡ pdu
+front_is [] room size is = ap (λ n. take n room) is
+front_is (x ∷ pdu) room size is = ap (λ n. take n (x ∷ (pdu ++ room))) is ∙ ap (λ xs. x ∷ xs) (front_is pdu room (length pdu) refl)
+
 framed_so : {X : Type 0} (test : Bool) (x : X) → test ≡ true → (if test then Some x else None) ≡ Some x
 framed_so true x holds = refl
 framed_so false x holds = absurd (true≢false (sym holds))
 
 module _ {E S P : Type 0} (profile : Settings → Profile S) (Answers : P → List Circumstance → P → Type 0) (pushing : E → P → List Circumstance → S) where
-  one_said : (A : Profile S) (given : Given) (pdu : List ℕ) (count : ℕ) (host : Host S) → IsPdu given pdu → length pdu ≤ 32775 → say_given A (Some given) (suc count) host ≡ Some (pdu, after_said A count host)
-  one_said A given pdu count host is short =
-      ap (λ xs. says_frame xs (after_said A count host)) (sym (only_pdu given pdu is)) ∙ framed_so (is_frame pdu) (pdu, after_said A count host) (pdu_is_frame given pdu is short)
+  one_said : (A : Profile S) (given : Given) (pdu : List ℕ) (count : ℕ) (host : Host S) → IsPdu given pdu → IsOctets pdu → length pdu ≤ 32775 → say_given A (Some given) (suc count) host ≡ Some (pdu, after_said A count host)
+  one_said A given pdu count host is octets short =
+      ap (λ xs. says_frame xs (after_said A count host)) (sym (only_pdu given pdu is)) ∙ framed_so (is_frame pdu) (pdu, after_said A count host) (pdu_is_frame given pdu is octets short)
 
   -- the next PDU of the channels is said, and the profile goes on
   pub says_into : (now mid after : Upward E) (machine : Machine) (end : E) (may_say count : ℕ) (first last : P) (into into' : List ℕ) (size : ℕ) → record { machine = machine; end = end; may_say = may_say } ≡ after
-      → now.may_say ≡ suc count → size ≤ 32775 → GivesInto now into size mid into'
+      → now.may_say ≡ suc count → size ≤ 32775 → IsOctets (take size into') → GivesInto now into size mid into'
       → Does Answers (λ rest. driven (profile mid.machine.settings) (asking pushing first mid rest)) (asking pushing last after) first last
       → SaysInto (profile now.machine.settings) Answers (asking pushing first now) (asking pushing last (record { machine = machine; end = end; may_say = count })) first last into size into'
-  says_into now mid after machine end may_say count first last into into' size view one short gives drives =
+  says_into now mid after machine end may_say count first last into into' size view one short octets gives drives =
       let A = profile now.machine.settings in
       let v = now.machine.channels in
       let fits : length gives.pdu ≤ 32775 = let same = gives.size_is in omega (arith, same, short) in
@@ -47,7 +52,7 @@ module _ {E S P : Type 0} (profile : Settings → Profile S) (Answers : P → Li
         pdu = gives.pdu;
         says = does_from Answers _ (λ rest. Some (gives.pdu, record (driven A (on_channels (after_given v) (asking pushing first now rest))) { may_say = count })) _ first last
             (λ rest. ap (λ (n : ℕ). say_given A (next_given v) n (asking pushing first now rest)) one ∙ ap (λ (g : Option Given). say_given A g (suc count) (asking pushing first now rest)) gives.next
-            ∙ one_said A gives.given gives.pdu count (asking pushing first now rest) gives.is_pdu fits)
+            ∙ one_said A gives.given gives.pdu count (asking pushing first now rest) gives.is_pdu (subst IsOctets (ap (take size) gives.written ∙ front_is gives.pdu (drop size into) size gives.size_is) octets) fits)
             (does_map Answers (λ (h : Host S). Some (gives.pdu, record h { may_say = count })) _ _ first last goes);
         size_is = gives.size_is;
         written = gives.written;

@@ -10,3 +10,6 @@ pub mod Shells
 pub mod Newness
 pub mod Pushing
 pub mod PushingLaws
+pub mod Playing
+pub mod Stopping
+pub mod PlayingLaws

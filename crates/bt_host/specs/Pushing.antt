@@ -18,7 +18,7 @@ use Rattle.host_model.specs.Circumstances.{Circumstance, Size, Part, Stored, par
 use Rattle.host_model.specs.Clients as model
 use Rattle.host_model.specs.Clients.{ClientProfile, client_profile}
 use Rattle.host_model.specs.Endpoints.{Endpoint}
-use Rattle.bt_host.specs.Stacks.{Stacked}
+use Rattle.bt_host.specs.Stacks.{Stacked, usual_peer}
 use Rattle.bt_host.specs.declared.client_end.Bid.{Bid}
 use Rattle.bt_host.specs.declared.client_end.Bid.TheVariants.{Nothing, Paging, Parting}
 
@@ -88,4 +88,5 @@ abbrev pub new_stack : Settings → Stacked ClientProfile
 new_stack settings = record {
   line = started Client;
   upper = record { machine = new_machine settings false; end = (client_profile settings).first; may_say = 0 };
+  paged = usual_peer;
 }

@@ -1,30 +1,40 @@
 -- A host in code without its framer: its line, and what stands above (this project's own).
-use Rattle.std.specs.Prelude.{ℕ, ◌≡◌, ◌⊎◌, true, false, List, [], ◌∷◌, ◌++◌, Option, Some, None, Result, Ok, Err}
+use Rattle.std.specs.Prelude.{ℕ, ◌≡◌, ◌⊎◌, ◌<◌, ◌||◌, ◌&&◌, Bool, true, false, List, [], ◌∷◌, ◌++◌, length, is_some, Option, Some, None, Result, Ok, Err}
+use Rattle.std.specs.List.{list_any}
 use Rattle.h4_framing.specs.Packets.{Packet}
 use Rattle.host_link.specs.declared.news.ControllerFault.{ControllerFault}
 use Rattle.host_link.specs.Lines.{Line}
-use Rattle.host_link.specs.PuttingOut.{can_take_pdu, take_pdu, put_pieces, put_command, leaving}
+use Rattle.host_link.specs.Calling.{may_end}
+use Rattle.host_link.specs.HostCommands.{asks}
+use Rattle.host_link.specs.PuttingOut.{has_room, has_buffer, is_waiting, can_take_pdu, take_pdu, put_pieces, put_command, connecting, leaving}
 use Rattle.host_link.specs.Hearing.{fault_of, news_of, heard}
 use Rattle.host_model.specs.Circumstances.{Circumstance}
 use Rattle.host_model.specs.Profiles.{Profile}
-use Rattle.host_model.specs.Hosts.{Host, next}
+use Rattle.host_model.specs.Hosts.{Host, next, has_more, hear}
+use Rattle.world_model.specs.Machines.{News}
 use Rattle.bt_host.specs.declared.feed_refusal.FeedRefusal.{FeedRefusal}
 use Rattle.bt_host.specs.declared.feed_refusal.FeedRefusal.TheVariants.{NoMemory}
 use Rattle.bt_host.specs.Refusals.{Refuses}
-use Rattle.bt_host.specs.Uppers.{Upward, asking, told_of, hears_told}
+use Rattle.bt_host.specs.Uppers.{Upward, asking, says, told_of, hears_told}
 
--- its line, and what stands above
+-- its line, what stands above, and the address of the device that it pages
 pub record Stacked (E : Type 0) : Type 0 where
   pub line : Line
   pub upper : Upward E
+  pub paged : List ℕ
 
--- a host with its line
+-- a host with its line, and the address of the device that it pages
 pub record Standing (S : Type 0) : Type 0 where
   pub line : Line
   pub host : Host S
+  pub paged : List ℕ
+
+-- the device that a host pages where it is told of no other, the lowest octet first (this project's own)
+abbrev pub usual_peer : List ℕ
+usual_peer = 0x0B ∷ 0 ∷ 0 ∷ 0 ∷ 0 ∷ 0 ∷ []
 
 abbrev pub standing : {E P S : Type 0} → (E → P → List Circumstance → S) → P → Stacked E → List Circumstance → Standing S
-standing pushing port stack rest = record { line = stack.line; host = asking pushing port stack.upper rest }
+standing pushing port stack rest = record { line = stack.line; host = asking pushing port stack.upper rest; paged = stack.paged }
 
 -- ---- what it does by itself
 
@@ -35,27 +45,39 @@ pub data Deed : Type 0 where
   Saying : (pdu : List ℕ) → Deed
   -- the end of the link waits to be put out
   Ending : Deed
+  -- a link is asked for
+  Paging : Deed
   -- the next command is put out
   Commanding : Deed
 
--- a link is up and not ended, all is said, and the profile ends the link
+-- the link that is up may be ended, all is said, and the profile ends the link
 pub record MayEnd {S : Type 0} (A : Profile S) (old : Standing S) : Type 0 where
-  pub handle : ℕ
-  pub link : old.line.link ≡ Some handle
   pub none_waits : old.line.pieces ≡ []
-  pub none_next : next A old.host ≡ None
+  pub all_said : has_more old.host ≡ false
   pub leaves : A.leaves_link old.host.profile ≡ true
-  pub unended : old.line.ending ≡ false
+  pub may : may_end old.line ≡ true
+
+-- a link is asked for: a Connection Complete is awaited, or a command from which it will be waits
+abbrev pub is_asking : Line → Bool
+is_asking line = line.asked || list_any asks line.commands.waiting
+
+-- no link is up, none is asked for, and the profile wants one
+pub record MayPage {S : Type 0} (A : Profile S) (old : Standing S) : Type 0 where
+  pub off : old.line.link ≡ None
+  pub unasked : is_asking old.line ≡ false
+  pub wants : A.wants_link old.host.profile ≡ true
 
 pub record Says {S : Type 0} (A : Profile S) (pdu : List ℕ) (old new : Standing S) : Type 0 where
   pub may : can_take_pdu old.line ≡ true
   pub next : next A old.host ≡ Some (pdu, new.host)
   pub line : new.line ≡ take_pdu pdu old.line
+  pub paged : new.paged ≡ old.paged
 
 abbrev pub DoesDeed : {S : Type 0} → Profile S → Deed → Standing S → Standing S → Type 0
 DoesDeed A Putting old new = new ≡ record old { line = put_pieces old.line }
 DoesDeed A (Saying pdu) old new = Says A pdu old new
 DoesDeed A Ending old new = MayEnd A old × (new ≡ record old { line = leaving old.line.link old.line })
+DoesDeed A Paging old new = MayPage A old × (new ≡ record old { line = connecting old.paged old.line })
 DoesDeed A Commanding old new = new ≡ record old { line = put_command old.line }
 
 -- one after the other
@@ -71,18 +93,68 @@ pub record Reacts {S P : Type 0} (A : Profile S) (Answers : P → List Circumsta
   pub deeds : List Deed
   pub reacts : (rest : List Circumstance) → DoesAll A deeds (before (used ++ rest)) (after rest)
 
+-- ---- where it has done all that it can
+
+-- a link that its profile ends, once all is said, may not be ended now
+abbrev pub KeepsLink : {S : Type 0} → Profile S → Standing S → Type 0
+KeepsLink A now = now.line.pieces ≡ [] → has_more now.host ≡ false → A.leaves_link now.host.profile ≡ true → may_end now.line ≡ false
+
+-- a link that its profile wants is asked for, where fewer than eight commands wait: one more is dropped
+abbrev pub AsksForLink : {S : Type 0} → Profile S → Standing S → Type 0
+AsksForLink A now = A.wants_link now.host.profile ≡ true → now.line.link ≡ None → length now.line.commands.waiting < 8 → is_asking now.line ≡ true
+
+-- no piece and no command can be put out, and where a PDU can be taken there is none
+pub record Rests {S : Type 0} (A : Profile S) (now : Standing S) : Type 0 where
+  pub pieces : put_pieces now.line ≡ now.line
+  pub command : put_command now.line ≡ now.line
+  pub said : can_take_pdu now.line ≡ true → has_more now.host ≡ false
+  pub keeps : KeepsLink A now
+  pub asks : AsksForLink A now
+
+-- a piece waits, and it may be put out
+abbrev pub can_put_piece : Line → Bool
+can_put_piece line = is_some line.link && ((has_room line && has_buffer line) && is_waiting line)
+
+-- it has said all that it may say now
+pub record HasSaid {E : Type 0} (now : Stacked E) : Type 0 where
+  pub pieces : can_put_piece now.line ≡ false
+  pub said : can_take_pdu now.line ≡ true → says now.upper ≡ false
+
+-- the end of its link waits, or nothing was changed
+abbrev pub IsLeft : (old new : Line) → Type 0
+IsLeft old new = (new ≡ old) ⊎ (new ≡ leaving old.link old)
+
+-- without a link, one is asked for, or nothing was changed
+abbrev pub IsPaged : List ℕ → (old new : Line) → Type 0
+IsPaged paged old new = (new ≡ old) ⊎ ((old.link ≡ None) × (new ≡ connecting paged old))
+
+-- ---- news
+
 abbrev pub with_host : {S : Type 0} → Host S → Standing S → Standing S
 with_host host old = record old { host = host }
 
 -- ---- a packet comes in
 
 abbrev pub after_packet : {S : Type 0} → Profile S → Packet → List Circumstance → Standing S → Standing S
-after_packet A packet rest old = record { line = heard packet old.line; host = hears_told A rest (told_of (news_of packet old.line)) old.host }
+after_packet A packet rest old = record old { line = heard packet old.line; host = hears_told A rest (told_of (news_of packet old.line)) old.host }
 
 -- a host, and its port
 pub record Moment (E P : Type 0) : Type 0 where
   pub stack : Stacked E
   pub port : P
+
+-- whatever its port answers later, the host has done all that it can
+abbrev pub IsResting : {E S P : Type 0} → Profile S → (E → P → List Circumstance → S) → Moment E P → Type 0
+IsResting A pushing now = (rest : List Circumstance) → Rests A (standing pushing now.port now.stack rest)
+
+-- it goes on by itself
+abbrev pub GoesOn : {E S P : Type 0} → Profile S → (P → List Circumstance → P → Type 0) → (E → P → List Circumstance → S) → Moment E P → Moment E P → Type 0
+GoesOn A Answers pushing old new = Reacts A Answers (standing pushing old.port old.stack) (standing pushing new.port new.stack) old.port new.port
+
+-- what stands above its line is told news that its line does not tell, and the host goes on
+abbrev pub HearsNews : {E S P : Type 0} → Profile S → (P → List Circumstance → P → Type 0) → (E → P → List Circumstance → S) → News → Moment E P → Moment E P → Type 0
+HearsNews A Answers pushing news old new =
+    Reacts A Answers (λ rest. with_host (hear A rest news (asking pushing old.port old.stack.upper rest)) (standing pushing old.port old.stack rest)) (standing pushing new.port new.stack) old.port new.port
 
 -- a packet is heard, and the host goes on
 pub record Hears {E S P : Type 0} (A : Profile S) (Answers : P → List Circumstance → P → Type 0) (pushing : E → P → List Circumstance → S) (packet : Packet) (old new : Moment E P) : Type 0 where

@@ -1,6 +1,6 @@
 //! The end of a client.
 
-ghost use Rattle.std.specs.Prelude.{◌≡◌, ◌≤◌, ◌&&◌, not, false, [], length, IfOk, OnOk, OnErr};
+ghost use Rattle.std.specs.Prelude.{◌≡◌, ◌≤◌, false, [], length, IfOk, OnOk, OnErr};
 ghost use Rattle.std.specs.List.{AllByRecursion};
 ghost use Rattle.bt_base.specs.Counts.{HasRisen};
 ghost use Rattle.bt_base.specs.Numbers.{IsPsm};
@@ -11,7 +11,7 @@ ghost use Rattle.obex_session.specs.PutPackets.{units_in};
 ghost use Rattle.push_client.specs.Pushing.{payload_in, step_of};
 ghost use Rattle.world_model.specs.Machines.{Linked, Up, Down, Failed, TimerFired, Cancelled, Opening};
 ghost use Rattle.host_model.specs.Endpoints.{endpoint_of, with_answer};
-ghost use Rattle.host_model.specs.Clients.{client_profile, unlinked, told, happened, received, sent, done, submits, closes, takes, cause_of, calls, is_paging};
+ghost use Rattle.host_model.specs.Clients.{client_profile, unlinked, told, happened, received, sent, done, submits, closes, takes, cause_of, calls};
 ghost use Rattle.push_model.specs.Client.{is_idle, may_cancel};
 ghost use Rattle.push_model.specs.Events.{armed};
 ghost use Rattle.bt_host.specs.Calls.{Does};
@@ -305,13 +305,6 @@ impl ClientEnd {
         Ok(())
     }
 
-    /// Whether it asks for a link.
-    pub(crate) fn wants_link(&self) -> bool
-        ensures { result ≡ (is_paging self.now.bid && not (is_idle self.now.client)) }
-    {
-        matches!(self.bid, Bid::Paging) && !self.client.idle()
-    }
-
     /// Whether no push goes on.
     pub(crate) fn is_idle(&self) -> bool
         ensures { result ≡ is_idle self.now.client }
@@ -407,6 +400,10 @@ impl<F: Shelf> End<F> for ClientEnd {
 
     fn leaves_link(&self) -> bool {
         matches!(self.bid, Bid::Parting)
+    }
+
+    fn wants_link(&self) -> bool {
+        matches!(self.bid, Bid::Paging) && !self.client.idle()
     }
 
     fn armed(&self) -> bool {

@@ -5,11 +5,11 @@ ghost use Rattle.bt_host.specs.Pushing.{new_stack};
 
 use crate::client_end::ClientEnd;
 use crate::feed_refusal::FeedRefusal;
-use crate::shell::{ACL_LIMIT, feed_on};
-use crate::stack::{LONGEST_PDU, Stack};
+use crate::shell::{ACL_LIMIT, feed_on, noted};
+use crate::stack::{LONGEST_PDU, Stack, usual_peer};
 use crate::upper::Upper;
 use acl_credits::Ledger;
-use bt_base::{NoMemory, Settings, Shelf};
+use bt_base::{BdAddr, NoMemory, Settings, Shelf};
 use h4_framing::{Framer, H4Refusal};
 use host_link::{HostLink, Role};
 use l2cap_channels::Channels;
@@ -23,9 +23,9 @@ use std::marker::Model;
 /// go on.
 #[derive(Drop)]
 pub struct ClientHost {
-    framer: Framer,
-    stack: Stack<ClientEnd>,
-    refusal: Option<FeedRefusal>,
+    pub(crate) framer: Framer,
+    pub(crate) stack: Stack<ClientEnd>,
+    pub(crate) refusal: Option<FeedRefusal>,
 }
 
 impl Model for ClientHost {
@@ -54,25 +54,26 @@ fn new_stack(alloc: Global, settings: &Settings) -> Result<Stack<ClientEnd>, NoM
     Ok(Stack {
         link: HostLink::new(alloc, Role::Client)?,
         upper,
+        paged: usual_peer(),
         room: vec![in alloc; 0; LONGEST_PDU]?,
     })
 }
 
 impl ClientHost {
-    ghost use Rattle.std.specs.Prelude.{◌≡◌, ◌≤◌, ◌||◌, None, drop, length, IfOk, OnOk};
+    ghost use Rattle.std.specs.Prelude.{◌≡◌, ◌≤◌, ◌||◌, true, None, Some, drop, length, IfOk, OnOk, OnErr};
     ghost use Rattle.push_model.specs.Client.{is_idle, may_cancel};
     ghost use Rattle.push_model.specs.Events.{armed};
     ghost use Rattle.h4_framing.specs.Taking.{EndsWith};
     ghost use Rattle.channel_model.specs.Calls as calls;
-    ghost use Rattle.world_model.specs.Machines.{TimerFired};
+    ghost use Rattle.obex_session.specs.PutPackets.{units_in};
+    ghost use Rattle.world_model.specs.Machines.{TimerFired, Cancelled, Opening};
     ghost use Rattle.host_model.specs.Clients.{client_profile};
-    ghost use Rattle.host_model.specs.Hosts.{hear};
+    ghost use Rattle.bt_host.specs.declared.feed_refusal.FeedRefusal.TheVariants as refusals;
     ghost use Rattle.bt_host.specs.Refusals.{fresh_framing};
-    ghost use Rattle.bt_host.specs.Uppers.{asking};
-    ghost use Rattle.bt_host.specs.Stacks.{standing, with_host, Reacts};
+    ghost use Rattle.bt_host.specs.Stacks.{GoesOn, HearsNews};
     ghost use Rattle.bt_host.specs.Pushing.{pushed_by, Pushes, Lacks};
     ghost use Rattle.bt_host.specs.PushingLaws.{Answers};
-    ghost use Rattle.bt_host.specs.Shells.{Feeds};
+    ghost use Rattle.bt_host.specs.Shells.{settings_of, moment_of, ComesToRest, Feeds};
 
     /// A client with no push, whose first command stands in `out`. It reserves all memory that it ever needs; `NoMemory` where
     /// that cannot be had.
@@ -94,7 +95,8 @@ impl ClientHost {
     /// host stays as it is.
     pub fn feed<F: Shelf>(&mut self, piece: &[u8], shelf: &mut F) -> Result<(), FeedRefusal>
         requires works { self.old.refusal ≡ None → Pushes self.old.stack.upper.end }
-        ensures feeds { Feeds (client_profile self.old.stack.upper.machine.settings) (Answers F.content F.faults F.shortages) (Lacks F.shortages) pushed_by piece.now self.old self.new shelf.old shelf.new result }
+        ensures feeds { Feeds (client_profile (settings_of self.old)) (Answers F.content F.faults F.shortages) (Lacks F.shortages) pushed_by piece.now self.old self.new shelf.old shelf.new result }
+        ensures rests { OnOk result (ComesToRest client_profile pushed_by self.old self.new shelf.new) }
         ensures works { OnOk result (Pushes self.new.stack.upper.end) }
     {
         if let Some(refusal) = self.refusal {
@@ -110,15 +112,71 @@ impl ClientHost {
     pub fn on_timer<F: Shelf>(&mut self, shelf: &mut F) -> Result<(), NoMemory>
         requires sound { self.old.refusal ≡ None }
         requires works { Pushes self.old.stack.upper.end }
-        ensures reacts { OnOk result (Reacts (client_profile self.old.stack.upper.machine.settings) (Answers F.content F.faults F.shortages) (λ rest. with_host (hear (client_profile self.old.stack.upper.machine.settings) rest TimerFired (asking pushed_by shelf.old self.old.stack.upper rest)) (standing pushed_by shelf.old self.old.stack rest)) (standing pushed_by shelf.new self.new.stack) shelf.old shelf.new) }
-        ensures sound { OnOk result (self.new.refusal ≡ None) }
+        ensures hears { OnOk result (HearsNews (client_profile (settings_of self.old)) (Answers F.content F.faults F.shortages) pushed_by TimerFired (moment_of self.old shelf.old) (moment_of self.new shelf.new)) }
+        ensures rests { OnOk result (ComesToRest client_profile pushed_by self.old self.new shelf.new) }
+        ensures stays { OnOk result (self.new ≡ record self.old { stack = self.new.stack }) }
         ensures works { OnOk result (Pushes self.new.stack.upper.end) }
+        ensures lacked { OnErr result (Lacks F.shortages shelf.old shelf.new) }
+        ensures refused { OnErr result (self.new.refusal ≡ Some refusals.NoMemory) }
     {
-        let Ok(()) = self.stack.fire(shelf) else {
-            self.refusal = Some(FeedRefusal::NoMemory);
-            return Err(NoMemory);
-        };
-        Ok(())
+        noted(self.stack.fire(shelf), &mut self.refusal)
+    }
+
+    /// Begins the push of the object of that name, and goes on: it asks for a link, where none is up. Where the shelf fails the push
+    /// ends at once. `NoMemory` where the shelf had none, and then the host goes on no more.
+    ///
+    /// It needs a host that refused nothing and pushes nothing, and a name of at most 100 UTF-16 units (Object Push Profile 1.2, 4.3).
+    pub fn push<F: Shelf>(&mut self, name: &str, shelf: &mut F) -> Result<(), NoMemory>
+        requires sound { self.old.refusal ≡ None }
+        requires works { Pushes self.old.stack.upper.end }
+        requires idle { is_idle self.old.stack.upper.end.client ≡ true }
+        requires few { length (units_in name.now) ≤ 100 }
+        ensures hears { OnOk result (HearsNews (client_profile (settings_of self.old)) (Answers F.content F.faults F.shortages) pushed_by (Opening name.now) (moment_of self.old shelf.old) (moment_of self.new shelf.new)) }
+        ensures rests { OnOk result (ComesToRest client_profile pushed_by self.old self.new shelf.new) }
+        ensures stays { OnOk result (self.new ≡ record self.old { stack = self.new.stack }) }
+        ensures works { OnOk result (Pushes self.new.stack.upper.end) }
+        ensures lacked { OnErr result (Lacks F.shortages shelf.old shelf.new) }
+        ensures refused { OnErr result (self.new.refusal ≡ Some refusals.NoMemory) }
+    {
+        noted(self.stack.begin(name, shelf), &mut self.refusal)
+    }
+
+    /// Gives up the push, and goes on. `NoMemory` where the shelf had none, and then the host goes on no more. It needs a host that
+    /// refused nothing, and a push that may be given up.
+    pub fn cancel<F: Shelf>(&mut self, shelf: &mut F) -> Result<(), NoMemory>
+        requires sound { self.old.refusal ≡ None }
+        requires works { Pushes self.old.stack.upper.end }
+        requires may { may_cancel self.old.stack.upper.end.client ≡ true }
+        ensures hears { OnOk result (HearsNews (client_profile (settings_of self.old)) (Answers F.content F.faults F.shortages) pushed_by Cancelled (moment_of self.old shelf.old) (moment_of self.new shelf.new)) }
+        ensures rests { OnOk result (ComesToRest client_profile pushed_by self.old self.new shelf.new) }
+        ensures stays { OnOk result (self.new ≡ record self.old { stack = self.new.stack }) }
+        ensures works { OnOk result (Pushes self.new.stack.upper.end) }
+        ensures lacked { OnErr result (Lacks F.shortages shelf.old shelf.new) }
+        ensures refused { OnErr result (self.new.refusal ≡ Some refusals.NoMemory) }
+    {
+        noted(self.stack.cancel(shelf), &mut self.refusal)
+    }
+
+    /// Pages the device of that address from now on.
+    pub fn page_device(&mut self, address: BdAddr)
+        ensures { self.new ≡ record self.old { stack = record self.old.stack { paged = address } } }
+    {
+        self.stack.paged = address;
+    }
+
+    /// Puts out what was held back for want of room in `out`, and goes on. `NoMemory` where the shelf had none, and then the host
+    /// goes on no more. It needs a host that refused nothing.
+    pub fn put_out<F: Shelf>(&mut self, shelf: &mut F) -> Result<(), NoMemory>
+        requires sound { self.old.refusal ≡ None }
+        requires works { Pushes self.old.stack.upper.end }
+        ensures goes { OnOk result (GoesOn (client_profile (settings_of self.old)) (Answers F.content F.faults F.shortages) pushed_by (moment_of self.old shelf.old) (moment_of self.new shelf.new)) }
+        ensures rests { OnOk result (ComesToRest client_profile pushed_by self.old self.new shelf.new) }
+        ensures stays { OnOk result (self.new ≡ record self.old { stack = self.new.stack }) }
+        ensures works { OnOk result (Pushes self.new.stack.upper.end) }
+        ensures lacked { OnErr result (Lacks F.shortages shelf.old shelf.new) }
+        ensures refused { OnErr result (self.new.refusal ≡ Some refusals.NoMemory) }
+    {
+        noted(self.stack.put_out(shelf), &mut self.refusal)
     }
 
     /// The octets for the controller, in their order.

@@ -105,6 +105,10 @@ pub(crate) trait End<P>: Drop {
     fn leaves_link(&self) -> bool
         ensures { (settings : Settings) (port : P) (rest : List Circumstance) → result ≡ (profile settings).leaves_link (pushing self.now port rest) };
 
+    /// Whether it wants a link.
+    fn wants_link(&self) -> bool
+        ensures { (settings : Settings) (port : P) (rest : List Circumstance) → result ≡ (profile settings).wants_link (pushing self.now port rest) };
+
     /// Whether something waits for the timer.
     fn armed(&self) -> bool
         ensures { (settings : Settings) (port : P) (rest : List Circumstance) → result ≡ (profile settings).armed (pushing self.now port rest) };

@@ -141,6 +141,10 @@ impl<B: Inbox> End<B> for ServerEnd {
         self.breaks
     }
 
+    fn wants_link(&self) -> bool {
+        false
+    }
+
     fn armed(&self) -> bool {
         false
     }

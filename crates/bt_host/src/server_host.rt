@@ -5,8 +5,8 @@ ghost use Rattle.bt_host.specs.Newness.{new_stack};
 
 use crate::feed_refusal::FeedRefusal;
 use crate::server_end::ServerEnd;
-use crate::shell::{ACL_LIMIT, feed_on};
-use crate::stack::{LONGEST_PDU, Stack};
+use crate::shell::{ACL_LIMIT, feed_on, noted};
+use crate::stack::{LONGEST_PDU, Stack, usual_peer};
 use crate::upper::Upper;
 use acl_credits::Ledger;
 use bt_base::{Inbox, NoMemory, Settings};
@@ -23,9 +23,9 @@ use std::marker::Model;
 /// go on.
 #[derive(Drop)]
 pub struct ServerHost {
-    framer: Framer,
-    stack: Stack<ServerEnd>,
-    refusal: Option<FeedRefusal>,
+    pub(crate) framer: Framer,
+    pub(crate) stack: Stack<ServerEnd>,
+    pub(crate) refusal: Option<FeedRefusal>,
 }
 
 impl Model for ServerHost {
@@ -54,21 +54,21 @@ fn new_stack(alloc: Global, settings: &Settings) -> Result<Stack<ServerEnd>, NoM
     Ok(Stack {
         link: HostLink::new(alloc, Role::Server)?,
         upper,
+        paged: usual_peer(),
         room: vec![in alloc; 0; LONGEST_PDU]?,
     })
 }
 
 impl ServerHost {
-    ghost use Rattle.std.specs.Prelude.{◌≡◌, ◌≤◌, None, drop, length, IfOk, OnOk, OnErr};
+    ghost use Rattle.std.specs.Prelude.{◌≡◌, ◌≤◌, None, Some, drop, length, IfOk, OnOk, OnErr};
     ghost use Rattle.h4_framing.specs.Taking.{EndsWith};
     ghost use Rattle.channel_model.specs.Calls as calls;
     ghost use Rattle.world_model.specs.Machines.{TimerFired};
-    ghost use Rattle.host_model.specs.Hosts.{hear};
+    ghost use Rattle.bt_host.specs.declared.feed_refusal.FeedRefusal.TheVariants as refusals;
     ghost use Rattle.bt_host.specs.Refusals.{fresh_framing};
-    ghost use Rattle.bt_host.specs.Uppers.{asking};
-    ghost use Rattle.bt_host.specs.Stacks.{standing, with_host, Reacts};
+    ghost use Rattle.bt_host.specs.Stacks.{GoesOn, HearsNews};
     ghost use Rattle.bt_host.specs.Serving.{profile_of, served_by, Works, Asks, Lacks};
-    ghost use Rattle.bt_host.specs.Shells.{Feeds};
+    ghost use Rattle.bt_host.specs.Shells.{settings_of, moment_of, ComesToRest, Feeds};
 
     /// A server whose first command stands in `out`. It reserves all memory that it ever needs; `NoMemory` where that cannot
     /// be had.
@@ -92,7 +92,8 @@ impl ServerHost {
     /// It needs an inbox that has an object pending exactly where one is under way.
     pub fn feed<B: Inbox>(&mut self, piece: &[u8], inbox: &mut B) -> Result<(), FeedRefusal>
         requires works { self.old.refusal ≡ None → Works self.old.stack.upper.end (B.is_pending inbox.old) }
-        ensures feeds { Feeds (profile_of self.old.stack.upper.machine.settings) (Asks B.shortages) (Lacks B.shortages) (served_by B.content) piece.now self.old self.new inbox.old inbox.new result }
+        ensures feeds { Feeds (profile_of (settings_of self.old)) (Asks B.shortages) (Lacks B.shortages) (served_by B.content) piece.now self.old self.new inbox.old inbox.new result }
+        ensures rests { OnOk result (ComesToRest profile_of (served_by B.content) self.old self.new inbox.new) }
         ensures works { OnOk result (Works self.new.stack.upper.end (B.is_pending inbox.new)) }
     {
         if let Some(refusal) = self.refusal {
@@ -108,16 +109,29 @@ impl ServerHost {
     pub fn on_timer<B: Inbox>(&mut self, inbox: &mut B) -> Result<(), NoMemory>
         requires sound { self.old.refusal ≡ None }
         requires works { Works self.old.stack.upper.end (B.is_pending inbox.old) }
-        ensures reacts { OnOk result (Reacts (profile_of self.old.stack.upper.machine.settings) (Asks B.shortages) (λ rest. with_host (hear (profile_of self.old.stack.upper.machine.settings) rest TimerFired (asking (served_by B.content) inbox.old self.old.stack.upper rest)) (standing (served_by B.content) inbox.old self.old.stack rest)) (standing (served_by B.content) inbox.new self.new.stack) inbox.old inbox.new) }
-        ensures sound { OnOk result (self.new.refusal ≡ None) }
+        ensures hears { OnOk result (HearsNews (profile_of (settings_of self.old)) (Asks B.shortages) (served_by B.content) TimerFired (moment_of self.old inbox.old) (moment_of self.new inbox.new)) }
+        ensures rests { OnOk result (ComesToRest profile_of (served_by B.content) self.old self.new inbox.new) }
+        ensures stays { OnOk result (self.new ≡ record self.old { stack = self.new.stack }) }
         ensures works { OnOk result (Works self.new.stack.upper.end (B.is_pending inbox.new)) }
         ensures lacked { OnErr result (Lacks B.shortages inbox.old inbox.new) }
+        ensures refused { OnErr result (self.new.refusal ≡ Some refusals.NoMemory) }
     {
-        let Ok(()) = self.stack.fire(inbox) else {
-            self.refusal = Some(FeedRefusal::NoMemory);
-            return Err(NoMemory);
-        };
-        Ok(())
+        noted(self.stack.fire(inbox), &mut self.refusal)
+    }
+
+    /// Puts out what was held back for want of room in `out`, and goes on. `NoMemory` where the inbox had none, and then the host
+    /// goes on no more. It needs a host that refused nothing.
+    pub fn put_out<B: Inbox>(&mut self, inbox: &mut B) -> Result<(), NoMemory>
+        requires sound { self.old.refusal ≡ None }
+        requires works { Works self.old.stack.upper.end (B.is_pending inbox.old) }
+        ensures goes { OnOk result (GoesOn (profile_of (settings_of self.old)) (Asks B.shortages) (served_by B.content) (moment_of self.old inbox.old) (moment_of self.new inbox.new)) }
+        ensures rests { OnOk result (ComesToRest profile_of (served_by B.content) self.old self.new inbox.new) }
+        ensures stays { OnOk result (self.new ≡ record self.old { stack = self.new.stack }) }
+        ensures works { OnOk result (Works self.new.stack.upper.end (B.is_pending inbox.new)) }
+        ensures lacked { OnErr result (Lacks B.shortages inbox.old inbox.new) }
+        ensures refused { OnErr result (self.new.refusal ≡ Some refusals.NoMemory) }
+    {
+        noted(self.stack.put_out(inbox), &mut self.refusal)
     }
 
     /// The octets for the controller, in their order.

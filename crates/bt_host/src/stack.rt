@@ -1,19 +1,18 @@
 //! A host without its framer.
 
-ghost use Rattle.std.specs.Prelude.{◌≡◌, ◌<◌, ◌≤◌, true, List, [], drop, length, OnOk, OnErr};
+ghost use Rattle.std.specs.Prelude.{◌≡◌, ◌<◌, ◌≤◌, ℕ, false, true, List, [], drop, length, OnOk, OnErr};
 ghost use Rattle.h4_framing.specs.Packets.{packet};
 ghost use Rattle.l2cap_channels.specs.Machine.{with_channels};
 ghost use Rattle.world_model.specs.Machines.{TimerFired};
 ghost use Rattle.host_link.specs.PuttingOut.{can_take_pdu};
 ghost use Rattle.host_model.specs.Circumstances.{Circumstance};
-ghost use Rattle.host_model.specs.Hosts.{hear};
-ghost use Rattle.bt_host.specs.Uppers.{asking, says, IsOf};
-ghost use Rattle.bt_host.specs.Stacks.{standing, with_host, HearsOne, Reacts};
+ghost use Rattle.bt_host.specs.Uppers.{says, IsOf};
+ghost use Rattle.bt_host.specs.Stacks.{standing, usual_peer, can_put_piece, GoesOn, HasSaid, HearsNews, HearsOne, IsLeft, IsPaged, IsResting, KeepsLink, AsksForLink};
 
 use crate::end::End;
 use crate::feed_refusal::FeedRefusal;
 use crate::upper::Upper;
-use bt_base::NoMemory;
+use bt_base::{BdAddr, NoMemory};
 use h4_framing::Unit;
 use host_link::HostLink;
 use l2cap_channels::Channels;
@@ -22,11 +21,19 @@ use std::marker::Model;
 /// How many octets the longest PDU has.
 pub(crate) const LONGEST_PDU: usize = 32_775;
 
-/// The line of a host and what stands above it. A clause sees both.
+/// The device that a host pages where it is told of no other.
+pub(crate) fn usual_peer() -> BdAddr
+    ensures { result ≡ usual_peer }
+{
+    BdAddr::of(&[0x0B, 0, 0, 0, 0, 0]).unwrap()
+}
+
+/// The line of a host, what stands above it, and the device that it pages. A clause sees these.
 #[derive(Drop)]
 pub(crate) struct Stack<E> {
     pub(crate) link: HostLink,
     pub(crate) upper: Upper<E>,
+    pub(crate) paged: BdAddr,
     /// The PDU that is said is written here.
     pub(crate) room: Vec<u8>,
 }
@@ -37,7 +44,7 @@ impl<E> Model for Stack<E> {
 
     ghost Value = { Stacked E };
 
-    ghost view = { λ stack. record { line = stack.link; upper = stack.upper } };
+    ghost view = { λ stack. record { line = stack.link; upper = stack.upper; paged = stack.paged } };
 
     ghost invariant = { λ stack. vec_len stack.room ≡ 32775 };
 }
@@ -55,7 +62,8 @@ fn say_into<P, E: End<P>>(
     requires may { can_take_pdu link.old ≡ true }
     requires says { says upper.old ≡ true }
     requires room { length room.old ≡ 32775 }
-    ensures reacts { OnOk result (Reacts (E.profile upper.old.machine.settings) E.answers (standing E.pushing port.old (record { line = link.old; upper = upper.old })) (standing E.pushing port.new (record { line = link.new; upper = upper.new })) port.old port.new) }
+    ensures goes { OnOk result ((paged : List ℕ) → GoesOn (E.profile upper.old.machine.settings) E.answers E.pushing (record { stack = record { line = link.old; upper = upper.old; paged = paged }; port = port.old }) (record { stack = record { line = link.new; upper = upper.new; paged = paged }; port = port.new })) }
+    ensures pieces { OnOk result (can_put_piece link.new ≡ false) }
     ensures machine { upper.new.machine ≡ with_channels upper.old.machine upper.new.machine.channels }
     ensures told { OnOk result (upper.new.machine.channels.events ≡ []) }
     ensures fewer { OnOk result (upper.new.may_say < upper.old.may_say) }
@@ -99,9 +107,11 @@ impl<E: Drop> Stack<E> {
         requires of { IsOf E.is_server self.old.upper }
         requires may { can_take_pdu self.old.line ≡ true }
         requires says { says self.old.upper ≡ true }
-        ensures reacts { OnOk result (Reacts (E.profile self.old.upper.machine.settings) E.answers (standing E.pushing port.old self.old) (standing E.pushing port.new self.new) port.old port.new) }
+        ensures goes { OnOk result (GoesOn (E.profile self.old.upper.machine.settings) E.answers E.pushing (record { stack = self.old; port = port.old }) (record { stack = self.new; port = port.new })) }
         ensures machine { self.new.upper.machine ≡ with_channels self.old.upper.machine self.new.upper.machine.channels }
+        ensures paged { self.new.paged ≡ self.old.paged }
         ensures of { OnOk result (IsOf E.is_server self.new.upper) }
+        ensures pieces { OnOk result (can_put_piece self.new.line ≡ false) }
         ensures fewer { OnOk result (self.new.upper.may_say < self.old.upper.may_say) }
         ensures sound { OnOk result (E.is_sound self.new.upper.end port.new) }
         ensures lacked { OnErr result (E.lacked port.old port.new) }
@@ -116,8 +126,11 @@ impl<E: Drop> Stack<E> {
         E: End<P>,
         requires sound { E.is_sound self.old.upper.end port.old }
         requires of { IsOf E.is_server self.old.upper }
-        ensures reacts { OnOk result (Reacts (E.profile self.old.upper.machine.settings) E.answers (standing E.pushing port.old self.old) (standing E.pushing port.new self.new) port.old port.new) }
+        requires pieces { can_put_piece self.old.line ≡ false }
+        ensures goes { OnOk result (GoesOn (E.profile self.old.upper.machine.settings) E.answers E.pushing (record { stack = self.old; port = port.old }) (record { stack = self.new; port = port.new })) }
         ensures machine { self.new.upper.machine ≡ with_channels self.old.upper.machine self.new.upper.machine.channels }
+        ensures paged { self.new.paged ≡ self.old.paged }
+        ensures said { OnOk result (HasSaid self.new) }
         ensures of { OnOk result (IsOf E.is_server self.new.upper) }
         ensures sound { OnOk result (E.is_sound self.new.upper.end port.new) }
         ensures lacked { OnErr result (E.lacked port.old port.new) }
@@ -137,10 +150,12 @@ impl<E: Drop> Stack<E> {
     fn leave<P>(&mut self, port: &P)
     where
         E: End<P>,
-        ensures reacts { Reacts (E.profile self.old.upper.machine.settings) E.answers (standing E.pushing port.now self.old) (standing E.pushing port.now self.new) port.now port.now }
-        ensures upper { self.new.upper ≡ self.old.upper }
+        ensures goes { GoesOn (E.profile self.old.upper.machine.settings) E.answers E.pushing (record { stack = self.old; port = port.now }) (record { stack = self.new; port = port.now }) }
+        ensures stack { self.new ≡ record self.old { line = self.new.line } }
+        ensures line { IsLeft self.old.line self.new.line }
+        ensures keeps { (rest : List Circumstance) → KeepsLink (E.profile self.old.upper.machine.settings) (standing E.pushing port.now self.new rest) }
     {
-        if self.link.is_ending() {
+        if !self.link.may_end() {
             return;
         }
         if self.link.waits() {
@@ -155,21 +170,47 @@ impl<E: Drop> Stack<E> {
         self.link.disconnect();
     }
 
-    /// Puts out all that may be put out: the pieces that wait, then the PDUs that it says, and then a command.
+    /// Asks for a link, where none is up, none is asked for, and the end of the host wants one.
+    fn page<P>(&mut self, port: &P)
+    where
+        E: End<P>,
+        ensures goes { GoesOn (E.profile self.old.upper.machine.settings) E.answers E.pushing (record { stack = self.old; port = port.now }) (record { stack = self.new; port = port.now }) }
+        ensures stack { self.new ≡ record self.old { line = self.new.line } }
+        ensures line { IsPaged self.old.paged self.old.line self.new.line }
+        ensures asks { (rest : List Circumstance) → AsksForLink (E.profile self.old.upper.machine.settings) (standing E.pushing port.now self.new rest) }
+    {
+        if self.link.link().is_some() {
+            return;
+        }
+        if self.link.is_asking() {
+            return;
+        }
+        if !self.upper.wants_link(port) {
+            return;
+        }
+        self.link.connect(self.paged);
+    }
+
+    /// Does all that may be done: the pieces that wait are put out, then the PDUs that it says, and then a command; and it ends
+    /// its link, or asks for one.
     pub(crate) fn put_out<P>(&mut self, port: &mut P) -> Result<(), NoMemory>
     where
         E: End<P>,
         requires sound { E.is_sound self.old.upper.end port.old }
         requires of { IsOf E.is_server self.old.upper }
-        ensures reacts { OnOk result (Reacts (E.profile self.old.upper.machine.settings) E.answers (standing E.pushing port.old self.old) (standing E.pushing port.new self.new) port.old port.new) }
+        ensures goes { OnOk result (GoesOn (E.profile self.old.upper.machine.settings) E.answers E.pushing (record { stack = self.old; port = port.old }) (record { stack = self.new; port = port.new })) }
         ensures machine { self.new.upper.machine ≡ with_channels self.old.upper.machine self.new.upper.machine.channels }
+        ensures paged { self.new.paged ≡ self.old.paged }
+        ensures rests { OnOk result (IsResting (E.profile self.old.upper.machine.settings) E.pushing (record { stack = self.new; port = port.new })) }
         ensures of { OnOk result (IsOf E.is_server self.new.upper) }
         ensures sound { OnOk result (E.is_sound self.new.upper.end port.new) }
         ensures lacked { OnErr result (E.lacked port.old port.new) }
     {
         self.link.put_pieces();
         self.say_all(port)?;
+        self.link.put_command();
         self.leave(port);
+        self.page(port);
         self.link.put_command();
         Ok(())
     }
@@ -187,6 +228,8 @@ impl<E: Drop> Stack<E> {
         requires of { IsOf E.is_server self.old.upper }
         ensures heard { HearsOne (E.profile self.old.upper.machine.settings) E.answers E.lacked E.pushing (packet unit.entry) place (record { stack = self.old; port = port.old }) (record { stack = self.new; port = port.new }) result }
         ensures machine { self.new.upper.machine ≡ with_channels self.old.upper.machine self.new.upper.machine.channels }
+        ensures paged { self.new.paged ≡ self.old.paged }
+        ensures rests { OnOk result (IsResting (E.profile self.old.upper.machine.settings) E.pushing (record { stack = self.new; port = port.new })) }
         ensures of { OnOk result (IsOf E.is_server self.new.upper) }
         ensures sound { OnOk result (E.is_sound self.new.upper.end port.new) }
     {
@@ -209,8 +252,10 @@ impl<E: Drop> Stack<E> {
         E: End<P>,
         requires sound { E.is_sound self.old.upper.end port.old }
         requires of { IsOf E.is_server self.old.upper }
-        ensures reacts { OnOk result (Reacts (E.profile self.old.upper.machine.settings) E.answers (λ rest. with_host (hear (E.profile self.old.upper.machine.settings) rest TimerFired (asking E.pushing port.old self.old.upper rest)) (standing E.pushing port.old self.old rest)) (standing E.pushing port.new self.new) port.old port.new) }
+        ensures hears { OnOk result (HearsNews (E.profile self.old.upper.machine.settings) E.answers E.pushing TimerFired (record { stack = self.old; port = port.old }) (record { stack = self.new; port = port.new })) }
         ensures machine { self.new.upper.machine ≡ with_channels self.old.upper.machine self.new.upper.machine.channels }
+        ensures paged { self.new.paged ≡ self.old.paged }
+        ensures rests { OnOk result (IsResting (E.profile self.old.upper.machine.settings) E.pushing (record { stack = self.new; port = port.new })) }
         ensures of { OnOk result (IsOf E.is_server self.new.upper) }
         ensures sound { OnOk result (E.is_sound self.new.upper.end port.new) }
         ensures lacked { OnErr result (E.lacked port.old port.new) }

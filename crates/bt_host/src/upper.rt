@@ -1,6 +1,7 @@
 //! The half of a host above its line.
 
-ghost use Rattle.std.specs.Prelude.{◌≡◌, ◌<◌, ◌≤◌, true, List, [], Some, IfOk, OnOk, OnErr, length};
+ghost use Rattle.std.specs.Prelude.{◌≡◌, ◌<◌, ◌≤◌, true, List, [], Some, IfOk, OnOk, OnErr, length, take};
+ghost use Rattle.bt_base.specs.Octets.{IsOctets};
 ghost use Rattle.acl_fragments.specs.Pieces.{channel_of};
 ghost use Rattle.channel_model.specs.Hearing as channels_heard;
 ghost use Rattle.l2cap_channels.specs.Machine.{with_channels, policy_of};
@@ -19,7 +20,7 @@ use l2cap_channels::{Channels, Up};
 use std::marker::Model;
 
 /// How many PDUs a host says at most until it hears something.
-const MOST_SAID: u64 = 4_294_967_296;
+pub(crate) const MOST_SAID: u64 = 4_294_967_296;
 
 /// How many steps of its profile a host takes at most, one after the other.
 const MOST_STEPS: u8 = 4;
@@ -38,6 +39,13 @@ impl<E> Model for Upper<E> {
     ghost Value = { Upward E };
 
     ghost view = { λ upper. record { machine = upper.channels; end = upper.end; may_say = upper.may_say } };
+}
+
+/// A slice has octets.
+fn are_octets(octets: &[u8])
+    ensures { IsOctets octets.now }
+{
+    let _ = octets;
 }
 
 /// Hands a PDU to the channels, and what they hand up to the end.
@@ -125,7 +133,7 @@ impl<E: Drop> Upper<E> {
     }
 
     /// Takes steps of the end until the channels have a PDU or the end waits.
-    fn drive<P>(&mut self, port: &mut P) -> Result<(), NoMemory>
+    pub(crate) fn drive<P>(&mut self, port: &mut P) -> Result<(), NoMemory>
     where
         E: End<P>,
         requires sound { E.is_sound self.old.end port.old }
@@ -146,6 +154,15 @@ impl<E: Drop> Upper<E> {
         ensures { (rest : List Circumstance) → result ≡ (E.profile self.now.machine.settings).leaves_link (E.pushing self.now.end _port.now rest) }
     {
         self.end.leaves_link()
+    }
+
+    /// Whether it wants a link.
+    pub(crate) fn wants_link<P>(&self, _port: &P) -> bool
+    where
+        E: End<P>,
+        ensures { (rest : List Circumstance) → result ≡ (E.profile self.now.machine.settings).wants_link (E.pushing self.now.end _port.now rest) }
+    {
+        self.end.wants_link()
     }
 
     /// The channels.
@@ -192,9 +209,13 @@ impl<E: Drop> Upper<E> {
         requires room { length into.old ≡ 32775 }
         ensures gives { GivesInto self.old into.old result self.new into.new }
         ensures short { result ≤ 32775 }
+        ensures octets { IsOctets (take result into.new) }
     {
         match self.channels.next_pdu(into) {
-            Some(size) => size,
+            Some(size) => {
+                are_octets(&into[..size]);
+                size
+            }
             None => 0,
         }
     }

@@ -6,4 +6,5 @@ pub mod Plays
 pub mod Short
 pub mod Pushing
 pub mod Carrying
+pub mod Snooping
 pub mod Run

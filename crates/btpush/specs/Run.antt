@@ -1,25 +1,36 @@
 -- What a run does (this project's own).
-use Rattle.std.specs.Prelude.{ℕ, ◌≡◌, ◌<◌, ◌≤◌, ◌⊎◌, List, Option, Ok, Err}
+use Rattle.std.specs.Prelude.{ℕ, ◌≡◌, ◌<◌, ◌≤◌, ◌⊎◌, List, Option, Result, Ok, Err}
 use Rattle.bt_base.specs.Counts.{HasRisen}
 use Rattle.bt_base.specs.Streams.{gained, GainedFront}
-use Rattle.h4_view.specs.declared.refusal.ViewRefusal.{ViewRefusal}
+use Rattle.h4_view.specs.declared.refusal.ViewFault.{ViewFault}
 use Rattle.h4_view.specs.declared.refusal.ViewFault.TheVariants as view
-use Rattle.h4_view.specs.View.{Views, ShowsRead, FrontWritten}
+use Rattle.h4_view.specs.View.{Views}
+use Rattle.h4_view.specs.Tagged.{TaggedViews}
+use Rattle.h4_view.specs.Snoop.{SnoopViews}
+use Rattle.btpush.specs.declared.viewing.Viewing.{Viewing}
+use Rattle.btpush.specs.declared.viewing.Viewing.TheVariants.{Raw, Tagged, Snoop}
 use Rattle.btpush.specs.declared.status.Status.{Status}
 use Rattle.btpush.specs.declared.status.Status.TheVariants as status
 use Rattle.btpush.specs.Words.{usage_line}
 
--- The form `decode`: the sink gains the view of the input, of which the source then has `left`, with the status that
--- the view's end has. After a fault of the source it has gained the lines of all that was read, and after one of the
--- sink, or for want of memory, a front of the view.
-abbrev pub Decodes : List ℕ → Option (List ℕ) → Option (List ℕ) → Option (List ℕ) → Status → Type 0
-Decodes input left old new status.Ok = Views input left old new (Ok tt)
-Decodes input left old new status.InputRefused = (refusal : ViewRefusal) × (place : ℕ) × Views input left old new (Err (view.Refused refusal place))
-Decodes input left old new status.ReadFault = ShowsRead input left old new
-Decodes input left old new status.WriteFault = FrontWritten old new input
-Decodes input left old new status.NoMemory = FrontWritten old new input
-Decodes input left old new status.SomeFailed = ⊥
-Decodes input left old new status.BadWords = ⊥
+-- what a sink gains from the view of an input of that kind
+abbrev pub ViewsBy : Viewing → List ℕ → Option (List ℕ) → Option (List ℕ) → Option (List ℕ) → Result (Unit {0}) ViewFault → Type 0
+ViewsBy Raw input left old new end = Views input left old new end
+ViewsBy Tagged input left old new end = TaggedViews input left old new end
+ViewsBy Snoop input left old new end = SnoopViews input left old new end
+
+-- the status that the end of a view has
+abbrev pub status_of : Result (Unit {0}) ViewFault → Status
+status_of (Ok done) = status.Ok
+status_of (Err (view.Refused refusal place)) = status.InputRefused
+status_of (Err view.ReadFault) = status.ReadFault
+status_of (Err view.WriteFault) = status.WriteFault
+status_of (Err view.NoMemory) = status.NoMemory
+
+-- The forms `decode`: the sink gains the view of the input, of which the source then has `left`, with the status that the
+-- view's end has.
+abbrev pub Decodes : Viewing → List ℕ → Option (List ℕ) → Option (List ℕ) → Option (List ℕ) → Status → Type 0
+Decodes viewing input left old new result = (end : Result (Unit {0}) ViewFault) × ViewsBy viewing input left old new end × (result ≡ status_of end)
 
 -- Words that are no command line: the sink gains the line on the usage, or a front of it after a fault.
 abbrev pub RefusesWords : Option (List ℕ) → Option (List ℕ) → Status → Type 0

@@ -40,7 +40,7 @@ fn place_line(alloc: Global, name: &str, place: u64) -> Result<Vec<u8>, NoMemory
 }
 
 /// Writes that line.
-fn refuse<T: Sink>(alloc: Global, name: &str, place: u64, trace: &mut T) -> Status
+pub(crate) fn refuse<T: Sink>(alloc: Global, name: &str, place: u64, trace: &mut T) -> Status
     ensures refuses { Refuses (place_line name.now place) (T.content trace.old) (T.content trace.new) result }
     ensures faults { IsAnswered (T.faults trace.old) (T.faults trace.new) (result ≡ Status.WriteFault) }
     ensures short { IsAnswered (T.shortages trace.old) (T.shortages trace.new) (result ≡ Status.NoMemory) }

@@ -1,7 +1,9 @@
 //! `btpush`: Object Push over a Bluetooth Classic host stack.
 //!
 //! `btpush decode` reads a stream of H4 packets from the standard input and writes a line for each
-//! to the standard output. `btpush push` reads a scenario from the standard input, pushes files of
+//! to the standard output; `decode --tagged` does so for a capture of two hosts, and `decode --snoop`
+//! for a btsnoop file. `btpush snoop --side a` reads a capture and writes the btsnoop file of its host
+//! a to the standard output. `btpush push` reads a scenario from the standard input, pushes files of
 //! the current folder over a simulated radio, keeps what arrives in the folder `inbox`, and writes a
 //! report to the standard output and the capture to the standard error. `btpush wire` carries the
 //! packets of the standard input over a simulated three-wire line to the standard output, and writes
@@ -15,10 +17,14 @@ mod playing;
 mod push_tests;
 mod pushing;
 mod run;
+mod snooping;
 mod status;
 #[cfg(test)]
 mod tests;
 mod usage;
+mod viewing;
+#[cfg(test)]
+mod viewing_tests;
 #[cfg(test)]
 mod wire_tests;
 

@@ -1,11 +1,12 @@
 //! The top call: what the program does, over ports.
 
-ghost use Rattle.std.specs.Prelude.{◌≡◌, ◌≢◌, ◌≤◌, ℕ, Option, false, [], map, string_bytes, IfSome, None};
+ghost use Rattle.std.specs.Prelude.{◌≡◌, ◌≤◌, ℕ, Option, false, [], map, string_bytes, IfSome, None};
 ghost use Rattle.bt_base.specs.Counts.{HasRisen};
 ghost use Rattle.btpush.specs.Run.{Decodes, RefusesWords, HasCauses, HasEnded};
 ghost use Rattle.btpush.specs.Plays.{stocked};
 ghost use Rattle.btpush.specs.Pushing.{Pushes};
-ghost use Rattle.btpush.specs.Words.{AskForNone, AskForWire};
+ghost use Rattle.btpush.specs.Words.{AskForNone, AskForTrace, IsBuilt, WritesTrace};
+ghost use Rattle.btpush.specs.Snooping.{Snoops};
 ghost use Rattle.btpush.specs.Carrying.{Wires, IsWell};
 ghost use Rattle.command_words.specs.Forms.{AsksFor};
 ghost use Rattle.three_wire.specs.Carrying.{AnyRose, WriteRose, IsWholeInput};
@@ -13,11 +14,13 @@ ghost use Rattle.h4_view.specs.View.{IsAnswered};
 
 use crate::carrying::wire;
 use crate::pushing::push;
+use crate::snooping::snoop;
 use crate::status::Status;
 use crate::usage::USAGE;
+use crate::viewing::{Viewing, decode};
 use bt_base::{Inbox, PortFault, Shelf, Sink, Source};
 use command_words::{Form, form_of};
-use h4_view::{ViewFault, view_raw};
+use push_terms::Side;
 use std::alloc::Global;
 
 /// Writes how the program is used.
@@ -33,30 +36,62 @@ fn refuse_words<K: Sink>(sink: &mut K) -> Status
     }
 }
 
-/// Shows the packets of the source in the sink.
-fn decode<S: Source, K: Sink>(alloc: Global, source: &mut S, sink: &mut K) -> Status
-    ensures decodes { IfSome (S.content source.old) (λ input. Decodes input (S.content source.new) (K.content sink.old) (K.content sink.new) result) }
-    ensures finish { HasEnded result → IfSome (S.content source.new) (λ left. left ≡ []) }
-    ensures known { result ≢ Status.BadWords }
-    ensures causes { HasCauses (S.faults source.old) (S.faults source.new) (K.faults sink.old) (K.faults sink.new) 0 0 result }
+/// Does what a form asks for.
+fn run_form<S: Source, K: Sink, T: Sink, F: Shelf, B: Inbox>(
+    alloc: Global,
+    form: Form,
+    source: &mut S,
+    sink: &mut K,
+    trace: &mut T,
+    shelf: &mut F,
+    inbox: &mut B,
+) -> Status
+    requires { B.is_pending inbox.old ≡ false }
+    ensures decode { form ≡ Form.Decode → IfSome (S.content source.old) (λ input. Decodes Viewing.Raw input (S.content source.new) (K.content sink.old) (K.content sink.new) result) }
+    ensures decode_tagged { form ≡ Form.DecodeTagged → IfSome (S.content source.old) (λ input. Decodes Viewing.Tagged input (S.content source.new) (K.content sink.old) (K.content sink.new) result) }
+    ensures decode_snoop { form ≡ Form.DecodeSnoop → IfSome (S.content source.old) (λ input. Decodes Viewing.Snoop input (S.content source.new) (K.content sink.old) (K.content sink.new) result) }
+    ensures push { form ≡ Form.Push → IfSome (S.content source.old) (λ input. Pushes input (stocked (F.content shelf.old) (F.faults shelf.old) (F.absences shelf.old) (B.content inbox.old) (B.faults inbox.old) (B.shortages inbox.old)) (stocked (F.content shelf.new) (F.faults shelf.new) (F.absences shelf.new) (B.content inbox.new) (B.faults inbox.new) (B.shortages inbox.new)) (S.content source.new) (K.content sink.old) (K.content sink.new) (T.content trace.old) (T.content trace.new) (HasRisen (T.faults trace.old) (T.faults trace.new)) ((trace.new ≡ trace.old) × (shelf.new ≡ shelf.old) × (inbox.new ≡ inbox.old)) result) }
+    ensures snoop { (side : Side) → form ≡ Form.Snoop side → IfSome (S.content source.old) (λ input. Snoops side input (S.content source.new) (K.content sink.old) (K.content sink.new) (T.content trace.old) (T.content trace.new) result) }
+    ensures wire { (number : Option ℕ) → form ≡ Form.Wire number → Wires number (S.content source.old) (K.content sink.old) (K.content sink.new) (T.content trace.old) (T.content trace.new) (AnyRose (K.faults sink.old) (K.faults sink.new) (K.shortages sink.old) (K.shortages sink.new) (T.faults trace.old) (T.faults trace.new) (T.shortages trace.old) (T.shortages trace.new)) result }
+    ensures wire_clean { form ≡ Form.Wire None → IsWholeInput (S.content source.old) → (HasRisen (S.faults source.old) (S.faults source.new) → ⊥) → (WriteRose (K.faults sink.old) (K.faults sink.new) (T.faults trace.old) (T.faults trace.new) → ⊥) → IsWell result }
+    ensures words { (IsBuilt form → ⊥) → RefusesWords (K.content sink.old) (K.content sink.new) result }
+    ensures bad_words { result ≡ Status.BadWords → IsBuilt form → ⊥ }
+    ensures finish { result ≡ Status.Ok → IfSome (S.content source.new) (λ left. left ≡ []) }
+    ensures finish_push { form ≡ Form.Push → HasEnded result → IfSome (S.content source.new) (λ left. left ≡ []) }
+    ensures causes { HasCauses (S.faults source.old) (S.faults source.new) (K.faults sink.old) (K.faults sink.new) (T.faults trace.old) (T.faults trace.new) result }
     ensures source_short { IsAnswered (S.shortages source.old) (S.shortages source.new) (result ≡ Status.NoMemory) }
     ensures sink_short { IsAnswered (K.shortages sink.old) (K.shortages sink.new) (result ≡ Status.NoMemory) }
+    ensures trace_short { IsAnswered (T.shortages trace.old) (T.shortages trace.new) (result ≡ Status.NoMemory) }
+    ensures shelf_short { IsAnswered (F.shortages shelf.old) (F.shortages shelf.new) (result ≡ Status.NoMemory) }
+    ensures inbox_short { IsAnswered (B.shortages inbox.old) (B.shortages inbox.new) (result ≡ Status.NoMemory) }
+    ensures shelf_content { F.content shelf.new ≡ F.content shelf.old }
+    ensures shelf_faults { F.faults shelf.old ≤ F.faults shelf.new }
+    ensures inbox_faults { B.faults inbox.old ≤ B.faults inbox.new }
+    ensures trace { (WritesTrace form → ⊥) → trace.new ≡ trace.old }
+    ensures shelf { (form ≡ Form.Push → ⊥) → shelf.new ≡ shelf.old }
+    ensures inbox { (form ≡ Form.Push → ⊥) → inbox.new ≡ inbox.old }
 {
-    match view_raw(alloc, source, sink) {
-        Ok(()) => Status::Ok,
-        Err(ViewFault::Refused(_, _)) => Status::InputRefused,
-        Err(ViewFault::ReadFault) => Status::ReadFault,
-        Err(ViewFault::WriteFault) => Status::WriteFault,
-        Err(ViewFault::NoMemory) => Status::NoMemory,
+    match form {
+        Form::Decode => decode(alloc, Viewing::Raw, source, sink),
+        Form::DecodeTagged => decode(alloc, Viewing::Tagged, source, sink),
+        Form::DecodeSnoop => decode(alloc, Viewing::Snoop, source, sink),
+        Form::Push => push(alloc, source, sink, trace, shelf, inbox),
+        Form::Snoop(side) => snoop(alloc, side, source, sink, trace),
+        Form::Wire(number) => wire(alloc, number, source, sink, trace),
+        // The other forms are not built yet.
+        Form::Receive | Form::Make(_) => refuse_words(sink),
     }
 }
 
 /// Runs the program on these words, over these ports. The first word is the program's name and is
 /// not looked at.
 ///
-/// `decode` shows the packets of the source in the sink. `push` reads a scenario from the source and
-/// runs it: the objects of the shelf are pushed, the inbox keeps what arrives, the trace gets the
-/// capture and the sink the report. `wire` carries the packets of the source over a three-wire line to
+/// `decode` shows the packets of the source in the sink, `decode --tagged` the entries of a capture of
+/// two hosts, and `decode --snoop` the records of a btsnoop file. `push` reads a scenario from the
+/// source and runs it: the objects of the shelf are pushed, the inbox keeps what arrives, the trace gets
+/// the capture and the sink the report. `snoop --side a` or `b` writes the packets of one host of a
+/// capture to the sink as a btsnoop file, and where the source is no capture the trace gets the line
+/// that tells where and why. `wire` carries the packets of the source over a three-wire line to
 /// the sink, and the trace gets an entry for each packet on the line; `wire --number N` loses some by
 /// the draws of N. Any other words are `BadWords`, and the sink gets a line on the usage. No object may
 /// be pending in the inbox.
@@ -71,10 +106,14 @@ pub fn run<S: Source, K: Sink, T: Sink, F: Shelf, B: Inbox>(
 ) -> Status
     requires { B.is_pending inbox.old ≡ false }
     // What the sink gains from `decode` is the view of the input, up to and with the first refusal.
-    ensures decode { AsksFor (map string_bytes words.now.items) Form.Decode → IfSome (S.content source.old) (λ input. Decodes input (S.content source.new) (K.content sink.old) (K.content sink.new) result) }
+    ensures decode { AsksFor (map string_bytes words.now.items) Form.Decode → IfSome (S.content source.old) (λ input. Decodes Viewing.Raw input (S.content source.new) (K.content sink.old) (K.content sink.new) result) }
+    ensures decode_tagged { AsksFor (map string_bytes words.now.items) Form.DecodeTagged → IfSome (S.content source.old) (λ input. Decodes Viewing.Tagged input (S.content source.new) (K.content sink.old) (K.content sink.new) result) }
+    ensures decode_snoop { AsksFor (map string_bytes words.now.items) Form.DecodeSnoop → IfSome (S.content source.old) (λ input. Decodes Viewing.Snoop input (S.content source.new) (K.content sink.old) (K.content sink.new) result) }
     // `push` runs the scenario that the input is, or tells why it is none. Where it stops short, the whole entries in the
     // trace are those of a run so far: both hosts kept within the buffers, and the air to the script.
     ensures push { AsksFor (map string_bytes words.now.items) Form.Push → IfSome (S.content source.old) (λ input. Pushes input (stocked (F.content shelf.old) (F.faults shelf.old) (F.absences shelf.old) (B.content inbox.old) (B.faults inbox.old) (B.shortages inbox.old)) (stocked (F.content shelf.new) (F.faults shelf.new) (F.absences shelf.new) (B.content inbox.new) (B.faults inbox.new) (B.shortages inbox.new)) (S.content source.new) (K.content sink.old) (K.content sink.new) (T.content trace.old) (T.content trace.new) (HasRisen (T.faults trace.old) (T.faults trace.new)) ((trace.new ≡ trace.old) × (shelf.new ≡ shelf.old) × (inbox.new ≡ inbox.old)) result) }
+    // `snoop` writes the packets of a host to the sink as a btsnoop file, or tells where the input is no capture.
+    ensures snoop { (side : Side) → AsksFor (map string_bytes words.now.items) (Form.Snoop side) → IfSome (S.content source.old) (λ input. Snoops side input (S.content source.new) (K.content sink.old) (K.content sink.new) (T.content trace.old) (T.content trace.new) result) }
     // `wire` carries the units of the input to the sink, or the units up to where it stops, and the trace tells each packet on
     // the line. Whole units are all carried where no packet is to be lost and no port fails.
     ensures wire { (number : Option ℕ) → AsksFor (map string_bytes words.now.items) (Form.Wire number) → Wires number (S.content source.old) (K.content sink.old) (K.content sink.new) (T.content trace.old) (T.content trace.new) (AnyRose (K.faults sink.old) (K.faults sink.new) (K.shortages sink.old) (K.shortages sink.new) (T.faults trace.old) (T.faults trace.new) (T.shortages trace.old) (T.shortages trace.new)) result }
@@ -97,21 +136,14 @@ pub fn run<S: Source, K: Sink, T: Sink, F: Shelf, B: Inbox>(
     ensures shelf_content { F.content shelf.new ≡ F.content shelf.old }
     ensures shelf_faults { F.faults shelf.old ≤ F.faults shelf.new }
     ensures inbox_faults { B.faults inbox.old ≤ B.faults inbox.new }
-    // Only `push` and `wire` touch the trace, and only `push` the shelf and the inbox.
-    ensures trace { (AsksFor (map string_bytes words.now.items) Form.Push → ⊥) → (AskForWire (map string_bytes words.now.items) → ⊥) → trace.new ≡ trace.old }
+    // Only `push`, `snoop` and `wire` touch the trace, and only `push` the shelf and the inbox.
+    ensures trace { (AskForTrace (map string_bytes words.now.items) → ⊥) → trace.new ≡ trace.old }
     ensures shelf { (AsksFor (map string_bytes words.now.items) Form.Push → ⊥) → shelf.new ≡ shelf.old }
     ensures inbox { (AsksFor (map string_bytes words.now.items) Form.Push → ⊥) → inbox.new ≡ inbox.old }
 {
-    let form = match form_of(alloc, words) {
-        Ok(Some(form)) => form,
-        Ok(None) => return refuse_words(sink),
-        Err(_) => return Status::NoMemory,
-    };
-    match form {
-        Form::Decode => decode(alloc, source, sink),
-        Form::Push => push(alloc, source, sink, trace, shelf, inbox),
-        Form::Wire(number) => wire(alloc, number, source, sink, trace),
-        // The other forms are not built yet.
-        _ => refuse_words(sink),
+    match form_of(alloc, words) {
+        Ok(Some(form)) => run_form(alloc, form, source, sink, trace, shelf, inbox),
+        Ok(None) => refuse_words(sink),
+        Err(_) => Status::NoMemory,
     }
 }

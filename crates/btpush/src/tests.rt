@@ -170,12 +170,13 @@ fn faults_of_ports_have_their_status(rt: HostRuntime) -> Result<(), Fail> {
 }
 
 /// Lines that are no form of the program, or one that is not built.
-const BAD_LINES: [&str; 9] = [
+const BAD_LINES: [&str; 10] = [
     "",
     "decoder",
     "push --tagged",
     "push --number 1",
-    "decode --tagged",
+    "decode --tagged --snoop",
+    "snoop",
     "make --number 1",
     "receive",
     "wire --tagged",

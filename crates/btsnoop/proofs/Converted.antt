@@ -1,7 +1,6 @@
 -- What a conversion comes to.
-use Rattle.std.proofs.Common.{◌≡◌, ◌≢◌, ℕ, ◌+◌, ◌-◌, ◌<◌, ◌≤◌, ◌⊎◌, List, [], ◌∷◌, ◌++◌, length, take, Option, Some, None, IfSome, Ok, Err, refl, sym, ap, subst, ◌∙◌, append_assoc, arith, inl, inr}
-use Rattle.std.proofs.lemmas.List.{append-nil, take_at, take_all, drop_all}
-use Rattle.std.proofs.Math.Seq.{take-append-add}
+use Rattle.std.proofs.Common.{◌≡◌, ℕ, ◌+◌, ◌-◌, ◌<◌, ◌≤◌, ◌⊎◌, List, [], ◌++◌, length, take, Option, Some, None, IfSome, Ok, Err, refl, sym, ap, subst, ◌∙◌, append_assoc, arith, inl, inr}
+use Rattle.std.proofs.lemmas.List.{append-nil, drop_all}
 use Rattle.bt_base.specs.Streams.{gained, GainedFront}
 use Rattle.push_terms.specs.declared.word.Side.{Side}
 use Rattle.capture.specs.declared.entry_refusal.EntryRefusal.TheVariants as entry
@@ -19,6 +18,7 @@ use Rattle.btsnoop.specs.declared.converting.Converter.{Converter}
 use Rattle.btsnoop.specs.Files.{file_header, file_of}
 use Rattle.btsnoop.specs.Writing.{Writes}
 use Rattle.btsnoop.proofs.Items.{header_size}
+use Rattle.btsnoop.proofs.Limits.{some_behind, all_read, read_more}
 use Rattle.btsnoop.specs.Converting.{first_time, records_of, IsBadPacket, read_of, Stops, BeginsWith, IsReading, FrontWritten, Converts}
 use Rattle.btsnoop.specs.Converter.{HasRead, Finds}
 
@@ -29,18 +29,6 @@ begins first now input taken rest said h whole within = record { each = h.each; 
 -- reading stops so behind them
 reading : (first now : Converter) (input taken rest said : List ℕ) (verdict : Option (SnoopRefusal × ℕ)) (h : HasRead first now taken said) → input ≡ taken ++ rest → length taken ≤ input_limit → Stops (length taken) rest verdict → IsReading input h.items verdict
 reading first now input taken rest said verdict h whole within stops = record { begins = begins first now input taken rest said h whole within; stops = subst (λ (k : ℕ). Stops k rest verdict) (ap length h.whole) stops }
-
-some_behind : (held left : List ℕ) → held ≢ [] → held ++ left ≢ []
-some_behind [] left some e = some refl
-some_behind (x ∷ held) left some e = absurd cc
-
--- what was read of what is left behind the entries
-all_read : (from : ℕ) (held left : List ℕ) → from + length held ≤ input_limit → ((left ≡ []) ⊎ (from + length held ≡ input_limit)) → read_of from (held ++ left) ≡ held
-all_read from held left within (inl none) = ap (λ (t : List ℕ). read_of from (held ++ t)) none ∙ ap (read_of from) (append-nil held) ∙ take_all (input_limit - from) held (omega arith)
-all_read from held left within (inr full) = take_at held left (input_limit - from) (omega arith)
-
-read_more : (from : ℕ) (held left : List ℕ) → from + length held ≤ input_limit → read_of from (held ++ left) ≡ held ++ take (input_limit - (from + length held)) left
-read_more from held left within = ap (λ (n : ℕ). take n (held ++ left)) (omega arith) ∙ take-append-add held left (input_limit - (from + length held))
 
 bad_more : (held more : List ℕ) → IsBadPacket held → IsBadPacket (held ++ more)
 bad_more held more bad = record { side = bad.side; flow = bad.flow; payload = bad.payload; more = bad.more ++ more; short = bad.short; whole = ap (λ (t : List ℕ). t ++ more) bad.whole ∙ append_assoc (tagged (moved_tag bad.side bad.flow) bad.payload) bad.more more; none = bad.none }

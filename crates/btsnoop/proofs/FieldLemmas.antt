@@ -166,6 +166,24 @@ fault_stays Body xs ys f e =
       | inr le ↦ body_is (xs ++ ys) ∙ ap chosen (bad_more xs ys le) ∙ is
     ]
 
+-- the place of a field is in the file header
+some_place : (a b : Fault) → Some a ≡ Some b → b.1 ≡ a.1
+some_place a b e = let is : a ≡ b = cc in ap (λ (f : Fault). f.1) (sym is)
+
+choice_place : (a b c : Bool) (r : SnoopRefusal) (n : ℕ) → choice a b c ≡ Some (r, n) → n < 16
+choice_place true b c r n e = omega (arith, some_place (BadMagic, 0) (r, n) e)
+choice_place false true c r n e = omega (arith, some_place (BadVersion, 8) (r, n) e)
+choice_place false false true r n e = omega (arith, some_place (BadLink, 12) (r, n) e)
+choice_place false false false r n e = absurd cc
+
+chosen_place : (b : Bool) (r : SnoopRefusal) (n : ℕ) → chosen b ≡ Some (r, n) → n < 16
+chosen_place true r n e = omega (arith, some_place (BadLength, 0) (r, n) e)
+chosen_place false r n e = absurd cc
+
+pub fault_place : (part : Part) (xs : List ℕ) (r : SnoopRefusal) (n : ℕ) → fault_in part xs ≡ Some (r, n) → n < 16
+fault_place Header xs r n e = choice_place _ _ _ r n (sym (header_is xs) ∙ sym (head_is xs) ∙ e)
+fault_place Body xs r n e = chosen_place _ r n (sym (body_is xs) ∙ e)
+
 -- ---- what is told
 
 pub told_header : (xs : List ℕ) → told_length Header xs ≡ 16

@@ -8,4 +8,8 @@ pub mod ReadingLemmas
 pub mod AccountLemmas
 pub mod Growing
 pub mod Telling
+pub mod Limits
 pub mod Converted
+pub mod OneItem
+pub mod OneConversion
+pub mod WholeCaptures

@@ -1,10 +1,11 @@
 pub mod Files
 pub mod Writing
 pub mod Fields
+pub mod Fronts
 pub mod Reading
 pub mod Gathering
 pub mod Taking
 pub mod Accounts
-pub mod Laws
 pub mod Converting
 pub mod Converter
+pub mod Laws

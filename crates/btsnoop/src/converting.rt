@@ -1,11 +1,10 @@
 //! A capture of two hosts made the btsnoop file of one of them.
 
-ghost use Rattle.std.specs.Prelude.{◌≡◌, ◌≤◌, ◌⊎◌, ◌+◌, ◌<◌, ◌^◌, ◌++◌, ℕ, [], None, Some, List, length, IfOk, OnOk, IfSome, IfNone, IsErrOf};
-ghost use Rattle.bt_base.specs.Streams.{gained};
+ghost use Rattle.std.specs.Prelude.{◌≡◌, ◌≤◌, ◌⊎◌, ◌+◌, ◌<◌, ◌^◌, ◌++◌, [], None, Some, length, IfOk, OnOk, IfSome, IfNone, IsErrOf};
 ghost use Rattle.h4_framing.specs.Packets.{Packet, packet, spelling, IsPacket};
 ghost use Rattle.capture.specs.Entries.{moved_tag};
 ghost use Rattle.item_stream.specs.Running.{IsBlamed, IsAnswered};
-ghost use Rattle.btsnoop.specs.Files.{plain_record, record_octets, file_header, IsRecord};
+ghost use Rattle.btsnoop.specs.Files.{plain_record, record_octets, IsRecord};
 ghost use Rattle.capture.specs.EntryReading.{IsRecord as IsTagged};
 ghost use Rattle.btsnoop.specs.Converting.{Converts, flow_flag, kind_flag};
 ghost use Rattle.btsnoop.specs.Converter.{PacketRead, EntryRead};

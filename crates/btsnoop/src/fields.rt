@@ -31,8 +31,8 @@ const LONGEST_PACKET: u32 = 65_540;
 pub(crate) const LONGEST_RECORD: usize = HEAD_LENGTH + LONGEST_PACKET as usize;
 
 /// What may stand at a place of a file.
-#[derive(Clone, Copy, Debug)]
-pub(crate) enum Part {
+#[derive(Clone, Copy, Debug, PartialEq, Eq)]
+pub enum Part {
     /// The file header.
     Header,
     /// A record.

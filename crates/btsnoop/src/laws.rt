@@ -1,6 +1,6 @@
 //! Laws of btsnoop files and of readers. Each is the contract of a function that does nothing.
 
-ghost use Rattle.btsnoop.specs.Laws.{NoRecordBeginsAnother, OneReading, EachIsRead, FilesAreRead, AnyPiecesAreRead, GivenComeFirst, WrittenIsRead};
+ghost use Rattle.btsnoop.specs.Laws.{NoRecordBeginsAnother, OneReading, EachIsRead, FilesAreRead, AnyPiecesAreRead, GivenComeFirst, WrittenIsRead, OneConversion, CapturesAreConverted};
 
 /// No record's octets begin another's.
 pub fn no_record_begins_another()
@@ -35,4 +35,15 @@ pub fn given_come_first()
 /// A file that is written is read again as its records, in whatever pieces.
 pub fn written_is_read()
     ensures { WrittenIsRead }
+{}
+
+/// A capture is read in one way, so it has one file for each of its hosts.
+pub fn one_conversion()
+    ensures { OneConversion }
+{}
+
+/// A whole capture, no longer than what is read of an input, is read to its end: no conversion of it is
+/// refused, and one without a fault gives the file of the host's packets.
+pub fn captures_are_converted()
+    ensures { CapturesAreConverted }
 {}

@@ -6,6 +6,7 @@ mod converting;
 mod converting_tests;
 mod fault;
 mod fields;
+mod front;
 mod gathering;
 pub mod laws;
 mod reader;
@@ -17,6 +18,8 @@ mod writing;
 
 pub use converting::convert;
 pub use fault::SnoopFault;
+pub use fields::Part;
+pub use front::{FirstPart, first_part};
 pub use reader::{Reader, SnoopTaken};
 pub use record::Record;
 pub use refusal::SnoopRefusal;

@@ -8,7 +8,7 @@ use Rattle.channel_model.specs.declared.errand.Errand.TheVariants as errands
 use Rattle.channel_model.specs.declared.event.CloseReason.{CloseReason}
 use Rattle.channel_model.specs.declared.event.CloseReason.TheVariants.{NoAgreement}
 use Rattle.channel_model.specs.Value.{Asking, Setup, Stage, Requested, Connected, Leaving, Closing, Crossed, Held, Channels}
-use Rattle.channel_model.specs.Changing.{has_own, held_at, setup_of, stage_with, with_setup, to_setup, forgets}
+use Rattle.channel_model.specs.Changing.{has_own, has_fcs_by, held_at, setup_of, stage_with, with_setup, to_setup, forgets}
 use Rattle.channel_model.specs.Asking.{new_request, asks_options}
 use Rattle.channel_model.specs.Closing.{closes, closes_at}
 use Rattle.channel_model.specs.Configuring.{opens_if, granted_setup, grants}
@@ -32,9 +32,9 @@ pub record IsAnswered (held : Held) (v w : Channels) : Type 0 where
 
 closed_none : (v : Channels) (held : Held) (reason : CloseReason) (stage : Stage) → held.stage ≡ stage → find (has_own held.own) v.held ≡ Some held → asked_on (held_at held.own (closes_at stage reason held v)) ≡ None
 closed_none v held reason (Requested request) is found = ap asked_on (find-gone own_of held.own v.held)
-closed_none v held reason (Connected peer setup) is found = ap asked_on (found-placed (staged held (Closing peer (new_request v))) held v.held found)
-closed_none v held reason (Leaving peer setup request) is found = ap asked_on (found-placed (staged held (Closing peer request)) held v.held found)
-closed_none v held reason (Closing peer request) is found = ap asked_on found ∙ ap asked_at is
+closed_none v held reason (Connected peer setup) is found = ap asked_on (found-placed (staged held (Closing peer (new_request v) (has_fcs_by setup))) held v.held found)
+closed_none v held reason (Leaving peer setup request) is found = ap asked_on (found-placed (staged held (Closing peer request (has_fcs_by setup))) held v.held found)
+closed_none v held reason (Closing peer request checked) is found = ap asked_on found ∙ ap asked_at is
 closed_none v held reason (Crossed peer request) is found = ap asked_on found ∙ ap asked_at is
 
 -- ---- it is accepted
@@ -43,7 +43,7 @@ granted_at : (setup : Setup) (stage : Stage) → (asked_at (stage_with (granted_
 granted_at setup (Requested request) = inl refl
 granted_at setup (Connected peer before) = inr refl
 granted_at setup (Leaving peer before request) = inr refl
-granted_at setup (Closing peer request) = inl refl
+granted_at setup (Closing peer request checked) = inl refl
 granted_at setup (Crossed peer request) = inl refl
 
 pub grants-answer : (v : Channels) (held : Held) (setup : Setup) → find (has_own held.own) v.held ≡ Some held → IsAnswered held v (grants held setup v)
@@ -88,7 +88,7 @@ again_done v held after options stage is found =
     by (Leaving peer setup request) now =
         let asked : Setup = record after { own = Asking (new_request v) options } in
         inr (inr (record { next = refl; newest_is = newest-asks (errands.Configuration held.own) (to_setup held asked v); asked = now }))
-    by (Closing peer request) now = inl now
+    by (Closing peer request checked) now = inl now
     by (Crossed peer request) now = inl now
 
 renews_answer : (v : Channels) (held : Held) (setup after : Setup) (options : Options) (b : Bool) → after.own ≡ setup.own → find (has_own held.own) v.held ≡ Some held → setup_of held.stage ≡ Some setup

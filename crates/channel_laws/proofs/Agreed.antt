@@ -19,7 +19,7 @@ use Rattle.channel_laws.proofs.Attending.{submits-aside, gives-aside, fires-asid
 use Rattle.channel_laws.proofs.HandedUp.{heard-agreed}
 
 -- what is agreed on is never changed
-abbrev agreed_of : Carrier → Agreed
+abbrev pub agreed_of : Carrier → Agreed
 agreed_of (Plain agreed waiting) = agreed
 agreed_of (Retransmitting machine) = machine.agreed
 
@@ -88,5 +88,5 @@ stated-at policy v own held setup machine all found is carrier = by held.stage i
     by (Requested request) to kept = cc
     by (Connected peer s) to kept = let same : s ≡ setup = cc in at_carrier (policy.wish held.psm) false (is_open s) s same kept
     by (Leaving peer s request) to kept = let same : s ≡ setup = cc in at_carrier (policy.wish held.psm) true (is_open s) s same kept
-    by (Closing peer request) to kept = cc
+    by (Closing peer request checked) to kept = cc
     by (Crossed peer request) to kept = cc

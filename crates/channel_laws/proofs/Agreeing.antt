@@ -24,7 +24,7 @@ use Rattle.channel_model.specs.Value.{Request, Own, Unasked, Asking, Granted, Ca
 use Rattle.channel_model.specs.Configuring.{carrier_by, new_carrier, bounded_agreement}
 use Rattle.channel_laws.specs.Views.{carrier_mode, asked_mode as mode_asked}
 use Rattle.channel_laws.proofs.Both.{and-left, and-right}
-use Rattle.channel_laws.proofs.Sound.{PartsAre, states_mode, OwnStates, CarrierIs, Agrees}
+use Rattle.channel_laws.proofs.Sound.{PartsAre, states_mode, IsRequested, OwnStates, CarrierIs, Agrees}
 use Rattle.channel_laws.proofs.Granting.{no_parts}
 
 -- ---- lists of options joined
@@ -107,6 +107,9 @@ pub requested-states : (wish : Wish) (suggested : Options) (mode : Mode) → wis
 unfolding items_of items_within
 requested-states wish suggested Basic is = rw is refl
 requested-states wish suggested Enhanced is = rw is refl
+
+pub requested-so : (wish : Wish) (options : Options) → IsRequested wish options → mode_in (written options) ≡ states_mode wish.mode
+requested-so wish options (suggested, is) = ap (λ o. mode_in (written o)) is ∙ requested-states wish suggested wish.mode refl
 
 -- ---- acceptance
 
@@ -201,7 +204,7 @@ asked_some wish Unasked is = cc
 asked_some wish (Asking request options) is = refl
 asked_some wish Granted is = refl
 
-wish_by : (wish : Wish) (setup : Setup) (said : read.Setup) (request : Request) (options : Options) (set : Bool) → is_set said ≡ set → Agrees wish setup said → mode_in (written options) ≡ states_mode wish.mode
+wish_by : (wish : Wish) (setup : Setup) (said : read.Setup) (request : Request) (options : Options) (set : Bool) → is_set said ≡ set → Agrees wish setup said → IsRequested wish options
     → (let after : Setup = record setup { own = Asking request options } in Agrees wish after (cond set said (read.with_wish said (written options))))
 wish_by wish setup said request options true is agrees states = record {
   set_up = record {
@@ -214,7 +217,7 @@ wish_by wish setup said request options true is agrees states = record {
 }
 wish_by wish setup said request options false is agrees states = record {
   set_up = record {
-    asked_is = wish_states wish.mode (written options) said.asked states (elim (asked_either wish setup.own) [
+    asked_is = wish_states wish.mode (written options) said.asked (requested-so wish options states) (elim (asked_either wish setup.own) [
       | inl none ↦ inl (agrees.set_up.asked_is ∙ none)
       | inr some ↦ inr (agrees.set_up.asked_is ∙ some)
     ]);
@@ -225,7 +228,7 @@ wish_by wish setup said request options false is agrees states = record {
   parts_are = λ unset. agrees.parts_are is;
 }
 
-pub wish-agrees : (wish : Wish) (setup : Setup) (said : read.Setup) (request : Request) (options : Options) → Agrees wish setup said → mode_in (written options) ≡ states_mode wish.mode
+pub wish-agrees : (wish : Wish) (setup : Setup) (said : read.Setup) (request : Request) (options : Options) → Agrees wish setup said → IsRequested wish options
     → (let after : Setup = record setup { own = Asking request options } in Agrees wish after (setup_after said (Some (Wished (written options)))))
 wish-agrees wish setup said request options agrees states = wish_by wish setup said request options (is_set said) refl agrees states
 

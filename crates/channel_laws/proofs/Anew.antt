@@ -76,7 +76,7 @@ asked_with : (request : Request) (options : Options) (after : Setup) (stage : St
 asked_with request options after (Requested other) = inl refl
 asked_with request options after (Connected peer setup) = inr refl
 asked_with request options after (Leaving peer setup other) = inr refl
-asked_with request options after (Closing peer other) = inl refl
+asked_with request options after (Closing peer other checked) = inl refl
 asked_with request options after (Crossed peer other) = inl refl
 
 pub asks-anew : (v : Channels) (held : Held) (after : Setup) (options : Options) → find (has_own held.own) v.held ≡ Some held → Goes v (asks_options held after options v)
@@ -184,7 +184,7 @@ grant_at : (v : Channels) (stage : Stage) (policy : Policy) (identifier endpoint
 grant_at v (Requested request) policy identifier endpoint result held found = either (eqb request.identifier identifier) v (hears_connected policy endpoint result held v) v (connected_goes v policy endpoint result held found) (same_goes v)
 grant_at v (Connected peer setup) policy identifier endpoint result held found = same_goes v
 grant_at v (Leaving peer setup request) policy identifier endpoint result held found = same_goes v
-grant_at v (Closing peer request) policy identifier endpoint result held found = same_goes v
+grant_at v (Closing peer request checked) policy identifier endpoint result held found = same_goes v
 grant_at v (Crossed peer request) policy identifier endpoint result held found = same_goes v
 
 pub grant-goes : (v : Channels) (own : ℕ) (held : Option Held) (policy : Policy) (identifier endpoint result : ℕ) → find (has_own own) v.held ≡ held → Goes v (hears_grant held policy identifier endpoint result v)

@@ -119,21 +119,21 @@ pub setup-asks : (stage : Stage) (setup : Setup) → setup_of stage ≡ Some set
 setup-asks (Requested request) setup is = cc
 setup-asks (Connected peer s) setup is = let same : s ≡ setup = cc in ap (λ (x : Setup). Some (asked_by (own_request x.own))) same
 setup-asks (Leaving peer s request) setup is = let same : s ≡ setup = cc in ap (λ (x : Setup). Some (asked_by (own_request x.own))) same
-setup-asks (Closing peer request) setup is = cc
+setup-asks (Closing peer request checked) setup is = cc
 setup-asks (Crossed peer request) setup is = cc
 
 pub setup-talks : (stage : Stage) (setup : Setup) → setup_of stage ≡ Some setup → (peer : ℕ) × (talks_to stage ≡ Some peer)
 setup-talks (Requested request) setup is = cc
 setup-talks (Connected peer s) setup is = (peer, refl)
 setup-talks (Leaving peer s request) setup is = (peer, refl)
-setup-talks (Closing peer request) setup is = cc
+setup-talks (Closing peer request checked) setup is = cc
 setup-talks (Crossed peer request) setup is = cc
 
 pub no-setup_asks : (stage : Stage) (m : Option ℕ) → setup_of stage ≡ None → asked_at stage ≡ Some m → ⊥
 no-setup_asks (Requested request) m is asks = cc
 no-setup_asks (Connected peer setup) m is asks = cc
 no-setup_asks (Leaving peer setup request) m is asks = cc
-no-setup_asks (Closing peer request) m is asks = cc
+no-setup_asks (Closing peer request checked) m is asks = cc
 no-setup_asks (Crossed peer request) m is asks = cc
 
 asked_has : (identifier : ℕ) (own : Own) → is_asked identifier own ≡ true → asked_by (own_request own) ≡ Some identifier

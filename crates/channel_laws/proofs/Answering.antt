@@ -12,17 +12,17 @@ use Rattle.link_talk.specs.Senses.{Asks, ForOptions, sense}
 use Rattle.link_talk.specs.Requests.{Requests, requests_after, went}
 use Rattle.link_talk.specs.Meanings.{Meaning, Part, Answers, Wishes, meant}
 use Rattle.link_talk.specs.Setups as read
-use Rattle.link_talk.specs.Setups.{Term, is_set, setup_after, term, Wished, Answered, mode_in}
+use Rattle.link_talk.specs.Setups.{Term, is_set, setup_after, term, Wished, Answered}
 use Rattle.link_talk.specs.Channels.{word, life_after, is_there, Entry, entry_after, made_by, entries_after, Reading, read_on}
 use Rattle.channel_model.specs.Value.{Request, Asking, Setup, Held, Memory, Channels}
 use Rattle.channel_model.specs.Policies.{Policy}
 use Rattle.channel_model.specs.Changing.{has_own, setup_of}
-use Rattle.channel_laws.specs.Views.{peer_of, life_of, channel_by, IsThere, read_at}
+use Rattle.channel_laws.specs.Views.{peer_of, life_of, Agreeing, channel_by, IsThere, read_at}
 use Rattle.channel_model.proofs.Lookups.{own_of, Distinct, eqb-same, off_and}
 use Rattle.channel_laws.proofs.Entries.{entry-same, read-own}
-use Rattle.channel_laws.proofs.Sound.{Agrees, AgreesIf, states_mode, ReadsBy, Reads, Core, RepeatsIn, Repeats, QueriesKept, Wants, Kept, Sound, at_each, moved, IsPlaced, Uncalled, placed-held}
+use Rattle.channel_laws.proofs.Sound.{Agrees, AgreesIf, standing-is, IsRequested, ReadsBy, Reads, Core, RepeatsIn, Repeats, QueriesKept, Wants, Kept, Sound, at_each, moved, IsPlaced, Uncalled, placed-held}
 use Rattle.channel_laws.proofs.Steps.{core-one, kept-one, calls-on, ends-on, lasts-after, away-stays, outgoing-after}
-use Rattle.channel_laws.proofs.Moves.{wants-there, Found, found-there, is-below}
+use Rattle.channel_laws.proofs.Moves.{wants-there, Found, found-there, is-below, is-above}
 use Rattle.channel_laws.proofs.Agreeing.{wish-agrees, set-stays}
 
 -- ---- the options of one channel change
@@ -64,11 +64,11 @@ alters-reads policy all all' held after peer setup setup' entry one alters there
         channel_is = there.channel_is ∙ (ap (λ n. channel_by n held.own peer) (sym alters.psm_after) ∙ ap (λ n. channel_by after.psm n peer) (sym alters.own_after));
         life_is = there.life_is ∙ sym alters.life_after_is;
       },
-      subst (λ s. AgreesIf (policy.wish after.psm) s (setup_after entry.setup (Some one))) (sym alters.setup_after_is) (subst (λ n. Agrees (policy.wish n) setup' (setup_after entry.setup (Some one))) (sym alters.psm_after) agrees),
+      subst (λ s. AgreesIf (policy.wish after.psm) s (setup_after entry.setup (Some one))) (sym (standing-is after.stage setup' alters.setup_after_is)) (subst (λ n. Agrees (policy.wish n) setup' (setup_after entry.setup (Some one))) (sym alters.psm_after) agrees),
     )
 
 pub found-agrees : (policy : Policy) (held : Held) (peer : ℕ) (setup : Setup) (found : Option Entry) → setup_of held.stage ≡ Some setup → (f : Found policy held peer found) → Agrees (policy.wish held.psm) setup f.entry.setup
-found-agrees policy held peer setup found is f = subst (λ s. AgreesIf (policy.wish held.psm) s f.entry.setup) is f.agrees
+found-agrees policy held peer setup found is f = subst (λ s. AgreesIf (policy.wish held.psm) s f.entry.setup) (standing-is held.stage setup is) f.agrees
 
 pub core-alters : (policy : Policy) (entries : List Entry) (all all' : List Held) (next : ℕ) (held after : Held) (peer : ℕ) (setup setup' : Setup) (more : Meaning) (one : Term) → Alters all all' held after peer setup setup' → Names more (channel_by held.psm held.own peer) one
     → Core policy entries all next → ((own : ℕ) → eqb held.own own ≡ false → moved more own entries ≡ read_at own entries)
@@ -77,7 +77,7 @@ pub core-alters : (policy : Policy) (entries : List Entry) (all all' : List Held
 core-alters policy entries all all' next held after peer setup setup' more one alters names core read_others agrees =
     let found : Found policy held peer (read_at held.own entries) = found-there policy entries all next held peer core alters.found alters.peer_is in
     let same = altered-is more held peer found.entry one names found.there alters.there in
-    core-one policy entries all all' next more held.own names.made (is-below policy entries all next held core alters.found) core alters.others read_others (alters.lone core.lone)
+    core-one policy entries all all' next more held.own names.made (is-below policy entries all next held core alters.found) (is-above policy entries all next held core alters.found) core alters.others read_others (alters.lone core.lone)
     (subst (λ h. Reads policy h (moved more held.own entries)) (sym alters.found_after)
     (subst (λ e. Reads policy (Some after) (option_map (entry_after more) e)) (sym found.found_is)
     (subst (λ e. Reads policy (Some after) (Some e)) (sym same)
@@ -156,11 +156,11 @@ wished_repeats : (held after : Held) (setup : Setup) (request : Request) (option
     → Repeats (Some held) (Some entry) part → Repeats (Some after) (Some (altered entry (Wished (written options)))) part
 wished_repeats held after setup request options entry part is also repeats =
     let now : Setup = record setup { own = Asking request options } in
-    let was : RepeatsIn (Some setup) entry.setup part = subst (λ s. RepeatsIn s entry.setup part) is repeats in
-    subst (λ s. RepeatsIn s (setup_after entry.setup (Some (Wished (written options)))) part) (sym also) (λ unset. was (set-stays entry.setup (Wished (written options)) unset))
+    let was : RepeatsIn (Agreeing setup) entry.setup part = subst (λ s. RepeatsIn s entry.setup part) (standing-is held.stage setup is) repeats in
+    subst (λ s. RepeatsIn s (setup_after entry.setup (Some (Wished (written options)))) part) (sym (standing-is after.stage (record setup { own = Asking request options }) also)) (λ unset. was (set-stays entry.setup (Wished (written options)) unset))
 
 pub wishes-step : (policy : Policy) (asked : Requests) (entries : List Entry) (all all' : List Held) (next : ℕ) (memory : Memory) (held after : Held) (peer : ℕ) (setup : Setup) (request : Request) (options : Options) (identifier : ℕ)
-    → (let now : Setup = record setup { own = Asking request options } in Alters all all' held after peer setup now) → mode_in (written options) ≡ states_mode (policy.wish held.psm).mode
+    → (let now : Setup = record setup { own = Asking request options } in Alters all all' held after peer setup now) → IsRequested (policy.wish held.psm) options
     → Core policy entries all next → Kept asked entries all memory
     → Core policy (entries_after entries (Wishes identifier peer (written options))) all' next × Kept asked (entries_after entries (Wishes identifier peer (written options))) all' memory
 wishes-step policy asked entries all all' next memory held after peer setup request options identifier alters states core kept =
@@ -184,7 +184,7 @@ wishes-step policy asked entries all all' next memory held after peer setup requ
 -- the same where it is said
 pub wishes-said : (policy : Policy) (r : Reading) (v w : Channels) (held after : Held) (peer : ℕ) (setup : Setup) (request : Request) (options : Options) (identifier : ℕ) (saying : Saying) → sense saying ≡ Asks Out identifier (ForOptions peer (written options))
     → (let now : Setup = record setup { own = Asking request options } in Alters v.held w.held held after peer setup now) → w.next ≡ v.next → w.memory ≡ v.memory
-    → mode_in (written options) ≡ states_mode (policy.wish held.psm).mode → Sound policy r v → Sound policy (read_on r saying) w
+    → IsRequested (policy.wish held.psm) options → Sound policy r v → Sound policy (read_on r saying) w
 wishes-said policy r v w held after peer setup request options identifier saying is alters next_is memory_is states sound =
     let on = wishes-step policy r.requests r.entries v.held w.held v.next v.memory held after peer setup request options identifier alters states sound.core sound.kept in
     subst (λ q. let past : Reading = record { requests = requests_after r.requests q; entries = entries_after r.entries (meant r.requests q) } in Sound policy past w) (sym is)

@@ -53,22 +53,22 @@ implied p q goes xs is = let (found, at, passes) = any-finds p xs is in any-othe
 -- ---- one channel
 
 -- it is armed where it is held so
-armed_at : (v : Channels) (own : ℕ) (held : Option Held) → held_at own v ≡ held → (p : Stage → Bool) → ((stage : Stage) → p stage ≡ true → is_armed stage ≡ true) → is_at p held ≡ true → armed v ≡ true
-armed_at v own None at p goes is = cc
-armed_at v own (Some held) at p goes is = right (is_some v.features) (list_any (λ h. is_armed h.stage) v.held) (any-other (has_own own) (λ h. is_armed h.stage) v.held held at (goes held.stage is))
+pub armed-at : (v : Channels) (own : ℕ) (held : Option Held) → held_at own v ≡ held → (p : Stage → Bool) → ((stage : Stage) → p stage ≡ true → is_armed stage ≡ true) → is_at p held ≡ true → armed v ≡ true
+armed-at v own None at p goes is = cc
+armed-at v own (Some held) at p goes is = right (is_some v.features) (list_any (λ h. is_armed h.stage) v.held) (any-other (has_own own) (λ h. is_armed h.stage) v.held held at (goes held.stage is))
 
 channel_armed : (stage : Stage) → asks_for_channel stage ≡ true → is_armed stage ≡ true
 channel_armed (Requested request) is = refl
 channel_armed (Connected peer setup) is = cc
 channel_armed (Leaving peer setup request) is = refl
-channel_armed (Closing peer request) is = refl
+channel_armed (Closing peer request checked) is = refl
 channel_armed (Crossed peer request) is = refl
 
 end_armed : (stage : Stage) → asks_for_end stage ≡ true → is_armed stage ≡ true
 end_armed (Requested request) is = refl
 end_armed (Connected peer setup) is = cc
 end_armed (Leaving peer setup request) is = refl
-end_armed (Closing peer request) is = refl
+end_armed (Closing peer request checked) is = refl
 end_armed (Crossed peer request) is = refl
 
 -- what is known of a run
@@ -101,7 +101,7 @@ call_armed policy party list one known found is = by one.wanted refl
         let named : has_source wanted.source one.wanted ≡ true = ap (has_source wanted.source) some ∙ eqb-same wanted.source in
         let waits_here : channel_waits wanted.source (reading run.said) ≡ true =
         any-other (call_waits (reading run.said)) (λ x. has_source wanted.source x.wanted && call_waits (reading run.said) x) (reading run.said).requests.calls one found (ap (λ t. t && call_waits (reading run.said) one) named ∙ is) in
-        armed_at run.value wanted.source (held_at wanted.source run.value) refl asks_for_channel channel_armed (sym (requests-are_awaited policy list wanted.source).channel_is ∙ waits_here)
+        armed-at run.value wanted.source (held_at wanted.source run.value) refl asks_for_channel channel_armed (sym (requests-are_awaited policy list wanted.source).channel_is ∙ waits_here)
 
 entry_armed : (policy : Policy) (party : Party) (list : List Occurrence) (own : ℕ) (entry : Entry) → Known policy party list → read_at own (reading (run_of policy list).said).entries ≡ Some entry → entry_waits party (run_of policy list).said entry ≡ true
     → (armed (run_of policy list).value ≡ true) ⊎ (asks_services party (run_of policy list).said entry ≡ true)
@@ -133,18 +133,18 @@ entry_armed policy party list own entry known found is = by (either (waits_for_e
         parts arms (inr is) = machine arms (either (carrier_armed setup.carrier) (query_waits party said entry.channel) is)
 
     held_by : (held : Held) (stage : Stage) → held_at own run.value ≡ Some held → held.stage ≡ stage → is_there entry.life ≡ true → on_channel party said entry.channel ≡ true → (armed run.value ≡ true) ⊎ (asks_services party said entry ≡ true)
-    held_by held (Requested request) at is there waits = inl (armed_at run.value own (Some held) at is_armed (λ s so. so) (ap is_armed is))
+    held_by held (Requested request) at is there waits = inl (armed-at run.value own (Some held) at is_armed (λ s so. so) (ap is_armed is))
     held_by held (Connected peer setup) at is there waits = connected held peer setup at is there waits
-    held_by held (Leaving peer setup request) at is there waits = inl (armed_at run.value own (Some held) at is_armed (λ s so. so) (ap is_armed is))
-    held_by held (Closing peer request) at is there waits = inl (armed_at run.value own (Some held) at is_armed (λ s so. so) (ap is_armed is))
-    held_by held (Crossed peer request) at is there waits = inl (armed_at run.value own (Some held) at is_armed (λ s so. so) (ap is_armed is))
+    held_by held (Leaving peer setup request) at is there waits = inl (armed-at run.value own (Some held) at is_armed (λ s so. so) (ap is_armed is))
+    held_by held (Closing peer request checked) at is there waits = inl (armed-at run.value own (Some held) at is_armed (λ s so. so) (ap is_armed is))
+    held_by held (Crossed peer request) at is there waits = inl (armed-at run.value own (Some held) at is_armed (λ s so. so) (ap is_armed is))
 
     held_on : (held : Option Held) → held_at own run.value ≡ held → Reads policy held (Some entry) → is_there entry.life ≡ true → on_channel party said entry.channel ≡ true → (armed run.value ≡ true) ⊎ (asks_services party said entry ≡ true)
     held_on None at over there waits = let never : false ≡ true = sym (ap is_there over) ∙ there in absurd cc
     held_on (Some held) at reads there waits = held_by held held.stage at refl there waits
 
     by : (waits_for_end entry.life ≡ true) ⊎ ((is_there entry.life && on_channel party said entry.channel) ≡ true) → (armed run.value ≡ true) ⊎ (asks_services party said entry ≡ true)
-    by (inl ends) = inl (armed_at run.value own (held_at own run.value) refl asks_for_end end_armed (sym (requests-are_awaited policy list own).end_is ∙ (ap end_waits found ∙ ends)))
+    by (inl ends) = inl (armed-at run.value own (held_at own run.value) refl asks_for_end end_armed (sym (requests-are_awaited policy list own).end_is ∙ (ap end_waits found ∙ ends)))
     by (inr waits) =
         let (there, busy) = both-true (is_there entry.life) (on_channel party said entry.channel) waits in
         held_on (held_at own run.value) refl (subst (Reads policy (held_at own run.value)) found (known.sound.core.reads own)) there busy
@@ -218,7 +218,7 @@ armed_waits policy party list held (Connected peer setup) known at is armed_so =
     spread false false c so = cc
 armed_waits policy party list held (Leaving peer setup request) known at is armed_so =
     ends_by policy party list held.own (read_at held.own (reading (run_of policy list).said).entries) refl ((requests-are_awaited policy list held.own).end_is ∙ (ap (is_at asks_for_end) at ∙ ap asks_for_end is))
-armed_waits policy party list held (Closing peer request) known at is armed_so =
+armed_waits policy party list held (Closing peer request checked) known at is armed_so =
     ends_by policy party list held.own (read_at held.own (reading (run_of policy list).said).entries) refl ((requests-are_awaited policy list held.own).end_is ∙ (ap (is_at asks_for_end) at ∙ ap asks_for_end is))
 armed_waits policy party list held (Crossed peer request) known at is armed_so =
     ends_by policy party list held.own (read_at held.own (reading (run_of policy list).said).entries) refl ((requests-are_awaited policy list held.own).end_is ∙ (ap (is_at asks_for_end) at ∙ ap asks_for_end is))

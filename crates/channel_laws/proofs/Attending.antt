@@ -176,8 +176,8 @@ answered_row false true c r s x y rest accepted is = cc
 answered_row false false true r s x y rest accepted is = cc
 answered_row false false false r s x y rest accepted is = is
 
-accepted_values : (wish : Wish) (options accepted : Options) → answered wish options ≡ Accept accepted → answered_values wish.mode (asked_mode options) ≡ Accept accepted
-accepted_values wish options accepted is =
+pub accepted-values : (wish : Wish) (options accepted : Options) → answered wish options ≡ Accept accepted → answered_values wish.mode (asked_mode options) ≡ Accept accepted
+accepted-values wish options accepted is =
     answered_row (not (eqb (length options.unknown) 0)) (not (eqb (asked_mode options).mode (mode_number wish.mode))) (nat_lt (asked_mtu options) 48) _ _ _ _ (answered_values wish.mode (asked_mode options)) accepted is
 
 window_small : (mode : Mode) (asked : ModeOption) (own : ℕ) (given : Options) → answered_values mode asked ≡ Accept given → sent_window mode asked own ≤ 63
@@ -233,7 +233,7 @@ new-carrier wish carrier accepted = by wish.mode refl
       agreed,
       record {
         is = accepted.is ∙ ap (λ m. carrier_by m agreed) is;
-        small = window_small wish.mode (asked_mode accepted.options) wish.window accepted.given (accepted_values wish accepted.options accepted.given accepted.accepts);
+        small = window_small wish.mode (asked_mode accepted.options) wish.window accepted.given (accepted-values wish accepted.options accepted.given accepted.accepts);
         frame_is = refl;
       },
     )

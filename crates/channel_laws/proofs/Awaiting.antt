@@ -130,7 +130,7 @@ asked_by : (policy : Policy) (held : Held) (stage : Stage) → ReadsBy policy he
 asked_by policy held (Requested request) reads = refl
 asked_by policy held (Connected peer setup) reads = elim reads [ ]
 asked_by policy held (Leaving peer setup request) reads = elim reads [ ]
-asked_by policy held (Closing peer request) reads = elim reads [ ]
+asked_by policy held (Closing peer request checked) reads = elim reads [ ]
 asked_by policy held (Crossed peer request) reads = elim reads [ ]
 
 placed_asks : (policy : Policy) (held : Option Held) (found : Option Entry) → found ≡ None → Reads policy held found → IsPlaced held found → is_at asks_for_channel held ≡ true
@@ -156,7 +156,7 @@ asks_back policy read held (Requested request) is (answered, failed, only) reads
     (made_by read.requests request.identifier held.own (wanted_by held.psm held.own) answered)
 asks_back policy read held (Connected peer setup) is wants reads asks = cc
 asks_back policy read held (Leaving peer setup request) is wants reads asks = cc
-asks_back policy read held (Closing peer request) is wants reads asks = cc
+asks_back policy read held (Closing peer request checked) is wants reads asks = cc
 asks_back policy read held (Crossed peer request) is wants reads asks = cc
 
 waits_back : (policy : Policy) (read : Reading) (v : Channels) (own : ℕ) (held : Option Held) → held_at own v ≡ held → Sound policy read v → is_at asks_for_channel held ≡ true → channel_waits own read ≡ true
@@ -176,8 +176,8 @@ ends_by policy held (Connected peer setup) None is reads = elim reads [ ]
 ends_by policy held (Connected peer setup) (Some entry) is reads = ap waits_for_end (reads.0.life_is ∙ ap life_of is)
 ends_by policy held (Leaving peer setup request) None is reads = elim reads [ ]
 ends_by policy held (Leaving peer setup request) (Some entry) is reads = ap waits_for_end (reads.0.life_is ∙ ap life_of is)
-ends_by policy held (Closing peer request) None is reads = elim reads [ ]
-ends_by policy held (Closing peer request) (Some entry) is reads = ap waits_for_end (reads.0.life_is ∙ ap life_of is)
+ends_by policy held (Closing peer request checked) None is reads = elim reads [ ]
+ends_by policy held (Closing peer request checked) (Some entry) is reads = ap waits_for_end (reads.0.life_is ∙ ap life_of is)
 ends_by policy held (Crossed peer request) None is reads = elim reads [ ]
 ends_by policy held (Crossed peer request) (Some entry) is reads = ap waits_for_end (reads.0.life_is ∙ ap life_of is)
 

@@ -27,8 +27,8 @@ use Rattle.channel_laws.specs.Views.{read_at}
 use Rattle.channel_model.proofs.Lookups.{own_of, Distinct, distinct-append, distinct-filter, find-gone, find-others, found-has, eqb-same, and_off}
 use Rattle.channel_laws.proofs.Entries.{nothing-same, or_left, or_right}
 use Rattle.channel_laws.proofs.Sound.{Reads, Core, QueriesKept, Repeats, has_called, wanted_by, Awaits, WantsAt, Wants, IsPlaced, Uncalled, placed-held, requested-unread, Kept, Sound, at_each}
-use Rattle.channel_laws.proofs.Steps.{less-apart, queries-on}
-use Rattle.channel_laws.proofs.Moves.{is-below}
+use Rattle.channel_laws.proofs.Steps.{less-apart, more-apart, queries-on}
+use Rattle.channel_laws.proofs.Moves.{is-below, is-above}
 use Rattle.channel_laws.proofs.Questions.{asked-none}
 use Rattle.channel_laws.proofs.Granting.{no_repeats}
 use Rattle.channel_laws.proofs.Inviting.{queries-same, held_others, held_here}
@@ -114,7 +114,7 @@ wants-on asked more n (Some f) at on wants = by f.stage wants
     by (Requested request) w = subst (λ m. Awaits more f.psm m request.identifier) (sym (at f refl)) (on f.psm request.identifier (subst (λ m. Awaits asked f.psm m request.identifier) (at f refl) w))
     by (Connected peer setup) w = tt
     by (Leaving peer setup request) w = tt
-    by (Closing peer request) w = tt
+    by (Closing peer request checked) w = tt
     by (Crossed peer request) w = tt
 
 -- of the channels one changes, that nothing was read of
@@ -190,6 +190,8 @@ call-new policy r v psm sound =
           (subst (λ h. Reads policy h (read_at v.next r.entries)) (sym here) (subst (Reads policy (Some new)) (sym unread) tt)) core.reads;
       held_below = λ own above. held_others v.held new own (less-apart v.next own (omega (arith, above))) ∙ core.held_below own (omega (arith, above));
       read_below = λ own above. core.read_below own (omega (arith, above));
+      held_low = λ own low. held_others v.held new own (more-apart v.next own (omega (arith, core.start, low))) ∙ core.held_low own low;
+      read_low = core.read_low;
       start = omega (arith, core.start);
       apart = core.apart;
       distinct = core.distinct;
@@ -292,6 +294,8 @@ lost-call policy r v w held request is at held_is next_is memory_is sound =
             (subst (λ h. Reads policy h (read_at held.own r.entries)) (sym gone) (subst (Reads policy None) (sym unread) tt)) core.reads;
         held_below = λ own above. others own (less-apart held.own own (omega (arith, below, above))) ∙ core.held_below own above;
         read_below = core.read_below;
+        held_low = λ own low. others own (more-apart held.own own (omega (arith, is-above policy r.entries v.held v.next held core at, low))) ∙ core.held_low own low;
+        read_low = core.read_low;
         start = core.start;
         apart = core.apart;
         distinct = core.distinct;
@@ -317,5 +321,5 @@ forgone-on policy r v held request reason (Requested other) same is at sound =
     (subst (λ x. Sound policy x w) (sym (gave-up r request.identifier held.own)) (lost-call policy r v w held request is at refl refl refl sound)))
 forgone-on policy r v held request reason (Connected peer setup) same is at sound = cc
 forgone-on policy r v held request reason (Leaving peer setup waiting) same is at sound = cc
-forgone-on policy r v held request reason (Closing peer waiting) same is at sound = cc
+forgone-on policy r v held request reason (Closing peer waiting checked) same is at sound = cc
 forgone-on policy r v held request reason (Crossed peer waiting) same is at sound = cc

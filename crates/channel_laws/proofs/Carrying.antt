@@ -50,7 +50,7 @@ staged_twice : (stage : Stage) (s t : Setup) → stage_with t (stage_with s stag
 staged_twice (Requested request) s t = refl
 staged_twice (Connected peer setup) s t = refl
 staged_twice (Leaving peer setup request) s t = refl
-staged_twice (Closing peer request) s t = refl
+staged_twice (Closing peer request checked) s t = refl
 staged_twice (Crossed peer request) s t = refl
 
 pub carried-by : (policy : Policy) (r : Reading) (u : Channels) (held : Held) (peer : ℕ) (setup : Setup) (machine : Ertm) (closed : Option ErtmReason) (before : Ertm) → setup.carrier ≡ Some (Retransmitting before) → Talks u held peer setup → Sound policy r u
@@ -79,7 +79,7 @@ same_stage : (stage : Stage) (setup : Setup) → setup_of stage ≡ Some setup �
 same_stage (Requested request) setup is own = cc
 same_stage (Connected peer s) setup is own = let same : s ≡ setup = cc in ap (Connected peer) (granted_same setup own ∙ sym same)
 same_stage (Leaving peer s request) setup is own = let same : s ≡ setup = cc in ap (λ x. Leaving peer x request) (granted_same setup own ∙ sym same)
-same_stage (Closing peer request) setup is own = cc
+same_stage (Closing peer request checked) setup is own = cc
 same_stage (Crossed peer request) setup is own = cc
 
 opens-sound : (policy : Policy) (r : Reading) (v : Channels) (pdu : List ℕ) (held : Held) (peer : ℕ) (setup : Setup) (carrier : Carrier) (own : Own) (taken : Bool) → setup.own ≡ own → setup.carrier ≡ Some carrier → is_taken_with own carrier pdu ≡ taken → Talks v held peer setup → Sound policy r v

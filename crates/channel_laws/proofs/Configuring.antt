@@ -1,20 +1,21 @@
 -- The peer asks for options.
-use Rattle.std.proofs.Common.{◌≡◌, ℕ, ◌<◌, List, [], ◌∷◌, Bool, true, false, cond, ◌&&◌, eqb, Option, Some, None, refl, sym, ap, subst, ◌∙◌}
-use Rattle.std.specs.Prelude.{find, filter, option_map, nat_lt}
+use Rattle.std.proofs.Common.{◌≡◌, ℕ, ◌<◌, ◌≤◌, List, [], ◌∷◌, ◌++◌, Bool, true, false, cond, ◌&&◌, eqb, not, Option, Some, None, refl, sym, ap, subst, ◌∙◌}
+use Rattle.std.specs.Prelude.{find, filter, option_map, nat_lt, unwrap_or}
 use Rattle.std.proofs.lemmas.Bool.{ltb-true, ltb-false}
 use Rattle.capture.specs.declared.flow.Flow.TheVariants.{Into}
 use Rattle.l2cap_signal.specs.Reading.{Answer as Read}
+use Rattle.l2cap_config.specs.declared.wish.Mode.TheVariants.{Basic}
 use Rattle.l2cap_config.specs.declared.wish.Wish.{Wish}
 use Rattle.link_talk.specs.Senses.{sense}
 use Rattle.link_talk.specs.Requests.{Requests, Query, Terms, requests_after, went, has_identifier, first_of_run, last_run, query_terms, answered_query}
 use Rattle.link_talk.specs.Meanings.{Part, Answers, Nothing, meant, answered as meant_by, Meaning}
 use Rattle.link_talk.specs.Setups as read
-use Rattle.link_talk.specs.Setups.{Term, is_set, setup_after, term, Answered}
+use Rattle.link_talk.specs.Setups.{Term, is_set, mode_in, setup_after, term, with_answer, Answered}
 use Rattle.link_talk.specs.Channels.{is_there, Entry, entry_after, entries_after, Reading, read_on}
 use Rattle.channel_model.specs.Value.{Setup, Stage, Requested, Connected, Leaving, Closing, Crossed, Held, Remembered, Memory, Channels}
 use Rattle.channel_model.specs.Policies.{Policy}
-use Rattle.channel_model.specs.Changing.{has_own, setup_of}
-use Rattle.channel_laws.specs.Views.{peer_of, read_at}
+use Rattle.channel_model.specs.Changing.{has_own}
+use Rattle.channel_laws.specs.Views.{peer_of, Standing, Unread, Agreeing, Shut, standing, is_checked_by, read_at}
 use Rattle.channel_model.proofs.Lookups.{eqb-same}
 use Rattle.channel_laws.proofs.Entries.{nothing-same}
 use Rattle.channel_laws.proofs.Sound.{Agrees, AgreesIf, ReadsBy, Reads, Core, BeginsWith, IsAgain, RepeatsIn, Repeats, part_of, RepeatsOf, QueriesKept, CallsKept, EndsKept, HarmlessKept, identifier_asked, WantsAt, Wants, Kept, Sound, IsPlaced, placed-read}
@@ -45,7 +46,7 @@ wants_at : (asked : Requests) (queries : List Query) (held : Held) (stage : Stag
 wants_at asked queries held (Requested request) wants = wants
 wants_at asked queries held (Connected peer setup) wants = tt
 wants_at asked queries held (Leaving peer setup request) wants = tt
-wants_at asked queries held (Closing peer request) wants = tt
+wants_at asked queries held (Closing peer request checked) wants = tt
 wants_at asked queries held (Crossed peer request) wants = tt
 
 wants_still : (asked : Requests) (queries : List Query) (found : Option Held) → Wants asked found → (let more : Requests = record { calls = asked.calls; queries = queries; failures = asked.failures } in Wants more found)
@@ -102,24 +103,41 @@ again_answers wish setup said own peer true true options agrees unset again = pa
 again-agrees : (wish : Wish) (setup : Setup) (said : read.Setup) (part : Part) → Agrees wish setup said → (is_set said ≡ false → IsAgain part.accepted part.more setup.parts.mode part.options) → Agrees wish setup (setup_after said (Some (Answered part)))
 again-agrees wish setup said part agrees again = answer-agrees wish setup setup said part agrees refl agrees.carrier_is (λ some. some) (λ unset. again_answers wish setup said part.own part.peer part.accepted part.more part.options agrees unset (again unset))
 
-said_again : (wish : Wish) (setup : Option Setup) (said : read.Setup) (part : Part) (there names : Bool) → AgreesIf wish setup said → RepeatsIn setup said part
-    → AgreesIf wish setup (cond there (setup_after said (cond names (Some (Answered part)) None)) said)
-said_again wish None said part there names agrees repeats = tt
-said_again wish (Some setup) said part false names agrees repeats = agrees
-said_again wish (Some setup) said part true false agrees repeats = agrees
-said_again wish (Some setup) said part true true agrees repeats = again-agrees wish setup said part agrees repeats
+-- nor does it set up a channel that was closed
+checks_again : (said : read.Setup) (part : Part) (set : Bool) → is_set said ≡ set → (is_set said ≡ false → (part.accepted && not part.more) ≡ false) → is_checked_by (setup_after said (Some (Answered part))) ≡ is_checked_by said
+checks_again said part true is again = ap (λ t. is_checked_by (cond t said (with_answer said part))) is
+checks_again said part false is again = ap (λ t. is_checked_by (cond t said (with_answer said part))) is ∙ by part.accepted part.more (again is)
+  where
+    by : (accepted more : Bool) → (accepted && not more) ≡ false
+        → is_checked_by (cond accepted (cond more (record said { parts = said.parts ++ part.options }) (record said { parts = []; accepted = Some (unwrap_or (mode_in (said.parts ++ part.options)) Basic) })) (record said { parts = [] })) ≡ is_checked_by said
+    by false more is = refl
+    by true true is = refl
+    by true false is = cc
 
-repeats_again : (setup : Option Setup) (said : read.Setup) (part other : Part) (there names : Bool) → RepeatsIn setup said other → RepeatsIn setup (cond there (setup_after said (cond names (Some (Answered part)) None)) said) other
-repeats_again None said part other there names repeats = tt
-repeats_again (Some setup) said part other false names repeats = repeats
-repeats_again (Some setup) said part other true false repeats = repeats
-repeats_again (Some setup) said part other true true repeats = λ unset. repeats (set-stays said (Answered part) unset)
+said_again : (wish : Wish) (now : Standing) (said : read.Setup) (part : Part) (there names : Bool) → AgreesIf wish now said → RepeatsIn now said part
+    → AgreesIf wish now (cond there (setup_after said (cond names (Some (Answered part)) None)) said)
+said_again wish Unread said part there names agrees repeats = tt
+said_again wish (Agreeing setup) said part false names agrees repeats = agrees
+said_again wish (Agreeing setup) said part true false agrees repeats = agrees
+said_again wish (Agreeing setup) said part true true agrees repeats = again-agrees wish setup said part agrees repeats
+said_again wish (Shut checked) said part false names agrees repeats = agrees
+said_again wish (Shut checked) said part true false agrees repeats = agrees
+said_again wish (Shut checked) said part true true agrees repeats = checks_again said part (is_set said) refl repeats ∙ agrees
 
-reads_again_by : (policy : Policy) (held : Held) (peer : Option ℕ) (entry : Entry) (part : Part) → ReadsBy policy held peer (Some entry) → RepeatsIn (setup_of held.stage) entry.setup part → ReadsBy policy held peer (Some (entry_after (Answers part) entry))
+repeats_again : (now : Standing) (said : read.Setup) (part other : Part) (there names : Bool) → RepeatsIn now said other → RepeatsIn now (cond there (setup_after said (cond names (Some (Answered part)) None)) said) other
+repeats_again Unread said part other there names repeats = tt
+repeats_again (Agreeing setup) said part other false names repeats = repeats
+repeats_again (Agreeing setup) said part other true false repeats = repeats
+repeats_again (Agreeing setup) said part other true true repeats = λ unset. repeats (set-stays said (Answered part) unset)
+repeats_again (Shut checked) said part other false names repeats = repeats
+repeats_again (Shut checked) said part other true false repeats = repeats
+repeats_again (Shut checked) said part other true true repeats = λ unset. repeats (set-stays said (Answered part) unset)
+
+reads_again_by : (policy : Policy) (held : Held) (peer : Option ℕ) (entry : Entry) (part : Part) → ReadsBy policy held peer (Some entry) → RepeatsIn (standing held.stage) entry.setup part → ReadsBy policy held peer (Some (entry_after (Answers part) entry))
 reads_again_by policy held None entry part reads repeats = elim reads [ ]
 reads_again_by policy held (Some peer) entry part reads repeats = (
   record { channel_is = reads.0.channel_is; life_is = reads.0.life_is },
-  said_again (policy.wish held.psm) (setup_of held.stage) entry.setup part (is_there entry.life) (eqb part.own entry.channel.own && eqb part.peer entry.channel.peer) reads.1 repeats,
+  said_again (policy.wish held.psm) (standing held.stage) entry.setup part (is_there entry.life) (eqb part.own entry.channel.own && eqb part.peer entry.channel.peer) reads.1 repeats,
 )
 
 reads_again : (policy : Policy) (held : Option Held) (found : Option Entry) (part : Part) → Reads policy held found → Repeats held found part → Reads policy held (option_map (entry_after (Answers part)) found)
@@ -134,12 +152,17 @@ reads_again policy (Some held) (Some entry) part reads repeats = reads_again_by 
 repeats_still : (held : Option Held) (found : Option Entry) (part other : Part) → Repeats held found other → Repeats held (option_map (entry_after (Answers part)) found) other
 repeats_still held None part other repeats = repeats
 repeats_still None (Some entry) part other repeats = tt
-repeats_still (Some held) (Some entry) part other repeats = repeats_again (setup_of held.stage) entry.setup part other (is_there entry.life) (eqb part.own entry.channel.own && eqb part.peer entry.channel.peer) repeats
+repeats_still (Some held) (Some entry) part other repeats = repeats_again (standing held.stage) entry.setup part other (is_there entry.life) (eqb part.own entry.channel.own && eqb part.peer entry.channel.peer) repeats
 
 repeats-below : (policy : Policy) (entries : List Entry) (held : List Held) (next : ℕ) (part : Part) → Core policy entries held next → Repeats (find (has_own part.own) held) (read_at part.own entries) part → (b : Bool) → nat_lt part.own next ≡ b → part.own < next
 repeats-below policy entries held next part core repeats true is = ltb-true part.own next is
 repeats-below policy entries held next part core repeats false is =
     elim (no_repeats (find (has_own part.own) held) part (subst (λ e. Repeats (find (has_own part.own) held) e part) (core.read_below part.own (ltb-false part.own next is)) repeats)) [ ]
+
+repeats-above : (policy : Policy) (entries : List Entry) (held : List Held) (next : ℕ) (part : Part) → Core policy entries held next → Repeats (find (has_own part.own) held) (read_at part.own entries) part → (b : Bool) → nat_lt part.own 0x0040 ≡ b → 0x0040 ≤ part.own
+repeats-above policy entries held next part core repeats true is =
+    elim (no_repeats (find (has_own part.own) held) part (subst (λ e. Repeats (find (has_own part.own) held) e part) (core.read_low part.own (ltb-true part.own 0x0040 is)) repeats)) [ ]
+repeats-above policy entries held next part core repeats false is = ltb-false part.own 0x0040 is
 
 placed_repeats : (more : Meaning) (held : Option Held) (found : Option Entry) (part : Part) → Repeats held found part → IsPlaced held (option_map (entry_after more) found)
 placed_repeats more None None part repeats = repeats
@@ -149,7 +172,7 @@ placed_repeats more held (Some entry) part repeats = placed-read held (entry_aft
 pub repeat-step : (policy : Policy) (asked : Requests) (entries : List Entry) (held : List Held) (next : ℕ) (memory : Memory) (part : Part) → Repeats (find (has_own part.own) held) (read_at part.own entries) part
     → Core policy entries held next → Kept asked entries held memory → Core policy (entries_after entries (Answers part)) held next × Kept asked (entries_after entries (Answers part)) held memory
 repeat-step policy asked entries held next memory part repeats core kept = (
-  core-one policy entries held held next (Answers part) part.own refl (repeats-below policy entries held next part core repeats (nat_lt part.own next) refl) core (λ own apart. refl) (λ own apart. answers-others part entries own apart) core.lone
+  core-one policy entries held held next (Answers part) part.own refl (repeats-below policy entries held next part core repeats (nat_lt part.own next) refl) (repeats-above policy entries held next part core repeats (nat_lt part.own 0x0040) refl) core (λ own apart. refl) (λ own apart. answers-others part entries own apart) core.lone
       (reads_again policy (find (has_own part.own) held) (read_at part.own entries) part (core.reads part.own) repeats),
   kept-one asked entries held held memory (Answers part) part.own refl kept (λ own apart. refl) (λ own apart. answers-others part entries own apart)
       (λ other was. repeats_still (find (has_own part.own) held) (read_at part.own entries) part other was) (kept.wants part.own)

@@ -28,11 +28,10 @@ use Rattle.channel_model.proofs.Lookups.{own_of, any-finds, found-distinct, plac
 use Rattle.channel_laws.proofs.Entries.{nothing-same, makes-fresh, found-passes}
 use Rattle.channel_laws.proofs.Sound.{ReadsBy, Reads, has_called, wanted_by, Awaits, WantsAt, Wants, IsPlaced, requested-unread, Sound, IsSome}
 use Rattle.channel_laws.proofs.Steps.{less-apart}
-use Rattle.channel_laws.proofs.Moves.{Found, found-there, is-below}
+use Rattle.channel_laws.proofs.Moves.{Found, found-there, is-below, is-above}
 use Rattle.channel_laws.proofs.Granting.{Comes, core-fresh, kept-fresh}
 use Rattle.channel_laws.proofs.Questions.{asked-none}
 use Rattle.channel_laws.proofs.Inviting.{granted-again, free-by, queries-same}
-use Rattle.channel_laws.proofs.Agreeing.{requested-states}
 use Rattle.channel_laws.proofs.Hearing.{talks-connected}
 use Rattle.channel_laws.proofs.Settling.{asks-sound, nothing-follows}
 use Rattle.channel_laws.proofs.Calling.{failing, failure_of, failed_reading, failed-before, awaits-failing, fail-kept, fail-uncalled, lost-call, no-answer}
@@ -52,7 +51,7 @@ abbrev OtherAt : (identifier : ℕ) → Stage → Type 0
 OtherAt identifier (Requested request) = eqb request.identifier identifier ≡ false
 OtherAt identifier (Connected peer setup) = Unit {0}
 OtherAt identifier (Leaving peer setup request) = Unit {0}
-OtherAt identifier (Closing peer request) = Unit {0}
+OtherAt identifier (Closing peer request checked) = Unit {0}
 OtherAt identifier (Crossed peer request) = Unit {0}
 
 abbrev IsOther : (identifier : ℕ) → Option Held → Type 0
@@ -77,7 +76,7 @@ refused-call policy r v held request reason (Requested other) same is at sound =
     subst (λ said. Sound policy (fold read_on (failed_reading r request.identifier held.own) said) w) (sym (asked-none v w refl)) (lost-call policy r v w held request is at refl refl refl sound)
 refused-call policy r v held request reason (Connected peer setup) same is at sound = cc
 refused-call policy r v held request reason (Leaving peer setup waiting) same is at sound = cc
-refused-call policy r v held request reason (Closing peer waiting) same is at sound = cc
+refused-call policy r v held request reason (Closing peer waiting checked) same is at sound = cc
 refused-call policy r v held request reason (Crossed peer waiting) same is at sound = cc
 
 still-wants : (asked : Requests) (identifier own : ℕ) (found : Option Held) → ((f : Held) → found ≡ Some f → f.own ≡ own) → IsOther identifier found → Wants asked found → Wants (failing asked identifier own) found
@@ -88,7 +87,7 @@ still-wants asked identifier own (Some held) at other wants = by held.stage othe
     by (Requested request) apart w = awaits-failing asked identifier own held.psm held.own request.identifier (ap (λ t. t && eqb own held.own) (eqb-away request.identifier identifier apart)) w
     by (Connected peer setup) apart w = tt
     by (Leaving peer setup request) apart w = tt
-    by (Closing peer request) apart w = tt
+    by (Closing peer request checked) apart w = tt
     by (Crossed peer request) apart w = tt
 
 -- a refusal of what does not wait
@@ -124,7 +123,7 @@ unmade policy asked entries identifier destination own (Some held) None at other
         let never : true ≡ false = sym (eqb-same request.identifier) ∙ (ap (eqb request.identifier) (sym same) ∙ apart) in absurd cc
     by (Connected peer setup) apart w so = elim so [ ]
     by (Leaving peer setup request) apart w so = elim so [ ]
-    by (Closing peer request) apart w so = elim so [ ]
+    by (Closing peer request checked) apart w so = elim so [ ]
     by (Crossed peer request) apart w so = elim so [ ]
 
 other-same : (policy : Policy) (r : Reading) (v : Channels) (identifier destination own answer : ℕ) → IsOther identifier (find (has_own own) v.held) → Sound policy r v
@@ -146,14 +145,14 @@ there_live : (stage : Stage) (peer : ℕ) → peer_of stage ≡ Some peer → is
 there_live (Requested request) peer at there = cc
 there_live (Connected own setup) peer at there = let same : own ≡ peer = cc in ap (eqb peer) same ∙ eqb-same peer
 there_live (Leaving own setup request) peer at there = let same : own ≡ peer = cc in ap (eqb peer) same ∙ eqb-same peer
-there_live (Closing own request) peer at there = let same : own ≡ peer = cc in ap (eqb peer) same ∙ eqb-same peer
+there_live (Closing own request checked) peer at there = let same : own ≡ peer = cc in ap (eqb peer) same ∙ eqb-same peer
 there_live (Crossed own request) peer at there = cc
 
 live_there : (stage : Stage) (peer : ℕ) → is_live_peer peer stage ≡ true → (peer_of stage ≡ Some peer) × (is_there (life_of stage) ≡ true)
 live_there (Requested request) peer live = cc
 live_there (Connected own setup) peer live = (ap Some (sym (eqb-true peer own live)), refl)
 live_there (Leaving own setup request) peer live = (ap Some (sym (eqb-true peer own live)), refl)
-live_there (Closing own request) peer live = (ap Some (sym (eqb-true peer own live)), refl)
+live_there (Closing own request checked) peer live = (ap Some (sym (eqb-true peer own live)), refl)
 live_there (Crossed own request) peer live = cc
 
 read_live : (policy : Policy) (h : Held) (entry : Entry) (peer : ℕ) → Reads policy (Some h) (Some entry) → is_there entry.life ≡ true → peer_of h.stage ≡ Some peer → has_live_peer peer h ≡ true
@@ -208,6 +207,7 @@ connects-sound policy r v held request peer is at free_peer sound =
       here = found-placed now held v.held at;
       lone = placed-distinct now v.held;
       below = is-below policy r.entries v.held v.next held sound.core at;
+      high = is-above policy r.entries v.held v.next held sound.core at;
       rises = omega arith;
     } in
     let past : Reading = record { requests = r.requests; entries = r.entries ++ fresh channel ∷ [] } in
@@ -217,7 +217,7 @@ connects-sound policy r v held request peer is at free_peer sound =
       kept = kept-fresh policy r.requests r.entries v.held u.held v.next v.next v.memory now peer comes sound.kept;
       uncalled = sound.uncalled;
     } in
-    let second = asks-sound policy past u now peer no_setup no_setup options (talks-connected u now peer no_setup refl comes.here) refl (λ said agrees. agrees) (requested-states wish no_options wish.mode refl) first in
+    let second = asks-sound policy past u now peer no_setup no_setup options (talks-connected u now peer no_setup refl comes.here) refl (λ said agrees. agrees) (no_options, refl) first in
     subst (λ es. let before : Reading = record { requests = r.requests; entries = es } in Heard policy before v w) (sym made)
     (subst (λ hs. let x : Channels = record w { held = hs } in Heard policy past v x) (placed_twice held (Connected peer last_setup) (Connected peer no_setup) v.held) second)
 
@@ -297,7 +297,7 @@ grant-at policy r v identifier peer answer held (Requested request) is at sound 
     by false now = other-heard policy r v identifier peer held.own answer (subst (IsOther identifier) (sym at) (subst (OtherAt identifier) (sym is) now)) (nat_lt 1 answer) refl sound
 grant-at policy r v identifier peer answer held (Connected at_peer setup) is at sound = other-heard policy r v identifier peer held.own answer (subst (IsOther identifier) (sym at) (subst (OtherAt identifier) (sym is) tt)) (nat_lt 1 answer) refl sound
 grant-at policy r v identifier peer answer held (Leaving at_peer setup request) is at sound = other-heard policy r v identifier peer held.own answer (subst (IsOther identifier) (sym at) (subst (OtherAt identifier) (sym is) tt)) (nat_lt 1 answer) refl sound
-grant-at policy r v identifier peer answer held (Closing at_peer request) is at sound = other-heard policy r v identifier peer held.own answer (subst (IsOther identifier) (sym at) (subst (OtherAt identifier) (sym is) tt)) (nat_lt 1 answer) refl sound
+grant-at policy r v identifier peer answer held (Closing at_peer request checked) is at sound = other-heard policy r v identifier peer held.own answer (subst (IsOther identifier) (sym at) (subst (OtherAt identifier) (sym is) tt)) (nat_lt 1 answer) refl sound
 grant-at policy r v identifier peer answer held (Crossed at_peer request) is at sound = other-heard policy r v identifier peer held.own answer (subst (IsOther identifier) (sym at) (subst (OtherAt identifier) (sym is) tt)) (nat_lt 1 answer) refl sound
 
 grant-of : (policy : Policy) (r : Reading) (v : Channels) (identifier peer own answer : ℕ) (found : Option Held) → find (has_own own) v.held ≡ found → Sound policy r v

@@ -19,7 +19,7 @@ use Rattle.channel_model.specs.Changing.{has_own, setup_of, to_setup, stage_with
 use Rattle.channel_model.specs.Following.{remembers, says}
 use Rattle.channel_model.specs.Giving.{command_of, configuration_at, configuration_by}
 use Rattle.channel_laws.specs.OwnTalk.{spoken, command_with, command_if, asked_between, said_of, newest}
-use Rattle.channel_laws.specs.Views.{peer_of, life_of, read_at}
+use Rattle.channel_laws.specs.Views.{peer_of, life_of, standing, read_at}
 use Rattle.channel_model.proofs.Lookups.{found-placed, find-placed, own_of, Distinct, placed-distinct}
 use Rattle.channel_laws.proofs.Sound.{Agrees, AgreesIf, Core, RepeatsIn, Repeats, part_of, RepeatsOf, IsRepeated, QueriesKept, Kept, Sound, Uncalled}
 use Rattle.channel_laws.proofs.Moves.{quiet, Found, found-there}
@@ -210,7 +210,7 @@ answers-first policy r v u one identifier held peer setup after octets flags ans
 -- at last: it could be said again
 pub repeats-now : (policy : Policy) (r : Reading) (u : Channels) (own peer flags answer : ℕ) (octets : List ℕ) (after : Held) (at : ℕ) → (let terms : Terms = record { own = own; options = octets } in answered_query r.requests at ≡ Some terms)
     → find (has_own own) u.held ≡ Some after → after.own ≡ own → peer_of after.stage ≡ Some peer
-    → ((said : read.Setup) → AgreesIf (policy.wish after.psm) (setup_of after.stage) said → (let terms : Terms = record { own = own; options = octets } in RepeatsIn (setup_of after.stage) said (part_of terms peer flags answer)))
+    → ((said : read.Setup) → AgreesIf (policy.wish after.psm) (standing after.stage) said → (let terms : Terms = record { own = own; options = octets } in RepeatsIn (standing after.stage) said (part_of terms peer flags answer)))
     → Sound policy r u → (given : List ℕ) → IsRepeated (answered_query r.requests at) u.held r.entries (Some (configuration_response peer flags answer given))
 repeats-now policy r u own peer flags answer octets after at is here own_is peer_is repeats sound given =
     let terms : Terms = record { own = own; options = octets } in

@@ -1,10 +1,10 @@
 -- All that happens to a host, with what is said of it, step by step.
-use Rattle.std.proofs.Common.{◌≡◌, ℕ, List, [], ◌∷◌, ◌++◌, fold, map, drop, Bool, true, false, cond, eqb, not, Option, Some, None, Ok, Err, refl, sym, ap, subst, ◌∙◌, ◌⊎◌, inl, inr, append_assoc, append-nil}
-use Rattle.std.specs.Prelude.{is_some, nat_le}
+use Rattle.std.proofs.Common.{◌≡◌, ℕ, List, [], ◌∷◌, ◌++◌, fold, map, drop, Bool, true, false, cond, eqb, not, Option, Some, None, Ok, Err, refl, sym, ap, subst, ◌∙◌, ◌⊎◌, inl, inr, arith, append_assoc, append-nil}
+use Rattle.std.specs.Prelude.{find, is_some, nat_le}
 use Rattle.std.specs.List.{AllByRecursion}
 use Rattle.std.proofs.lemmas.List.Sums.{fold-append}
 use Rattle.acl_fragments.specs.Pieces.{channel_of}
-use Rattle.capture.specs.declared.flow.Flow.TheVariants.{Into}
+use Rattle.capture.specs.declared.flow.Flow.TheVariants.{Out, Into}
 use Rattle.l2cap_signal.specs.Commands.{Command, Content, reject, connection_request, connection_response, configuration_request, configuration_response, disconnection_request, disconnection_response, echo_request, echo_response, information_request, information_response}
 use Rattle.l2cap_signal.specs.Reading.{Answer as Read, answers}
 use Rattle.l2cap_signal.specs.declared.refusal.SignalRefusal.TheVariants.{ZeroIdentifier, BadLength, UnknownCode, AboveMtu}
@@ -14,12 +14,12 @@ use Rattle.channel_model.specs.declared.errand.Errand.TheVariants as errands
 use Rattle.channel_model.specs.declared.event.ChannelEvent.TheVariants.{Features}
 use Rattle.channel_model.specs.declared.request_kind.RequestKind.{RequestKind}
 use Rattle.channel_model.specs.declared.request_kind.RequestKind.TheVariants as kinds
-use Rattle.channel_model.specs.Value.{Queued, Answer, Ask, Request, Remembered, Channels, no_channels}
+use Rattle.channel_model.specs.Value.{Queued, Answer, Ask, Request, no_setup, Stage, Requested, Connected, Leaving, Closing, Crossed, Held, Remembered, Memory, Channels, no_channels}
 use Rattle.channel_model.specs.Policies.{Policy}
-use Rattle.channel_model.specs.Changing.{has_room, held_at, is_due, forgets, tells}
+use Rattle.channel_model.specs.Changing.{has_own, has_room, held_at, is_due, forgets, tells}
 use Rattle.channel_model.specs.Asking.{new_request, asks, StillDue, OnceMore, Spent}
-use Rattle.channel_model.specs.Answers.{kind_of_code, remembered, not_understood, too_long, answer_to}
-use Rattle.channel_model.specs.Following.{follows, remembers, says, can_say, hears_new, hears_again, hears_kind}
+use Rattle.channel_model.specs.Answers.{kind_of_code, remembered, with_remembered, not_understood, too_long, connection_result, connection_answer, judged_answer, configuration_answer, disconnection_by, disconnection_answer, information_answer, answer_to}
+use Rattle.channel_model.specs.Following.{with_channel, follows_connection, follows, remembers, says, can_say, hears_new, hears_again, hears_kind}
 use Rattle.channel_model.specs.Responses.{has_identifier, hears_features, features_in}
 use Rattle.channel_model.specs.Hearing.{hears_content, hears_malformed, is_response_code, is_kind, hears_unread, hears_command, hears_commands}
 use Rattle.channel_model.specs.Carrying.{takes}
@@ -28,7 +28,16 @@ use Rattle.channel_model.specs.Calls.{asks_features}
 use Rattle.channel_laws.specs.OwnTalk.{command_with, response_by, response_to, response_malformed, response_unread, command_if, exchanged, asked_between, said_with, said_with_all}
 use Rattle.channel_laws.specs.Runs.{Occurrence, Comes, Connects, AsksFeatures, Disconnects, Sends, Gives, Fires, Tells, said_on_firing, said_by_channel, fired_channel, said_by_features, said_by_channels, said_in, value_after, run_of}
 use Rattle.channel_model.proofs.Lookups.{own_of, Distinct}
-use Rattle.channel_laws.proofs.Sound.{Sound}
+use Rattle.channel_laws.proofs.Sound.{IsEnded, EndsKept, IsRepeated, QueriesKept, IsHarmless, HarmlessKept, Sound}
+use Rattle.channel_laws.proofs.Inviting.{held_here}
+use Rattle.channel_model.proofs.Going.{new_held}
+use Rattle.channel_model.specs.Configuring.{Verdict, NoChannel, TooLate, Unreadable, Incomplete, Judged, verdict}
+use Rattle.l2cap_config.specs.declared.options.Options.{Options}
+use Rattle.l2cap_config.specs.declared.agreement.ConfigAnswer.{ConfigAnswer}
+use Rattle.l2cap_config.specs.declared.agreement.ConfigAnswer.TheVariants.{Accept, Unacceptable, Unknown}
+use Rattle.link_talk.specs.Senses.{Opens, Quiet, OnChannel}
+use Rattle.link_talk.specs.Requests.{answered_query}
+use Rattle.std.proofs.lemmas.Bool.{eqb-true}
 use Rattle.channel_laws.proofs.Commands.{IsTold, hears-any}
 use Rattle.channel_laws.proofs.Told.{all-told}
 use Rattle.channel_laws.proofs.Firing.{held-fires, ending-fires, features-fires}
@@ -88,6 +97,51 @@ pub record Converses (policy : Policy) (K : Channels → Type 0) (J : List Sayin
   pub loses : (past : List Saying) (v : Channels) (tries : ℕ) → Goes policy J past v (said_by_features tries v) (times_features v.features tries v)
   pub single : (past : List Saying) (v : Channels) (more : Occurrence) → is_single more ≡ true → K v → Goes policy J past v (said_in policy more v) (value_after policy more v)
 
+-- ---- what is known of a response besides
+
+-- a channel comes to be, of the endpoint that is given next
+pub record IsMade (v w : Channels) (own peer : ℕ) : Type 0 where
+  pub own_is : own ≡ v.next
+  pub held : Held
+  pub found : held_at own w ≡ Some held
+  pub stage_is : held.stage ≡ Connected peer no_setup
+
+-- the response to the last request for a channel
+abbrev pub IsLast : Channels → (identifier : ℕ) → Content → Type 0
+IsLast v identifier content = (last : Remembered) × (v.memory.connection ≡ Some last) × (last.identifier ≡ identifier) × (last.response ≡ Some content)
+
+-- One that grants a channel is the last one again, or that of a channel that comes to be. The last one is as it was, or is this one.
+pub record Grants (v w : Channels) (identifier : ℕ) (response : Option Content) : Type 0 where
+  pub grant : can_say response v ≡ true → (own peer status : ℕ) → response ≡ Some (connection_response own peer 0 status) → IsLast v identifier (connection_response own peer 0 status) ⊎ IsMade v w own peer
+  pub last_is : (w.memory.connection ≡ v.memory.connection) ⊎ ((can_say response v ≡ true) × (last : Remembered) × (w.memory.connection ≡ Some last) × (last.identifier ≡ identifier) × (last.response ≡ response))
+
+-- the same, where this is known
+pub record ConversesKnowing (policy : Policy) (K : Channels → Type 0) (J : List Saying → Channels → Type 0) : Type 0 where
+  pub first : K no_channels
+  pub kept : (v : Channels) (more : Occurrence) → Distinct own_of v.held → K v → K (value_after policy more v)
+  pub asked : (past : List Saying) (v u : Channels) (one : Read) (identifier : ℕ) (response : Option Content) (content : Content) → is_asking one ≡ true → IsReply response → IsAlike v u → WaitsSo v u identifier response → Grants v (follows policy content u) identifier response
+      → Goes policy J past v (exchanged one (command_if identifier response) v ++ asked_between v (follows policy content u)) (follows policy content u)
+  pub answered : (past : List Saying) (v : Channels) (identifier : ℕ) (content : Content) → is_response content ≡ true → (hears_content policy identifier content v).memory ≡ v.memory
+      → Goes policy J past v (exchanged (Ok (command_with identifier content)) None v ++ asked_between v (hears_content policy identifier content v)) (hears_content policy identifier content v)
+  pub taken : (past : List Saying) (v : Channels) (pdu : List ℕ) → K v → (takes (channel_of pdu) pdu v).memory ≡ v.memory → Goes policy J past v (Carried Into pdu ∷ asked_between v (takes (channel_of pdu) pdu v)) (takes (channel_of pdu) pdu v)
+  pub waits : (past : List Saying) (v : Channels) (tries own : ℕ) → (times_held (held_at own v) tries v).memory ≡ v.memory → Goes policy J past v (said_on_firing own v (times_held (held_at own v) tries v)) (times_held (held_at own v) tries v)
+  pub ends : (past : List Saying) (v : Channels) (tries own : ℕ) → (times_end (held_at own v) tries v).memory ≡ v.memory → Goes policy J past v (said_on_firing own v (times_end (held_at own v) tries v)) (times_end (held_at own v) tries v)
+  pub loses : (past : List Saying) (v : Channels) (tries : ℕ) → (times_features v.features tries v).memory ≡ v.memory → Goes policy J past v (said_by_features tries v) (times_features v.features tries v)
+  pub single : (past : List Saying) (v : Channels) (more : Occurrence) → is_single more ≡ true → K v → (value_after policy more v).memory ≡ v.memory → Goes policy J past v (said_in policy more v) (value_after policy more v)
+
+knowing : (policy : Policy) (K : Channels → Type 0) (J : List Saying → Channels → Type 0) → Converses policy K J → ConversesKnowing policy K J
+knowing policy K J c = record {
+  first = c.first;
+  kept = c.kept;
+  asked = λ past v u one identifier response content asking reply alike waits grants. c.asked past v u one identifier response content asking reply alike waits;
+  answered = λ past v identifier content is same. c.answered past v identifier content is;
+  taken = λ past v pdu known same. c.taken past v pdu known;
+  waits = λ past v tries own same. c.waits past v tries own;
+  ends = λ past v tries own same. c.ends past v tries own;
+  loses = λ past v tries same. c.loses past v tries;
+  single = λ past v more is known same. c.single past v more is known;
+}
+
 -- what is remembered are responses
 abbrev Both : (J : List Saying → Channels → Type 0) → List Saying → Channels → Type 0
 Both J past v = J past v × Replies v.memory
@@ -125,14 +179,27 @@ remembered_alike kind identifier (Some content) v = record { held_is = refl; nex
 abbrev Answers : Policy → (J : List Saying → Channels → Type 0) → List Saying → Channels → Read → (identifier : ℕ) → Option Content → Channels → Type 0
 Answers policy J past v one identifier response w = GoesBoth policy J past v (exchanged one (command_if identifier response) v ++ asked_between v w) w
 
-step : (policy : Policy) (K : Channels → Type 0) (J : List Saying → Channels → Type 0) (c : Converses policy K J) (past : List Saying) (v u : Channels) (one : Read) (identifier : ℕ) (response : Option Content) (content : Content) → is_asking one ≡ true → IsReply response → IsAlike v u
-    → WaitsSo v u identifier response → (Replies v.memory → Replies u.memory) → Answers policy J past v one identifier response (follows policy content u)
-step policy K J c past v u one identifier response content asking reply alike waits replies sound (holds, known) after =
-    (c.asked past v u one identifier response content asking reply alike waits sound holds after, subst Replies (sym (follows-lasts policy content u).1) (replies known))
+step : (policy : Policy) (K : Channels → Type 0) (J : List Saying → Channels → Type 0) (c : ConversesKnowing policy K J) (past : List Saying) (v u : Channels) (one : Read) (identifier : ℕ) (response : Option Content) (content : Content) → is_asking one ≡ true → IsReply response → IsAlike v u
+    → WaitsSo v u identifier response → (Replies v.memory → Replies u.memory) → (Sound policy (reading past) v → Grants v (follows policy content u) identifier response) → Answers policy J past v one identifier response (follows policy content u)
+step policy K J c past v u one identifier response content asking reply alike waits replies grants sound (holds, known) after =
+    (c.asked past v u one identifier response content asking reply alike waits (grants sound) sound holds after, subst Replies (sym (follows-lasts policy content u).1) (replies known))
 
-new_goes : (policy : Policy) (K : Channels → Type 0) (J : List Saying → Channels → Type 0) (c : Converses policy K J) (past : List Saying) (v : Channels) (kind : RequestKind) (one : Read) (identifier : ℕ) (response : Option Content) (content : Content) → is_asking one ≡ true → IsReply response
-    → Answers policy J past v one identifier response (hears_new kind identifier response (follows policy content) v)
-new_goes policy K J c past v kind one identifier response content asking reply = by (can_say response v) refl
+-- a channel comes to be where the response grants it
+abbrev Makes : Policy → List Saying → Channels → (u : Channels) → Option Content → Content → Type 0
+Makes policy past v u response content = Sound policy (reading past) v → (own peer status : ℕ) → response ≡ Some (connection_response own peer 0 status) → IsMade v (follows policy content u) own peer
+
+-- of the last request for a channel the response is remembered
+last_of : (kind : RequestKind) (v w : Channels) (last : Remembered) (response : Option Content) → w.memory ≡ with_remembered kind last v.memory → can_say response v ≡ true → last.response ≡ response
+    → (w.memory.connection ≡ v.memory.connection) ⊎ ((can_say response v ≡ true) × (it : Remembered) × (w.memory.connection ≡ Some it) × (it.identifier ≡ last.identifier) × (it.response ≡ response))
+last_of kinds.Connection v w last response is can same = inr (can, last, ap (λ (m : Memory). m.connection) is, refl, same)
+last_of kinds.Configuration v w last response is can same = inl (ap (λ (m : Memory). m.connection) is)
+last_of kinds.Disconnection v w last response is can same = inl (ap (λ (m : Memory). m.connection) is)
+last_of kinds.Echo v w last response is can same = inl (ap (λ (m : Memory). m.connection) is)
+last_of kinds.Information v w last response is can same = inl (ap (λ (m : Memory). m.connection) is)
+
+new_goes : (policy : Policy) (K : Channels → Type 0) (J : List Saying → Channels → Type 0) (c : ConversesKnowing policy K J) (past : List Saying) (v : Channels) (kind : RequestKind) (one : Read) (identifier : ℕ) (response : Option Content) (content : Content) → is_asking one ≡ true → IsReply response
+    → Makes policy past v (says identifier response (remembers kind identifier response v)) response content → Answers policy J past v one identifier response (hears_new kind identifier response (follows policy content) v)
+new_goes policy K J c past v kind one identifier response content asking reply makes = by (can_say response v) refl
   where
     last : Remembered
     last = record { identifier = identifier; response = response }
@@ -146,32 +213,170 @@ new_goes policy K J c past v kind one identifier response content asking reply =
     by : (can : Bool) → can_say response v ≡ can → Answers policy J past v one identifier response (cond can (follows policy content u) v)
     by true can = step policy K J c past v u one identifier response content asking reply (remembered_alike kind identifier response v) (says_waits identifier response v t refl can)
         (λ known. subst Replies (sym (says_memory identifier response t)) (replies-with kind last v.memory reply known))
-    by false can = step policy K J c past v v one identifier response (echo_response []) asking reply (same_alike v) (inl refl) (λ known. known)
+        (λ sound. record { grant = λ able own peer status is. inr (makes sound own peer status is); last_is = last_of kind v (follows policy content u) last response ((follows-lasts policy content u).1 ∙ says_memory identifier response t) can refl })
+    by false can = step policy K J c past v v one identifier response (echo_response []) asking reply (same_alike v) (inl refl) (λ known. known) (λ sound. unsaid can)
+      where
+        unsaid : can_say response v ≡ false → Grants v v identifier response
+        unsaid shut = record { grant = λ able own peer status is. let never : true ≡ false = sym able ∙ shut in absurd cc; last_is = inl refl }
 
-again_goes : (policy : Policy) (K : Channels → Type 0) (J : List Saying → Channels → Type 0) (c : Converses policy K J) (past : List Saying) (v : Channels) (one : Read) (identifier : ℕ) (response : Option Content) → is_asking one ≡ true → IsReply response
-    → Answers policy J past v one identifier response (hears_again identifier response v)
-again_goes policy K J c past v one identifier response asking reply = by (can_say response v) refl
+-- the response grants a channel only where it is the last one
+abbrev IsOld : Policy → List Saying → Channels → (identifier : ℕ) → Option Content → Type 0
+IsOld policy past v identifier response = Sound policy (reading past) v → (own peer status : ℕ) → response ≡ Some (connection_response own peer 0 status) → IsLast v identifier (connection_response own peer 0 status)
+
+again_goes : (policy : Policy) (K : Channels → Type 0) (J : List Saying → Channels → Type 0) (c : ConversesKnowing policy K J) (past : List Saying) (v : Channels) (one : Read) (identifier : ℕ) (response : Option Content) → is_asking one ≡ true → IsReply response
+    → IsOld policy past v identifier response → Answers policy J past v one identifier response (hears_again identifier response v)
+again_goes policy K J c past v one identifier response asking reply old = by (can_say response v) refl
   where
     by : (can : Bool) → can_say response v ≡ can → Answers policy J past v one identifier response (cond can (says identifier response v) v)
     by true can = step policy K J c past v (says identifier response v) one identifier response (echo_response []) asking reply (says_alike identifier response v) (says_waits identifier response v v refl can)
         (λ known. subst Replies (sym (says_memory identifier response v)) known)
+        (λ sound. record { grant = λ able own peer status is. inl (old sound own peer status is); last_is = inl (ap (λ (m : Memory). m.connection) (says_memory identifier response v)) })
     by false can = step policy K J c past v v one identifier response (echo_response []) asking reply (same_alike v) (inl refl) (λ known. known)
+        (λ sound. record { grant = λ able own peer status is. inl (old sound own peer status is); last_is = inl refl })
 
-kind_goes : (policy : Policy) (K : Channels → Type 0) (J : List Saying → Channels → Type 0) (c : Converses policy K J) (past : List Saying) (v : Channels) (last : Option Remembered) (kind : RequestKind) (one : Read) (identifier : ℕ) (fresh : Option Content) (content : Content) → is_asking one ≡ true
-    → (Replies v.memory → IsReplied last) → IsReply fresh → Answers policy J past v one identifier (response_by last identifier fresh) (hears_kind last kind identifier fresh (follows policy content) v)
-kind_goes policy K J c past v None kind one identifier fresh content asking is reply = new_goes policy K J c past v kind one identifier fresh content asking reply
-kind_goes policy K J c past v (Some last) kind one identifier fresh content asking is reply = by (eqb last.identifier identifier)
+-- ---- grants
+
+abbrev is_grant : Content → Bool
+is_grant (reject reason rest) = false
+is_grant (connection_request psm source) = false
+is_grant (connection_response destination source answer status) = true
+is_grant (configuration_request destination flags options) = false
+is_grant (configuration_response source flags answer options) = false
+is_grant (disconnection_request destination source) = false
+is_grant (disconnection_response destination source) = false
+is_grant (echo_request octets) = false
+is_grant (echo_response octets) = false
+is_grant (information_request kind) = false
+is_grant (information_response kind answer rest) = false
+
+some_content : (a b : Content) → Some a ≡ Some b → a ≡ b
+some_content a b is = cc
+
+opens_loud : {X : Type 0} (identifier own peer : ℕ) → Opens Out identifier (OnChannel own peer 0) ≡ Quiet → X
+opens_loud identifier own peer is = absurd cc
+
+-- what a grant says
+abbrev granted_own : Content → ℕ
+granted_own (connection_response destination source answer status) = destination
+granted_own content = 0
+
+abbrev granted_peer : Content → ℕ
+granted_peer (connection_response destination source answer status) = source
+granted_peer content = 0
+
+abbrev granted_result : Content → ℕ
+granted_result (connection_response destination source answer status) = answer
+granted_result content = 1
+
+judged_no_grant : (answer : ConfigAnswer) (peer : ℕ) (options : Options) → is_grant (judged_answer answer peer options) ≡ false
+judged_no_grant (Accept given) peer options = refl
+judged_no_grant (Unacceptable refusal given) peer options = refl
+judged_no_grant Unknown peer options = refl
+
+configured_no_grant : (verdict : Verdict) (own : ℕ) → is_grant (configuration_answer verdict own) ≡ false
+configured_no_grant NoChannel own = refl
+configured_no_grant (TooLate peer) own = refl
+configured_no_grant (Unreadable peer) own = refl
+configured_no_grant (Incomplete peer options) own = refl
+configured_no_grant (Judged peer options answer) own = judged_no_grant answer peer options
+
+ended_no_grant : (held : Option Held) (destination source own peer status : ℕ) → disconnection_answer held destination source ≡ Some (connection_response own peer 0 status) → ⊥
+ended_no_grant None destination source own peer status is = cc
+ended_no_grant (Some held) destination source own peer status is = by held.stage is
   where
-    by : (same : Bool) → Answers policy J past v one identifier (cond same last.response fresh) (cond same (hears_again identifier last.response v) (hears_new kind identifier fresh (follows policy content) v))
-    by true = λ sound both. again_goes policy K J c past v one identifier last.response asking (is both.1) sound both
-    by false = new_goes policy K J c past v kind one identifier fresh content asking reply
+    named : (same : Bool) → cond same (Some (disconnection_response destination source)) None ≡ Some (connection_response own peer 0 status) → ⊥
+    named true is = cc
+    named false is = cc
+
+    by : (stage : Stage) → disconnection_by stage destination source ≡ Some (connection_response own peer 0 status) → ⊥
+    by (Requested request) is = cc
+    by (Connected endpoint setup) is = named (eqb endpoint source) is
+    by (Leaving endpoint setup request) is = named (eqb endpoint source) is
+    by (Closing endpoint request checked) is = named (eqb endpoint source) is
+    by (Crossed endpoint request) is = named (eqb endpoint source) is
+
+informed_no_grant : (kind : ℕ) → is_grant (information_answer kind) ≡ false
+informed_no_grant kind = by (eqb kind 2) (eqb kind 3)
+  where
+    by : (two three : Bool) → is_grant (cond two (information_response kind 0 (0xA8 ∷ 0x00 ∷ 0x00 ∷ 0x00 ∷ [])) (cond three (information_response kind 0 (0x02 ∷ 0x00 ∷ 0x00 ∷ 0x00 ∷ 0x00 ∷ 0x00 ∷ 0x00 ∷ 0x00 ∷ [])) (information_response kind 1 []))) ≡ false
+    by true three = refl
+    by false true = refl
+    by false false = refl
+
+-- no other kind of request is answered so
+not_granted : (content : Content) → is_grant content ≡ false → (own peer status : ℕ) → content ≡ connection_response own peer 0 status → ⊥
+not_granted content none own peer status is = let never : false ≡ true = sym none ∙ ap is_grant is in absurd cc
+
+old_kind : (policy : Policy) (past : List Saying) (v : Channels) (kind : RequestKind) (identifier : ℕ) (l : Remembered) → remembered kind v.memory ≡ Some l → l.identifier ≡ identifier → IsOld policy past v identifier l.response
+old_kind policy past v kinds.Connection identifier l at same sound own peer status is = (l, at, same, is)
+old_kind policy past v kinds.Configuration identifier l at same sound own peer status is =
+    let kept : QueriesKept (reading past).requests v.held (reading past).entries (Some l) = subst (QueriesKept (reading past).requests v.held (reading past).entries) at sound.kept.queries in
+    absurd (subst (IsRepeated (answered_query (reading past).requests l.identifier) v.held (reading past).entries) is kept.1)
+old_kind policy past v kinds.Disconnection identifier l at same sound own peer status is =
+    let kept : EndsKept (reading past).entries (Some l) = subst (EndsKept (reading past).entries) at sound.kept.ends in absurd (subst (IsEnded (reading past).entries) is kept)
+old_kind policy past v kinds.Echo identifier l at same sound own peer status is =
+    let kept : HarmlessKept (Some l) = subst HarmlessKept at sound.kept.echoes in let loud : IsHarmless (Some (connection_response own peer 0 status)) = subst IsHarmless is kept in opens_loud identifier own peer (loud identifier)
+old_kind policy past v kinds.Information identifier l at same sound own peer status is =
+    let kept : HarmlessKept (Some l) = subst HarmlessKept at sound.kept.informations in let loud : IsHarmless (Some (connection_response own peer 0 status)) = subst IsHarmless is kept in opens_loud identifier own peer (loud identifier)
+
+-- a channel that is granted comes to be
+made_here : (v u : Channels) (psm source own peer status result : ℕ) → u.held ≡ v.held → u.next ≡ v.next → find (has_own v.next) v.held ≡ None → connection_answer result source v ≡ connection_response own peer 0 status
+    → IsMade v (follows_connection result psm source u) own peer
+made_here v u psm source own peer status result held_is next_is none is = by (eqb result 0) refl parts.0
+  where
+    parts : (cond (eqb result 0) v.next 0 ≡ own) × (source ≡ peer) × (result ≡ 0)
+    parts = (ap granted_own is, ap granted_peer is, ap granted_result is)
+
+    new : Held
+    new = new_held psm v.next (Connected source no_setup)
+
+    by : (zero : Bool) → eqb result 0 ≡ zero → cond zero v.next 0 ≡ own → IsMade v (cond zero (with_channel psm (Connected source no_setup) u) u) own peer
+    by true is_zero own_is =
+        let placed : find (has_own v.next) (v.held ++ new ∷ []) ≡ Some new = held_here v.held new none in
+        let whole : (with_channel psm (Connected source no_setup) u).held ≡ v.held ++ new ∷ [] = ap (λ n. u.held ++ new_held psm n (Connected source no_setup) ∷ []) next_is ∙ ap (λ h. h ++ new ∷ []) held_is in
+        record {
+          own_is = sym own_is;
+          held = new;
+          found = ap (λ n. find (has_own n) (with_channel psm (Connected source no_setup) u).held) (sym own_is) ∙ (ap (find (has_own v.next)) whole ∙ placed);
+          stage_is = ap (λ n. Connected n no_setup) parts.1;
+        }
+    by false apart own_is = let never : true ≡ false = sym (ap (λ n. eqb n 0) parts.2) ∙ apart in absurd cc
+
+makes_channel : (policy : Policy) (past : List Saying) (v : Channels) (kind : RequestKind) (identifier : ℕ) (content : Content) → Makes policy past v (says identifier (answer_to policy content v) (remembers kind identifier (answer_to policy content v) v)) (answer_to policy content v) content
+makes_channel policy past v kind identifier (reject reason rest) sound own peer status is = cc
+makes_channel policy past v kind identifier (connection_request psm source) sound own peer status is =
+    let answer : Content = connection_answer (connection_result policy psm source v) source v in
+    let u : Channels = says identifier (Some answer) (remembers kind identifier (Some answer) v) in
+    made_here v u psm source own peer status (connection_result policy psm source v) refl refl (sound.core.held_below v.next (omega arith)) (some_content answer (connection_response own peer 0 status) is)
+makes_channel policy past v kind identifier (connection_response destination source answer status') sound own peer status is = cc
+makes_channel policy past v kind identifier (configuration_request destination flags options) sound own peer status is =
+    let answer : Content = configuration_answer (verdict policy destination flags options v) destination in
+    absurd (not_granted answer (configured_no_grant (verdict policy destination flags options v) destination) own peer status (some_content answer (connection_response own peer 0 status) is))
+makes_channel policy past v kind identifier (configuration_response source flags answer options) sound own peer status is = cc
+makes_channel policy past v kind identifier (disconnection_request destination source) sound own peer status is = absurd (ended_no_grant (held_at destination v) destination source own peer status is)
+makes_channel policy past v kind identifier (disconnection_response destination source) sound own peer status is = cc
+makes_channel policy past v kind identifier (echo_request octets) sound own peer status is = cc
+makes_channel policy past v kind identifier (echo_response octets) sound own peer status is = cc
+makes_channel policy past v kind identifier (information_request asked) sound own peer status is =
+    absurd (not_granted (information_answer asked) (informed_no_grant asked) own peer status (some_content (information_answer asked) (connection_response own peer 0 status) is))
+makes_channel policy past v kind identifier (information_response asked answer rest) sound own peer status is = cc
+
+kind_goes : (policy : Policy) (K : Channels → Type 0) (J : List Saying → Channels → Type 0) (c : ConversesKnowing policy K J) (past : List Saying) (v : Channels) (last : Option Remembered) (kind : RequestKind) (one : Read) (identifier : ℕ) (fresh : Option Content) (content : Content) → is_asking one ≡ true
+    → (Replies v.memory → IsReplied last) → IsReply fresh → ((l : Remembered) → last ≡ Some l → l.identifier ≡ identifier → IsOld policy past v identifier l.response)
+    → Makes policy past v (says identifier fresh (remembers kind identifier fresh v)) fresh content → Answers policy J past v one identifier (response_by last identifier fresh) (hears_kind last kind identifier fresh (follows policy content) v)
+kind_goes policy K J c past v None kind one identifier fresh content asking is reply old makes = new_goes policy K J c past v kind one identifier fresh content asking reply makes
+kind_goes policy K J c past v (Some last) kind one identifier fresh content asking is reply old makes = by (eqb last.identifier identifier) refl
+  where
+    by : (same : Bool) → eqb last.identifier identifier ≡ same → Answers policy J past v one identifier (cond same last.response fresh) (cond same (hears_again identifier last.response v) (hears_new kind identifier fresh (follows policy content) v))
+    by true same = λ sound both. again_goes policy K J c past v one identifier last.response asking (is both.1) (old last refl (eqb-true last.identifier identifier same)) sound both
+    by false same = new_goes policy K J c past v kind one identifier fresh content asking reply makes
 
 -- ---- a command
 
 -- what is heard besides, and what is remembered
-replied_goes : (policy : Policy) (K : Channels → Type 0) (J : List Saying → Channels → Type 0) (c : Converses policy K J) (past : List Saying) (v : Channels) (identifier : ℕ) (content : Content) → is_response content ≡ true → (hears_content policy identifier content v).memory ≡ v.memory
+replied_goes : (policy : Policy) (K : Channels → Type 0) (J : List Saying → Channels → Type 0) (c : ConversesKnowing policy K J) (past : List Saying) (v : Channels) (identifier : ℕ) (content : Content) → is_response content ≡ true → (hears_content policy identifier content v).memory ≡ v.memory
     → Answers policy J past v (Ok (command_with identifier content)) identifier None (hears_content policy identifier content v)
-replied_goes policy K J c past v identifier content is same sound (holds, known) after = (c.answered past v identifier content is sound holds after, subst Replies (sym same) known)
+replied_goes policy K J c past v identifier content is same sound (holds, known) after = (c.answered past v identifier content is same sound holds after, subst Replies (sym same) known)
 
 features_memory : (identifier : ℕ) (given : Option ℕ) (v : Channels) → (hears_features identifier given v).memory ≡ v.memory
 features_memory identifier given v = by (has_identifier identifier v.features)
@@ -180,12 +385,13 @@ features_memory identifier given v = by (has_identifier identifier v.features)
     by true = refl
     by false = refl
 
-asking_goes : (policy : Policy) (K : Channels → Type 0) (J : List Saying → Channels → Type 0) (c : Converses policy K J) (past : List Saying) (v : Channels) (kind : RequestKind) (identifier : ℕ) (content : Content) → not (is_response content) ≡ true
+asking_goes : (policy : Policy) (K : Channels → Type 0) (J : List Saying → Channels → Type 0) (c : ConversesKnowing policy K J) (past : List Saying) (v : Channels) (kind : RequestKind) (identifier : ℕ) (content : Content) → not (is_response content) ≡ true
     → Answers policy J past v (Ok (command_with identifier content)) identifier (response_by (remembered kind v.memory) identifier (answer_to policy content v)) (hears_kind (remembered kind v.memory) kind identifier (answer_to policy content v) (follows policy content) v)
 asking_goes policy K J c past v kind identifier content asking =
     kind_goes policy K J c past v (remembered kind v.memory) kind (Ok (command_with identifier content)) identifier (answer_to policy content v) content asking (replied kind v.memory) (answer-reply policy content v)
+    (old_kind policy past v kind identifier) (makes_channel policy past v kind identifier content)
 
-content_goes : (policy : Policy) (K : Channels → Type 0) (J : List Saying → Channels → Type 0) (c : Converses policy K J) (past : List Saying) (v : Channels) (identifier : ℕ) (content : Content)
+content_goes : (policy : Policy) (K : Channels → Type 0) (J : List Saying → Channels → Type 0) (c : ConversesKnowing policy K J) (past : List Saying) (v : Channels) (identifier : ℕ) (content : Content)
     → Answers policy J past v (Ok (command_with identifier content)) identifier (response_to policy identifier content v) (hears_content policy identifier content v)
 content_goes policy K J c past v identifier (reject reason rest) = replied_goes policy K J c past v identifier (reject reason rest) refl (features_memory identifier None v)
 content_goes policy K J c past v identifier (connection_request psm source) = asking_goes policy K J c past v kinds.Connection identifier (connection_request psm source) refl
@@ -202,15 +408,15 @@ content_goes policy K J c past v identifier (information_request kind) = asking_
 content_goes policy K J c past v identifier (information_response kind answer rest) = replied_goes policy K J c past v identifier (information_response kind answer rest) refl (features_memory identifier (features_in kind answer rest) v)
 
 -- one that is refused, and follows from nothing
-none_goes : (policy : Policy) (K : Channels → Type 0) (J : List Saying → Channels → Type 0) (c : Converses policy K J) (past : List Saying) (v : Channels) (one : Read) → is_asking one ≡ true → Answers policy J past v one 0 None v
-none_goes policy K J c past v one asking = step policy K J c past v v one 0 None (echo_response []) asking tt (same_alike v) (inl refl) (λ known. known)
+none_goes : (policy : Policy) (K : Channels → Type 0) (J : List Saying → Channels → Type 0) (c : ConversesKnowing policy K J) (past : List Saying) (v : Channels) (one : Read) → is_asking one ≡ true → Answers policy J past v one 0 None v
+none_goes policy K J c past v one asking = step policy K J c past v v one 0 None (echo_response []) asking tt (same_alike v) (inl refl) (λ known. known) (λ sound. record { grant = λ able own peer status is. cc; last_is = inl refl })
 
-malformed_goes : (policy : Policy) (K : Channels → Type 0) (J : List Saying → Channels → Type 0) (c : Converses policy K J) (past : List Saying) (v : Channels) (kind : Option RequestKind) (one : Read) (identifier : ℕ) → is_asking one ≡ true
+malformed_goes : (policy : Policy) (K : Channels → Type 0) (J : List Saying → Channels → Type 0) (c : ConversesKnowing policy K J) (past : List Saying) (v : Channels) (kind : Option RequestKind) (one : Read) (identifier : ℕ) → is_asking one ≡ true
     → Answers policy J past v one identifier (response_malformed kind identifier v) (cond (is_kind kind) (hears_malformed kind identifier v) (hears_again identifier (Some not_understood) v))
-malformed_goes policy K J c past v None one identifier asking = again_goes policy K J c past v one identifier (Some not_understood) asking refl
-malformed_goes policy K J c past v (Some kind) one identifier asking = kind_goes policy K J c past v (remembered kind v.memory) kind one identifier (Some not_understood) (echo_response []) asking (replied kind v.memory) refl
+malformed_goes policy K J c past v None one identifier asking = again_goes policy K J c past v one identifier (Some not_understood) asking refl (λ sound own peer status is. cc)
+malformed_goes policy K J c past v (Some kind) one identifier asking = kind_goes policy K J c past v (remembered kind v.memory) kind one identifier (Some not_understood) (echo_response []) asking (replied kind v.memory) refl (old_kind policy past v kind identifier) (λ sound own peer status is. cc)
 
-unread_goes : (policy : Policy) (K : Channels → Type 0) (J : List Saying → Channels → Type 0) (c : Converses policy K J) (past : List Saying) (v : Channels) (one : Read) (code identifier : ℕ) → is_asking one ≡ true
+unread_goes : (policy : Policy) (K : Channels → Type 0) (J : List Saying → Channels → Type 0) (c : ConversesKnowing policy K J) (past : List Saying) (v : Channels) (one : Read) (code identifier : ℕ) → is_asking one ≡ true
     → Answers policy J past v one identifier (response_unread code identifier v) (hears_unread code identifier v)
 unread_goes policy K J c past v one code identifier asking = by (eqb identifier 0) (is_response_code code)
   where
@@ -223,12 +429,12 @@ unread_goes policy K J c past v one code identifier asking = by (eqb identifier 
     by false true = none_goes policy K J c past v one asking
     by false false = malformed_goes policy K J c past v kind one identifier asking
 
-long_goes : (policy : Policy) (K : Channels → Type 0) (J : List Saying → Channels → Type 0) (c : Converses policy K J) (past : List Saying) (v : Channels) (one : Read) (identifier : ℕ) (zero : Bool) → is_asking one ≡ true
+long_goes : (policy : Policy) (K : Channels → Type 0) (J : List Saying → Channels → Type 0) (c : ConversesKnowing policy K J) (past : List Saying) (v : Channels) (one : Read) (identifier : ℕ) (zero : Bool) → is_asking one ≡ true
     → Answers policy J past v one identifier (cond zero None (Some too_long)) (cond zero v (hears_again identifier (Some too_long) v))
 long_goes policy K J c past v one identifier true asking = none_goes policy K J c past v one asking
-long_goes policy K J c past v one identifier false asking = again_goes policy K J c past v one identifier (Some too_long) asking refl
+long_goes policy K J c past v one identifier false asking = again_goes policy K J c past v one identifier (Some too_long) asking refl (λ sound own peer status is. cc)
 
-command_goes : (policy : Policy) (K : Channels → Type 0) (J : List Saying → Channels → Type 0) (c : Converses policy K J) (past : List Saying) (v : Channels) (one : Read) → GoesBoth policy J past v (said_with policy one v) (hears_command policy one v)
+command_goes : (policy : Policy) (K : Channels → Type 0) (J : List Saying → Channels → Type 0) (c : ConversesKnowing policy K J) (past : List Saying) (v : Channels) (one : Read) → GoesBoth policy J past v (said_with policy one v) (hears_command policy one v)
 command_goes policy K J c past v (Ok command) = content_goes policy K J c past v command.identifier command.content
 command_goes policy K J c past v (Err (ZeroIdentifier code identifier)) = none_goes policy K J c past v (Err (ZeroIdentifier code identifier)) refl
 command_goes policy K J c past v (Err (BadLength code None)) = none_goes policy K J c past v (Err (BadLength code None)) refl
@@ -254,7 +460,7 @@ stands_on policy J past said v w goes sounds (sound, both) =
 stands_behind : (policy : Policy) (J : List Saying → Channels → Type 0) (past xs ys : List Saying) (w : Channels) → Stands policy J ((past ++ xs) ++ ys) w → Stands policy J (past ++ (xs ++ ys)) w
 stands_behind policy J past xs ys w stands = subst (λ said. Stands policy J said w) (append_assoc past xs ys) stands
 
-commands_go : (policy : Policy) (K : Channels → Type 0) (J : List Saying → Channels → Type 0) (c : Converses policy K J) (past : List Saying) (v : Channels) (list : List Read) → AllByRecursion IsTold list → Stands policy J past v
+commands_go : (policy : Policy) (K : Channels → Type 0) (J : List Saying → Channels → Type 0) (c : ConversesKnowing policy K J) (past : List Saying) (v : Channels) (list : List Read) → AllByRecursion IsTold list → Stands policy J past v
     → Stands policy J (past ++ said_with_all policy list v) (hears_commands policy list v)
 commands_go policy K J c past v [] told stands = subst (λ said. Stands policy J said v) (sym (append-nil past)) stands
 commands_go policy K J c past v (one ∷ list) (told, all) stands =
@@ -264,16 +470,16 @@ commands_go policy K J c past v (one ∷ list) (told, all) stands =
 
 -- ---- the timer
 
-held_go : (policy : Policy) (K : Channels → Type 0) (J : List Saying → Channels → Type 0) (c : Converses policy K J) (past : List Saying) (v : Channels) (tries own : ℕ) → Stands policy J past v → Stands policy J (past ++ said_by_channel tries own v) (fired_channel tries own v)
+held_go : (policy : Policy) (K : Channels → Type 0) (J : List Saying → Channels → Type 0) (c : ConversesKnowing policy K J) (past : List Saying) (v : Channels) (tries own : ℕ) → Stands policy J past v → Stands policy J (past ++ said_by_channel tries own v) (fired_channel tries own v)
 held_go policy K J c past v tries own stands =
     let between : Channels = times_held (held_at own v) tries v in
     let next : Channels = times_end (held_at own between) tries between in
     stands_behind policy J past (said_on_firing own v between) (said_on_firing own between next) next
     (stands_on policy J (past ++ said_on_firing own v between) (said_on_firing own between next) between next
-    (λ sound (holds, known) after. (c.ends (past ++ said_on_firing own v between) between tries own sound holds after, subst Replies (sym (ends-last tries own between).1) known))
+    (λ sound (holds, known) after. (c.ends (past ++ said_on_firing own v between) between tries own (ends-last tries own between).1 sound holds after, subst Replies (sym (ends-last tries own between).1) known))
     (ending-fires policy (reading (past ++ said_on_firing own v between)) between tries own (held_at own between) refl)
     (stands_on policy J past (said_on_firing own v between) v between
-    (λ sound (holds, known) after. (c.waits past v tries own sound holds after, subst Replies (sym (times-last tries own v).1) known)) (held-fires policy (reading past) v tries own (held_at own v) refl) stands))
+    (λ sound (holds, known) after. (c.waits past v tries own (times-last tries own v).1 sound holds after, subst Replies (sym (times-last tries own v).1) known)) (held-fires policy (reading past) v tries own (held_at own v) refl) stands))
 
 features_lost : (tries : ℕ) (v : Channels) (features : Option Request) → (times_features features tries v).memory ≡ v.memory
 features_lost tries v None = refl
@@ -284,11 +490,11 @@ features_lost tries v (Some request) = by (is_due errands.Features v) (nat_le tr
     by false true = refl
     by false false = refl
 
-channels_fire : (policy : Policy) (K : Channels → Type 0) (J : List Saying → Channels → Type 0) (c : Converses policy K J) (past : List Saying) (v : Channels) (tries : ℕ) (owns : List ℕ) → Stands policy J past v
+channels_fire : (policy : Policy) (K : Channels → Type 0) (J : List Saying → Channels → Type 0) (c : ConversesKnowing policy K J) (past : List Saying) (v : Channels) (tries : ℕ) (owns : List ℕ) → Stands policy J past v
     → (let after : Channels = times_channels tries owns v in Stands policy J (past ++ said_by_channels tries owns v) (times_features after.features tries after))
 channels_fire policy K J c past v tries [] stands =
     stands_on policy J past (said_by_features tries v) v (times_features v.features tries v)
-    (λ sound (holds, known) after. (c.loses past v tries sound holds after, subst Replies (sym (features_lost tries v v.features)) known)) (features-fires policy (reading past) v tries v.features refl) stands
+    (λ sound (holds, known) after. (c.loses past v tries (features_lost tries v v.features) sound holds after, subst Replies (sym (features_lost tries v v.features)) known)) (features-fires policy (reading past) v tries v.features refl) stands
 channels_fire policy K J c past v tries (own ∷ owns) stands =
     let next : Channels = fired_channel tries own v in
     let after : Channels = times_channels tries owns next in
@@ -297,11 +503,11 @@ channels_fire policy K J c past v tries (own ∷ owns) stands =
 
 -- ---- whatever happens
 
-comes_go : (policy : Policy) (K : Channels → Type 0) (J : List Saying → Channels → Type 0) (c : Converses policy K J) (past : List Saying) (v : Channels) (pdu : List ℕ) (signals : Bool) → K v → Stands policy J past v
+comes_go : (policy : Policy) (K : Channels → Type 0) (J : List Saying → Channels → Type 0) (c : ConversesKnowing policy K J) (past : List Saying) (v : Channels) (pdu : List ℕ) (signals : Bool) → K v → Stands policy J past v
     → (let said : List Saying = past ++ cond signals (said_with_all policy (answers (drop 4 pdu)) v) (Carried Into pdu ∷ asked_between v (takes (channel_of pdu) pdu v)) in
     let w : Channels = cond signals (hears_commands policy (answers (drop 4 pdu)) v) (takes (channel_of pdu) pdu v) in Sound policy (reading said) w → Both J said w)
 comes_go policy K J c past v pdu true known_of stands after = (commands_go policy K J c past v (answers (drop 4 pdu)) (all-told (drop 4 pdu)) stands).1
-comes_go policy K J c past v pdu false known_of (sound, (holds, known)) after = (c.taken past v pdu known_of sound holds after, subst Replies (sym (takes-lasts (channel_of pdu) pdu v).1) known)
+comes_go policy K J c past v pdu false known_of (sound, (holds, known)) after = (c.taken past v pdu known_of (takes-lasts (channel_of pdu) pdu v).1 sound holds after, subst Replies (sym (takes-lasts (channel_of pdu) pdu v).1) known)
 
 asks_memory : (v : Channels) → (asks_features v).memory ≡ v.memory
 asks_memory v = by (is_some v.features)
@@ -321,11 +527,11 @@ single_memory policy (Gives pdu) v is = (gives-last v).1
 single_memory policy Fires v is = cc
 single_memory policy Tells v is = refl
 
-single_goes : (policy : Policy) (K : Channels → Type 0) (J : List Saying → Channels → Type 0) (c : Converses policy K J) (past : List Saying) (v : Channels) (more : Occurrence) → is_single more ≡ true → K v → Stands policy J past v → Sound policy (reading (past ++ said_in policy more v)) (value_after policy more v)
+single_goes : (policy : Policy) (K : Channels → Type 0) (J : List Saying → Channels → Type 0) (c : ConversesKnowing policy K J) (past : List Saying) (v : Channels) (more : Occurrence) → is_single more ≡ true → K v → Stands policy J past v → Sound policy (reading (past ++ said_in policy more v)) (value_after policy more v)
     → Both J (past ++ said_in policy more v) (value_after policy more v)
-single_goes policy K J c past v more is known_of (sound, (holds, known)) after = (c.single past v more is known_of sound holds after, subst Replies (sym (single_memory policy more v is)) known)
+single_goes policy K J c past v more is known_of (sound, (holds, known)) after = (c.single past v more is known_of (single_memory policy more v is) sound holds after, subst Replies (sym (single_memory policy more v is)) known)
 
-occurs_go : (policy : Policy) (K : Channels → Type 0) (J : List Saying → Channels → Type 0) (c : Converses policy K J) (past : List Saying) (v : Channels) (more : Occurrence) → K v → Stands policy J past v → Sound policy (reading (past ++ said_in policy more v)) (value_after policy more v)
+occurs_go : (policy : Policy) (K : Channels → Type 0) (J : List Saying → Channels → Type 0) (c : ConversesKnowing policy K J) (past : List Saying) (v : Channels) (more : Occurrence) → K v → Stands policy J past v → Sound policy (reading (past ++ said_in policy more v)) (value_after policy more v)
     → Both J (past ++ said_in policy more v) (value_after policy more v)
 occurs_go policy K J c past v (Comes pdu) known stands after = comes_go policy K J c past v pdu (eqb (channel_of pdu) 0x0001) known stands after
 occurs_go policy K J c past v (Connects psm) known stands after = single_goes policy K J c past v (Connects psm) refl known stands after
@@ -337,8 +543,11 @@ occurs_go policy K J c past v Fires known stands after = (channels_fire policy K
 occurs_go policy K J c past v Tells known stands after = single_goes policy K J c past v Tells refl known stands after
 
 -- what holds at first holds of all runs
-pub conversed : (policy : Policy) (K : Channels → Type 0) (J : List Saying → Channels → Type 0) → Converses policy K J → J [] no_channels → (list : List Occurrence) → J (run_of policy list).said (run_of policy list).value
-conversed policy K J c first list =
+pub conversed-knowing : (policy : Policy) (K : Channels → Type 0) (J : List Saying → Channels → Type 0) → ConversesKnowing policy K J → J [] no_channels → (list : List Occurrence) → J (run_of policy list).said (run_of policy list).value
+conversed-knowing policy K J c first list =
     let (sound, (known, (holds, replies))) = along policy (λ run. K run.value × Both J run.said run.value) (c.first, (first, record { connection = tt; configuration = tt; disconnection = tt; echo = tt; information = tt }))
     (λ run more sound (known, both). (c.kept run.value more sound.core.lone known, occurs_go policy K J c run.said run.value more known (sound, both) (run-more policy run more sound))) list in
     holds
+
+pub conversed : (policy : Policy) (K : Channels → Type 0) (J : List Saying → Channels → Type 0) → Converses policy K J → J [] no_channels → (list : List Occurrence) → J (run_of policy list).said (run_of policy list).value
+conversed policy K J c first list = conversed-knowing policy K J (knowing policy K J c) first list

@@ -12,7 +12,7 @@ use Rattle.channel_model.specs.declared.errand.Errand.TheVariants as errands
 use Rattle.channel_model.specs.declared.event.CloseReason.{CloseReason}
 use Rattle.channel_model.specs.declared.event.CloseReason.TheVariants.{OwnClosed, RetryLimit}
 use Rattle.channel_model.specs.Value.{Queued, Answer, Ask, Own, Unasked, Asking, Granted, Carrier, Plain, Retransmitting, Setup, Stage, Requested, Connected, Leaving, Closing, Crossed, Held, Channels}
-use Rattle.channel_model.specs.Changing.{has_own, held_at, in_place_of, is_peer, is_open, setup_of, stage_with, to_setup}
+use Rattle.channel_model.specs.Changing.{has_own, has_fcs_by, held_at, in_place_of, is_peer, is_open, setup_of, stage_with, to_setup}
 use Rattle.channel_model.specs.Asking.{new_request, asks, Fired, StillDue, OnceMore, Spent, fired}
 use Rattle.channel_model.specs.Closing.{closes, closes_at, peer_closes_at, ends_at, ends}
 use Rattle.channel_model.specs.Following.{with_channel, follows_disconnection}
@@ -34,7 +34,7 @@ abbrev pub asked_at : Stage → Option (Option ℕ)
 asked_at (Requested request) = None
 asked_at (Connected peer setup) = Some (asked_by (own_request setup.own))
 asked_at (Leaving peer setup request) = Some (asked_by (own_request setup.own))
-asked_at (Closing peer request) = None
+asked_at (Closing peer request checked) = None
 asked_at (Crossed peer request) = None
 
 abbrev pub asked_on : Option Held → Option (Option ℕ)
@@ -88,23 +88,23 @@ gone_rests v w held held_is own = by (eqb held.own own) refl
 
 closes_rests : (v : Channels) (held : Held) (reason : CloseReason) (stage : Stage) → find (has_own held.own) v.held ≡ Some held → Rests v (closes_at stage reason held v)
 closes_rests v held reason (Requested request) found = gone_rests v (closes_at (Requested request) reason held v) held refl
-closes_rests v held reason (Connected peer setup) found = placed-rests v (closes_at (Connected peer setup) reason held v) held (Closing peer _) found refl (inl refl)
-closes_rests v held reason (Leaving peer setup request) found = placed-rests v (closes_at (Leaving peer setup request) reason held v) held (Closing peer request) found refl (inl refl)
-closes_rests v held reason (Closing peer request) found = same-rests v v refl
+closes_rests v held reason (Connected peer setup) found = placed-rests v (closes_at (Connected peer setup) reason held v) held (Closing peer _ (has_fcs_by setup)) found refl (inl refl)
+closes_rests v held reason (Leaving peer setup request) found = placed-rests v (closes_at (Leaving peer setup request) reason held v) held (Closing peer request (has_fcs_by setup)) found refl (inl refl)
+closes_rests v held reason (Closing peer request checked) found = same-rests v v refl
 closes_rests v held reason (Crossed peer request) found = same-rests v v refl
 
 peer_rests : (v : Channels) (held : Held) (stage : Stage) → find (has_own held.own) v.held ≡ Some held → Rests v (peer_closes_at stage held v)
 peer_rests v held (Requested request) found = same-rests v v refl
 peer_rests v held (Connected peer setup) found = gone_rests v (peer_closes_at (Connected peer setup) held v) held refl
 peer_rests v held (Leaving peer setup request) found = placed-rests v (peer_closes_at (Leaving peer setup request) held v) held (Crossed peer request) found refl (inl refl)
-peer_rests v held (Closing peer request) found = placed-rests v (peer_closes_at (Closing peer request) held v) held (Crossed peer request) found refl (inl refl)
+peer_rests v held (Closing peer request checked) found = placed-rests v (peer_closes_at (Closing peer request checked) held v) held (Crossed peer request) found refl (inl refl)
 peer_rests v held (Crossed peer request) found = same-rests v v refl
 
 ends_rest : (v : Channels) (held : Held) (reason : CloseReason) (stage : Stage) → Rests v (ends_at stage reason held v)
 ends_rest v held reason (Requested request) = same-rests v v refl
 ends_rest v held reason (Connected peer setup) = same-rests v v refl
 ends_rest v held reason (Leaving peer setup request) = gone_rests v (ends_at (Leaving peer setup request) reason held v) held refl
-ends_rest v held reason (Closing peer request) = gone_rests v (ends_at (Closing peer request) reason held v) held refl
+ends_rest v held reason (Closing peer request checked) = gone_rests v (ends_at (Closing peer request checked) reason held v) held refl
 ends_rest v held reason (Crossed peer request) = gone_rests v (ends_at (Crossed peer request) reason held v) held refl
 
 pub closes-rests : (v : Channels) (held : Held) (reason : CloseReason) → find (has_own held.own) v.held ≡ Some held → Rests v (closes reason held v)
@@ -122,7 +122,7 @@ left_rests : (v : Channels) (held : Held) (stage : Stage) → held.stage ≡ sta
 left_rests v held (Requested request) is found = closes_rests v held OwnClosed held.stage found
 left_rests v held (Connected peer setup) is found = placed-rests v (disconnected_at (Connected peer setup) held v) held (Leaving peer setup _) found refl (inr (sym (ap asked_at is)))
 left_rests v held (Leaving peer setup request) is found = same-rests v v refl
-left_rests v held (Closing peer request) is found = same-rests v v refl
+left_rests v held (Closing peer request checked) is found = same-rests v v refl
 left_rests v held (Crossed peer request) is found = same-rests v v refl
 
 left_held : (v : Channels) (own : ℕ) (held : Option Held) → held_at own v ≡ held → Rests v (disconnected_held held v)
@@ -143,7 +143,7 @@ setup_stays after setup (Connected peer before) is same =
 setup_stays after setup (Leaving peer before request) is same =
     let whole : before ≡ setup = cc in
     inr (ap (λ o. Some (asked_by (own_request o))) (same ∙ sym (ap (λ (s : Setup). s.own) whole)))
-setup_stays after setup (Closing peer request) is same = inl refl
+setup_stays after setup (Closing peer request checked) is same = inl refl
 setup_stays after setup (Crossed peer request) is same = inl refl
 
 pub setup-rests : (v w : Channels) (held : Held) (setup after : Setup) → find (has_own held.own) v.held ≡ Some held → setup_of held.stage ≡ Some setup → after.own ≡ setup.own → w.held ≡ (to_setup held after v).held → Rests v w
@@ -191,7 +191,7 @@ timed_stage v (Requested request) tries held is found =
     fires_rests v (fired tries (errands.Connection held.own) request v) (errands.Connection held.own) (closes RetryLimit held) (closes_rests v held RetryLimit held.stage found)
 timed_stage v (Connected peer setup) tries held is found = timed_setup v setup.own tries held setup found (ap setup_of is)
 timed_stage v (Leaving peer setup request) tries held is found = timed_setup v setup.own tries held setup found (ap setup_of is)
-timed_stage v (Closing peer request) tries held is found = same-rests v v refl
+timed_stage v (Closing peer request checked) tries held is found = same-rests v v refl
 timed_stage v (Crossed peer request) tries held is found = same-rests v v refl
 
 timed_held : (v : Channels) (own : ℕ) (held : Option Held) (tries : ℕ) → held_at own v ≡ held → Rests v (times_held held tries v)
@@ -206,7 +206,7 @@ timed_end v (Requested request) tries held = same-rests v v refl
 timed_end v (Connected peer setup) tries held = same-rests v v refl
 timed_end v (Leaving peer setup request) tries held =
     fires_rests v (fired tries (errands.Disconnection held.own) request v) (errands.Disconnection held.own) (ends RetryLimit held) (ends_rest v held RetryLimit held.stage)
-timed_end v (Closing peer request) tries held =
+timed_end v (Closing peer request checked) tries held =
     fires_rests v (fired tries (errands.Disconnection held.own) request v) (errands.Disconnection held.own) (loses_end held) (lost_rests v held)
 timed_end v (Crossed peer request) tries held =
     fires_rests v (fired tries (errands.Disconnection held.own) request v) (errands.Disconnection held.own) (loses_end held) (lost_rests v held)
@@ -233,21 +233,21 @@ connection_stays : (stage : Stage) → asked_at (connection_given stage) ≡ ask
 connection_stays (Requested request) = refl
 connection_stays (Connected peer setup) = refl
 connection_stays (Leaving peer setup request) = refl
-connection_stays (Closing peer request) = refl
+connection_stays (Closing peer request checked) = refl
 connection_stays (Crossed peer request) = refl
 
 configuration_stays : (stage : Stage) → asked_at (configuration_given stage) ≡ asked_at stage
 configuration_stays (Requested request) = refl
 configuration_stays (Connected peer setup) = ap Some (own_stays setup.own)
 configuration_stays (Leaving peer setup request) = ap Some (own_stays setup.own)
-configuration_stays (Closing peer request) = refl
+configuration_stays (Closing peer request checked) = refl
 configuration_stays (Crossed peer request) = refl
 
 disconnection_stays : (stage : Stage) → asked_at (disconnection_given stage) ≡ asked_at stage
 disconnection_stays (Requested request) = refl
 disconnection_stays (Connected peer setup) = refl
 disconnection_stays (Leaving peer setup request) = refl
-disconnection_stays (Closing peer request) = refl
+disconnection_stays (Closing peer request checked) = refl
 disconnection_stays (Crossed peer request) = refl
 
 stage_rests : (v : Channels) (f : Stage → Stage) (own : ℕ) (held : Option Held) → ((stage : Stage) → asked_at (f stage) ≡ asked_at stage) → held_at own v ≡ held → Rests v (stage_given f held v)

@@ -18,12 +18,12 @@ use Rattle.channel_model.specs.declared.request_kind.RequestKind.TheVariants as 
 use Rattle.channel_model.specs.declared.event.CloseReason.{CloseReason}
 use Rattle.channel_model.specs.Value.{Stage, Requested, Connected, Leaving, Closing, Crossed, Held, Remembered, Memory, Channels}
 use Rattle.channel_model.specs.Policies.{Policy}
-use Rattle.channel_model.specs.Changing.{has_own, held_at, is_peer, to_stage, setup_of}
+use Rattle.channel_model.specs.Changing.{has_own, held_at, is_peer, to_stage}
 use Rattle.channel_model.specs.Closing.{peer_closes_at, ends_at}
 use Rattle.channel_model.specs.Answers.{disconnection_by, disconnection_answer, no_such_channel}
 use Rattle.channel_model.specs.Following.{remembers, says, hears_kind, follows_disconnection}
 use Rattle.channel_laws.specs.OwnTalk.{spoken, command_with, response_by, command_if, exchanged, asked_between}
-use Rattle.channel_laws.specs.Views.{peer_of, life_of, read_at}
+use Rattle.channel_laws.specs.Views.{peer_of, life_of, standing, read_at}
 use Rattle.channel_model.proofs.Lookups.{own_of, Distinct, distinct-filter, placed-distinct, find-gone, find-others, found-placed, find-placed, found-has, eqb-same}
 use Rattle.channel_laws.proofs.Entries.{entry-is, either_same, read-after, distinct-after}
 use Rattle.channel_laws.proofs.Sound.{Reads, Core, IsAway, IsEnded, EndsKept, CallsKept, QueriesKept, IsHarmless, HarmlessKept, Repeats, Kept, Sound, moved, at_each, apart-after, IsPlaced, Uncalled}
@@ -87,11 +87,11 @@ peer-closes-leads v held peer (Connected own_peer setup) is at found = is-gone v
 peer-closes-leads v held peer (Leaving own_peer setup request) is at found =
     let leads = to-stage v held peer AnswersEnd (Crossed own_peer request) found (refl, refl, at, sym (ap (λ s. life_after (life_of s) (Some AnswersEnd)) is), tt) in
     record { others = leads.others; to = leads.to; lone = leads.lone; next_is = refl; memory_is = refl }
-peer-closes-leads v held peer (Closing own_peer request) is at found =
+peer-closes-leads v held peer (Closing own_peer request checked) is at found =
     to-stage v held peer AnswersEnd (Crossed own_peer request) found (refl, refl, at, sym (ap (λ s. life_after (life_of s) (Some AnswersEnd)) is), tt)
 peer-closes-leads v held peer (Crossed own_peer request) is at found =
     stays-held v held peer AnswersEnd found
-    (refl, refl, ap peer_of is ∙ at, ap life_of is ∙ sym (ap (λ s. life_after (life_of s) (Some AnswersEnd)) is), subst (λ s. SetupsTo (setup_of s) (setup_of s)) (sym is) tt)
+    (refl, refl, ap peer_of is ∙ at, ap life_of is ∙ sym (ap (λ s. life_after (life_of s) (Some AnswersEnd)) is), subst (λ s. SetupsTo (standing s) (standing s)) (sym is) tt)
 
 -- ---- an own request is done with
 
@@ -100,11 +100,11 @@ pub ends-leads : (v : Channels) (held : Held) (peer : ℕ) (reason : CloseReason
 ends-leads v held peer reason said (Requested request) is at found leaving crossed alive = cc
 ends-leads v held peer reason said (Connected own_peer setup) is at found leaving crossed alive =
     stays-held v held peer said found
-    (refl, refl, ap peer_of is ∙ at, ap life_of is ∙ sym (ap (λ s. life_after (life_of s) (Some said)) is ∙ alive), subst (λ s. SetupsTo (setup_of s) (setup_of s)) (sym is) refl)
+    (refl, refl, ap peer_of is ∙ at, ap life_of is ∙ sym (ap (λ s. life_after (life_of s) (Some said)) is ∙ alive), subst (λ s. SetupsTo (standing s) (standing s)) (sym is) refl)
 ends-leads v held peer reason said (Leaving own_peer setup request) is at found leaving crossed alive =
     is-gone v (ends_at (Leaving own_peer setup request) reason held v) held peer said refl refl refl (ap (λ s. life_after (life_of s) (Some said)) is ∙ leaving)
-ends-leads v held peer reason said (Closing own_peer request) is at found leaving crossed alive =
-    is-gone v (ends_at (Closing own_peer request) reason held v) held peer said refl refl refl (ap (λ s. life_after (life_of s) (Some said)) is ∙ leaving)
+ends-leads v held peer reason said (Closing own_peer request checked) is at found leaving crossed alive =
+    is-gone v (ends_at (Closing own_peer request checked) reason held v) held peer said refl refl refl (ap (λ s. life_after (life_of s) (Some said)) is ∙ leaving)
 ends-leads v held peer reason said (Crossed own_peer request) is at found leaving crossed alive =
     is-gone v (ends_at (Crossed own_peer request) reason held v) held peer said refl refl refl (ap (λ s. life_after (life_of s) (Some said)) is ∙ crossed)
 
@@ -117,6 +117,8 @@ same-reads policy asked entries held next memory more none same core kept = (
     reads = λ own. subst (Reads policy (find (has_own own) held)) (sym (read-after more entries own none ∙ same own)) (core.reads own);
     held_below = core.held_below;
     read_below = λ own above. read-after more entries own none ∙ (same own ∙ core.read_below own above);
+    held_low = core.held_low;
+    read_low = λ own low. read-after more entries own none ∙ (same own ∙ core.read_low own low);
     start = core.start;
     apart = apart-after more entries none core.apart;
     distinct = distinct-after more entries none core.distinct;
@@ -224,7 +226,7 @@ peer-closes-identifier : (stage : Stage) (held : Held) (v : Channels) → (peer_
 peer-closes-identifier (Requested request) held v = refl
 peer-closes-identifier (Connected peer setup) held v = refl
 peer-closes-identifier (Leaving peer setup request) held v = refl
-peer-closes-identifier (Closing peer request) held v = refl
+peer-closes-identifier (Closing peer request checked) held v = refl
 peer-closes-identifier (Crossed peer request) held v = refl
 
 -- it names both endpoints
@@ -286,7 +288,7 @@ bids-at : (policy : Policy) (r : Reading) (v : Channels) (one : Read) (identifie
 bids-at policy r v one identifier source held (Requested request) is quiet_is at sound = rejected policy r v one identifier (Some (no_such_channel held.own source)) quiet_is (λ n. refl) (λ entries. tt) sound
 bids-at policy r v one identifier source held (Connected peer setup) is quiet_is at sound = bids-by policy r v one identifier source held peer (eqb peer source) refl quiet_is at (ap peer_of is) sound
 bids-at policy r v one identifier source held (Leaving peer setup request) is quiet_is at sound = bids-by policy r v one identifier source held peer (eqb peer source) refl quiet_is at (ap peer_of is) sound
-bids-at policy r v one identifier source held (Closing peer request) is quiet_is at sound = bids-by policy r v one identifier source held peer (eqb peer source) refl quiet_is at (ap peer_of is) sound
+bids-at policy r v one identifier source held (Closing peer request checked) is quiet_is at sound = bids-by policy r v one identifier source held peer (eqb peer source) refl quiet_is at (ap peer_of is) sound
 bids-at policy r v one identifier source held (Crossed peer request) is quiet_is at sound = bids-by policy r v one identifier source held peer (eqb peer source) refl quiet_is at (ap peer_of is) sound
 
 bids-of : (policy : Policy) (r : Reading) (v : Channels) (one : Read) (identifier own source : ℕ) (found : Option Held) → find (has_own own) v.held ≡ found → Passes (heard one) → Sound policy r v

@@ -12,7 +12,6 @@ use Rattle.ertm_model.specs.Giving.{timed}
 use Rattle.link_talk.specs.declared.word.Word.TheVariants.{AsksEnd, EndForgone}
 use Rattle.link_talk.specs.Sayings.{Saying, GaveUp}
 use Rattle.link_talk.specs.Sayings as sayings
-use Rattle.link_talk.specs.Setups.{mode_in}
 use Rattle.link_talk.specs.Channels.{life_after, Reading, read_on}
 use Rattle.channel_model.specs.declared.errand.Errand.{Errand}
 use Rattle.channel_model.specs.declared.errand.Errand.TheVariants.{Connection, Configuration, Disconnection, Features}
@@ -20,7 +19,7 @@ use Rattle.channel_model.specs.declared.event.CloseReason.{CloseReason}
 use Rattle.channel_model.specs.declared.event.CloseReason.TheVariants.{RetryLimit}
 use Rattle.channel_model.specs.Value.{Request, Queued, Ask, Own, Unasked, Asking, Granted, Carrier, Plain, Retransmitting, Setup, Stage, Requested, Connected, Leaving, Closing, Crossed, Held, Channels}
 use Rattle.channel_model.specs.Policies.{Policy}
-use Rattle.channel_model.specs.Changing.{has_own, held_at, setup_of, same_errand, is_copy, is_due, queued, is_copy_about, with_setup}
+use Rattle.channel_model.specs.Changing.{has_own, held_at, has_fcs_by, same_errand, is_copy, is_due, queued, is_copy_about, with_setup}
 use Rattle.channel_model.specs.Asking.{StillDue, OnceMore, Spent, new_request, next_identifier}
 use Rattle.channel_model.specs.Carrying.{reason_of, settles_machine}
 use Rattle.channel_model.specs.Closing.{closes_at, closes, ends_at, ends}
@@ -28,9 +27,9 @@ use Rattle.channel_model.specs.Timing.{fires, times, times_carrier, times_setup,
 use Rattle.channel_model.specs.Giving.{on_held, features_command, command_of, configuration_by, configuration_at, disconnection_at, connection_at}
 use Rattle.channel_laws.specs.OwnTalk.{spoken, command_with, said_of, asked_between}
 use Rattle.channel_laws.specs.Runs.{forgone_at, forgone_between, given_up, features_given_up, said_again, said_on_firing, said_by_channel, fired_channel, said_by_channels}
-use Rattle.channel_laws.specs.Views.{peer_of, life_of, read_at}
+use Rattle.channel_laws.specs.Views.{peer_of, life_of, standing, read_at}
 use Rattle.channel_model.proofs.Lookups.{own_of, find-gone, found-placed, found-has, eqb-same, or_on, and_off}
-use Rattle.channel_laws.proofs.Sound.{states_mode, OwnStates, Sound}
+use Rattle.channel_laws.proofs.Sound.{IsRequested, OwnStates, Sound}
 use Rattle.channel_laws.proofs.Moves.{quiet, SetupsTo, PartsTo, Found, found-there}
 use Rattle.channel_laws.proofs.Ending.{Leads, leads-said, ends-leads}
 use Rattle.channel_laws.proofs.Answering.{Alters, found-agrees, wishes-said}
@@ -150,13 +149,13 @@ closing_is : (v : Channels) (held : Held) (peer : ℕ) (reason : CloseReason) (s
 closing_is v held peer reason (Requested request) is peer_is at = cc
 closing_is v held peer reason (Connected at_peer setup) is peer_is at =
     let w : Channels = closes_at (Connected at_peer setup) reason held v in
-    let after : Held = record held { stage = Closing at_peer (new_request v) } in
+    let after : Held = record held { stage = Closing at_peer (new_request v) (has_fcs_by setup) } in
     held_is held.own v w after (anew_said v w refl) (found-placed after held v.held at)
 closing_is v held peer reason (Leaving at_peer setup request) is peer_is at =
     let w : Channels = closes_at (Leaving at_peer setup request) reason held v in
-    let after : Held = record held { stage = Closing at_peer request } in
+    let after : Held = record held { stage = Closing at_peer request (has_fcs_by setup) } in
     held_is held.own v w after (none_said v w (λ errand due. due_kept errand (λ waiting. not (is_copy (Configuration held.own) waiting)) v.queue due)) (found-placed after held v.held at)
-closing_is v held peer reason (Closing at_peer request) is peer_is at = silent_is held.own v ∙ sym (asked-none v v refl)
+closing_is v held peer reason (Closing at_peer request checked) is peer_is at = silent_is held.own v ∙ sym (asked-none v v refl)
 closing_is v held peer reason (Crossed at_peer request) is peer_is at = silent_is held.own v ∙ sym (asked-none v v refl)
 
 closed-fires : (policy : Policy) (r : Reading) (v : Channels) (held : Held) (peer : ℕ) (reason : CloseReason) → peer_of held.stage ≡ Some peer → find (has_own held.own) v.held ≡ Some held → Sound policy r v
@@ -195,7 +194,7 @@ wish-fires policy r v held peer setup request options is asks talks sound new =
     let now : Setup = record setup { own = Asking request options } in
     let same : Some setup ≡ Some now = ap (λ (o : Own). let s : Setup = record setup { own = o } in Some s) is in
     let found : Found policy held peer (read_at held.own r.entries) = found-there policy r.entries v.held v.next held peer sound.core talks.found talks.peer_is in
-    let states : mode_in (written options) ≡ states_mode (policy.wish held.psm).mode = subst (OwnStates (policy.wish held.psm)) is (found-agrees policy held peer setup (read_at held.own r.entries) talks.setup_is found).states in
+    let states : IsRequested (policy.wish held.psm) options = subst (OwnStates (policy.wish held.psm)) is (found-agrees policy held peer setup (read_at held.own r.entries) talks.setup_is found).states in
     let alters : Alters v.held w.held held held peer setup now = record {
       found = talks.found;
       peer_is = talks.peer_is;
@@ -246,7 +245,7 @@ forgone-call policy r v held request (Requested other) same is at sound =
     subst (λ more. Sound policy (fold read_on r more) w) (sym said) (forgone-on policy r v held request RetryLimit (Requested other) same is at sound)
 forgone-call policy r v held request (Connected peer setup) same is at sound = cc
 forgone-call policy r v held request (Leaving peer setup waiting) same is at sound = cc
-forgone-call policy r v held request (Closing peer waiting) same is at sound = cc
+forgone-call policy r v held request (Closing peer waiting checked) same is at sound = cc
 forgone-call policy r v held request (Crossed peer waiting) same is at sound = cc
 
 stage-fires : (policy : Policy) (r : Reading) (v : Channels) (held : Held) (tries : ℕ) (stage : Stage) → held.stage ≡ stage → find (has_own held.own) v.held ≡ Some held → Sound policy r v
@@ -255,7 +254,7 @@ stage-fires policy r v held tries (Requested request) is at sound =
     by_times policy r v held.own tries (Connection held.own) request (closes RetryLimit held) (call-fires policy r v held request is at sound) (forgone-call policy r v held request held.stage is is at sound) sound
 stage-fires policy r v held tries (Connected peer setup) is at sound = setup-fires policy r v held peer tries setup setup.own refl (ap configuration_at is) (talks-connected v held peer setup is at) sound
 stage-fires policy r v held tries (Leaving peer setup request) is at sound = setup-fires policy r v held peer tries setup setup.own refl (ap configuration_at is) (talks-leaving v held peer setup request is at) sound
-stage-fires policy r v held tries (Closing peer request) is at sound = silent policy r v held.own sound
+stage-fires policy r v held tries (Closing peer request checked) is at sound = silent policy r v held.own sound
 stage-fires policy r v held tries (Crossed peer request) is at sound = silent policy r v held.own sound
 
 pub held-fires : (policy : Policy) (r : Reading) (v : Channels) (tries own : ℕ) (found : Option Held) → find (has_own own) v.held ≡ found → Sound policy r v
@@ -273,7 +272,7 @@ abbrev IsEnding : Stage → Type 0
 IsEnding (Requested request) = ⊥
 IsEnding (Connected peer setup) = ⊥
 IsEnding (Leaving peer setup request) = Unit {0}
-IsEnding (Closing peer request) = Unit {0}
+IsEnding (Closing peer request checked) = Unit {0}
 IsEnding (Crossed peer request) = Unit {0}
 
 -- its host waits
@@ -281,7 +280,7 @@ record Waits (held : Held) (stage : Stage) (peer : ℕ) (request : Request) : Ty
   peer_is : peer_of stage ≡ Some peer
   asks : disconnection_at stage held ≡ Some (command_with request.identifier (disconnection_request peer held.own))
   life_stays : life_of stage ≡ life_after (life_of stage) (Some AsksEnd)
-  setup_stays : SetupsTo (setup_of stage) (setup_of stage)
+  setup_stays : SetupsTo (standing stage) (standing stage)
   forgone : forgone_at stage held.own ≡ GaveUp (sayings.Disconnection held.own peer) ∷ []
   ending : IsEnding stage
 
@@ -314,7 +313,7 @@ lost-at : (v : Channels) (held : Held) (stage : Stage) → IsEnding stage → Lo
 lost-at v held (Requested request) is = elim is [ ]
 lost-at v held (Connected peer setup) is = elim is [ ]
 lost-at v held (Leaving peer setup request) is = record { identifier_is = refl; old = λ errand due. due_kept errand (λ waiting. not (is_copy_about held.own waiting)) v.queue due; gone = find-gone own_of held.own v.held }
-lost-at v held (Closing peer request) is = record { identifier_is = refl; old = λ errand due. due_kept errand (λ waiting. not (is_copy_about held.own waiting)) v.queue due; gone = find-gone own_of held.own v.held }
+lost-at v held (Closing peer request checked) is = record { identifier_is = refl; old = λ errand due. due_kept errand (λ waiting. not (is_copy_about held.own waiting)) v.queue due; gone = find-gone own_of held.own v.held }
 lost-at v held (Crossed peer request) is = record { identifier_is = refl; old = λ errand due. due_kept errand (λ waiting. not (is_copy_about held.own waiting)) v.queue due; gone = find-gone own_of held.own v.held }
 
 forgone-fires : (policy : Policy) (r : Reading) (v w : Channels) (held : Held) (peer : ℕ) (request : Request) → Waits held held.stage peer request → find (has_own held.own) v.held ≡ Some held → Leads v w held peer EndForgone → Lost v w held → Sound policy r v
@@ -349,8 +348,8 @@ end-fires policy r v held tries (Connected peer setup) is at sound = silent poli
 end-fires policy r v held tries (Leaving peer setup request) is at sound =
     let waits : Waits held held.stage peer request = subst (λ s. Waits held s peer request) (sym is) (record { peer_is = refl; asks = refl; life_stays = refl; setup_stays = refl; forgone = refl; ending = tt }) in
     by_times policy r v held.own tries (Disconnection held.own) request (ends RetryLimit held) (end-again policy r v held peer request waits at sound) (ends-fires policy r v held peer request waits at sound) sound
-end-fires policy r v held tries (Closing peer request) is at sound =
-    let waits : Waits held held.stage peer request = subst (λ s. Waits held s peer request) (sym is) (record { peer_is = refl; asks = refl; life_stays = refl; setup_stays = tt; forgone = refl; ending = tt }) in
+end-fires policy r v held tries (Closing peer request checked) is at sound =
+    let waits : Waits held held.stage peer request = subst (λ s. Waits held s peer request) (sym is) (record { peer_is = refl; asks = refl; life_stays = refl; setup_stays = refl; forgone = refl; ending = tt }) in
     by_times policy r v held.own tries (Disconnection held.own) request (loses_end held) (end-again policy r v held peer request waits at sound) (loses-fires policy r v held peer request waits at sound) sound
 end-fires policy r v held tries (Crossed peer request) is at sound =
     let waits : Waits held held.stage peer request = subst (λ s. Waits held s peer request) (sym is) (record { peer_is = refl; asks = refl; life_stays = refl; setup_stays = tt; forgone = refl; ending = tt }) in

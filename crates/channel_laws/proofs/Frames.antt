@@ -19,7 +19,7 @@ use Rattle.link_talk.specs.Accounts.{frames_passed, waiting_frames, window_used}
 use Rattle.link_talk.specs.Waits.{frames_wait_in}
 use Rattle.channel_model.specs.Value.{Own, Unasked, Asking, Granted, Carrier, Plain, Retransmitting, Setup, Held, Channels}
 use Rattle.channel_model.specs.Policies.{Policy}
-use Rattle.channel_model.specs.Changing.{held_at, is_granted, is_open}
+use Rattle.channel_model.specs.Changing.{is_stated, held_at, is_granted, is_open}
 use Rattle.channel_model.specs.Hearing.{hears_commands}
 use Rattle.channel_model.specs.Carrying.{takes}
 use Rattle.channel_model.specs.Timing.{timed_out}
@@ -27,7 +27,7 @@ use Rattle.channel_model.specs.Calls.{setup_on, carrier_armed, carrier_window, c
 use Rattle.channel_model.proofs.Lookups.{and_off}
 use Rattle.channel_model.proofs.Walking.{commands-go}
 use Rattle.channel_model.proofs.Calling.{connected-goes, asks-features-goes, disconnected-goes, timed-goes}
-use Rattle.channel_model.proofs.Going.{Walks, is_stated}
+use Rattle.channel_model.proofs.Going.{Walks}
 use Rattle.channel_laws.specs.OwnTalk.{asked_between, said_with_all}
 use Rattle.channel_laws.specs.Runs.{Occurrence, Comes, Connects, AsksFeatures, Disconnects, Sends, Gives, Fires, Tells, given_up, said_by_channels, said_in, value_after, Run, new_link, run_on, run_of}
 use Rattle.channel_laws.specs.Sdus.{StatesFrame}

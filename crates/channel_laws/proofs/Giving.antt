@@ -17,7 +17,7 @@ use Rattle.channel_model.specs.Giving.{own_given, setup_given, connection_given,
 use Rattle.channel_model.specs.Calls.{disconnected_at, disconnected_held, carrier_with, sends_on, sends_held, sends}
 use Rattle.channel_laws.specs.OwnTalk.{spoken, command_with, asked_between}
 use Rattle.channel_laws.specs.Runs.{forgone_between}
-use Rattle.channel_laws.specs.Views.{peer_of, life_of, asked_mode, carrier_mode}
+use Rattle.channel_laws.specs.Views.{peer_of, life_of, Agreeing, standing, asked_mode, carrier_mode}
 use Rattle.channel_model.proofs.Lookups.{own_of, placed-distinct, found-distinct, found-has, found-placed, find-placed}
 use Rattle.channel_laws.proofs.Sound.{Agrees, AgreesIf, OwnStates, CarrierIs, RepeatsIn, WantsAt, Sound, ReadsBy, Repeats}
 use Rattle.channel_laws.proofs.Moves.{PartsTo, SetupsTo}
@@ -38,8 +38,8 @@ use Rattle.channel_model.specs.declared.event.CloseReason.TheVariants.{OwnClosed
 pub record Counts (f : Stage → Stage) : Type 0 where
   pub peer_is : (stage : Stage) → peer_of (f stage) ≡ peer_of stage
   pub life_is : (stage : Stage) → life_of (f stage) ≡ life_of stage
-  pub agrees : (wish : Wish) (stage : Stage) (said : read.Setup) → AgreesIf wish (setup_of stage) said → AgreesIf wish (setup_of (f stage)) said
-  pub repeats : (stage : Stage) (said : read.Setup) (part : Part) → RepeatsIn (setup_of stage) said part → RepeatsIn (setup_of (f stage)) said part
+  pub agrees : (wish : Wish) (stage : Stage) (said : read.Setup) → AgreesIf wish (standing stage) said → AgreesIf wish (standing (f stage)) said
+  pub repeats : (stage : Stage) (said : read.Setup) (part : Part) → RepeatsIn (standing stage) said part → RepeatsIn (standing (f stage)) said part
   pub waits : (asked : Requests) (held : Held) (stage : Stage) → WantsAt asked held stage → WantsAt asked held (f stage)
 
 states_given : (wish : Wish) (own : Own) → OwnStates wish own → OwnStates wish (own_given own)
@@ -67,35 +67,35 @@ connection_counts = record { peer_is = peer; life_is = life; agrees = agree; rep
     wait asked held (Requested request) so = so
     wait asked held (Connected at setup) so = tt
     wait asked held (Leaving at setup request) so = tt
-    wait asked held (Closing at request) so = tt
+    wait asked held (Closing at request checked) so = tt
     wait asked held (Crossed at request) so = tt
 
     peer : (stage : Stage) → peer_of (connection_given stage) ≡ peer_of stage
     peer (Requested request) = refl
     peer (Connected at setup) = refl
     peer (Leaving at setup request) = refl
-    peer (Closing at request) = refl
+    peer (Closing at request checked) = refl
     peer (Crossed at request) = refl
 
     life : (stage : Stage) → life_of (connection_given stage) ≡ life_of stage
     life (Requested request) = refl
     life (Connected at setup) = refl
     life (Leaving at setup request) = refl
-    life (Closing at request) = refl
+    life (Closing at request checked) = refl
     life (Crossed at request) = refl
 
-    agree : (wish : Wish) (stage : Stage) (said : read.Setup) → AgreesIf wish (setup_of stage) said → AgreesIf wish (setup_of (connection_given stage)) said
+    agree : (wish : Wish) (stage : Stage) (said : read.Setup) → AgreesIf wish (standing stage) said → AgreesIf wish (standing (connection_given stage)) said
     agree wish (Requested request) said so = tt
     agree wish (Connected at setup) said so = so
     agree wish (Leaving at setup request) said so = so
-    agree wish (Closing at request) said so = tt
+    agree wish (Closing at request checked) said so = so
     agree wish (Crossed at request) said so = tt
 
-    repeat : (stage : Stage) (said : read.Setup) (part : Part) → RepeatsIn (setup_of stage) said part → RepeatsIn (setup_of (connection_given stage)) said part
+    repeat : (stage : Stage) (said : read.Setup) (part : Part) → RepeatsIn (standing stage) said part → RepeatsIn (standing (connection_given stage)) said part
     repeat (Requested request) said part so = tt
     repeat (Connected at setup) said part so = so
     repeat (Leaving at setup request) said part so = so
-    repeat (Closing at request) said part so = tt
+    repeat (Closing at request checked) said part so = so
     repeat (Crossed at request) said part so = tt
 
 configuration_counts : Counts configuration_given
@@ -105,35 +105,35 @@ configuration_counts = record { peer_is = peer; life_is = life; agrees = agree; 
     wait asked held (Requested request) so = so
     wait asked held (Connected at setup) so = tt
     wait asked held (Leaving at setup request) so = tt
-    wait asked held (Closing at request) so = tt
+    wait asked held (Closing at request checked) so = tt
     wait asked held (Crossed at request) so = tt
 
     peer : (stage : Stage) → peer_of (configuration_given stage) ≡ peer_of stage
     peer (Requested request) = refl
     peer (Connected at setup) = refl
     peer (Leaving at setup request) = refl
-    peer (Closing at request) = refl
+    peer (Closing at request checked) = refl
     peer (Crossed at request) = refl
 
     life : (stage : Stage) → life_of (configuration_given stage) ≡ life_of stage
     life (Requested request) = refl
     life (Connected at setup) = refl
     life (Leaving at setup request) = refl
-    life (Closing at request) = refl
+    life (Closing at request checked) = refl
     life (Crossed at request) = refl
 
-    agree : (wish : Wish) (stage : Stage) (said : read.Setup) → AgreesIf wish (setup_of stage) said → AgreesIf wish (setup_of (configuration_given stage)) said
+    agree : (wish : Wish) (stage : Stage) (said : read.Setup) → AgreesIf wish (standing stage) said → AgreesIf wish (standing (configuration_given stage)) said
     agree wish (Requested request) said so = tt
     agree wish (Connected at setup) said so = given_agrees wish setup said so
     agree wish (Leaving at setup request) said so = given_agrees wish setup said so
-    agree wish (Closing at request) said so = tt
+    agree wish (Closing at request checked) said so = so
     agree wish (Crossed at request) said so = tt
 
-    repeat : (stage : Stage) (said : read.Setup) (part : Part) → RepeatsIn (setup_of stage) said part → RepeatsIn (setup_of (configuration_given stage)) said part
+    repeat : (stage : Stage) (said : read.Setup) (part : Part) → RepeatsIn (standing stage) said part → RepeatsIn (standing (configuration_given stage)) said part
     repeat (Requested request) said part so = tt
     repeat (Connected at setup) said part so = so
     repeat (Leaving at setup request) said part so = so
-    repeat (Closing at request) said part so = tt
+    repeat (Closing at request checked) said part so = so
     repeat (Crossed at request) said part so = tt
 
 disconnection_counts : Counts disconnection_given
@@ -143,35 +143,35 @@ disconnection_counts = record { peer_is = peer; life_is = life; agrees = agree; 
     wait asked held (Requested request) so = so
     wait asked held (Connected at setup) so = tt
     wait asked held (Leaving at setup request) so = tt
-    wait asked held (Closing at request) so = tt
+    wait asked held (Closing at request checked) so = tt
     wait asked held (Crossed at request) so = tt
 
     peer : (stage : Stage) → peer_of (disconnection_given stage) ≡ peer_of stage
     peer (Requested request) = refl
     peer (Connected at setup) = refl
     peer (Leaving at setup request) = refl
-    peer (Closing at request) = refl
+    peer (Closing at request checked) = refl
     peer (Crossed at request) = refl
 
     life : (stage : Stage) → life_of (disconnection_given stage) ≡ life_of stage
     life (Requested request) = refl
     life (Connected at setup) = refl
     life (Leaving at setup request) = refl
-    life (Closing at request) = refl
+    life (Closing at request checked) = refl
     life (Crossed at request) = refl
 
-    agree : (wish : Wish) (stage : Stage) (said : read.Setup) → AgreesIf wish (setup_of stage) said → AgreesIf wish (setup_of (disconnection_given stage)) said
+    agree : (wish : Wish) (stage : Stage) (said : read.Setup) → AgreesIf wish (standing stage) said → AgreesIf wish (standing (disconnection_given stage)) said
     agree wish (Requested request) said so = tt
     agree wish (Connected at setup) said so = so
     agree wish (Leaving at setup request) said so = so
-    agree wish (Closing at request) said so = tt
+    agree wish (Closing at request checked) said so = so
     agree wish (Crossed at request) said so = tt
 
-    repeat : (stage : Stage) (said : read.Setup) (part : Part) → RepeatsIn (setup_of stage) said part → RepeatsIn (setup_of (disconnection_given stage)) said part
+    repeat : (stage : Stage) (said : read.Setup) (part : Part) → RepeatsIn (standing stage) said part → RepeatsIn (standing (disconnection_given stage)) said part
     repeat (Requested request) said part so = tt
     repeat (Connected at setup) said part so = so
     repeat (Leaving at setup request) said part so = so
-    repeat (Closing at request) said part so = tt
+    repeat (Closing at request checked) said part so = so
     repeat (Crossed at request) said part so = tt
 
 counted_reads : (policy : Policy) (f : Stage → Stage) (held : Held) (found : Option Entry) (peer : Option ℕ) → Counts f → ReadsBy policy held peer found → (let after : Held = record held { stage = f held.stage } in ReadsBy policy after peer found)
@@ -306,7 +306,7 @@ end-asked policy r v held (Connected peer setup) is at sound =
     let leads : Leads v w held peer AsksEnd = record {
       others = λ own apart. find-placed after v.held own apart;
       lone = placed-distinct after v.held;
-      to = subst (PartsTo held peer AsksEnd) (sym here) (refl, refl, refl, sym (ap (λ s. life_after (life_of s) (Some AsksEnd)) is), subst (λ s. SetupsTo (setup_of s) (Some setup)) (sym is) refl);
+      to = subst (PartsTo held peer AsksEnd) (sym here) (refl, refl, refl, sym (ap (λ s. life_after (life_of s) (Some AsksEnd)) is), subst (λ s. SetupsTo (standing s) (Agreeing setup)) (sym is) refl);
       next_is = refl;
       memory_is = refl;
     } in
@@ -315,7 +315,7 @@ end-asked policy r v held (Connected peer setup) is at sound =
     (sym (asked-one v w (Disconnection held.own) command refl (newest-asks (Disconnection held.own) before) (ap (on_held (λ h. disconnection_at h.stage h)) here)))
     (leads-said policy r v w held peer AsksEnd (spoken command) refl at (ap peer_of is) leads sound))
 end-asked policy r v held (Leaving peer setup request) is at sound = nothing-ends policy r v held.own sound
-end-asked policy r v held (Closing peer request) is at sound = nothing-ends policy r v held.own sound
+end-asked policy r v held (Closing peer request checked) is at sound = nothing-ends policy r v held.own sound
 end-asked policy r v held (Crossed peer request) is at sound = nothing-ends policy r v held.own sound
 
 end-of : (policy : Policy) (r : Reading) (v : Channels) (own : ℕ) (found : Option Held) → find (has_own own) v.held ≡ found → Sound policy r v

@@ -20,7 +20,7 @@ use Rattle.channel_laws.specs.Views.{channel_by, read_at}
 use Rattle.channel_model.proofs.Lookups.{eqb-same, own_of, Distinct, distinct-append}
 use Rattle.channel_laws.proofs.Entries.{read-append, found-fails, own_read}
 use Rattle.channel_laws.proofs.Sound.{Agrees, PartsAre, Reads, Apart, Core, IsSome, IsAway, Repeats, Wants, Kept, at_each, IsPlaced, placed-held}
-use Rattle.channel_laws.proofs.Steps.{calls-on, ends-on, queries-on, less-apart}
+use Rattle.channel_laws.proofs.Steps.{calls-on, ends-on, queries-on, less-apart, more-apart}
 
 -- ---- nothing is agreed on
 
@@ -101,6 +101,7 @@ pub record Comes (policy : Policy) (entries : List Entry) (held held' : List Hel
   pub here : find (has_own new.own) held' ≡ Some new
   pub lone : Distinct own_of held → Distinct own_of held'
   pub below : new.own < next'
+  pub high : 0x0040 ≤ new.own
   pub rises : next ≤ next'
 
 reads-fresh : (policy : Policy) (new : Held) (peer : ℕ) → new.stage ≡ Connected peer no_setup → Reads policy (Some new) (Some (fresh (channel_by new.psm new.own peer)))
@@ -119,6 +120,8 @@ core-fresh policy entries held held' next next' new peer comes core =
           core.reads;
       held_below = λ own above. comes.others own (less-apart new.own own (omega (arith, comes.below, above))) ∙ core.held_below own (omega (arith, comes.rises, above));
       read_below = λ own above. fresh-others entries channel own (less-apart new.own own (omega (arith, comes.below, above))) ∙ core.read_below own (omega (arith, comes.rises, above));
+      held_low = λ own low. comes.others own (more-apart new.own own (omega (arith, comes.high, low))) ∙ core.held_low own low;
+      read_low = λ own low. fresh-others entries channel own (more-apart new.own own (omega (arith, comes.high, low))) ∙ core.read_low own low;
       start = omega (arith, core.start, comes.rises);
       apart = apart-fresh entries channel comes.unread comes.free core.apart;
       distinct = distinct-append own_read entries (fresh channel) comes.unread core.distinct;

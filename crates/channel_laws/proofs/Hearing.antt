@@ -16,7 +16,7 @@ use Rattle.channel_model.specs.Giving.{configuration_at}
 use Rattle.channel_laws.specs.OwnTalk.{response_by, command_if, exchanged, asked_between}
 use Rattle.channel_laws.specs.Views.{peer_of, life_of, read_at}
 use Rattle.channel_model.proofs.Lookups.{own_of, found-has}
-use Rattle.channel_laws.proofs.Sound.{RepeatsIn, Repeats, part_of, Sound}
+use Rattle.channel_laws.proofs.Sound.{refused-nothing, Repeats, part_of, Sound}
 use Rattle.channel_laws.proofs.Moves.{Found, found-there}
 use Rattle.channel_laws.proofs.Questions.{exchange, question-by, IsNew}
 use Rattle.channel_laws.proofs.Configuring.{Queries}
@@ -66,7 +66,7 @@ too-late policy r v one identifier held peer octets queries new at peer_is none 
     let found : Found policy held peer (read_at held.own r.entries) = found-there policy r.entries v.held v.next held peer sound.core at peer_is in
     let part = part_of (terms_of held octets) peer 0 2 in
     queries-stays policy r v one identifier (Some (terms_of held octets)) (configuration_response peer 0 2 []) queries new
-    (subst (λ h. Repeats h (read_at held.own r.entries) part) (sym at) (subst (λ e. Repeats (Some held) e part) (sym found.found_is) (subst (λ s. RepeatsIn s found.entry.setup part) (sym none) tt))) sound
+    (subst (λ h. Repeats h (read_at held.own r.entries) part) (sym at) (subst (λ e. Repeats (Some held) e part) (sym found.found_is) (refused-nothing held.stage found.entry.setup part none refl))) sound
 
 comes-at : (policy : Policy) (r : Reading) (v : Channels) (one : Read) (identifier flags : ℕ) (octets : List ℕ) (held : Held) (stage : Stage) → held.stage ≡ stage → Queries one identifier (Some (terms_of held octets)) → IsNew v.memory.configuration identifier
     → find (has_own held.own) v.held ≡ Some held → Sound policy r v → Comes policy r v one identifier held.own flags octets (Some held) (setup_of stage) (judged_stage stage (policy.wish held.psm) flags octets)
@@ -75,7 +75,7 @@ comes-at policy r v one identifier flags octets held (Connected peer setup) is q
     judged-setup policy r v one identifier held peer flags setup octets (record { queries = queries; new = new; talks = talks-connected v held peer setup is at; sound = sound })
 comes-at policy r v one identifier flags octets held (Leaving peer setup request) is queries new at sound =
     judged-setup policy r v one identifier held peer flags setup octets (record { queries = queries; new = new; talks = talks-leaving v held peer setup request is at; sound = sound })
-comes-at policy r v one identifier flags octets held (Closing peer request) is queries new at sound = too-late policy r v one identifier held peer octets queries new at (ap peer_of is) (ap setup_of is) sound
+comes-at policy r v one identifier flags octets held (Closing peer request checked) is queries new at sound = too-late policy r v one identifier held peer octets queries new at (ap peer_of is) (ap setup_of is) sound
 comes-at policy r v one identifier flags octets held (Crossed peer request) is queries new at sound = too-late policy r v one identifier held peer octets queries new at (ap peer_of is) (ap setup_of is) sound
 
 -- the machine's words for it

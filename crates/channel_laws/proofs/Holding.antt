@@ -21,18 +21,18 @@ use Rattle.link_talk.specs.Carriages.{is_passed}
 use Rattle.link_talk.specs.Accounts.{frames_passed}
 use Rattle.channel_model.specs.Value.{Own, Unasked, Asking, Granted, Carrier, Plain, Retransmitting, Setup, Stage, Requested, Connected, Leaving, Closing, Crossed, Held, Channels}
 use Rattle.channel_model.specs.Policies.{Policy}
-use Rattle.channel_model.specs.Changing.{has_own, is_open, setup_of, stage_with, with_setup}
+use Rattle.channel_model.specs.Changing.{has_own, has_fcs_by, is_open, is_stated, setup_of, stage_with, with_setup}
 use Rattle.channel_model.specs.declared.event.CloseReason.{CloseReason}
 use Rattle.channel_model.specs.Asking.{new_request}
 use Rattle.channel_model.specs.Configuring.{granted_setup}
 use Rattle.channel_model.specs.Closing.{closes_at}
 use Rattle.channel_model.specs.Carrying.{reason_of, settles_machine, machine_heard, read_by as read, is_frame, is_taken_with, takes_on, takes_held, takes}
 use Rattle.channel_model.proofs.Lookups.{own_of, found-has, found-placed, and_off}
-use Rattle.channel_model.proofs.Going.{is_stated, staged}
+use Rattle.channel_model.proofs.Going.{staged}
 use Rattle.channel_model.proofs.Walking.{found-own, with-setup, with-found}
 use Rattle.channel_laws.specs.Views.{peer_of, life_of, asked_mode, carrier_mode, read_at}
 use Rattle.channel_laws.proofs.Both.{}
-use Rattle.channel_laws.proofs.Sound.{Agrees, AgreesIf, ReadsBy, Reads, Sound, requested-unread}
+use Rattle.channel_laws.proofs.Sound.{Agrees, AgreesIf, standing-is, ReadsBy, Reads, Sound, requested-unread}
 use Rattle.channel_laws.proofs.CheckWords.{stated_mode}
 use Rattle.channel_laws.proofs.Keeping.{OfCarrier, StageKeeps, HeldKeeps, AllKeep}
 use Rattle.channel_laws.proofs.Taking.{takes-cases, takes-others}
@@ -55,14 +55,14 @@ pub kept-setup : (frame : ℕ) (frames : List Passage) (wish : Wish) (stage : St
 kept-setup frame frames wish (Requested request) setup is kept = cc
 kept-setup frame frames wish (Connected peer s) setup is kept = let same : s ≡ setup = cc in subst (λ (x : Setup). CarrierPasses frame frames wish (is_open x) x.carrier) same kept
 kept-setup frame frames wish (Leaving peer s request) setup is kept = let same : s ≡ setup = cc in subst (λ (x : Setup). CarrierPasses frame frames wish (is_open x) x.carrier) same kept
-kept-setup frame frames wish (Closing peer request) setup is kept = cc
+kept-setup frame frames wish (Closing peer request checked) setup is kept = cc
 kept-setup frame frames wish (Crossed peer request) setup is kept = cc
 
 pub keeps-setup : (frame : ℕ) (frames : List Passage) (wish : Wish) (stage : Stage) (setup : Setup) → setup_of stage ≡ Some setup → CarrierPasses frame frames wish (is_open setup) setup.carrier → StageKeeps (Passed frame frames) wish stage
 keeps-setup frame frames wish (Requested request) setup is passes = cc
 keeps-setup frame frames wish (Connected peer s) setup is passes = let same : s ≡ setup = cc in subst (λ (x : Setup). CarrierPasses frame frames wish (is_open x) x.carrier) (sym same) passes
 keeps-setup frame frames wish (Leaving peer s request) setup is passes = let same : s ≡ setup = cc in subst (λ (x : Setup). CarrierPasses frame frames wish (is_open x) x.carrier) (sym same) passes
-keeps-setup frame frames wish (Closing peer request) setup is passes = cc
+keeps-setup frame frames wish (Closing peer request checked) setup is passes = cc
 keeps-setup frame frames wish (Crossed peer request) setup is passes = cc
 
 -- what is read of it
@@ -85,14 +85,14 @@ read_by policy past own held setup peer (Some entry) peer_is lives has at (there
   found = at;
   here = ap (λ (c : Channel). c.peer) there.channel_is;
   there = ap is_there there.life_is ∙ lives;
-  agrees = subst (λ s. AgreesIf (policy.wish held.psm) s entry.setup) has agrees;
+  agrees = subst (λ s. AgreesIf (policy.wish held.psm) s entry.setup) (standing-is held.stage setup has) agrees;
 }
 
 talks_at : (stage : Stage) (setup : Setup) → setup_of stage ≡ Some setup → (peer : ℕ) × (peer_of stage ≡ Some peer) × (is_there (life_of stage) ≡ true)
 talks_at (Requested request) setup is = cc
 talks_at (Connected peer s) setup is = (peer, refl, refl)
 talks_at (Leaving peer s request) setup is = (peer, refl, refl)
-talks_at (Closing peer request) setup is = cc
+talks_at (Closing peer request checked) setup is = cc
 talks_at (Crossed peer request) setup is = cc
 
 pub is-read : (policy : Policy) (past : List Saying) (v : Channels) (own : ℕ) (held : Held) (setup : Setup) → find (has_own own) v.held ≡ Some held → setup_of held.stage ≡ Some setup → Sound policy (reading past) v → IsRead policy past own held setup
@@ -123,9 +123,9 @@ held_is policy past own held setup r b is = ap (counted_in is_passed) r.found �
 -- a channel that its machine closes is closed
 closed_keeps : (policy : Policy) (P : OfCarrier) (u : Channels) (held : Held) (reason : CloseReason) (stage : Stage) (setup : Setup) → find (has_own held.own) u.held ≡ Some held → setup_of stage ≡ Some setup → HeldKeeps policy P (find (has_own held.own) (closes_at stage reason held u).held)
 closed_keeps policy P u held reason (Requested request) setup found has = cc
-closed_keeps policy P u held reason (Connected peer s) setup found has = subst (HeldKeeps policy P) (sym (found-placed (staged held (Closing peer (new_request u))) held u.held found)) tt
-closed_keeps policy P u held reason (Leaving peer s request) setup found has = subst (HeldKeeps policy P) (sym (found-placed (staged held (Closing peer request)) held u.held found)) tt
-closed_keeps policy P u held reason (Closing peer request) setup found has = cc
+closed_keeps policy P u held reason (Connected peer s) setup found has = subst (HeldKeeps policy P) (sym (found-placed (staged held (Closing peer (new_request u) (has_fcs_by s))) held u.held found)) tt
+closed_keeps policy P u held reason (Leaving peer s request) setup found has = subst (HeldKeeps policy P) (sym (found-placed (staged held (Closing peer request (has_fcs_by s))) held u.held found)) tt
+closed_keeps policy P u held reason (Closing peer request checked) setup found has = cc
 closed_keeps policy P u held reason (Crossed peer request) setup found has = cc
 
 -- the machine of a channel that takes it
@@ -220,7 +220,7 @@ comes_none policy party channel past pdu held (Requested request) is has here re
     into_none party channel past pdu held.own false here (ap (counted_in is_passed) (requested-unread policy held request (read_at held.own (reading past).entries) is reads)) (inl refl) ∙ kept
 comes_none policy party channel past pdu held (Connected peer setup) is has here reads kept = cc
 comes_none policy party channel past pdu held (Leaving peer setup request) is has here reads kept = cc
-comes_none policy party channel past pdu held (Closing peer request) is has here reads kept = tt
+comes_none policy party channel past pdu held (Closing peer request checked) is has here reads kept = tt
 comes_none policy party channel past pdu held (Crossed peer request) is has here reads kept = tt
 
 comes_held : (policy : Policy) (party : Party) (channel : Channel) (past : List Saying) (v : Channels) (pdu : List ℕ) (held : Held) → eqb (channel_of pdu) held.own ≡ true → find (has_own held.own) v.held ≡ Some held → Sound policy (reading past) v

@@ -29,7 +29,7 @@ use Rattle.channel_model.proofs.Lookups.{own_of, found-has, and_off}
 use Rattle.channel_model.proofs.Going.{Walks}
 use Rattle.channel_model.proofs.Walking.{append_none, found-own, commands-go}
 use Rattle.channel_model.proofs.Calling.{connected-goes, asks-features-goes, disconnected-goes, sends-goes, takes-goes, timed-goes, given-goes}
-use Rattle.channel_laws.specs.Views.{peer_of, life_of, read_at}
+use Rattle.channel_laws.specs.Views.{peer_of, life_of, standing, read_at}
 use Rattle.channel_laws.specs.OwnTalk.{asked_between, said_with_all}
 use Rattle.channel_laws.specs.Runs.{Occurrence, Comes, Connects, AsksFeatures, Disconnects, Sends, Gives, Fires, Tells, peer_at, said_by_carrier, said_as, said_in, Run, new_link, run_on, arisen, sdu_up, sdus_up}
 use Rattle.channel_laws.specs.Sdus.{StatesFrame, IsHandedUp, SdusAreRead}
@@ -68,7 +68,7 @@ stage_comes policy party own pdu earlier ups pdus pdus' so_far now v held (Some 
       own_is = same;
       stage_is = is;
       found = at;
-      agrees = subst (λ s. AgreesIf (policy.wish held.psm) (setup_of s) entry.setup) is agrees;
+      agrees = subst (λ s. AgreesIf (policy.wish held.psm) (standing s) entry.setup) is agrees;
       alive = ap is_alive (there.life_is ∙ ap life_of is);
       stated = stated;
       unbroken = not-broken own (earlier ++ v.events) (sym closed_is ∙ shut);
@@ -83,7 +83,7 @@ stage_comes policy party own pdu earlier ups pdus pdus' so_far now v held (Some 
       left_setup policy party.frame own pdu pdus' v held peer setup request same is at,
       still_handed _ _ (sdus_up own ups) _ so_far now grows (up-nothing own ups Nothing refl) passes.1 handed,
     )
-stage_comes policy party own pdu earlier ups pdus pdus' so_far now v held found closed (Closing peer request) same is at reads told closed_is attends handed before grows =
+stage_comes policy party own pdu earlier ups pdus pdus' so_far now v held found closed (Closing peer request checked) same is at reads told closed_is attends handed before grows =
     unchanged policy party own earlier (sdus_up own ups) _ pdus pdus' so_far now v attends handed (up-nothing own ups Nothing refl) (before.passes (over found reads))
   where
     over : (found : Option Entry) → ReadsBy policy held (Some peer) found → opens found ≡ false

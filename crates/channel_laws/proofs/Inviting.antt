@@ -99,7 +99,7 @@ wants_at : (asked : Requests) (identifier : ℕ) (wanted : Option Wanted) (held 
 wants_at asked identifier wanted held (Requested request) wants = wants
 wants_at asked identifier wanted held (Connected peer setup) wants = tt
 wants_at asked identifier wanted held (Leaving peer setup request) wants = tt
-wants_at asked identifier wanted held (Closing peer request) wants = tt
+wants_at asked identifier wanted held (Closing peer request checked) wants = tt
 wants_at asked identifier wanted held (Crossed peer request) wants = tt
 
 wants_still : (asked : Requests) (identifier : ℕ) (wanted : Option Wanted) (found : Option Held) → Wants asked found
@@ -191,7 +191,7 @@ peers : (stage : Stage) (peer endpoint : ℕ) → peer_of stage ≡ Some peer �
 peers (Requested request) peer endpoint at is = cc
 peers (Connected own setup) peer endpoint at is = let same : own ≡ peer = cc in ap (eqb endpoint) (same ∙ sym is) ∙ eqb-same endpoint
 peers (Leaving own setup request) peer endpoint at is = let same : own ≡ peer = cc in ap (eqb endpoint) (same ∙ sym is) ∙ eqb-same endpoint
-peers (Closing own request) peer endpoint at is = let same : own ≡ peer = cc in ap (eqb endpoint) (same ∙ sym is) ∙ eqb-same endpoint
+peers (Closing own request checked) peer endpoint at is = let same : own ≡ peer = cc in ap (eqb endpoint) (same ∙ sym is) ∙ eqb-same endpoint
 peers (Crossed own request) peer endpoint at is = let same : own ≡ peer = cc in ap (eqb endpoint) (same ∙ sym is) ∙ eqb-same endpoint
 
 never : {X : Type 0} (b : Bool) → b ≡ true → b ≡ false → X
@@ -305,6 +305,7 @@ invites-granted policy r v one identifier psm source invites new none sound =
       here = held_here v.held held (sound.core.held_below v.next (omega arith));
       lone = distinct-append own_of v.held held (sound.core.held_below v.next (omega arith));
       below = omega arith;
+      high = sound.core.start;
       rises = omega arith;
     } in
     let silent : Memory = record v.memory { connection = Some (record { identifier = identifier; response = None }) } in

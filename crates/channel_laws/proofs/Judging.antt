@@ -19,7 +19,7 @@ use Rattle.channel_model.specs.declared.errand.Errand.TheVariants.{Configuration
 use Rattle.channel_model.specs.declared.event.CloseReason.TheVariants.{NoAgreement}
 use Rattle.channel_model.specs.Value.{Request, Own, Unasked, Asking, Granted, Setup, Stage, Requested, Connected, Leaving, Closing, Crossed, Held, Memory, Channels}
 use Rattle.channel_model.specs.Policies.{Policy}
-use Rattle.channel_model.specs.Changing.{has_own, setup_of, to_setup, stage_with, with_setup, is_open}
+use Rattle.channel_model.specs.Changing.{has_own, has_fcs_by, setup_of, to_setup, stage_with, with_setup, is_open}
 use Rattle.channel_model.specs.Asking.{new_request, first_options, asks_options}
 use Rattle.channel_model.specs.Closing.{closes_at}
 use Rattle.channel_model.specs.Configuring.{Verdict, TooLate, Judged, accepted_setup, without_parts, refused_setup, accepts_with, refuses, follows_verdict, judged_part, judged_read, judged_setup}
@@ -28,9 +28,8 @@ use Rattle.channel_model.specs.Giving.{on_held, configuration_at}
 use Rattle.channel_laws.specs.OwnTalk.{spoken, command_with, asked_between}
 use Rattle.channel_laws.specs.Views.{peer_of, life_of, read_at, asked_mode}
 use Rattle.channel_model.proofs.Lookups.{found-placed, find-placed, placed-again}
-use Rattle.channel_laws.proofs.Sound.{AgreesIf, RepeatsIn, Repeats, part_of, Sound}
+use Rattle.channel_laws.proofs.Sound.{AgreesIf, standing-is, refused-nothing, RepeatsIn, Repeats, part_of, Sound}
 use Rattle.channel_laws.proofs.Moves.{Found, found-there}
-use Rattle.channel_laws.proofs.Agreeing.{requested-states}
 use Rattle.channel_laws.proofs.Answering.{Alters, wishes-said, found-agrees}
 use Rattle.channel_laws.proofs.Asking.{asked-one, newest-asks, closes-sound}
 use Rattle.channel_laws.proofs.Questions.{exchange}
@@ -54,7 +53,7 @@ too-late policy r v one identifier held peer setup octets asked is =
     queries-stays policy r v one identifier (Some (terms_of held octets)) (configuration_response peer 0 2 []) asked.queries asked.new
     (subst (λ h. Repeats h (read_at held.own r.entries) part) (sym asked.talks.found)
     (subst (λ e. Repeats (Some held) e part) (sym found.found_is)
-    (subst (λ s. RepeatsIn s found.entry.setup part) (sym asked.talks.setup_is)
+    (subst (λ s. RepeatsIn s found.entry.setup part) (sym (standing-is held.stage setup asked.talks.setup_is))
     (λ unset. let never : true ≡ false = sym (open-set (policy.wish held.psm) setup found.entry.setup (found-agrees policy held peer setup (read_at held.own r.entries) asked.talks.setup_is found) is) ∙ unset in absurd cc))))
     asked.sound
 
@@ -74,7 +73,7 @@ closes-free : (stage : Stage) (held : Held) (memory : Memory) (v : Channels) →
 closes-free (Requested request) held memory v = refl
 closes-free (Connected peer setup) held memory v = refl
 closes-free (Leaving peer setup request) held memory v = refl
-closes-free (Closing peer request) held memory v = refl
+closes-free (Closing peer request checked) held memory v = refl
 closes-free (Crossed peer request) held memory v = refl
 
 -- what is held then
@@ -87,16 +86,16 @@ pub record Closed (v : Channels) (own peer : ℕ) (psm : ℕ) : Type 0 where
 
 closes-found : (stage : Stage) (held before : Held) (peer : ℕ) (v : Channels) → peer_of stage ≡ Some peer → is_there (life_of stage) ≡ true → find (has_own held.own) v.held ≡ Some held → held.stage ≡ stage → Closed (closes_at stage NoAgreement held v) held.own peer held.psm
 closes-found (Requested request) held before peer v at there found is = cc
-closes-found (Connected own_peer setup) held before peer v at there found is = record { after = record held { stage = Closing own_peer (new_request v) }; found = found-placed (let after : Held = record held { stage = Closing own_peer (new_request v) } in after) held v.held found; own_is = refl; peer_is = at; setup_is = refl }
-closes-found (Leaving own_peer setup request) held before peer v at there found is = record { after = record held { stage = Closing own_peer request }; found = found-placed (let after : Held = record held { stage = Closing own_peer request } in after) held v.held found; own_is = refl; peer_is = at; setup_is = refl }
-closes-found (Closing own_peer request) held before peer v at there found is = record { after = held; found = found; own_is = refl; peer_is = ap peer_of is ∙ at; setup_is = ap setup_of is }
+closes-found (Connected own_peer setup) held before peer v at there found is = record { after = record held { stage = Closing own_peer (new_request v) (has_fcs_by setup) }; found = found-placed (let after : Held = record held { stage = Closing own_peer (new_request v) (has_fcs_by setup) } in after) held v.held found; own_is = refl; peer_is = at; setup_is = refl }
+closes-found (Leaving own_peer setup request) held before peer v at there found is = record { after = record held { stage = Closing own_peer request (has_fcs_by setup) }; found = found-placed (let after : Held = record held { stage = Closing own_peer request (has_fcs_by setup) } in after) held v.held found; own_is = refl; peer_is = at; setup_is = refl }
+closes-found (Closing own_peer request checked) held before peer v at there found is = record { after = held; found = found; own_is = refl; peer_is = ap peer_of is ∙ at; setup_is = ap setup_of is }
 closes-found (Crossed own_peer request) held before peer v at there found is = cc
 
 closes-memory : (stage : Stage) (held : Held) (v : Channels) → (closes_at stage NoAgreement held v).memory ≡ v.memory
 closes-memory (Requested request) held v = refl
 closes-memory (Connected peer setup) held v = refl
 closes-memory (Leaving peer setup request) held v = refl
-closes-memory (Closing peer request) held v = refl
+closes-memory (Closing peer request checked) held v = refl
 closes-memory (Crossed peer request) held v = refl
 
 refused-closing : (policy : Policy) (r : Reading) (v : Channels) (one : Read) (identifier : ℕ) (held : Held) (peer : ℕ) (setup after : Setup) (octets : List ℕ) (answer : ℕ) (given : List ℕ) → Asked policy r v one identifier held peer setup octets
@@ -123,7 +122,7 @@ refused-closing policy r v one identifier held peer setup after octets answer gi
     let closed : Closed w held.own peer held.psm = closes-found (stage_with after held.stage) (with_setup held after) held peer before (asked.talks.peer_with after) (ap is_there (asked.talks.life_with after) ∙ asked.talks.there) here refl in
     let terms_is = ap (λ qs. query_terms (last_run (has_identifier identifier) qs)) (asked-queries past v w) ∙ exchange-queries policy r v one identifier held peer setup octets content asked in
     let repeated = repeats-now policy last (with_memory silent w) held.own peer 0 answer octets closed.after identifier terms_is closed.found closed.own_is closed.peer_is
-    (λ said agrees. subst (λ s. RepeatsIn s said (part_of (terms_of held octets) peer 0 answer)) (sym closed.setup_is) tt) second given in
+    (λ said agrees. refused-nothing closed.after.stage said (part_of (terms_of held octets) peer 0 answer) closed.setup_is refuses) second given in
     subst (λ x. Sound policy x w) (sym (fold-append read_on r (exchange one identifier (Some content)) (asked_between v w)))
     (remembers-sound policy last (with_memory silent w) w identifier content v.memory refl refl refl (closes-memory (stage_with after held.stage) (with_setup held after) before) repeated second)
 
@@ -177,11 +176,11 @@ accepted-asks policy r v one identifier held peer setup after octets given asked
     (ap (on_held (λ h. configuration_at h.stage)) (found-placed (with_setup held last_setup) held v.held asked.talks.found) ∙ asked.talks.request_with last_setup) in
     let last : Reading = read_on past (spoken command) in
     let second : Sound policy last (with_memory silent w) =
-    wishes-said policy past u (with_memory silent w) (with_setup held after) (with_setup held last_setup) peer after request options v.identifier (spoken command) refl alters refl refl (requested-states wish no_options wish.mode refl) first in
+    wishes-said policy past u (with_memory silent w) (with_setup held after) (with_setup held last_setup) peer after request options v.identifier (spoken command) refl alters refl refl (no_options, refl) first in
     let repeated = repeats-now policy last (with_memory silent w) held.own peer 0 0 octets (with_setup held last_setup) identifier
     (exchange-queries policy r v one identifier held peer setup octets content asked) alters.found_after refl (asked.talks.peer_with last_setup)
-    (λ said_so agrees. subst (λ s. RepeatsIn s said_so (part_of (terms_of held octets) peer 0 0)) (sym (asked.talks.setup_with last_setup))
-    (set-repeats wish last_setup said_so (part_of (terms_of held octets) peer 0 0) refl carrier (subst (λ s. AgreesIf wish s said_so) (asked.talks.setup_with last_setup) agrees)))
+    (λ said_so agrees. subst (λ s. RepeatsIn s said_so (part_of (terms_of held octets) peer 0 0)) (sym (standing-is (stage_with last_setup held.stage) last_setup (asked.talks.setup_with last_setup)))
+    (set-repeats wish last_setup said_so (part_of (terms_of held octets) peer 0 0) refl carrier (subst (λ s. AgreesIf wish s said_so) (standing-is (stage_with last_setup held.stage) last_setup (asked.talks.setup_with last_setup)) agrees)))
     second given in
     subst (λ rest. Sound policy (fold read_on r (exchange one identifier (Some content) ++ rest)) w) (sym said)
     (remembers-sound policy last (with_memory silent w) w identifier content v.memory refl refl refl refl repeated second)

@@ -29,7 +29,7 @@ abbrev pub StageKeeps : OfCarrier → Wish → Stage → Type 0
 StageKeeps P wish (Requested request) = P wish false false None
 StageKeeps P wish (Connected peer setup) = P wish false (is_open setup) setup.carrier
 StageKeeps P wish (Leaving peer setup request) = P wish true (is_open setup) setup.carrier
-StageKeeps P wish (Closing peer request) = Unit {0}
+StageKeeps P wish (Closing peer request checked) = Unit {0}
 StageKeeps P wish (Crossed peer request) = Unit {0}
 
 abbrev pub HeldKeeps : Policy → OfCarrier → Option Held → Type 0
@@ -76,30 +76,30 @@ goes_keep policy C P keeps own held (Requested request) (Some (Requested again))
 goes_keep policy C P keeps own held (Requested request) (Some (Connected peer setup)) closed was (none, silent) =
     subst (λ c. P own (policy.wish held.psm) false (is_some c && is_granted setup.own) c) (sym none) was
 goes_keep policy C P keeps own held (Requested request) (Some (Leaving peer setup other)) closed was goes = elim goes [ ]
-goes_keep policy C P keeps own held (Requested request) (Some (Closing peer other)) closed was goes = tt
+goes_keep policy C P keeps own held (Requested request) (Some (Closing peer other checked)) closed was goes = tt
 goes_keep policy C P keeps own held (Requested request) (Some (Crossed peer other)) closed was goes = tt
 goes_keep policy C P keeps own held (Connected peer setup) (Some (Requested request)) closed was goes = elim goes [ ]
 goes_keep policy C P keeps own held (Connected peer setup) (Some (Connected at after)) closed was (same, goes, silent) =
     keeps.goes own held.psm false (is_open setup) (is_open after) setup.carrier after.carrier (shut_before (policy.wish held.psm) C setup after goes) goes.carrier_goes was
 goes_keep policy C P keeps own held (Connected peer setup) (Some (Leaving at after request)) closed was (same, still, silent) =
     subst (λ (s : Setup). P own (policy.wish held.psm) true (is_open s) s.carrier) (sym still) (keeps.leaves own held.psm (is_open setup) setup.carrier was)
-goes_keep policy C P keeps own held (Connected peer setup) (Some (Closing at request)) closed was goes = tt
+goes_keep policy C P keeps own held (Connected peer setup) (Some (Closing at request checked)) closed was goes = tt
 goes_keep policy C P keeps own held (Connected peer setup) (Some (Crossed at request)) closed was goes = tt
 goes_keep policy C P keeps own held (Leaving peer setup request) (Some (Requested other)) closed was goes = elim goes [ ]
 goes_keep policy C P keeps own held (Leaving peer setup request) (Some (Connected at after)) closed was goes = elim goes [ ]
 goes_keep policy C P keeps own held (Leaving peer setup request) (Some (Leaving at after other)) closed was (same, goes, silent) =
     keeps.goes own held.psm true (is_open setup) (is_open after) setup.carrier after.carrier (shut_before (policy.wish held.psm) C setup after goes) goes.carrier_goes was
-goes_keep policy C P keeps own held (Leaving peer setup request) (Some (Closing at other)) closed was goes = tt
+goes_keep policy C P keeps own held (Leaving peer setup request) (Some (Closing at other checked)) closed was goes = tt
 goes_keep policy C P keeps own held (Leaving peer setup request) (Some (Crossed at other)) closed was goes = tt
-goes_keep policy C P keeps own held (Closing peer request) (Some (Requested other)) closed was goes = elim goes [ ]
-goes_keep policy C P keeps own held (Closing peer request) (Some (Connected at after)) closed was goes = elim goes [ ]
-goes_keep policy C P keeps own held (Closing peer request) (Some (Leaving at after other)) closed was goes = elim goes [ ]
-goes_keep policy C P keeps own held (Closing peer request) (Some (Closing at other)) closed was goes = tt
-goes_keep policy C P keeps own held (Closing peer request) (Some (Crossed at other)) closed was goes = tt
+goes_keep policy C P keeps own held (Closing peer request checked) (Some (Requested other)) closed was goes = elim goes [ ]
+goes_keep policy C P keeps own held (Closing peer request checked) (Some (Connected at after)) closed was goes = elim goes [ ]
+goes_keep policy C P keeps own held (Closing peer request checked) (Some (Leaving at after other)) closed was goes = elim goes [ ]
+goes_keep policy C P keeps own held (Closing peer request checked) (Some (Closing at other still)) closed was goes = tt
+goes_keep policy C P keeps own held (Closing peer request checked) (Some (Crossed at other)) closed was goes = tt
 goes_keep policy C P keeps own held (Crossed peer request) (Some (Requested other)) closed was goes = elim goes [ ]
 goes_keep policy C P keeps own held (Crossed peer request) (Some (Connected at after)) closed was goes = elim goes [ ]
 goes_keep policy C P keeps own held (Crossed peer request) (Some (Leaving at after other)) closed was goes = elim goes [ ]
-goes_keep policy C P keeps own held (Crossed peer request) (Some (Closing at other)) closed was goes = tt
+goes_keep policy C P keeps own held (Crossed peer request) (Some (Closing at other checked)) closed was goes = tt
 goes_keep policy C P keeps own held (Crossed peer request) (Some (Crossed at other)) closed was goes = tt
 
 -- ---- all channels
@@ -129,7 +129,7 @@ first_keeps : (P : OfCarrier) (wish : Wish) (stage : Stage) → IsFirst stage �
 first_keeps P wish (Requested request) is none = none
 first_keeps P wish (Connected peer setup) is none = subst (λ (s : Setup). P wish false (is_open s) s.carrier) (sym is) none
 first_keeps P wish (Leaving peer setup request) is none = elim is [ ]
-first_keeps P wish (Closing peer request) is none = tt
+first_keeps P wish (Closing peer request checked) is none = tt
 first_keeps P wish (Crossed peer request) is none = tt
 
 made_keeps : (policy : Policy) (P : ℕ → OfCarrier) (v w : Channels) (psm : ℕ) (stage : Stage) → IsFirst stage → w.held ≡ v.held ++ new_held psm v.next stage ∷ [] → w.next ≡ v.next + 1 → KeepsOn policy P v w
@@ -172,7 +172,7 @@ keep-also policy P Q v also all =
     at_stage own psm (Requested request) was = also own psm false false None was
     at_stage own psm (Connected peer setup) was = also own psm false (is_open setup) setup.carrier was
     at_stage own psm (Leaving peer setup request) was = also own psm true (is_open setup) setup.carrier was
-    at_stage own psm (Closing peer request) was = tt
+    at_stage own psm (Closing peer request checked) was = tt
     at_stage own psm (Crossed peer request) was = tt
 
     by : (own : ℕ) (held : Option Held) → HeldKeeps policy (P own) held → HeldKeeps policy (Q own) held

@@ -83,21 +83,21 @@ closes_lasts v held reason (Requested request) = (refl, refl, gone_with held.own
 closes_lasts v held reason (Connected peer setup) =
     (refl, refl, asked-with (errands.Disconnection held.own) (filter (λ x. not (is_copy (errands.Configuration held.own) x)) v.queue) ∙ forgotten (errands.Configuration held.own) v.queue)
 closes_lasts v held reason (Leaving peer setup request) = (refl, refl, forgotten (errands.Configuration held.own) v.queue)
-closes_lasts v held reason (Closing peer request) = (refl, refl, refl)
+closes_lasts v held reason (Closing peer request checked) = (refl, refl, refl)
 closes_lasts v held reason (Crossed peer request) = (refl, refl, refl)
 
 peer_lasts : (v : Channels) (held : Held) (stage : Stage) → Lasts v (peer_closes_at stage held v)
 peer_lasts v held (Requested request) = (refl, refl, refl)
 peer_lasts v held (Connected peer setup) = (refl, refl, gone_with held.own v.queue)
 peer_lasts v held (Leaving peer setup request) = (refl, refl, forgotten (errands.Configuration held.own) v.queue)
-peer_lasts v held (Closing peer request) = (refl, refl, refl)
+peer_lasts v held (Closing peer request checked) = (refl, refl, refl)
 peer_lasts v held (Crossed peer request) = (refl, refl, refl)
 
 ends_last : (v : Channels) (held : Held) (reason : CloseReason) (stage : Stage) → Lasts v (ends_at stage reason held v)
 ends_last v held reason (Requested request) = (refl, refl, refl)
 ends_last v held reason (Connected peer setup) = (refl, refl, refl)
 ends_last v held reason (Leaving peer setup request) = (refl, refl, gone_with held.own v.queue)
-ends_last v held reason (Closing peer request) = (refl, refl, gone_with held.own v.queue)
+ends_last v held reason (Closing peer request checked) = (refl, refl, gone_with held.own v.queue)
 ends_last v held reason (Crossed peer request) = (refl, refl, gone_with held.own v.queue)
 
 -- ---- what follows from a request of the peer
@@ -172,7 +172,7 @@ grant_at : (v : Channels) (stage : Stage) (policy : Policy) (identifier endpoint
 grant_at v (Requested request) policy identifier endpoint result held = either (eqb request.identifier identifier) v (hears_connected policy endpoint result held v) v (connected_lasts v policy endpoint result held) (refl, refl, refl)
 grant_at v (Connected peer setup) policy identifier endpoint result held = (refl, refl, refl)
 grant_at v (Leaving peer setup request) policy identifier endpoint result held = (refl, refl, refl)
-grant_at v (Closing peer request) policy identifier endpoint result held = (refl, refl, refl)
+grant_at v (Closing peer request checked) policy identifier endpoint result held = (refl, refl, refl)
 grant_at v (Crossed peer request) policy identifier endpoint result held = (refl, refl, refl)
 
 pub grant-lasts : (v : Channels) (held : Option Held) (policy : Policy) (identifier endpoint result : ℕ) → Lasts v (hears_grant held policy identifier endpoint result v)
@@ -246,7 +246,7 @@ left_at : (v : Channels) (held : Held) (stage : Stage) → Lasts v (disconnected
 left_at v held (Requested request) = closes_lasts v held OwnClosed held.stage
 left_at v held (Connected peer setup) = (refl, refl, asked-with (errands.Disconnection held.own) v.queue)
 left_at v held (Leaving peer setup request) = (refl, refl, refl)
-left_at v held (Closing peer request) = (refl, refl, refl)
+left_at v held (Closing peer request checked) = (refl, refl, refl)
 left_at v held (Crossed peer request) = (refl, refl, refl)
 
 left_held : (v : Channels) (held : Option Held) → Lasts v (disconnected_held held v)
@@ -326,7 +326,7 @@ timed_stage v (Requested request) tries held =
     fires_last v (fired tries (errands.Connection held.own) request v) (errands.Connection held.own) (closes RetryLimit held) (closes_lasts v held RetryLimit held.stage)
 timed_stage v (Connected peer setup) tries held = timed_setup v setup.own tries held setup
 timed_stage v (Leaving peer setup request) tries held = timed_setup v setup.own tries held setup
-timed_stage v (Closing peer request) tries held = (refl, refl, refl)
+timed_stage v (Closing peer request checked) tries held = (refl, refl, refl)
 timed_stage v (Crossed peer request) tries held = (refl, refl, refl)
 
 timed_held : (v : Channels) (held : Option Held) (tries : ℕ) → Lasts v (times_held held tries v)
@@ -338,7 +338,7 @@ timed_end v (Requested request) tries held = (refl, refl, refl)
 timed_end v (Connected peer setup) tries held = (refl, refl, refl)
 timed_end v (Leaving peer setup request) tries held =
     fires_last v (fired tries (errands.Disconnection held.own) request v) (errands.Disconnection held.own) (ends RetryLimit held) (ends_last v held RetryLimit held.stage)
-timed_end v (Closing peer request) tries held =
+timed_end v (Closing peer request checked) tries held =
     fires_last v (fired tries (errands.Disconnection held.own) request v) (errands.Disconnection held.own) (loses_end held) (ends_last v held RetryLimit held.stage)
 timed_end v (Crossed peer request) tries held =
     fires_last v (fired tries (errands.Disconnection held.own) request v) (errands.Disconnection held.own) (loses_end held) (ends_last v held RetryLimit held.stage)

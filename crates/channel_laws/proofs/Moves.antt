@@ -1,7 +1,8 @@
 -- What one saying does to what always holds.
-use Rattle.std.proofs.Common.{◌≡◌, ℕ, ◌<◌, ◌≤◌, List, Bool, true, false, cond, ◌&&◌, eqb, Option, Some, None, refl, sym, ap, subst, ◌∙◌}
+use Rattle.std.proofs.Common.{◌≡◌, ℕ, ◌<◌, ◌≤◌, List, Bool, true, false, cond, ◌&&◌, eqb, not, Option, Some, None, refl, sym, ap, subst, ◌∙◌}
 use Rattle.std.specs.Prelude.{find, option_map, nat_lt}
 use Rattle.std.proofs.lemmas.Bool.{ltb-true, ltb-false}
+use Rattle.l2cap_config.specs.declared.options.ModeOption.{ModeOption}
 use Rattle.l2cap_config.specs.declared.wish.Wish.{Wish}
 use Rattle.link_talk.specs.declared.life.Life.{Life}
 use Rattle.link_talk.specs.declared.life.Life.TheVariants as lives
@@ -14,11 +15,11 @@ use Rattle.link_talk.specs.Setups as read
 use Rattle.link_talk.specs.Channels.{life_after, is_there, Entry, entry_after, made_by, entries_after, Reading, read_on}
 use Rattle.channel_model.specs.Value.{Setup, Stage, Requested, Connected, Leaving, Closing, Crossed, Held, Memory, Channels}
 use Rattle.channel_model.specs.Policies.{Policy}
-use Rattle.channel_model.specs.Changing.{has_own, setup_of}
-use Rattle.channel_laws.specs.Views.{peer_of, life_of, channel_by, IsThere, read_at}
+use Rattle.channel_model.specs.Changing.{has_own, has_fcs_by}
+use Rattle.channel_laws.specs.Views.{peer_of, life_of, Standing, Unread, Agreeing, Shut, standing, channel_by, IsThere, read_at}
 use Rattle.channel_model.proofs.Lookups.{own_of, Distinct, eqb-same, off_and}
 use Rattle.channel_laws.proofs.Entries.{entry-same, either_same, nothing-same, read-own}
-use Rattle.channel_laws.proofs.Sound.{AgreesIf, ReadsBy, Reads, Core, Repeats, RepeatsIn, WantsAt, Wants, Kept, Sound, moved, IsPlaced, placed-read}
+use Rattle.channel_laws.proofs.Sound.{AgreesIf, checks-agree, IsAgain, ReadsBy, Reads, Core, Repeats, RepeatsIn, WantsAt, Wants, Kept, Sound, moved, IsPlaced, placed-read}
 use Rattle.channel_laws.proofs.Steps.{core-one, kept-one}
 
 -- ---- sayings that are nothing for channels
@@ -38,7 +39,7 @@ pub wants-there : (asked : Requests) (held : Held) (stage : Stage) (peer : ℕ) 
 wants-there asked held (Requested request) peer is = cc
 wants-there asked held (Connected at setup) peer is = tt
 wants-there asked held (Leaving at setup request) peer is = tt
-wants-there asked held (Closing at request) peer is = tt
+wants-there asked held (Closing at request checked) peer is = tt
 wants-there asked held (Crossed at request) peer is = tt
 
 -- it has been read
@@ -46,7 +47,7 @@ pub record Found (policy : Policy) (held : Held) (peer : ℕ) (found : Option En
   pub entry : Entry
   pub found_is : found ≡ Some entry
   pub there : IsThere held peer entry
-  pub agrees : AgreesIf (policy.wish held.psm) (setup_of held.stage) entry.setup
+  pub agrees : AgreesIf (policy.wish held.psm) (standing held.stage) entry.setup
 
 found_by : (policy : Policy) (held : Held) (peer : ℕ) (found : Option Entry) → ReadsBy policy held (Some peer) found → Found policy held peer found
 found_by policy held peer None reads = elim reads [ ]
@@ -65,6 +66,13 @@ some_below next own held all below is false less = let never : None ≡ Some hel
 pub is-below : (policy : Policy) (entries : List Entry) (all : List Held) (next : ℕ) (held : Held) → Core policy entries all next → find (has_own held.own) all ≡ Some held → held.own < next
 is-below policy entries all next held core is = some_below next held.own held all core.held_below is (nat_lt held.own next) refl
 
+some_above : (own : ℕ) (held : Held) (all : List Held) → ((n : ℕ) → n < 0x0040 → find (has_own n) all ≡ None) → find (has_own own) all ≡ Some held → (b : Bool) → nat_lt own 0x0040 ≡ b → 0x0040 ≤ own
+some_above own held all low is true less = let never : None ≡ Some held = sym (low own (ltb-true own 0x0040 less)) ∙ is in absurd cc
+some_above own held all low is false less = ltb-false own 0x0040 less
+
+pub is-above : (policy : Policy) (entries : List Entry) (all : List Held) (next : ℕ) (held : Held) → Core policy entries all next → find (has_own held.own) all ≡ Some held → 0x0040 ≤ held.own
+is-above policy entries all next held core is = some_above held.own held all core.held_low is (nat_lt held.own 0x0040) refl
+
 -- one meaning more that touches a channel that is there
 pub sound-one : (policy : Policy) (asked : Requests) (entries : List Entry) (all all' : List Held) (next : ℕ) (memory : Memory) (more : Meaning) (held : Held) (entry : Entry)
     → find (has_own held.own) all ≡ Some held → read_at held.own entries ≡ Some entry → made_by more ≡ None → Core policy entries all next → Kept asked entries all memory
@@ -74,7 +82,7 @@ pub sound-one : (policy : Policy) (asked : Requests) (entries : List Entry) (all
     → Wants asked (find (has_own held.own) all')
     → Core policy (entries_after entries more) all' next × Kept asked (entries_after entries more) all' memory
 sound-one policy asked entries all all' next memory more held entry is at none core kept held_others read_others lone now repeats wants = (
-  core-one policy entries all all' next more held.own none (is-below policy entries all next held core is) core held_others read_others lone
+  core-one policy entries all all' next more held.own none (is-below policy entries all next held core is) (is-above policy entries all next held core is) core held_others read_others lone
       (subst (λ e. Reads policy (find (has_own held.own) all') (option_map (entry_after more) e)) (sym at) now),
   kept-one asked entries all all' memory more held.own none kept held_others read_others
       (λ part before. subst (λ e. Repeats (find (has_own held.own) all') (option_map (entry_after more) e) part) (sym at)
@@ -95,26 +103,43 @@ pub parts-others : (said : Word) (own peer : ℕ) (entries : List Entry) (n : �
 parts-others said own peer entries n apart = parts_other said own peer n (read_at n entries) apart (λ e is. read-own n entries e is)
 
 -- what becomes of the channel
-abbrev pub SetupsTo : (before after : Option Setup) → Type 0
-SetupsTo before None = Unit {0}
-SetupsTo None (Some after) = ⊥
-SetupsTo (Some before) (Some after) = after ≡ before
+abbrev pub SetupsTo : (before after : Standing) → Type 0
+SetupsTo before Unread = Unit {0}
+SetupsTo Unread (Agreeing after) = ⊥
+SetupsTo Unread (Shut after) = ⊥
+SetupsTo (Agreeing before) (Agreeing after) = after ≡ before
+SetupsTo (Agreeing before) (Shut after) = after ≡ has_fcs_by before
+SetupsTo (Shut before) (Agreeing after) = ⊥
+SetupsTo (Shut before) (Shut after) = after ≡ before
 
 abbrev pub PartsTo : Held → (peer : ℕ) → Word → Option Held → Type 0
 PartsTo held peer said None = life_after (life_of held.stage) (Some said) ≡ lives.Over
 PartsTo held peer said (Some after) =
     (after.psm ≡ held.psm) × (after.own ≡ held.own) × (peer_of after.stage ≡ Some peer) × (life_of after.stage ≡ life_after (life_of held.stage) (Some said))
-    × SetupsTo (setup_of held.stage) (setup_of after.stage)
+    × SetupsTo (standing held.stage) (standing after.stage)
 
-agrees_to : (wish : Wish) (before after : Option Setup) (said : read.Setup) → SetupsTo before after → AgreesIf wish before said → AgreesIf wish after said
-agrees_to wish before None said to agrees = tt
-agrees_to wish None (Some after) said to agrees = elim to [ ]
-agrees_to wish (Some before) (Some after) said to agrees = subst (λ s. AgreesIf wish (Some s) said) (sym to) agrees
+pub agrees-to : (wish : Wish) (before after : Standing) (said : read.Setup) → SetupsTo before after → AgreesIf wish before said → AgreesIf wish after said
+agrees-to wish before Unread said to agrees = tt
+agrees-to wish Unread (Agreeing after) said to agrees = elim to [ ]
+agrees-to wish Unread (Shut after) said to agrees = elim to [ ]
+agrees-to wish (Agreeing before) (Agreeing after) said to agrees = subst (λ s. AgreesIf wish (Agreeing s) said) (sym to) agrees
+agrees-to wish (Agreeing before) (Shut after) said to agrees = checks-agree wish before said agrees ∙ sym to
+agrees-to wish (Shut before) (Agreeing after) said to agrees = elim to [ ]
+agrees-to wish (Shut before) (Shut after) said to agrees = agrees ∙ sym to
 
-repeats_to : (before after : Option Setup) (said : read.Setup) (part : Part) → SetupsTo before after → RepeatsIn before said part → RepeatsIn after said part
-repeats_to before None said part to repeats = tt
-repeats_to None (Some after) said part to repeats = elim to [ ]
-repeats_to (Some before) (Some after) said part to repeats = subst (λ s. RepeatsIn (Some s) said part) (sym to) repeats
+again_in_part : (accepted more : Bool) (mode : Option ModeOption) (options : List ℕ) → IsAgain accepted more mode options → (accepted && not more) ≡ false
+again_in_part false more mode options again = refl
+again_in_part true false mode options again = elim again [ ]
+again_in_part true true mode options again = refl
+
+pub repeats-to : (before after : Standing) (said : read.Setup) (part : Part) → SetupsTo before after → RepeatsIn before said part → RepeatsIn after said part
+repeats-to before Unread said part to repeats = tt
+repeats-to Unread (Agreeing after) said part to repeats = elim to [ ]
+repeats-to Unread (Shut after) said part to repeats = elim to [ ]
+repeats-to (Agreeing before) (Agreeing after) said part to repeats = subst (λ s. RepeatsIn (Agreeing s) said part) (sym to) repeats
+repeats-to (Agreeing before) (Shut after) said part to repeats = λ unset. again_in_part part.accepted part.more before.parts.mode part.options (repeats unset)
+repeats-to (Shut before) (Agreeing after) said part to repeats = elim to [ ]
+repeats-to (Shut before) (Shut after) said part to repeats = repeats
 
 -- what is read then
 abbrev pub parted : Word → Entry → Entry
@@ -129,7 +154,7 @@ parted-is said held peer entry there =
     ap (λ (l : Life). let e : Entry = record { channel = entry.channel; life = l; setup = cond (is_there entry.life) (read.setup_after entry.setup None) entry.setup } in e) lives
     ∙ ap (λ (s : read.Setup). let e : Entry = record { channel = entry.channel; life = life_after entry.life (Some said); setup = s } in e) setups
 
-parted_reads : (policy : Policy) (held : Held) (peer : ℕ) (said : Word) (after : Option Held) (entry : Entry) → IsThere held peer entry → AgreesIf (policy.wish held.psm) (setup_of held.stage) entry.setup → PartsTo held peer said after
+parted_reads : (policy : Policy) (held : Held) (peer : ℕ) (said : Word) (after : Option Held) (entry : Entry) → IsThere held peer entry → AgreesIf (policy.wish held.psm) (standing held.stage) entry.setup → PartsTo held peer said after
     → Reads policy after (Some (parted said entry))
 parted_reads policy held peer said None entry there agrees to = ap (λ l. life_after l (Some said)) there.life_is ∙ to
 parted_reads policy held peer said (Some after) entry there agrees (same_psm, same_own, at, lives, setups) =
@@ -138,12 +163,12 @@ parted_reads policy held peer said (Some after) entry there agrees (same_psm, sa
         channel_is = there.channel_is ∙ (ap (λ n. channel_by n held.own peer) (sym same_psm) ∙ ap (λ n. channel_by after.psm n peer) (sym same_own));
         life_is = ap (λ l. life_after l (Some said)) there.life_is ∙ sym lives;
       },
-      subst (λ n. AgreesIf (policy.wish n) (setup_of after.stage) entry.setup) (sym same_psm) (agrees_to (policy.wish held.psm) (setup_of held.stage) (setup_of after.stage) entry.setup setups agrees),
+      subst (λ n. AgreesIf (policy.wish n) (standing after.stage) entry.setup) (sym same_psm) (agrees-to (policy.wish held.psm) (standing held.stage) (standing after.stage) entry.setup setups agrees),
     )
 
 parted_repeats : (held : Held) (peer : ℕ) (said : Word) (after : Option Held) (entry : Entry) → PartsTo held peer said after → (part : Part) → Repeats (Some held) (Some entry) part → Repeats after (Some (parted said entry)) part
 parted_repeats held peer said None entry to part repeats = tt
-parted_repeats held peer said (Some after) entry (same_psm, same_own, at, lives, setups) part repeats = repeats_to (setup_of held.stage) (setup_of after.stage) entry.setup part setups repeats
+parted_repeats held peer said (Some after) entry (same_psm, same_own, at, lives, setups) part repeats = repeats-to (standing held.stage) (standing after.stage) entry.setup part setups repeats
 
 parted_wants : (asked : Requests) (held : Held) (peer : ℕ) (said : Word) (after : Option Held) → PartsTo held peer said after → Wants asked after
 parted_wants asked held peer said None to = tt

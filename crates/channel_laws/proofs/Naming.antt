@@ -44,15 +44,15 @@ after_of channel own entries more is =
 
 -- ---- all that is said
 
-said_of : (channel : Channel) (own : ℕ) (said : List Saying) (r : Reading) → IsOf channel (read_at own r.entries) → IsOf channel (read_at own (fold read_on r said).entries)
-said_of channel own [] r is = is
-said_of channel own (more ∷ said) r is = said_of channel own said (read_on r more) (after_of channel own r.entries (meant r.requests (sense more)) is)
+pub said-of : (channel : Channel) (own : ℕ) (said : List Saying) (r : Reading) → IsOf channel (read_at own r.entries) → IsOf channel (read_at own (fold read_on r said).entries)
+said-of channel own [] r is = is
+said-of channel own (more ∷ said) r is = said-of channel own said (read_on r more) (after_of channel own r.entries (meant r.requests (sense more)) is)
 
 run_of_one : (policy : Policy) (channel : Channel) (own : ℕ) (later : List Occurrence) (run : Run) → IsOf channel (read_at own (reading run.said).entries) → IsOf channel (read_at own (reading (fold (run_on policy) run later).said).entries)
 run_of_one policy channel own [] run is = is
 run_of_one policy channel own (more ∷ later) run is =
     run_of_one policy channel own later (run_on policy run more)
-    (subst (λ r. IsOf channel (read_at own r.entries)) (sym (fold-append read_on nothing_read run.said (said_in policy more run.value))) (said_of channel own (said_in policy more run.value) (reading run.said) is))
+    (subst (λ r. IsOf channel (read_at own r.entries)) (sym (fold-append read_on nothing_read run.said (said_in policy more run.value))) (said-of channel own (said_in policy more run.value) (reading run.said) is))
 
 pub endpoints-name_one : EndpointsNameOneChannel
 endpoints-name_one policy list later own entry is =

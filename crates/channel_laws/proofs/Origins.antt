@@ -114,9 +114,9 @@ all_called past = from_end (λ said. (one : Call) → StandsIn one (reading said
 -- ---- the request that is answered
 
 -- a member that passes
-record Passes {X : Type 0} (passes : X → Bool) (xs : List X) (x : X) : Type 0 where
-  stands : StandsIn x xs
-  fits : passes x ≡ true
+pub record Passes {X : Type 0} (passes : X → Bool) (xs : List X) (x : X) : Type 0 where
+  pub stands : StandsIn x xs
+  pub fits : passes x ≡ true
 
 first_passes : {X : Type 0} (passes : X → Bool) (x : X) (xs : List X) → passes x ≡ true → Passes passes (x ∷ xs) (first_of_run passes x xs)
 first_passes passes x [] fits = record { stands = inl refl; fits = fits }
@@ -126,9 +126,9 @@ first_passes {X = X} passes x (y ∷ ys) fits = by (passes y) refl (first_passes
     by true now later = let found = later now in record { stands = inr found.stands; fits = found.fits }
     by false now later = record { stands = inl refl; fits = fits }
 
-last_passes : {X : Type 0} (passes : X → Bool) (xs : List X) (x : X) → last_run passes xs ≡ Some x → Passes passes xs x
-last_passes passes [] x is = cc
-last_passes {X = X} passes (y ∷ ys) x is = by (passes y) refl is (last_passes passes ys x)
+pub last-passes : {X : Type 0} (passes : X → Bool) (xs : List X) (x : X) → last_run passes xs ≡ Some x → Passes passes xs x
+last-passes passes [] x is = cc
+last-passes {X = X} passes (y ∷ ys) x is = by (passes y) refl is (last-passes passes ys x)
   where
     by : (b : Bool) → passes y ≡ b → cond b (Some (first_of_run passes y ys)) (last_run passes ys) ≡ Some x → (last_run passes ys ≡ Some x → Passes passes ys x) → Passes passes (y ∷ ys) x
     by true now is later = let same : first_of_run passes y ys ≡ x = cc in subst (Passes passes (y ∷ ys)) same (first_passes passes y ys now)
@@ -156,7 +156,7 @@ answered-asked past flow identifier source wanted is = by (last_run (is_call ide
     by : (found : Option Call) → last_run (is_call identifier source) (filter (went flow) (reading past).requests.calls) ≡ found → call_wanted found ≡ Some wanted → Asked flow identifier wanted.psm source past
     by None found wants = cc
     by (Some one) found wants =
-        let fits = last_passes (is_call identifier source) (filter (went flow) (reading past).requests.calls) one found in
+        let fits = last-passes (is_call identifier source) (filter (went flow) (reading past).requests.calls) one found in
         let kept = kept_stands (went flow) (reading past).requests.calls one fits.stands in
         let named = both-true (eqb one.identifier identifier) (has_source source one.wanted) fits.fits in
         subst (λ n. Asked flow n wanted.psm source past) (eqb-true one.identifier identifier named.0)
@@ -258,13 +258,13 @@ made_from past (GaveUp (Information identifier)) channel is = cc
 
 -- ---- all channels
 
-makes_it : (m : Meaning) (channel : Channel) → made_by m ≡ Some channel → m ≡ Makes channel
-makes_it (Makes other) channel is = let same : other ≡ channel = cc in ap Makes same
-makes_it (Answers part) channel is = cc
-makes_it (Wishes identifier peer options) channel is = cc
-makes_it (Settles identifier own) channel is = cc
-makes_it (Parts word own peer) channel is = cc
-makes_it Nothing channel is = cc
+pub makes-it : (m : Meaning) (channel : Channel) → made_by m ≡ Some channel → m ≡ Makes channel
+makes-it (Makes other) channel is = let same : other ≡ channel = cc in ap Makes same
+makes-it (Answers part) channel is = cc
+makes-it (Wishes identifier peer options) channel is = cc
+makes-it (Settles identifier own) channel is = cc
+makes-it (Parts word own peer) channel is = cc
+makes-it Nothing channel is = cc
 
 abbrev IsFrom : List Saying → Type 0
 IsFrom said = (own : ℕ) (entry : Entry) → read_at own (reading said).entries ≡ Some entry → Origin said entry.channel
@@ -293,7 +293,7 @@ one_from past s before own entry found = by (made_by m) refl (sym (ap (λ (r : R
         let (x, there, is) = some-of_map (entry_after m) (read_at own entries) entry (sym (read-after m entries own none) ∙ at) in
         subst (λ (e : Entry). Origin (past ++ s ∷ []) e.channel) is (older_origin past s x.channel (before own x there))
     by (Some channel) makes at =
-        owned channel makes (list_any (is_owner channel) entries) (sym (ap (read_at own) (ap (entries_after entries) (makes_it m channel makes) ∙ makes-fresh channel entries)) ∙ at)
+        owned channel makes (list_any (is_owner channel) entries) (sym (ap (read_at own) (ap (entries_after entries) (makes-it m channel makes) ∙ makes-fresh channel entries)) ∙ at)
 
 pub entries-from : (said : List Saying) (own : ℕ) (entry : Entry) → read_at own (reading said).entries ≡ Some entry → Origin said entry.channel
 entries-from said = from_end IsFrom (λ own entry found. cc) one_from said

@@ -19,12 +19,12 @@ use Rattle.channel_model.specs.declared.errand.Errand.{Errand}
 use Rattle.channel_model.specs.declared.errand.Errand.TheVariants as errands
 use Rattle.channel_model.specs.Value.{Queued, Answer, Ask, Own, Unasked, Asking, Granted, Carrier, Plain, Retransmitting, Setup, Stage, Requested, Connected, Leaving, Closing, Crossed, Held, Channels}
 use Rattle.channel_model.specs.Policies.{Policy}
-use Rattle.channel_model.specs.Changing.{has_own, held_at, is_granted, is_open, setup_of, stage_with, to_setup, in_place_of}
+use Rattle.channel_model.specs.Changing.{has_own, is_stated, held_at, is_granted, is_open, setup_of, stage_with, to_setup, in_place_of}
 use Rattle.l2cap_signal.specs.Commands.{Command}
 use Rattle.channel_model.specs.Giving.{command_of, Given, Signal, Framed, next_given, after_given, headed, gives, stage_gives, some_carrier_gives, carrier_given, carrier_spent, held_gives, held_given, queue_gives, queue_given, counted, connection_given, configuration_given, disconnection_given, setup_given, own_given, stage_given}
 use Rattle.channel_model.specs.Calls.{setup_on, carrier_at, open_carrier, carrier_if, carrier_with, sends_on, sends_held, sends}
 use Rattle.channel_model.proofs.Lookups.{own_of, found-distinct, found-placed, find-placed}
-use Rattle.channel_model.proofs.Going.{is_stated, staged}
+use Rattle.channel_model.proofs.Going.{staged}
 use Rattle.channel_model.proofs.Walking.{found-own, with-setup}
 use Rattle.channel_laws.specs.Runs.{said_by_carrier, said_as, peer_at}
 use Rattle.channel_laws.specs.Frames.{IsSpelled}
@@ -32,7 +32,7 @@ use Rattle.channel_laws.specs.Views.{peer_of}
 use Rattle.channel_laws.proofs.Both.{and-right}
 use Rattle.channel_laws.proofs.Sound.{Sound, at_each}
 use Rattle.channel_laws.proofs.Steps.{less-apart}
-use Rattle.channel_laws.proofs.Keeping.{StageKeeps, HeldKeeps, under}
+use Rattle.channel_laws.proofs.Keeping.{OfCarrier, StageKeeps, HeldKeeps, under}
 use Rattle.channel_laws.proofs.Incoming.{channel_at}
 use Rattle.channel_laws.proofs.Passing.{Passing, CarrierPasses, Passed, passing-submits, passing-gives}
 use Rattle.channel_laws.proofs.Passages.{GoesOut, out-other, out-own, spelled-frame}
@@ -153,45 +153,45 @@ given_own Unasked = refl
 given_own (Asking request options) = refl
 given_own Granted = refl
 
--- what carries is the same
-abbrev Counts : (Stage → Stage) → Type 0
-Counts f = (frame : ℕ) (frames : List Passage) (wish : Wish) (stage : Stage) → StageKeeps (Passed frame frames) wish stage → StageKeeps (Passed frame frames) wish (f stage)
+-- what carries is the same, and so is all that is said of it
+abbrev pub Counts : (Stage → Stage) → Type 1
+Counts f = (P : OfCarrier) (wish : Wish) (stage : Stage) → StageKeeps P wish stage → StageKeeps P wish (f stage)
 
-connection_counts : Counts connection_given
-connection_counts frame frames wish (Requested request) kept = kept
-connection_counts frame frames wish (Connected peer setup) kept = kept
-connection_counts frame frames wish (Leaving peer setup request) kept = kept
-connection_counts frame frames wish (Closing peer request) kept = kept
-connection_counts frame frames wish (Crossed peer request) kept = kept
+pub connection-counts : Counts connection_given
+connection-counts P wish (Requested request) kept = kept
+connection-counts P wish (Connected peer setup) kept = kept
+connection-counts P wish (Leaving peer setup request) kept = kept
+connection-counts P wish (Closing peer request checked) kept = kept
+connection-counts P wish (Crossed peer request) kept = kept
 
-setup_counts : (frame : ℕ) (frames : List Passage) (wish : Wish) (setup : Setup) → CarrierPasses frame frames wish (is_open setup) setup.carrier → CarrierPasses frame frames wish (is_open (setup_given setup)) setup.carrier
-setup_counts frame frames wish setup passes = subst (λ b. CarrierPasses frame frames wish (is_some setup.carrier && b) setup.carrier) (sym (given_own setup.own)) passes
+setup_counts : (P : OfCarrier) (wish : Wish) (leaving : Bool) (setup : Setup) → P wish leaving (is_open setup) setup.carrier → P wish leaving (is_open (setup_given setup)) setup.carrier
+setup_counts P wish leaving setup kept = subst (λ b. P wish leaving (is_some setup.carrier && b) setup.carrier) (sym (given_own setup.own)) kept
 
-configuration_counts : Counts configuration_given
-configuration_counts frame frames wish (Requested request) kept = kept
-configuration_counts frame frames wish (Connected peer setup) kept = setup_counts frame frames wish setup kept
-configuration_counts frame frames wish (Leaving peer setup request) kept = setup_counts frame frames wish setup kept
-configuration_counts frame frames wish (Closing peer request) kept = kept
-configuration_counts frame frames wish (Crossed peer request) kept = kept
+pub configuration-counts : Counts configuration_given
+configuration-counts P wish (Requested request) kept = kept
+configuration-counts P wish (Connected peer setup) kept = setup_counts P wish false setup kept
+configuration-counts P wish (Leaving peer setup request) kept = setup_counts P wish true setup kept
+configuration-counts P wish (Closing peer request checked) kept = kept
+configuration-counts P wish (Crossed peer request) kept = kept
 
-disconnection_counts : Counts disconnection_given
-disconnection_counts frame frames wish (Requested request) kept = kept
-disconnection_counts frame frames wish (Connected peer setup) kept = kept
-disconnection_counts frame frames wish (Leaving peer setup request) kept = kept
-disconnection_counts frame frames wish (Closing peer request) kept = kept
-disconnection_counts frame frames wish (Crossed peer request) kept = kept
+pub disconnection-counts : Counts disconnection_given
+disconnection-counts P wish (Requested request) kept = kept
+disconnection-counts P wish (Connected peer setup) kept = kept
+disconnection-counts P wish (Leaving peer setup request) kept = kept
+disconnection-counts P wish (Closing peer request checked) kept = kept
+disconnection-counts P wish (Crossed peer request) kept = kept
 
 stage_counts : (policy : Policy) (party : Party) (channel : Channel) (past : List Saying) (v : Channels) (f : Stage → Stage) (own : ℕ) (held : Option Held) → Counts f → find (has_own own) v.held ≡ held → Pass policy party channel past v → Pass policy party channel past (stage_given f held v)
 stage_counts policy party channel past v f own None counts found all = all
 stage_counts policy party channel past v f own (Some held) counts found all =
     let here : find (has_own held.own) v.held ≡ Some held = found-own own v held found in
     pass_placed policy party channel past past v (stage_given f (Some held) v) held (f held.stage) here refl refl (λ n away. refl)
-    (counts party.frame (frames_on party channel past held.own) (policy.wish held.psm) held.stage (subst (HeldKeeps policy (Passed party.frame (frames_on party channel past held.own))) here (all.at held.own))) all
+    (counts (Passed party.frame (frames_on party channel past held.own)) (policy.wish held.psm) held.stage (subst (HeldKeeps policy (Passed party.frame (frames_on party channel past held.own))) here (all.at held.own))) all
 
 counted_passes : (policy : Policy) (party : Party) (channel : Channel) (past : List Saying) (v : Channels) (errand : Errand) → Pass policy party channel past v → Pass policy party channel past (counted errand v)
-counted_passes policy party channel past v (errands.Connection own) all = stage_counts policy party channel past v connection_given own (held_at own v) connection_counts refl all
-counted_passes policy party channel past v (errands.Configuration own) all = stage_counts policy party channel past v configuration_given own (held_at own v) configuration_counts refl all
-counted_passes policy party channel past v (errands.Disconnection own) all = stage_counts policy party channel past v disconnection_given own (held_at own v) disconnection_counts refl all
+counted_passes policy party channel past v (errands.Connection own) all = stage_counts policy party channel past v connection_given own (held_at own v) connection-counts refl all
+counted_passes policy party channel past v (errands.Configuration own) all = stage_counts policy party channel past v configuration_given own (held_at own v) configuration-counts refl all
+counted_passes policy party channel past v (errands.Disconnection own) all = stage_counts policy party channel past v disconnection_given own (held_at own v) disconnection-counts refl all
 counted_passes policy party channel past v errands.Features all = pass-same policy party channel past past v (counted errands.Features v) refl refl refl all
 
 -- ---- an SDU or a frame is given
@@ -200,14 +200,14 @@ pub gives-none : (stage : Stage) → setup_of stage ≡ None → stage_gives sta
 gives-none (Requested request) is = refl
 gives-none (Connected peer setup) is = cc
 gives-none (Leaving peer setup request) is = cc
-gives-none (Closing peer request) is = refl
+gives-none (Closing peer request checked) is = refl
 gives-none (Crossed peer request) is = refl
 
 pub gives-by : (stage : Stage) (setup : Setup) (peer : ℕ) → setup_of stage ≡ Some setup → peer_of stage ≡ Some peer → stage_gives stage ≡ some_carrier_gives setup.carrier peer
 gives-by (Requested request) setup peer is to = cc
 gives-by (Connected p s) setup peer is to = let same : s ≡ setup = cc in let at : p ≡ peer = cc in ap (λ (x : Setup). some_carrier_gives x.carrier p) same ∙ ap (some_carrier_gives setup.carrier) at
 gives-by (Leaving p s request) setup peer is to = let same : s ≡ setup = cc in let at : p ≡ peer = cc in ap (λ (x : Setup). some_carrier_gives x.carrier p) same ∙ ap (some_carrier_gives setup.carrier) at
-gives-by (Closing p request) setup peer is to = cc
+gives-by (Closing p request checked) setup peer is to = cc
 gives-by (Crossed p request) setup peer is to = cc
 
 -- what its carrier gives, if anything

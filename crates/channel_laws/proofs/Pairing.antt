@@ -11,25 +11,26 @@ use Rattle.channel_model.specs.Giving.{Given, next_given}
 use Rattle.channel_laws.specs.Runs.{Occurrence, Comes, Gives, new_link, run_on, run_of}
 use Rattle.channel_laws.specs.Frames.{IsUttered}
 use Rattle.channel_laws.specs.Pairs.{End, Pair, new_pair, Happening, Acts, Puts, Takes, Repeats, Loses, Damages, is_alone, occurs, with_near, puts, let_go, takes_first, repeats_first, loses_first, damages_first, happens_near, Side, Near, Far, turned, Turn, happens_at, pair_after, pair_of, EachEndRuns}
+use Rattle.channel_laws.specs.Modes.{policy_of}
 use Rattle.channel_laws.specs.Ends.{DoesSo, end_at, EachEndUtters}
 
 -- something of what occurs to a host, whatever comes in
-abbrev OfOccurrence : Type 1
+abbrev pub OfOccurrence : Type 1
 OfOccurrence = Occurrence → Channels → Type 0
 
-abbrev AnyComes : OfOccurrence → Type 0
+abbrev pub AnyComes : OfOccurrence → Type 0
 AnyComes F = (pdu : List ℕ) (v : Channels) → F (Comes pdu) v
 
 -- a host of the policy, with a run of it
-record Runs (F : OfOccurrence) (policy : Policy) (end' : End) : Type 0 where
-  policy_is : end'.policy ≡ policy
-  list : List Occurrence
-  run_is : end'.run ≡ run_of policy list
-  each : EachAfter (λ past more. F more (run_of policy past).value) [] list
+pub record Runs (F : OfOccurrence) (policy : Policy) (end' : End) : Type 0 where
+  pub policy_is : end'.policy ≡ policy
+  pub list : List Occurrence
+  pub run_is : end'.run ≡ run_of policy list
+  pub each : EachAfter (λ past more. F more (run_of policy past).value) [] list
 
-record BothRun (F : OfOccurrence) (near far : Policy) (pair : Pair) : Type 0 where
-  near_runs : Runs F near pair.near
-  far_runs : Runs F far pair.far
+pub record BothRun (F : OfOccurrence) (near far : Policy) (pair : Pair) : Type 0 where
+  pub near_runs : Runs F near pair.near
+  pub far_runs : Runs F far pair.far
 
 occurs_runs : (F : OfOccurrence) (policy : Policy) (end' : End) (occurrence : Occurrence) → F occurrence end'.run.value → Runs F policy end' → Runs F policy (occurs occurrence end')
 occurs_runs F policy end' occurrence now runs = record {
@@ -84,9 +85,9 @@ near_run F near far (Damages other) pair any fair both = with_runs F near far pa
 turned_runs : (F : OfOccurrence) (near far : Policy) (pair : Pair) → BothRun F near far pair → BothRun F far near (turned pair)
 turned_runs F near far pair both = record { near_runs = both.far_runs; far_runs = both.near_runs }
 
-at_runs : (F : OfOccurrence) (near far : Policy) (side : Side) (happening : Happening) (pair : Pair) → AnyComes F → DoesSo F happening (end_at side pair) → BothRun F near far pair → BothRun F near far (happens_at side happening pair)
-at_runs F near far Near happening pair any fair both = near_run F near far happening pair any fair both
-at_runs F near far Far happening pair any fair both = turned_runs F far near (happens_near happening (turned pair)) (near_run F far near happening (turned pair) any fair (turned_runs F near far pair both))
+pub at-runs : (F : OfOccurrence) (near far : Policy) (side : Side) (happening : Happening) (pair : Pair) → AnyComes F → DoesSo F happening (end_at side pair) → BothRun F near far pair → BothRun F near far (happens_at side happening pair)
+at-runs F near far Near happening pair any fair both = near_run F near far happening pair any fair both
+at-runs F near far Far happening pair any fair both = turned_runs F far near (happens_near happening (turned pair)) (near_run F far near happening (turned pair) any fair (turned_runs F near far pair both))
 
 -- each turn behind those before it
 all_run : (F : OfOccurrence) (near far : Policy) (past turns : List Turn) → AnyComes F → EachAfter (λ front turn. DoesSo F turn.happening (end_at turn.side (pair_of near far front))) past turns → BothRun F near far (pair_of near far past)
@@ -95,11 +96,13 @@ all_run F near far past [] any fair both = subst (λ list. BothRun F near far (p
 all_run F near far past (turn ∷ turns) any (now, fair) both =
     subst (λ list. BothRun F near far (pair_of near far list)) (append_assoc past (turn ∷ []) turns)
     (all_run F near far (past ++ turn ∷ []) turns any fair
-    (subst (BothRun F near far) (sym (fold-append pair_after (new_pair near far) past (turn ∷ []))) (at_runs F near far turn.side turn.happening (pair_of near far past) any now both)))
+    (subst (BothRun F near far) (sym (fold-append pair_after (new_pair near far) past (turn ∷ []))) (at-runs F near far turn.side turn.happening (pair_of near far past) any now both)))
+
+pub first-runs : (F : OfOccurrence) (near far : Policy) → BothRun F near far (new_pair near far)
+first-runs F near far = record { near_runs = record { policy_is = refl; list = []; run_is = refl; each = tt }; far_runs = record { policy_is = refl; list = []; run_is = refl; each = tt } }
 
 from_first : (F : OfOccurrence) (near far : Policy) (turns : List Turn) → AnyComes F → EachAfter (λ front turn. DoesSo F turn.happening (end_at turn.side (pair_of near far front))) [] turns → BothRun F near far (pair_of near far turns)
-from_first F near far turns any fair =
-    all_run F near far [] turns any fair (record { near_runs = record { policy_is = refl; list = []; run_is = refl; each = tt }; far_runs = record { policy_is = refl; list = []; run_is = refl; each = tt } })
+from_first F near far turns any fair = all_run F near far [] turns any fair (first-runs F near far)
 
 -- ---- of any host
 
@@ -129,3 +132,8 @@ pub each-end_utters : EachEndUtters
 each-end_utters near far turns fair =
     let both = from_first IsUttered near far turns (λ pdu v. tt) fair in
     ((both.near_runs.list, both.near_runs.run_is, both.near_runs.each), (both.far_runs.list, both.far_runs.run_is, both.far_runs.each))
+
+-- the host of an end stays the same
+pub end-policy : (near far : Policy) (turns : List Turn) (side : Side) → (end_at side (pair_of near far turns)).policy ≡ policy_of side near far
+end-policy near far turns Near = (from_first Anything near far turns (λ pdu v. tt) (all_fair near far [] turns)).near_runs.policy_is
+end-policy near far turns Far = (from_first Anything near far turns (λ pdu v. tt) (all_fair near far [] turns)).far_runs.policy_is

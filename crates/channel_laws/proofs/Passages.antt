@@ -43,14 +43,14 @@ bare_one party channel past (Command flow answer) bare = none_more party channel
 bare_one party channel past (Carried flow pdu) bare = cc
 bare_one party channel past (GaveUp forgone) bare = none_more party channel past (GaveUp forgone) refl
 
-both_false : (a b : Bool) → (a || b) ≡ false → (a ≡ false) × (b ≡ false)
-both_false true b is = cc
-both_false false b is = (refl, is)
+pub both-false : (a b : Bool) → (a || b) ≡ false → (a ≡ false) × (b ≡ false)
+both-false true b is = cc
+both-false false b is = (refl, is)
 
 pub bare-passes : (party : Party) (channel : Channel) (said past : List Saying) → IsBare said → frames_passed party channel (past ++ said) ≡ frames_passed party channel past
 bare-passes party channel [] past bare = ap (frames_passed party channel) (append-nil past)
 bare-passes party channel (more ∷ said) past bare =
-    let parts = both_false (is_carried more) (list_any is_carried said) bare in
+    let parts = both-false (is_carried more) (list_any is_carried said) bare in
     sym (ap (frames_passed party channel) (append_assoc past (more ∷ []) said)) ∙ (bare-passes party channel said (past ++ more ∷ []) parts.1 ∙ bare_one party channel past more parts.0)
 
 -- ---- a PDU comes in
@@ -102,14 +102,10 @@ out-other party channel past own peer pdu goes to away = none_more party channel
     by None is = refl
     by (Some x) is = on x is (takes_on_it is_passed Out (channel_of pdu) x) refl
 
-pub out-own : (party : Party) (channel : Channel) (past : List Saying) (peer : ℕ) (pdu : List ℕ) (frame : PlainFrame) → GoesOut past channel.own peer → channel_of pdu ≡ peer → frame_in 65535 pdu ≡ Some frame
-    → frames_passed party channel (past ++ Carried Out pdu ∷ []) ≡ frames_passed party channel past ++ Gave frame ∷ []
-out-own party channel past peer pdu frame goes to is =
-    passed-more party channel past (Carried Out pdu)
-    ∙ ap (λ fs. frames_passed party channel past ++ fs)
-    (ap (filter_map (passage_in party)) (carried-one is_passed channel past Out pdu goes.entry goes.found
-    (ap (λ t. t && eqb goes.entry.channel.peer (channel_of pdu)) goes.holds ∙ (ap (λ n. eqb n (channel_of pdu)) (goes.peer_is ∙ sym to) ∙ eqb-same (channel_of pdu))) only)
-    ∙ ap (λ f. cons_option (option_map (passage Out) f) []) is)
+pub carried-own : (channel : Channel) (past : List Saying) (peer : ℕ) (pdu : List ℕ) → GoesOut past channel.own peer → channel_of pdu ≡ peer → (let one : Carriage = record { flow = Out; pdu = pdu } in carried is_passed channel past (Carried Out pdu) ≡ one ∷ [])
+carried-own channel past peer pdu goes to =
+    carried-one is_passed channel past Out pdu goes.entry goes.found
+    (ap (λ t. t && eqb goes.entry.channel.peer (channel_of pdu)) goes.holds ∙ (ap (λ n. eqb n (channel_of pdu)) (goes.peer_is ∙ sym to) ∙ eqb-same (channel_of pdu))) only
   where
     only : (x : Entry) → taker is_passed Out pdu (reading past).entries ≡ Some x → takes_on_it is_passed Out (channel_of pdu) x ≡ true → is_of channel x ≡ true
     only x at now =
@@ -117,6 +113,12 @@ out-own party channel past peer pdu frame goes to is =
         let there : is_there x.life ≡ true = and-right (is_set x.setup) (is_there x.life) (and-left (is_held x) (eqb x.channel.peer (channel_of pdu)) now) in
         let same : x.channel.peer ≡ peer = eqb-true x.channel.peer (channel_of pdu) (and-right (is_held x) (eqb x.channel.peer (channel_of pdu)) now) ∙ to in
         ap (λ n. eqb n channel.own) (goes.only x.channel.own x mine there same) ∙ eqb-same channel.own
+
+pub out-own : (party : Party) (channel : Channel) (past : List Saying) (peer : ℕ) (pdu : List ℕ) (frame : PlainFrame) → GoesOut past channel.own peer → channel_of pdu ≡ peer → frame_in 65535 pdu ≡ Some frame
+    → frames_passed party channel (past ++ Carried Out pdu ∷ []) ≡ frames_passed party channel past ++ Gave frame ∷ []
+out-own party channel past peer pdu frame goes to is =
+    passed-more party channel past (Carried Out pdu)
+    ∙ ap (λ fs. frames_passed party channel past ++ fs) (ap (filter_map (passage_in party)) (carried-own channel past peer pdu goes to) ∙ ap (λ f. cons_option (option_map (passage Out) f) []) is)
 
 -- ---- octets
 

@@ -22,14 +22,14 @@ use Rattle.channel_model.specs.declared.event.ChannelEvent.{ChannelEvent}
 use Rattle.channel_model.specs.declared.event.ChannelEvent.TheVariants.{Opened, Closed, Features, FeaturesLost, DisconnectLost}
 use Rattle.channel_model.specs.Value.{Own, Unasked, Asking, Granted, Carrier, Plain, Retransmitting, Setup, Stage, Connected, Leaving, Closing, Held, Channels}
 use Rattle.channel_model.specs.Policies.{Policy}
-use Rattle.channel_model.specs.Changing.{has_own, setup_of, stage_with, with_setup, is_open as is_set_up}
+use Rattle.channel_model.specs.Changing.{has_own, is_stated, has_fcs_by, setup_of, stage_with, with_setup, is_open as is_set_up}
 use Rattle.channel_model.specs.Configuring.{granted_setup}
 use Rattle.channel_model.specs.Asking.{new_request}
 use Rattle.channel_model.specs.Closing.{closes_at}
 use Rattle.channel_model.specs.Carrying.{reason_of, settles_machine, machine_heard, machine_sdu, read_by, is_frame, is_taken_with, takes_on, Up, Nothing, Received, carried_sdu, sdu_with, up_by}
 use Rattle.channel_model.specs.Telling.{any_reason, is_by_machine, closes_for, is_told_closed, is_told_broken}
 use Rattle.channel_model.proofs.Lookups.{found-placed, eqb-same, and_off}
-use Rattle.channel_model.proofs.Going.{is_stated, IsStated, staged}
+use Rattle.channel_model.proofs.Going.{IsStated, staged}
 use Rattle.channel_model.proofs.Walking.{with-found}
 use Rattle.talk_laws.proofs.Sdus.{sdus-more}
 use Rattle.channel_model.specs.Value.{Request}
@@ -112,8 +112,8 @@ set_by wish setup said carrier agrees is stated =
     ap (λ (m : Option Mode). is_some m && is_some said.accepted) (agrees.set_up.asked_is ∙ stated_mode wish setup.own stated)
     ∙ ap (λ (m : Option Mode). is_some m) (agrees.set_up.accepted_is ∙ ap (option_map carrier_mode) is)
 
-mode_by : (wish : Wish) (setup : Setup) (said : read.Setup) (carrier : Carrier) → Agrees wish setup said → setup.carrier ≡ Some carrier → is_stated setup.own ≡ true → agreed_mode said ≡ carrier_mode carrier
-mode_by wish setup said carrier agrees is stated =
+pub mode-by : (wish : Wish) (setup : Setup) (said : read.Setup) (carrier : Carrier) → Agrees wish setup said → setup.carrier ≡ Some carrier → is_stated setup.own ≡ true → agreed_mode said ≡ carrier_mode carrier
+mode-by wish setup said carrier agrees is stated =
     ap (λ (m : Option Mode). cond (is_enhanced m && is_enhanced said.accepted) Enhanced Basic) (agrees.set_up.asked_is ∙ stated_mode wish setup.own stated)
     ∙ (ap (λ (m : Option Mode). cond (is_enhanced (Some wish.mode) && is_enhanced m) Enhanced Basic) (agrees.set_up.accepted_is ∙ ap (option_map carrier_mode) is)
     ∙ (ap (λ m. cond (is_enhanced (Some m) && is_enhanced (Some (carrier_mode carrier))) Enhanced Basic) (sym (subst (CarrierIs wish) is agrees.carrier_is)) ∙ both (carrier_mode carrier)))
@@ -176,7 +176,7 @@ left_setup policy frame own pdu pdus' v held peer setup request same is found =
         let base : Setup = granted_setup setup in
         let at_end : Held = with_setup held base in
         subst (λ s. HeldAttends policy frame pdus' (find (has_own held.own) (closes_at (stage_with base s) (reason_of reason) at_end u).held)) (sym is)
-        (subst (HeldAttends policy frame pdus') (sym (found-placed (staged at_end (Closing peer request)) at_end u.held here)) tt)
+        (subst (HeldAttends policy frame pdus') (sym (found-placed (staged at_end (Closing peer request (has_fcs_by base))) at_end u.held here)) tt)
 
 -- ---- a channel that is there
 
@@ -251,7 +251,7 @@ ignored policy party own pdu earlier ups pdus pdus' so_far now v held peer setup
     ap (λ n. frame_in n pdu) (sym (ap (λ (a : Agreed). a.receive_mps) attends.agreed_is ∙ attends.frame_is)) ∙ frame_none (read_by m pdu) none in
     let carried = h.before.carries (opens_is wish setup entry carrier h.agrees c stated h.alive) in
     let frames : frames_in party.frame pdus' ≡ frames_in party.frame pdus = ap (frames_in party.frame) carried.0 ∙ no-frame party.frame pdus pdu no in
-    let mode : agreed_mode entry.setup ≡ Enhanced = mode_by wish setup entry.setup carrier h.agrees c stated ∙ ap carrier_mode carrier_is in
+    let mode : agreed_mode entry.setup ≡ Enhanced = mode-by wish setup entry.setup carrier h.agrees c stated ∙ ap carrier_mode carrier_is in
     let same : now ≡ so_far =
     carried.1 ∙ (ap (λ x. sdus_by party.frame x (pdus ++ pdu ∷ [])) mode ∙ (same-sdus party.frame (pdus ++ pdu ∷ []) pdus (no-frame party.frame pdus pdu no)
     ∙ sym (h.before.so_far ∙ ap (λ x. sdus_by party.frame x pdus) mode))) in (
@@ -269,7 +269,7 @@ taken_whole policy party own pdu earlier ups pdus pdus' so_far now v held peer s
     let base : Setup = granted_setup setup in
     let stated : is_stated setup.own ≡ true = h.stated (ap is_some c) in
     let carried = h.before.carries (opens_is wish setup entry (Plain agreed waiting) h.agrees c stated h.alive) in
-    let mode : agreed_mode entry.setup ≡ Basic = mode_by wish setup entry.setup (Plain agreed waiting) h.agrees c stated in
+    let mode : agreed_mode entry.setup ≡ Basic = mode-by wish setup entry.setup (Plain agreed waiting) h.agrees c stated in
     let basic : CarrierAttends wish party.frame pdus' true setup.carrier = subst (CarrierAttends wish party.frame pdus' true) (sym c) (subst (CarrierAttends wish party.frame pdus (is_set_up setup)) c h.attends) in
     let so_far_up : so_far ≡ sdus_up own ups = open_up (is_told_broken own (earlier ++ v.events)) (sdus_up own ups) so_far h.handed h.unbroken in (
       subst (λ n. HeldAttends policy party.frame pdus' (find (has_own n) u.held)) h.own_is
@@ -290,7 +290,7 @@ taken_framed policy party own pdu earlier ups pdus pdus' so_far now v held peer 
     let last : Setup = record base { carrier = Some (Retransmitting after) } in
     let stated : is_stated setup.own ≡ true = h.stated (ap is_some c) in
     let carried = h.before.carries (opens_is wish setup entry (Retransmitting machine) h.agrees c stated h.alive) in
-    let mode : agreed_mode entry.setup ≡ Enhanced = mode_by wish setup entry.setup (Retransmitting machine) h.agrees c stated in
+    let mode : agreed_mode entry.setup ≡ Enhanced = mode-by wish setup entry.setup (Retransmitting machine) h.agrees c stated in
     let attends : Attends party.frame pdus (is_set_up setup) machine = subst (CarrierAttends wish party.frame pdus (is_set_up setup)) c h.attends in
     let hears : Hears party.frame pdus machine pdu = hears-pdu party.frame pdus (is_set_up setup) machine pdu attends is in
     let so_far_up : so_far ≡ sdus_up own ups = open_up (is_told_broken own (earlier ++ v.events)) (sdus_up own ups) so_far h.handed h.unbroken in (
@@ -305,7 +305,7 @@ taken_framed policy party own pdu earlier ups pdus pdus' so_far now v held peer 
     let wish : Wish = policy.wish held.psm in
     let base : Setup = granted_setup setup in
     let at_end : Held = with_setup held base in
-    let ending : Stage = Closing peer (new_request u) in
+    let ending : Stage = Closing peer (new_request u) (has_fcs_by base) in
     let stated : is_stated setup.own ≡ true = h.stated (ap is_some c) in
     let carried = h.before.carries (opens_is wish setup entry (Retransmitting machine) h.agrees c stated h.alive) in
     let so_far_up : so_far ≡ sdus_up own ups = open_up (is_told_broken own (earlier ++ v.events)) (sdus_up own ups) so_far h.handed h.unbroken in

@@ -28,14 +28,14 @@ closes_memory : (stage : Stage) (reason : CloseReason) (held : Held) (v : Channe
 closes_memory (Requested request) reason held v = refl
 closes_memory (Connected peer setup) reason held v = refl
 closes_memory (Leaving peer setup request) reason held v = refl
-closes_memory (Closing peer request) reason held v = refl
+closes_memory (Closing peer request checked) reason held v = refl
 closes_memory (Crossed peer request) reason held v = refl
 
 peer_memory : (stage : Stage) (held : Held) (v : Channels) → (peer_closes_at stage held v).memory ≡ v.memory
 peer_memory (Requested request) held v = refl
 peer_memory (Connected peer setup) held v = refl
 peer_memory (Leaving peer setup request) held v = refl
-peer_memory (Closing peer request) held v = refl
+peer_memory (Closing peer request checked) held v = refl
 peer_memory (Crossed peer request) held v = refl
 
 accepts_memory : (own : Own) (wish : Wish) (held : Held) (setup : Setup) (v : Channels) → (accepts_with own wish held setup v).memory ≡ v.memory

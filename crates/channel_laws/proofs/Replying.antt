@@ -82,7 +82,7 @@ disconnection_reply (Some held) own peer = by held.stage
     by (Requested request) = refl
     by (Connected endpoint setup) = named (eqb endpoint peer)
     by (Leaving endpoint setup request) = named (eqb endpoint peer)
-    by (Closing endpoint request) = named (eqb endpoint peer)
+    by (Closing endpoint request checked) = named (eqb endpoint peer)
     by (Crossed endpoint request) = named (eqb endpoint peer)
 
 pub answer-reply : (policy : Policy) (content : Content) (v : Channels) → IsReply (answer_to policy content v)

@@ -12,13 +12,13 @@ use Rattle.link_talk.specs.Meanings.{Nothing, Settles, meant, is_read}
 use Rattle.link_talk.specs.Channels.{entries_after, Reading, read_on}
 use Rattle.channel_model.specs.Value.{Own, Unasked, Asking, Granted, Setup, Held, Channels}
 use Rattle.channel_model.specs.Policies.{Policy}
-use Rattle.channel_model.specs.Changing.{has_own, to_setup, with_setup}
+use Rattle.channel_model.specs.Changing.{has_own, stage_with, to_setup, with_setup}
 use Rattle.channel_model.specs.Configuring.{grants, granted_setup, opens_if}
 use Rattle.channel_model.specs.Responses.{is_asked}
 use Rattle.channel_laws.specs.Views.{asked_mode}
 use Rattle.channel_model.proofs.Lookups.{own_of, found-placed, find-placed, Distinct, placed-distinct}
 use Rattle.channel_laws.proofs.Entries.{nothing-same, settles-same}
-use Rattle.channel_laws.proofs.Sound.{Agrees, AgreesIf, Core, IsAgain, RepeatsIn, Kept, Sound}
+use Rattle.channel_laws.proofs.Sound.{Agrees, AgreesIf, standing-is, Core, IsAgain, RepeatsIn, Kept, Sound}
 use Rattle.channel_laws.proofs.Silent.{Turns}
 use Rattle.channel_laws.proofs.Consenting.{Talks}
 
@@ -52,9 +52,10 @@ turns-to policy v w held peer setup after talks held_is next_is memory_is parts 
   life_after_is = talks.life_with after;
   psm_after = refl;
   own_after = refl;
-  agrees = λ said so. subst (λ s. AgreesIf (policy.wish held.psm) s said) (sym (talks.setup_with after)) (agrees said (subst (λ s. AgreesIf (policy.wish held.psm) s said) talks.setup_is so));
-  repeats = λ said part so. subst (λ s. RepeatsIn s said part) (sym (talks.setup_with after))
-      (let was = subst (λ s. RepeatsIn s said part) talks.setup_is so in λ unset. subst (λ (p : Options). IsAgain part.accepted part.more p.mode part.options) (sym parts) (was unset));
+  agrees = λ said so. subst (λ s. AgreesIf (policy.wish held.psm) s said) (sym (standing-is (stage_with after held.stage) after (talks.setup_with after)))
+      (agrees said (subst (λ s. AgreesIf (policy.wish held.psm) s said) (standing-is held.stage setup talks.setup_is) so));
+  repeats = λ said part so. subst (λ s. RepeatsIn s said part) (sym (standing-is (stage_with after held.stage) after (talks.setup_with after)))
+      (let was = subst (λ s. RepeatsIn s said part) (standing-is held.stage setup talks.setup_is) so in λ unset. subst (λ (p : Options). IsAgain part.accepted part.more p.mode part.options) (sym parts) (was unset));
 }
 
 -- the own request was accepted

@@ -109,6 +109,8 @@ at_first policy = record {
     reads = λ own. tt;
     held_below = λ own above. refl;
     read_below = λ own above. refl;
+    held_low = λ own low. refl;
+    read_low = λ own low. refl;
     start = omega arith;
     apart = λ a b x y at_a at_b. cc;
     distinct = tt;
@@ -119,13 +121,13 @@ at_first policy = record {
 }
 
 -- what holds at first, and on with each thing that happens, holds of every run
-goes_on : (policy : Policy) (P : Run → Type 0) → ((run : Run) (more : Occurrence) → IsSound policy run → P run → P (run_on policy run more)) → (list : List Occurrence) (run : Run) → IsSound policy run → P run
+pub goes-on : (policy : Policy) (P : Run → Type 0) → ((run : Run) (more : Occurrence) → IsSound policy run → P run → P (run_on policy run more)) → (list : List Occurrence) (run : Run) → IsSound policy run → P run
     → IsSound policy (fold (run_on policy) run list) × P (fold (run_on policy) run list)
-goes_on policy P step [] run sound holds = (sound, holds)
-goes_on policy P step (more ∷ list) run sound holds = goes_on policy P step list (run_on policy run more) (run-more policy run more sound) (step run more sound holds)
+goes-on policy P step [] run sound holds = (sound, holds)
+goes-on policy P step (more ∷ list) run sound holds = goes-on policy P step list (run_on policy run more) (run-more policy run more sound) (step run more sound holds)
 
 pub along : (policy : Policy) (P : Run → Type 0) → P new_link → ((run : Run) (more : Occurrence) → IsSound policy run → P run → P (run_on policy run more)) → (list : List Occurrence) → IsSound policy (run_of policy list) × P (run_of policy list)
-along policy P first step list = goes_on policy P step list new_link (at_first policy) first
+along policy P first step list = goes-on policy P step list new_link (at_first policy) first
 
 pub all-sound : (policy : Policy) (list : List Occurrence) → IsSound policy (run_of policy list)
 all-sound policy list = (along policy (λ run. Unit {0}) tt (λ run more sound any. tt) list).0

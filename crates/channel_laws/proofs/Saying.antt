@@ -24,7 +24,7 @@ use Rattle.channel_laws.specs.OwnTalk.{spoken, command_with, command_if, exchang
 use Rattle.channel_laws.specs.Runs.{Occurrence, Comes, Connects, AsksFeatures, Disconnects, Sends, Gives, Fires, Tells, said_in, value_after, said_on_firing, said_by_features, run_of}
 use Rattle.channel_laws.specs.Signals.{StandsIn, AnswersAreSaid}
 use Rattle.channel_laws.proofs.Lasting.{answers_of, answers-asked, follows-lasts, grant-lasts, response-lasts, end-lasts, takes-lasts, connects-lasts, disconnects-last, sends-last, times-last, ends-last, asked-with, forgotten}
-use Rattle.channel_laws.proofs.Replying.{is_response}
+use Rattle.channel_laws.proofs.Replying.{is_response, IsReply}
 use Rattle.channel_laws.proofs.Conversing.{WaitsSo, is_single, Converses, conversed}
 
 -- ---- members of lists
@@ -49,19 +49,20 @@ stands-either x (y ∷ xs) ys (inr later) = by (stands-either x xs ys later)
 
 -- ---- what is kept
 
+-- each is a response, and was said
 abbrev AllSaid : List Saying → Channels → Type 0
-AllSaid past v = (command : Command) → StandsIn command (answers_of v.queue) → StandsIn (spoken command) past
+AllSaid past v = (command : Command) → StandsIn command (answers_of v.queue) → StandsIn (spoken command) past × (is_response command.content ≡ true)
 
 -- no more answers wait
 said_on : (past said : List Saying) (v w : Channels) → answers_of w.queue ≡ answers_of v.queue → AllSaid past v → AllSaid (past ++ said) w
-said_on past said v w same all command is = stands-left (spoken command) past said (all command (subst (StandsIn command) same is))
+said_on past said v w same all command is = let (stands, response) = all command (subst (StandsIn command) same is) in (stands-left (spoken command) past said stands, response)
 
 -- ---- what the peer asks, and what it responds
 
-asked_said : (policy : Policy) (past : List Saying) (v u w : Channels) (one : Read) (identifier : ℕ) (response : Option Content) → WaitsSo v u identifier response → answers_of w.queue ≡ answers_of u.queue → AllSaid past v
+asked_said : (policy : Policy) (past : List Saying) (v u w : Channels) (one : Read) (identifier : ℕ) (response : Option Content) → IsReply response → WaitsSo v u identifier response → answers_of w.queue ≡ answers_of u.queue → AllSaid past v
     → AllSaid (past ++ (exchanged one (command_if identifier response) v ++ asked_between v w)) w
-asked_said policy past v u w one identifier response (inl same) follows_same all = said_on past (exchanged one (command_if identifier response) v ++ asked_between v w) v w (follows_same ∙ same) all
-asked_said policy past v u w one identifier response (inr (content, is, room, more)) follows_same all = λ command waits. by command (stands-either command (answers_of v.queue) (new ∷ []) (subst (StandsIn command) (follows_same ∙ more) waits))
+asked_said policy past v u w one identifier response reply (inl same) follows_same all = said_on past (exchanged one (command_if identifier response) v ++ asked_between v w) v w (follows_same ∙ same) all
+asked_said policy past v u w one identifier response reply (inr (content, is, room, more)) follows_same all = λ command waits. by command (stands-either command (answers_of v.queue) (new ∷ []) (subst (StandsIn command) (follows_same ∙ more) waits))
   where
     new : Command
     new = command_with identifier content
@@ -75,9 +76,9 @@ asked_said policy past v u w one identifier response (inr (content, is, room, mo
     there : StandsIn (spoken new) said
     there = stands-left (spoken new) (exchanged one (command_if identifier response) v) (asked_between v w) (subst (StandsIn (spoken new)) (sym spoken_now) (inr (inl refl)))
 
-    by : (command : Command) → StandsIn command (answers_of v.queue) ⊎ StandsIn command (new ∷ []) → StandsIn (spoken command) (past ++ said)
-    by command (inl old) = stands-left (spoken command) past said (all command old)
-    by command (inr (inl same)) = stands-right (spoken command) past said (subst (λ c. StandsIn (spoken c) said) same there)
+    by : (command : Command) → StandsIn command (answers_of v.queue) ⊎ StandsIn command (new ∷ []) → StandsIn (spoken command) (past ++ said) × (is_response command.content ≡ true)
+    by command (inl old) = let (stands, is_one) = all command old in (stands-left (spoken command) past said stands, is_one)
+    by command (inr (inl same)) = (stands-right (spoken command) past said (subst (λ c. StandsIn (spoken c) said) same there), subst (λ (c : Command). is_response c.content ≡ true) same (subst IsReply is reply))
     by command (inr (inr none)) = elim none [ ]
 
 features_same : (identifier : ℕ) (given : Option ℕ) (v : Channels) → answers_of (hears_features identifier given v).queue ≡ answers_of v.queue
@@ -139,7 +140,7 @@ given_counted v errands.Features = refl
 
 given_said : (past said : List Saying) (v : Channels) (queue : List Queued) → v.queue ≡ queue → AllSaid past v → AllSaid (past ++ said) (queue_given queue v)
 given_said past said v [] is all = said_on past said v (held_given (find gives v.held) v) (ap answers_of (given_held v (find gives v.held))) all
-given_said past said v (Answer command ∷ behind) is all = λ other waits. stands-left (spoken other) past said (all other (subst (λ q. StandsIn other (answers_of q)) (sym is) (inr waits)))
+given_said past said v (Answer command ∷ behind) is all = λ other waits. let (stands, is_one) = all other (subst (λ q. StandsIn other (answers_of q)) (sym is) (inr waits)) in (stands-left (spoken other) past said stands, is_one)
 given_said past said v (Ask errand ∷ behind) is all =
     let u : Channels = record v { queue = behind } in
     said_on past said v (counted errand u) (ap answers_of (given_counted u errand) ∙ sym (ap answers_of is)) all
@@ -158,7 +159,7 @@ converses : (policy : Policy) → Converses policy (λ v. Unit {0}) AllSaid
 converses policy = record {
   first = tt;
   kept = λ v more lone known. tt;
-  asked = λ past v u one identifier response content asking reply alike waits sound all after. asked_said policy past v u (follows policy content u) one identifier response waits (follows-lasts policy content u).2 all;
+  asked = λ past v u one identifier response content asking reply alike waits sound all after. asked_said policy past v u (follows policy content u) one identifier response reply waits (follows-lasts policy content u).2 all;
   answered = λ past v identifier content is sound all after. said_on past (exchanged (Ok (command_with identifier content)) None v ++ asked_between v (hears_content policy identifier content v)) v (hears_content policy identifier content v) (answered_same policy v identifier content is) all;
   taken = λ past v pdu known sound all after. said_on past (Carried Into pdu ∷ asked_between v (takes (channel_of pdu) pdu v)) v (takes (channel_of pdu) pdu v) (takes-lasts (channel_of pdu) pdu v).2 all;
   waits = λ past v tries own sound all after. said_on past (said_on_firing own v (times_held (held_at own v) tries v)) v (times_held (held_at own v) tries v) (times-last tries own v).2 all;
@@ -174,6 +175,12 @@ waits_in (Answer other ∷ queue) command (inr later) = inr (waits_in queue comm
 waits_in (Ask errand ∷ queue) command (inl same) = cc
 waits_in (Ask errand ∷ queue) command (inr later) = waits_in queue command later
 
-pub answers-are_said : AnswersAreSaid
-answers-are_said policy list command waits =
+all_said : (policy : Policy) (list : List Occurrence) (command : Command) → StandsIn (Answer command) (run_of policy list).value.queue → StandsIn (spoken command) (run_of policy list).said × (is_response command.content ≡ true)
+all_said policy list command waits =
     conversed policy (λ v. Unit {0}) AllSaid (converses policy) (λ c is. elim is [ ]) list command (waits_in (run_of policy list).value.queue command waits)
+
+pub answers-are_said : AnswersAreSaid
+answers-are_said policy list command waits = (all_said policy list command waits).0
+
+pub answers-are_responses : (policy : Policy) (list : List Occurrence) (command : Command) → StandsIn (Answer command) (run_of policy list).value.queue → is_response command.content ≡ true
+answers-are_responses policy list command waits = (all_said policy list command waits).1

@@ -20,7 +20,7 @@ use Rattle.link_talk.specs.Sayings.{Saying}
 use Rattle.link_talk.specs.Senses.{Ends, Opens, OnOptions, sense}
 use Rattle.link_talk.specs.Requests.{requests_after}
 use Rattle.link_talk.specs.Meanings.{Parts, meant}
-use Rattle.link_talk.specs.Setups.{mode_in, setup_after}
+use Rattle.link_talk.specs.Setups.{setup_after}
 use Rattle.link_talk.specs.Channels.{life_after, is_there, Entry, entry_after, entries_after, Reading, read_on}
 use Rattle.channel_model.specs.declared.errand.Errand.TheVariants.{Configuration}
 use Rattle.channel_model.specs.declared.event.CloseReason.TheVariants.{NoAgreement, OwnClosed}
@@ -36,10 +36,9 @@ use Rattle.channel_laws.specs.OwnTalk.{spoken, command_with, asked_between}
 use Rattle.channel_laws.specs.Views.{peer_of, read_at, asked_mode}
 use Rattle.channel_model.proofs.Lookups.{own_of, found-has, found-placed, find-placed, placed-again, and_off}
 use Rattle.channel_laws.proofs.Entries.{entry-is, entry-same, either_same}
-use Rattle.channel_laws.proofs.Sound.{Agrees, states_mode, Reads, Sound, moved, at_each, requested-unread}
+use Rattle.channel_laws.proofs.Sound.{Agrees, IsRequested, Reads, Sound, moved, at_each, requested-unread}
 use Rattle.channel_laws.proofs.Moves.{Found, found-there, parts-others}
 use Rattle.channel_laws.proofs.Ending.{leads-said, ends-leads, same-reads}
-use Rattle.channel_laws.proofs.Agreeing.{requested-states}
 use Rattle.channel_laws.proofs.Answering.{Alters, wishes-said}
 use Rattle.channel_laws.proofs.Silent.{turns-sound}
 use Rattle.channel_laws.proofs.Asking.{asked-one, newest-asks, closes-sound}
@@ -52,7 +51,7 @@ use Rattle.channel_laws.proofs.Responses.{settled-sound, turns-to, asked_is, gra
 
 -- a request for options goes out, for a channel whose own state changes besides
 pub asks-sound : (policy : Policy) (r : Reading) (v : Channels) (held : Held) (peer : ℕ) (setup after : Setup) (options : Options) → Talks v held peer setup → after.parts ≡ setup.parts
-    → ((said : _) → Agrees (policy.wish held.psm) setup said → Agrees (policy.wish held.psm) after said) → mode_in (written options) ≡ states_mode (policy.wish held.psm).mode → Sound policy r v
+    → ((said : _) → Agrees (policy.wish held.psm) setup said → Agrees (policy.wish held.psm) after said) → IsRequested (policy.wish held.psm) options → Sound policy r v
     → (let w : Channels = asks_options held after options v in Sound policy (fold read_on r (asked_between v w)) w)
 asks-sound policy r v held peer setup after options talks parts agrees states sound =
     let w : Channels = asks_options held after options v in
@@ -91,7 +90,7 @@ closes-after policy r v held peer setup after talks parts agrees sound =
     closes-sound policy r u (with_setup held after) peer NoAgreement (stage_with after held.stage) refl (talks.peer_with after) (found-placed (with_setup held after) held v.held talks.found)
     (turns-sound policy r v u held (with_setup held after) peer (turns-to policy v u held peer setup after talks refl refl refl parts agrees) sound)
 
-renews-sound : (policy : Policy) (r : Reading) (v : Channels) (held : Held) (peer : ℕ) (setup : Setup) (options : Options) → Talks v held peer setup → mode_in (written options) ≡ states_mode (policy.wish held.psm).mode → Sound policy r v
+renews-sound : (policy : Policy) (r : Reading) (v : Channels) (held : Held) (peer : ℕ) (setup : Setup) (options : Options) → Talks v held peer setup → IsRequested (policy.wish held.psm) options → Sound policy r v
     → (let w : Channels = renews options held (renewed_setup setup) v in Sound policy (fold read_on r (asked_between v w)) w)
 renews-sound policy r v held peer setup options talks states sound = by (nat_le 3 (renewed_setup setup).renewed)
   where
@@ -103,14 +102,14 @@ renews-sound policy r v held peer setup options talks states sound = by (nat_le 
 -- what a response comes to
 abbrev SettlesTo : Wish → Settled → Type 0
 SettlesTo wish Accepted = Unit {0}
-SettlesTo wish (Again options) = mode_in (written options) ≡ states_mode wish.mode
+SettlesTo wish (Again options) = IsRequested wish options
 SettlesTo wish Wait = Unit {0}
 SettlesTo wish Never = Unit {0}
 
 settles_by : (wish : Wish) (options : Options) (a b c : Bool) → SettlesTo wish (cond a Accepted (cond b Wait (cond c (Again (requested wish options)) Never)))
 settles_by wish options true b c = tt
 settles_by wish options false true c = tt
-settles_by wish options false false true = requested-states wish options wish.mode refl
+settles_by wish options false false true = (options, refl)
 settles_by wish options false false false = tt
 
 settled-sounds : (policy : Policy) (r : Reading) (v : Channels) (held : Held) (peer : ℕ) (setup : Setup) (now : Settled) → SettlesTo (policy.wish held.psm) now → Talks v held peer setup → asked_mode (policy.wish held.psm) setup.own ≡ Some (policy.wish held.psm).mode → Sound policy r v
@@ -143,7 +142,7 @@ pub talks-at : (v : Channels) (held : Held) (stage : Stage) → held.stage ≡ s
 talks-at v held (Requested request) is at = tt
 talks-at v held (Connected peer setup) is at = (peer, talks-connected v held peer setup is at)
 talks-at v held (Leaving peer setup request) is at = (peer, talks-leaving v held peer setup request is at)
-talks-at v held (Closing peer request) is at = tt
+talks-at v held (Closing peer request checked) is at = tt
 talks-at v held (Crossed peer request) is at = tt
 
 response-on : (policy : Policy) (r : Reading) (v : Channels) (identifier answer : ℕ) (octets : List ℕ) (held : Held) (setup : Option Setup) → TalksOr v held setup → Sound policy r v
@@ -194,7 +193,7 @@ ends-identifier : (stage : Stage) (held : Held) (v : Channels) → (ends_at stag
 ends-identifier (Requested request) held v = refl
 ends-identifier (Connected peer setup) held v = refl
 ends-identifier (Leaving peer setup request) held v = refl
-ends-identifier (Closing peer request) held v = refl
+ends-identifier (Closing peer request checked) held v = refl
 ends-identifier (Crossed peer request) held v = refl
 
 ended-by : (policy : Policy) (r : Reading) (v : Channels) (said : Saying) (held : Held) (peer endpoint : ℕ) (same : Bool) → eqb endpoint peer ≡ same → sense said ≡ Ends EndAnswered held.own endpoint → find (has_own held.own) v.held ≡ Some held → peer_of held.stage ≡ Some peer
@@ -219,7 +218,7 @@ ended-at policy r v said held endpoint (Requested request) is says at sound =
     nothing-follows policy (read_on r said) v (unnamed policy r v said held.own endpoint says (ap (option_map (entry_after (Parts EndAnswered held.own endpoint))) unread ∙ sym unread) sound)
 ended-at policy r v said held endpoint (Connected peer setup) is says at sound = ended-by policy r v said held peer endpoint (eqb endpoint peer) refl says at (ap peer_of is) sound
 ended-at policy r v said held endpoint (Leaving peer setup request) is says at sound = ended-by policy r v said held peer endpoint (eqb endpoint peer) refl says at (ap peer_of is) sound
-ended-at policy r v said held endpoint (Closing peer request) is says at sound = ended-by policy r v said held peer endpoint (eqb endpoint peer) refl says at (ap peer_of is) sound
+ended-at policy r v said held endpoint (Closing peer request checked) is says at sound = ended-by policy r v said held peer endpoint (eqb endpoint peer) refl says at (ap peer_of is) sound
 ended-at policy r v said held endpoint (Crossed peer request) is says at sound = ended-by policy r v said held peer endpoint (eqb endpoint peer) refl says at (ap peer_of is) sound
 
 ended-of : (policy : Policy) (r : Reading) (v : Channels) (said : Saying) (own endpoint : ℕ) (found : Option Held) → find (has_own own) v.held ≡ found → sense said ≡ Ends EndAnswered own endpoint → Sound policy r v

@@ -16,23 +16,22 @@ use Rattle.link_talk.specs.Channels.{Entry, is_there, reading}
 use Rattle.link_talk.specs.Waits.{OptionsImplied, is_shown_by, demand_at, demanded}
 use Rattle.channel_model.specs.Value.{Own, Unasked, Asking, Granted, Carrier, Plain, Retransmitting, Setup, Stage, Requested, Connected, Leaving, Closing, Crossed, Held, Channels}
 use Rattle.channel_model.specs.Policies.{Policy}
-use Rattle.channel_model.specs.Changing.{has_own, held_at, setup_of, with_setup, stage_with}
+use Rattle.channel_model.specs.Changing.{has_own, is_stated, held_at, setup_of, with_setup, stage_with}
 use Rattle.channel_model.specs.Configuring.{granted_setup}
 use Rattle.channel_model.specs.Carrying.{machine_heard, read_by, is_frame, shows, is_taken_with, takes_on, takes_held, takes}
 use Rattle.channel_model.proofs.Lookups.{own_of, found-has, eqb-same, eqb-away}
 use Rattle.channel_model.proofs.Walking.{found-own, with-setup}
 use Rattle.channel_laws.specs.Sdus.{StatesFrame}
 use Rattle.channel_laws.specs.Tries.{own_request}
-use Rattle.channel_laws.specs.Views.{peer_of, carrier_mode, read_at}
+use Rattle.channel_laws.specs.Views.{peer_of, carrier_mode, standing, read_at}
 use Rattle.channel_laws.proofs.Entries.{read-own}
-use Rattle.channel_laws.proofs.Sound.{Agrees, AgreesIf, CarrierIs, ReadsBy, Reads, Sound}
+use Rattle.channel_laws.proofs.Sound.{Agrees, AgreesIf, standing-is, CarrierIs, ReadsBy, Reads, Sound}
 use Rattle.channel_laws.proofs.CheckWords.{stated_mode}
 use Rattle.channel_laws.proofs.Lasting.{asked_by}
 use Rattle.channel_laws.proofs.Taking.{takes-cases, takes-others}
 use Rattle.channel_laws.proofs.Demanding.{asked_at, asked_on, Stays, settles-rests}
 use Rattle.channel_laws.proofs.Wishing.{waiting, waiting-more, sound-named}
 use Rattle.channel_laws.proofs.Agreed.{AllStated, stated-at}
-use Rattle.channel_model.proofs.Going.{is_stated}
 use Rattle.channel_laws.proofs.Heeding.{Heeds}
 use Rattle.channel_laws.proofs.Answered.{setup-asks, setup-talks, no-setup_asks}
 
@@ -66,11 +65,11 @@ shown_else party channel past pdu found is away = waiting-more party channel pas
         (ap (λ n. eqb n (channel_of pdu)) (read-own channel.own (reading past).entries entry is) ∙ eqb-away (channel_of pdu) channel.own away)
         (not (is_enhanced entry.setup.asked) || is_some (frame_in party.frame pdu))
 
-agrees_by : (policy : Policy) (held : Held) (peer : Option ℕ) (found : Option Entry) (entry : Entry) → found ≡ Some entry → ReadsBy policy held peer found → AgreesIf (policy.wish held.psm) (setup_of held.stage) entry.setup
+agrees_by : (policy : Policy) (held : Held) (peer : Option ℕ) (found : Option Entry) (entry : Entry) → found ≡ Some entry → ReadsBy policy held peer found → AgreesIf (policy.wish held.psm) (standing held.stage) entry.setup
 agrees_by policy held None None entry is reads = cc
 agrees_by policy held None (Some other) entry is reads = elim reads [ ]
 agrees_by policy held (Some peer) None entry is reads = elim reads [ ]
-agrees_by policy held (Some peer) (Some other) entry is reads = let same : other ≡ entry = cc in subst (λ (e : Entry). AgreesIf (policy.wish held.psm) (setup_of held.stage) e.setup) same reads.1
+agrees_by policy held (Some peer) (Some other) entry is reads = let same : other ≡ entry = cc in subst (λ (e : Entry). AgreesIf (policy.wish held.psm) (standing held.stage) e.setup) same reads.1
 
 -- a channel of the host that a PDU comes in for
 record Comes_for (policy : Policy) (party : Party) (channel : Channel) (past : List Saying) (v : Channels) (pdu : List ℕ) (held : Held) (setup : Setup) : Type 0 where
@@ -89,7 +88,7 @@ comes_for policy party channel past v pdu held setup at has here states stated s
     record {
       entry = named.entry;
       named = ap (λ n. eqb n (channel_of pdu)) (read-own channel.own (reading past).entries named.entry named.found ∙ sym (eqb-true (channel_of pdu) channel.own here)) ∙ eqb-same (channel_of pdu);
-      agrees = subst (λ s. AgreesIf (policy.wish held.psm) s named.entry.setup) has
+      agrees = subst (λ s. AgreesIf (policy.wish held.psm) s named.entry.setup) (standing-is held.stage setup has)
           (agrees_by policy held (peer_of held.stage) (read_at channel.own (reading past).entries) named.entry named.found (subst (λ h. Reads policy h (read_at channel.own (reading past).entries)) at (sound.core.reads channel.own)));
       waits = shown_at party channel past pdu named.entry named.found named.there;
       asks = heeds (asked_by (own_request setup.own)) (ap asked_on at ∙ setup-asks held.stage setup has);
@@ -158,7 +157,7 @@ granted_asks : (setup : Setup) (stage : Stage) (m : Option ℕ) → asked_at (st
 granted_asks setup (Requested request) m is = cc
 granted_asks setup (Connected peer s) m is = cc
 granted_asks setup (Leaving peer s request) m is = cc
-granted_asks setup (Closing peer request) m is = cc
+granted_asks setup (Closing peer request checked) m is = cc
 granted_asks setup (Crossed peer request) m is = cc
 
 taken_on : (policy : Policy) (party : Party) (channel : Channel) (past : List Saying) (v : Channels) (pdu : List ℕ) (held : Held) (setup : Setup) → held_at channel.own v ≡ Some held → setup_of held.stage ≡ Some setup → Heeds party channel past v

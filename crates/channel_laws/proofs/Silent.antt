@@ -7,12 +7,12 @@ use Rattle.link_talk.specs.Setups as read
 use Rattle.link_talk.specs.Channels.{Entry, Reading}
 use Rattle.channel_model.specs.Value.{Held, Channels}
 use Rattle.channel_model.specs.Policies.{Policy}
-use Rattle.channel_model.specs.Changing.{has_own, setup_of}
-use Rattle.channel_laws.specs.Views.{peer_of, life_of, channel_by, IsThere, read_at}
+use Rattle.channel_model.specs.Changing.{has_own}
+use Rattle.channel_laws.specs.Views.{peer_of, life_of, standing, channel_by, IsThere, read_at}
 use Rattle.channel_model.proofs.Lookups.{own_of, Distinct}
-use Rattle.channel_laws.proofs.Steps.{less-apart, queries-on}
+use Rattle.channel_laws.proofs.Steps.{less-apart, more-apart, queries-on}
 use Rattle.channel_laws.proofs.Sound.{AgreesIf, ReadsBy, Reads, Core, Repeats, RepeatsIn, Wants, Kept, Sound, at_each, IsPlaced, Uncalled, placed-held}
-use Rattle.channel_laws.proofs.Moves.{wants-there, is-below}
+use Rattle.channel_laws.proofs.Moves.{wants-there, is-below, is-above}
 
 -- how one channel is held changes
 pub record Turns (policy : Policy) (v w : Channels) (held after : Held) (peer : ℕ) : Type 0 where
@@ -27,17 +27,17 @@ pub record Turns (policy : Policy) (v w : Channels) (held after : Held) (peer : 
   pub life_after_is : life_of after.stage ≡ life_of held.stage
   pub psm_after : after.psm ≡ held.psm
   pub own_after : after.own ≡ held.own
-  pub agrees : (said : read.Setup) → AgreesIf (policy.wish held.psm) (setup_of held.stage) said → AgreesIf (policy.wish held.psm) (setup_of after.stage) said
-  pub repeats : (said : read.Setup) (part : Part) → RepeatsIn (setup_of held.stage) said part → RepeatsIn (setup_of after.stage) said part
+  pub agrees : (said : read.Setup) → AgreesIf (policy.wish held.psm) (standing held.stage) said → AgreesIf (policy.wish held.psm) (standing after.stage) said
+  pub repeats : (said : read.Setup) (part : Part) → RepeatsIn (standing held.stage) said part → RepeatsIn (standing after.stage) said part
 
-turned-reads : (policy : Policy) (v w : Channels) (held after : Held) (peer : ℕ) (entry : Entry) → Turns policy v w held after peer → IsThere held peer entry → AgreesIf (policy.wish held.psm) (setup_of held.stage) entry.setup → Reads policy (Some after) (Some entry)
+turned-reads : (policy : Policy) (v w : Channels) (held after : Held) (peer : ℕ) (entry : Entry) → Turns policy v w held after peer → IsThere held peer entry → AgreesIf (policy.wish held.psm) (standing held.stage) entry.setup → Reads policy (Some after) (Some entry)
 turned-reads policy v w held after peer entry turns there agrees =
     subst (λ p. ReadsBy policy after p (Some entry)) (sym turns.peer_after) (
       record {
         channel_is = there.channel_is ∙ (ap (λ n. channel_by n held.own peer) (sym turns.psm_after) ∙ ap (λ n. channel_by after.psm n peer) (sym turns.own_after));
         life_is = there.life_is ∙ sym turns.life_after_is;
       },
-      subst (λ n. AgreesIf (policy.wish n) (setup_of after.stage) entry.setup) (sym turns.psm_after) (turns.agrees entry.setup agrees),
+      subst (λ n. AgreesIf (policy.wish n) (standing after.stage) entry.setup) (sym turns.psm_after) (turns.agrees entry.setup agrees),
     )
 
 turned-repeats : (policy : Policy) (v w : Channels) (held after : Held) (peer : ℕ) (found : Option Entry) (part : Part) → Turns policy v w held after peer → Repeats (Some held) found part → Repeats (Some after) found part
@@ -70,6 +70,8 @@ becomes-sound policy r v w held after becomes sound =
             core.reads;
         held_below = λ own above. becomes.others own (less-apart held.own own (omega (arith, below, above))) ∙ core.held_below own above;
         read_below = core.read_below;
+        held_low = λ own low. becomes.others own (more-apart held.own own (omega (arith, is-above policy r.entries v.held v.next held core becomes.found, low))) ∙ core.held_low own low;
+        read_low = core.read_low;
         start = core.start;
         apart = core.apart;
         distinct = core.distinct;

@@ -1,6 +1,6 @@
 -- What always holds between the channels of a host and the reading of its own talk.
-use Rattle.std.proofs.Common.{◌≡◌, ℕ, ◌≤◌, ◌%◌, List, [], ◌∷◌, Bool, true, false, eqb, Option, Some, None, Ok, refl, sym, ap, subst, ◌∙◌}
-use Rattle.std.specs.Prelude.{find, filter, option_map}
+use Rattle.std.proofs.Common.{◌≡◌, ℕ, ◌<◌, ◌≤◌, ◌%◌, List, [], ◌∷◌, Bool, true, false, ◌&&◌, eqb, not, Option, Some, None, Ok, refl, sym, ap, subst, ◌∙◌}
+use Rattle.std.specs.Prelude.{find, filter, is_some, option_map}
 use Rattle.std.specs.Option.{option_or}
 use Rattle.std.specs.List.{list_any}
 use Rattle.std.proofs.lemmas.Bool.{eqb-true}
@@ -12,20 +12,21 @@ use Rattle.l2cap_config.specs.declared.wish.Mode.{Mode}
 use Rattle.l2cap_config.specs.declared.wish.Mode.TheVariants.{Basic, Enhanced}
 use Rattle.l2cap_config.specs.declared.wish.Wish.{Wish}
 use Rattle.l2cap_config.specs.Reading.{options_read}
-use Rattle.l2cap_config.specs.Writing.{written}
+use Rattle.l2cap_config.specs.Agreement.{requested}
 use Rattle.link_talk.specs.declared.call.Wanted.{Wanted}
 use Rattle.link_talk.specs.declared.call.Call.{Call}
 use Rattle.link_talk.specs.Senses.{Quiet, sense_of}
 use Rattle.link_talk.specs.Requests.{Requests, Query, Terms, went, is_own_call, answered_call, answered_query, has_failed}
 use Rattle.link_talk.specs.Meanings.{Meaning, Part}
 use Rattle.link_talk.specs.Setups as read
+use Rattle.link_talk.specs.Setups.{is_enhanced}
 use Rattle.link_talk.specs.declared.life.Life.TheVariants.{Over}
 use Rattle.link_talk.specs.Channels.{word, is_there, Entry, entry_after, made_by, entries_after, Reading}
-use Rattle.channel_model.specs.Value.{Own, Unasked, Asking, Granted, Carrier, Setup, Stage, Requested, Connected, Leaving, Closing, Crossed, Held, Remembered, Memory, Channels, Request}
+use Rattle.channel_model.specs.Value.{Own, Unasked, Asking, Granted, Carrier, Plain, Retransmitting, Setup, Stage, Requested, Connected, Leaving, Closing, Crossed, Held, Remembered, Memory, Channels, Request}
 use Rattle.channel_model.specs.Policies.{Policy}
-use Rattle.channel_model.specs.Changing.{has_own, setup_of}
-use Rattle.channel_laws.specs.Views.{peer_of, carrier_mode, IsSetUp, IsSetUpIf, IsThere, IsRead, IsReadBy, read_at}
-use Rattle.channel_model.proofs.Lookups.{own_of, Distinct}
+use Rattle.channel_model.specs.Changing.{has_own, has_fcs_by, is_stated, is_retransmitting, setup_of}
+use Rattle.channel_laws.specs.Views.{peer_of, asked_mode, carrier_mode, IsSetUp, Standing, Unread, Agreeing, Shut, standing, is_checked_by, IsSetUpIf, IsThere, IsRead, IsReadBy, read_at}
+use Rattle.channel_model.proofs.Lookups.{own_of, Distinct, and_off}
 use Rattle.channel_laws.proofs.Entries.{own_read, read-after, there-before}
 
 -- ---- one channel
@@ -41,9 +42,13 @@ abbrev pub states_mode : Mode → Option Mode
 states_mode Basic = None
 states_mode Enhanced = Some Enhanced
 
+-- options that a host asks for: its wish, or what its peer suggests within that
+abbrev pub IsRequested : Wish → Options → Type 0
+IsRequested wish options = (suggested : Options) × (options ≡ requested wish suggested)
+
 abbrev pub OwnStates : Wish → Own → Type 0
 OwnStates wish Unasked = Unit {0}
-OwnStates wish (Asking request options) = read.mode_in (written options) ≡ states_mode wish.mode
+OwnStates wish (Asking request options) = IsRequested wish options
 OwnStates wish Granted = Unit {0}
 
 abbrev pub CarrierIs : Wish → Option Carrier → Type 0
@@ -56,15 +61,46 @@ pub record Agrees (wish : Wish) (setup : Setup) (said : read.Setup) : Type 0 whe
   pub carrier_is : CarrierIs wish setup.carrier
   pub parts_are : read.is_set said ≡ false → PartsAre setup.parts.mode said.parts
 
-abbrev pub AgreesIf : Wish → Option Setup → read.Setup → Type 0
-AgreesIf wish None said = Unit {0}
-AgreesIf wish (Some setup) said = Agrees wish setup said
+abbrev pub AgreesIf : Wish → Standing → read.Setup → Type 0
+AgreesIf wish Unread said = Unit {0}
+AgreesIf wish (Agreeing setup) said = Agrees wish setup said
+AgreesIf wish (Shut checked) said = is_checked_by said ≡ checked
+
+pub standing-is : (stage : Stage) (setup : Setup) → setup_of stage ≡ Some setup → standing stage ≡ Agreeing setup
+standing-is (Requested request) setup is = cc
+standing-is (Connected peer s) setup is = cc
+standing-is (Leaving peer s request) setup is = cc
+standing-is (Closing peer request checked) setup is = cc
+standing-is (Crossed peer request) setup is = cc
+
+-- ---- check words
+
+mode_checks : (carrier : Carrier) → is_enhanced (Some (carrier_mode carrier)) ≡ is_retransmitting (Some carrier)
+mode_checks (Plain agreed waiting) = refl
+mode_checks (Retransmitting machine) = refl
+
+stated_checks : (wish : Wish) (carrier : Carrier) (own : Own) → carrier_mode carrier ≡ wish.mode → is_enhanced (asked_mode wish own) ≡ (is_stated own && is_retransmitting (Some carrier))
+stated_checks wish carrier Unasked is = refl
+stated_checks wish carrier (Asking request options) is = ap (λ m. is_enhanced (Some m)) (sym is) ∙ mode_checks carrier
+stated_checks wish carrier Granted is = ap (λ m. is_enhanced (Some m)) (sym is) ∙ mode_checks carrier
+
+modes_check : (wish : Wish) (own : Own) (carrier : Option Carrier) → CarrierIs wish carrier → (is_some (option_map carrier_mode carrier) && is_enhanced (asked_mode wish own)) ≡ (is_stated own && is_retransmitting carrier)
+modes_check wish own None is = sym (and_off (is_stated own))
+modes_check wish own (Some carrier) is = stated_checks wish carrier own is
+
+-- where both agree on the options they agree on check words
+pub checks-agree : (wish : Wish) (setup : Setup) (said : read.Setup) → Agrees wish setup said → is_checked_by said ≡ has_fcs_by setup
+checks-agree wish setup said agrees =
+    ap (λ (m : Option Mode). is_some m && is_enhanced said.asked) agrees.set_up.accepted_is
+    ∙ (ap (λ m. is_some (option_map carrier_mode setup.carrier) && is_enhanced m) agrees.set_up.asked_is ∙ modes_check wish setup.own setup.carrier agrees.carrier_is)
+
+-- ---- one channel of the talk
 
 abbrev pub ReadsBy : Policy → Held → (peer : Option ℕ) → Option Entry → Type 0
 ReadsBy policy held None None = Unit {0}
 ReadsBy policy held None (Some entry) = ⊥
 ReadsBy policy held (Some peer) None = ⊥
-ReadsBy policy held (Some peer) (Some entry) = IsThere held peer entry × AgreesIf (policy.wish held.psm) (setup_of held.stage) entry.setup
+ReadsBy policy held (Some peer) (Some entry) = IsThere held peer entry × AgreesIf (policy.wish held.psm) (standing held.stage) entry.setup
 
 -- as it is read in the law, and the parts so far of a request in parts
 abbrev pub Reads : Policy → Option Held → Option Entry → Type 0
@@ -72,15 +108,16 @@ Reads policy None None = Unit {0}
 Reads policy None (Some entry) = entry.life ≡ Over
 Reads policy (Some held) found = ReadsBy policy held (peer_of held.stage) found
 
-weaker_setup : (wish : Wish) (setup : Option Setup) (said : read.Setup) → AgreesIf wish setup said → IsSetUpIf wish setup said
-weaker_setup wish None said agrees = tt
-weaker_setup wish (Some setup) said agrees = agrees.set_up
+weaker_setup : (wish : Wish) (now : Standing) (said : read.Setup) → AgreesIf wish now said → IsSetUpIf wish now said
+weaker_setup wish Unread said agrees = tt
+weaker_setup wish (Agreeing setup) said agrees = agrees.set_up
+weaker_setup wish (Shut checked) said agrees = agrees
 
 weaker_by : (policy : Policy) (held : Held) (peer : Option ℕ) (found : Option Entry) → ReadsBy policy held peer found → IsReadBy policy held peer found
 weaker_by policy held None None reads = tt
 weaker_by policy held None (Some entry) reads = reads
 weaker_by policy held (Some peer) None reads = reads
-weaker_by policy held (Some peer) (Some entry) reads = (reads.0, weaker_setup (policy.wish held.psm) (setup_of held.stage) entry.setup reads.1)
+weaker_by policy held (Some peer) (Some entry) reads = (reads.0, weaker_setup (policy.wish held.psm) (standing held.stage) entry.setup reads.1)
 
 pub is_read : (policy : Policy) (held : Option Held) (found : Option Entry) → Reads policy held found → IsRead policy held found
 is_read policy None None reads = tt
@@ -105,6 +142,8 @@ pub record Core (policy : Policy) (entries : List Entry) (held : List Held) (nex
   pub reads : (own : ℕ) → Reads policy (find (has_own own) held) (read_at own entries)
   pub held_below : (own : ℕ) → next ≤ own → find (has_own own) held ≡ None
   pub read_below : (own : ℕ) → next ≤ own → read_at own entries ≡ None
+  pub held_low : (own : ℕ) → own < 0x0040 → find (has_own own) held ≡ None
+  pub read_low : (own : ℕ) → own < 0x0040 → read_at own entries ≡ None
   pub start : 0x0040 ≤ next
   pub apart : Apart entries
   pub distinct : Distinct own_read entries
@@ -178,15 +217,24 @@ IsAgain false more mode options = mode ≡ None
 IsAgain true false mode options = ⊥
 IsAgain true true mode options = StatesAgain mode options
 
--- while the channel is not set up, it changes nothing
-abbrev pub RepeatsIn : Option Setup → read.Setup → Part → Type 0
-RepeatsIn None said part = Unit {0}
-RepeatsIn (Some setup) said part = read.is_set said ≡ false → IsAgain part.accepted part.more setup.parts.mode part.options
+-- while the channel is not set up, it changes nothing; nor does it set up one that was closed
+abbrev pub RepeatsIn : Standing → read.Setup → Part → Type 0
+RepeatsIn Unread said part = Unit {0}
+RepeatsIn (Agreeing setup) said part = read.is_set said ≡ false → IsAgain part.accepted part.more setup.parts.mode part.options
+RepeatsIn (Shut checked) said part = read.is_set said ≡ false → (part.accepted && not part.more) ≡ false
+
+-- a refusal changes nothing where the options are not agreed on any more
+pub refused-nothing : (stage : Stage) (said : read.Setup) (part : Part) → setup_of stage ≡ None → part.accepted ≡ false → RepeatsIn (standing stage) said part
+refused-nothing (Requested request) said part none refused = tt
+refused-nothing (Connected peer setup) said part none refused = cc
+refused-nothing (Leaving peer setup request) said part none refused = cc
+refused-nothing (Closing peer request checked) said part none refused = λ unset. ap (λ a. a && not part.more) refused
+refused-nothing (Crossed peer request) said part none refused = tt
 
 abbrev pub Repeats : Option Held → Option Entry → Part → Type 0
 Repeats held None part = ⊥
 Repeats None (Some entry) part = Unit {0}
-Repeats (Some held) (Some entry) part = RepeatsIn (setup_of held.stage) entry.setup part
+Repeats (Some held) (Some entry) part = RepeatsIn (standing held.stage) entry.setup part
 
 abbrev pub part_of : Terms → (peer flags answer : ℕ) → Part
 part_of terms peer flags answer = record { own = terms.own; peer = peer; accepted = eqb answer 0; more = eqb (flags % 2) 1; options = terms.options }
@@ -244,7 +292,7 @@ abbrev pub WantsAt : Requests → Held → Stage → Type 0
 WantsAt asked held (Requested request) = Awaits asked held.psm held.own request.identifier
 WantsAt asked held (Connected peer setup) = Unit {0}
 WantsAt asked held (Leaving peer setup request) = Unit {0}
-WantsAt asked held (Closing peer request) = Unit {0}
+WantsAt asked held (Closing peer request checked) = Unit {0}
 WantsAt asked held (Crossed peer request) = Unit {0}
 
 abbrev pub Wants : Requests → Option Held → Type 0

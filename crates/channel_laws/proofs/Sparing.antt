@@ -20,7 +20,7 @@ use Rattle.channel_model.specs.declared.event.CloseReason.{CloseReason}
 use Rattle.channel_model.specs.declared.event.CloseReason.TheVariants.{NoAgreement, Refused, OwnClosed}
 use Rattle.channel_model.specs.Value.{Request, Own, Unasked, Asking, Granted, Carrier, Plain, Retransmitting, Setup, no_setup, Stage, Requested, Connected, Leaving, Closing, Crossed, Held, Channels}
 use Rattle.channel_model.specs.Policies.{Policy}
-use Rattle.channel_model.specs.Changing.{has_own, held_at, is_peer, setup_of, stage_with, with_setup, to_setup, is_copy, is_copy_about, forgets}
+use Rattle.channel_model.specs.Changing.{has_own, has_fcs_by, held_at, is_peer, setup_of, stage_with, with_setup, to_setup, is_copy, is_copy_about, forgets}
 use Rattle.channel_model.specs.Asking.{new_request, first_options, asks_options}
 use Rattle.channel_model.specs.Closing.{closes, closes_at, peer_closes_at, ends_at, ends}
 use Rattle.channel_model.specs.Configuring.{Verdict, NoChannel, TooLate, Unreadable, Incomplete, Judged, verdict, accepted_setup, without_parts, accepts_with, refused_setup, follows_answer, follows_verdict, opens_if, granted_setup, grants}
@@ -56,11 +56,11 @@ gone_tame v w held held_is features_is queue_is = dropped-tame v w held held_is 
 closes_tame : (v : Channels) (held : Held) (reason : CloseReason) (stage : Stage) → held.stage ≡ stage → find (has_own held.own) v.held ≡ Some held → Tame v (closes_at stage reason held v)
 closes_tame v held reason (Requested request) is found = gone_tame v (closes_at (Requested request) reason held v) held refl refl refl
 closes_tame v held reason (Connected peer setup) is found =
-    asks-end-tame v (closes_at (Connected peer setup) reason held v) held (Closing peer (new_request v)) (new_request v) (filter (λ x. not (is_copy (errands.Configuration held.own) x)) v.queue) found refl refl refl
+    asks-end-tame v (closes_at (Connected peer setup) reason held v) held (Closing peer (new_request v) (has_fcs_by setup)) (new_request v) (filter (λ x. not (is_copy (errands.Configuration held.own) x)) v.queue) found refl refl refl
     (forgotten v (errands.Configuration held.own)) refl refl (inl refl) (inl refl)
 closes_tame v held reason (Leaving peer setup request) is found =
-    rests-tame v (closes_at (Leaving peer setup request) reason held v) held (Closing peer request) found refl refl (forgotten v (errands.Configuration held.own)) (inl refl) (inl refl) (inr (sym (ap for_end is)))
-closes_tame v held reason (Closing peer request) is found = same-tame v
+    rests-tame v (closes_at (Leaving peer setup request) reason held v) held (Closing peer request (has_fcs_by setup)) found refl refl (forgotten v (errands.Configuration held.own)) (inl refl) (inl refl) (inr (sym (ap for_end is)))
+closes_tame v held reason (Closing peer request checked) is found = same-tame v
 closes_tame v held reason (Crossed peer request) is found = same-tame v
 
 peer_tame : (v : Channels) (held : Held) (stage : Stage) → held.stage ≡ stage → find (has_own held.own) v.held ≡ Some held → Tame v (peer_closes_at stage held v)
@@ -68,15 +68,15 @@ peer_tame v held (Requested request) is found = same-tame v
 peer_tame v held (Connected peer setup) is found = gone_tame v (peer_closes_at (Connected peer setup) held v) held refl refl refl
 peer_tame v held (Leaving peer setup request) is found =
     rests-tame v (peer_closes_at (Leaving peer setup request) held v) held (Crossed peer request) found refl refl (forgotten v (errands.Configuration held.own)) (inl refl) (inl refl) (inr (sym (ap for_end is)))
-peer_tame v held (Closing peer request) is found =
-    rests-tame v (peer_closes_at (Closing peer request) held v) held (Crossed peer request) found refl refl (as_many v) (inl refl) (inl refl) (inr (sym (ap for_end is)))
+peer_tame v held (Closing peer request checked) is found =
+    rests-tame v (peer_closes_at (Closing peer request checked) held v) held (Crossed peer request) found refl refl (as_many v) (inl refl) (inl refl) (inr (sym (ap for_end is)))
 peer_tame v held (Crossed peer request) is found = same-tame v
 
 pub ends-tame : (v : Channels) (held : Held) (reason : CloseReason) (stage : Stage) → Tame v (ends_at stage reason held v)
 ends-tame v held reason (Requested request) = same-tame v
 ends-tame v held reason (Connected peer setup) = same-tame v
 ends-tame v held reason (Leaving peer setup request) = gone_tame v (ends_at (Leaving peer setup request) reason held v) held refl refl refl
-ends-tame v held reason (Closing peer request) = gone_tame v (ends_at (Closing peer request) reason held v) held refl refl refl
+ends-tame v held reason (Closing peer request checked) = gone_tame v (ends_at (Closing peer request checked) reason held v) held refl refl refl
 ends-tame v held reason (Crossed peer request) = gone_tame v (ends_at (Crossed peer request) reason held v) held refl refl refl
 
 pub closes-tame : (v : Channels) (held : Held) (reason : CloseReason) → find (has_own held.own) v.held ≡ Some held → Tame v (closes reason held v)
@@ -88,21 +88,21 @@ channel_same : (after : Setup) (stage : Stage) → for_channel (stage_with after
 channel_same after (Requested request) = refl
 channel_same after (Connected peer setup) = refl
 channel_same after (Leaving peer setup request) = refl
-channel_same after (Closing peer request) = refl
+channel_same after (Closing peer request checked) = refl
 channel_same after (Crossed peer request) = refl
 
 end_same : (after : Setup) (stage : Stage) → for_end (stage_with after stage) ≡ for_end stage
 end_same after (Requested request) = refl
 end_same after (Connected peer setup) = refl
 end_same after (Leaving peer setup request) = refl
-end_same after (Closing peer request) = refl
+end_same after (Closing peer request checked) = refl
 end_same after (Crossed peer request) = refl
 
 options_after : (after : Setup) (stage : Stage) (setup : Setup) → setup_of stage ≡ Some setup → (for_options (stage_with after stage) ≡ own_request after.own) × (for_options stage ≡ own_request setup.own)
 options_after after (Requested request) setup is = cc
 options_after after (Connected peer s) setup is = let same : s ≡ setup = cc in (refl, ap (λ (x : Setup). own_request x.own) same)
 options_after after (Leaving peer s request) setup is = let same : s ≡ setup = cc in (refl, ap (λ (x : Setup). own_request x.own) same)
-options_after after (Closing peer request) setup is = cc
+options_after after (Closing peer request checked) setup is = cc
 options_after after (Crossed peer request) setup is = cc
 
 rests_by : (now now' was was' : Option Request) → now' ≡ now → was' ≡ was → Rests now was → Rests now' was'
@@ -221,7 +221,7 @@ grant_at : (v : Channels) (stage : Stage) (policy : Policy) (identifier endpoint
 grant_at v (Requested request) policy identifier endpoint result held found = either (eqb request.identifier identifier) v (hears_connected policy endpoint result held v) v (connected_tame v policy endpoint result held found) (same-tame v)
 grant_at v (Connected peer setup) policy identifier endpoint result held found = same-tame v
 grant_at v (Leaving peer setup request) policy identifier endpoint result held found = same-tame v
-grant_at v (Closing peer request) policy identifier endpoint result held found = same-tame v
+grant_at v (Closing peer request checked) policy identifier endpoint result held found = same-tame v
 grant_at v (Crossed peer request) policy identifier endpoint result held found = same-tame v
 
 pub grant-tame : (v : Channels) (own : ℕ) (held : Option Held) (policy : Policy) (identifier endpoint result : ℕ) → find (has_own own) v.held ≡ held → Tame v (hears_grant held policy identifier endpoint result v)
@@ -302,7 +302,7 @@ left_at v held (Requested request) is found = closes-tame v held OwnClosed found
 left_at v held (Connected peer setup) is found =
     asks-end-tame v (disconnected_at (Connected peer setup) held v) held (Leaving peer setup (new_request v)) (new_request v) v.queue found refl refl refl (as_many v) refl refl (inl refl) (inr (sym (ap for_options is)))
 left_at v held (Leaving peer setup request) is found = same-tame v
-left_at v held (Closing peer request) is found = same-tame v
+left_at v held (Closing peer request checked) is found = same-tame v
 left_at v held (Crossed peer request) is found = same-tame v
 
 left_held : (v : Channels) (own : ℕ) (held : Option Held) → find (has_own own) v.held ≡ held → Tame v (disconnected_held held v)

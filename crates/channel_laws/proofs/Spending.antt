@@ -1,5 +1,5 @@
 -- A host gives each request at most as often as it tries.
-use Rattle.std.proofs.Common.{◌≡◌, ℕ, ◌+◌, ◌<◌, ◌≤◌, List, [], ◌∷◌, ◌++◌, map, drop, Bool, true, false, cond, eqb, not, Option, Some, None, Ok, Err, refl, sym, ap, subst, ◌∙◌, inl, inr, arith}
+use Rattle.std.proofs.Common.{append_assoc, append-nil, ◌≡◌, ℕ, ◌+◌, ◌<◌, ◌≤◌, List, [], ◌∷◌, ◌++◌, map, drop, Bool, true, false, cond, eqb, not, Option, Some, None, Ok, Err, refl, sym, ap, subst, ◌∙◌, inl, inr, arith}
 use Rattle.std.specs.Prelude.{find, option_map, is_some, min, nat_le}
 use Rattle.std.specs.Option.{option_or}
 use Rattle.std.proofs.lemmas.Bool.{eqb-true, leb-false}
@@ -38,7 +38,7 @@ use Rattle.ertm_model.specs.Value.{Ertm}
 use Rattle.channel_model.specs.declared.event.CloseReason.{CloseReason}
 use Rattle.channel_model.specs.Closing.{closes_at, ends_at}
 use Rattle.channel_model.specs.Carrying.{reason_of, settles_machine}
-use Rattle.channel_laws.specs.Tries.{firings, FiringsAreCounted, for_channel, own_request, for_options, for_end, request_at, request_of, one_if, copies, is_firing, TriesAreKept, FiringsAloneRepeat}
+use Rattle.channel_laws.specs.Tries.{firings, FiringsAreCounted, FiringsAreCountedSince, for_channel, own_request, for_options, for_end, request_at, request_of, one_if, copies, is_firing, TriesAreKept, FiringsAloneRepeat}
 use Rattle.channel_laws.proofs.Running.{IsSound, along, all-sound}
 use Rattle.channel_laws.proofs.Trying.{copies-less, copies-append, copies-none, copies-asked, copies-others, same-self, By, Tame, both-tame, still-tame, same-tame, same-requests, Here, rests-here, goes-tame}
 use Rattle.channel_laws.proofs.Sparing.{closes-tame, ends-tame, setup-tame, follows-tame, grant-tame, response-tame, end-tame, settles-tame, takes-tame, disconnects-tame, sends-tame}
@@ -66,21 +66,21 @@ connection_once : (stage : Stage) → (for_channel (connection_given stage) ≡ 
 connection_once (Requested request) = (refl, refl, refl)
 connection_once (Connected peer setup) = (refl, refl, refl)
 connection_once (Leaving peer setup request) = (refl, refl, refl)
-connection_once (Closing peer request) = (refl, refl, refl)
+connection_once (Closing peer request checked) = (refl, refl, refl)
 connection_once (Crossed peer request) = (refl, refl, refl)
 
 configuration_once : (stage : Stage) → (for_channel (configuration_given stage) ≡ for_channel stage) × (for_options (configuration_given stage) ≡ option_map one_more (for_options stage)) × (for_end (configuration_given stage) ≡ for_end stage)
 configuration_once (Requested request) = (refl, refl, refl)
 configuration_once (Connected peer setup) = (refl, own_once setup.own, refl)
 configuration_once (Leaving peer setup request) = (refl, own_once setup.own, refl)
-configuration_once (Closing peer request) = (refl, refl, refl)
+configuration_once (Closing peer request checked) = (refl, refl, refl)
 configuration_once (Crossed peer request) = (refl, refl, refl)
 
 disconnection_once : (stage : Stage) → (for_channel (disconnection_given stage) ≡ for_channel stage) × (for_options (disconnection_given stage) ≡ for_options stage) × (for_end (disconnection_given stage) ≡ option_map one_more (for_end stage))
 disconnection_once (Requested request) = (refl, refl, refl)
 disconnection_once (Connected peer setup) = (refl, refl, refl)
 disconnection_once (Leaving peer setup request) = (refl, refl, refl)
-disconnection_once (Closing peer request) = (refl, refl, refl)
+disconnection_once (Closing peer request checked) = (refl, refl, refl)
 disconnection_once (Crossed peer request) = (refl, refl, refl)
 
 fewer : (errand e : Errand) (behind : List Queued) → copies e behind ≤ copies e (Ask errand ∷ behind)
@@ -329,15 +329,15 @@ comes_tame policy pdu v false = takes-tame (channel_of pdu) pdu v
 
 -- ---- what always holds
 
-abbrev Kept : (most : ℕ) → Channels → Type 0
-Kept most v = (e : Errand) (r : Request) → request_of e v ≡ Some r → copies e v.queue + r.given ≤ most
+abbrev Kept : Errand → (most : ℕ) → Channels → Type 0
+Kept e most v = (r : Request) → request_of e v ≡ Some r → copies e v.queue + r.given ≤ most
 
-kept : (most : ℕ) (v w : Channels) → 1 ≤ most → Tame v w → Kept most v → Kept most w
-kept most v w some tame so_far e r is = by (tame e r is)
+kept : (e : Errand) (most : ℕ) (v w : Channels) → 1 ≤ most → Tame v w → Kept e most v → Kept e most w
+kept e most v w some tame so_far r is = by (tame e r is)
   where
     by : By (copies e w.queue) (copies e v.queue) (request_of e v) r → copies e w.queue + r.given ≤ most
     by (inl new) = omega (arith, new, some)
-    by (inr (was, was_is, less)) = let bound = so_far e was was_is in omega (arith, less, bound)
+    by (inr (was, was_is, less)) = let bound = so_far was was_is in omega (arith, less, bound)
 
 same_is : (e errand : Errand) → same_errand e errand ≡ true → e ≡ errand
 same_is (errands.Connection m) (errands.Connection n) is = ap errands.Connection (eqb-true m n is)
@@ -360,11 +360,11 @@ same_is errands.Features errands.Features is = refl
 -- ---- the timer
 
 -- how often each was given so far
-abbrev Below : (low : ℕ) → Channels → Type 0
-Below low v = (e : Errand) (r : Request) → request_of e v ≡ Some r → r.given ≤ low
+abbrev Below : Errand → (low : ℕ) → Channels → Type 0
+Below e low v = (r : Request) → request_of e v ≡ Some r → r.given ≤ low
 
-abbrev Holds : (most low : ℕ) → Channels → Type 0
-Holds most low v = Kept most v × Below low v
+abbrev Holds : Errand → (most low : ℕ) → Channels → Type 0
+Holds e most low v = Kept e most v × Below e low v
 
 -- one that may be given again
 abbrev Bound : (most low tries : ℕ) → Type 0
@@ -384,18 +384,18 @@ record Spends (v w : Channels) : Type 0 where
   alike : Alike w bare
   also : Tame (cleared v) bare
 
-spends_on : (most low : ℕ) (v w : Channels) → 1 ≤ most → 1 ≤ low → Spends v w → Holds most low v → Holds most low w
-spends_on most low v w some one spends (so_far, below) = (kept most v w some spends.tame so_far, λ e r is. by e r (spends.also e r (same-requests w spends.bare spends.alike.0 spends.alike.1 e ∙ is)))
+spends_on : (e : Errand) (most low : ℕ) (v w : Channels) → 1 ≤ most → 1 ≤ low → Spends v w → Holds e most low v → Holds e most low w
+spends_on e most low v w some one spends (so_far, below) = (kept e most v w some spends.tame so_far, λ r is. by r (spends.also e r (same-requests w spends.bare spends.alike.0 spends.alike.1 e ∙ is)))
   where
-    by : (e : Errand) (r : Request) → By (copies e spends.bare.queue) 0 (request_of e (cleared v)) r → r.given ≤ low
-    by e r (inl new) = omega (arith, new, one)
-    by e r (inr (was, was_is, less)) = let bound = below e was (sym (same-requests v (cleared v) refl refl e) ∙ was_is) in omega (arith, less, bound)
+    by : (r : Request) → By (copies e spends.bare.queue) 0 (request_of e (cleared v)) r → r.given ≤ low
+    by r (inl new) = omega (arith, new, one)
+    by r (inr (was, was_is, less)) = let bound = below was (sym (same-requests v (cleared v) refl refl e) ∙ was_is) in omega (arith, less, bound)
 
 closes_alike : (v : Channels) (held : Held) (reason : CloseReason) (stage : Stage) → Alike (closes_at stage reason held v) (closes_at stage reason held (cleared v))
 closes_alike v held reason (Requested request) = (refl, refl)
 closes_alike v held reason (Connected peer setup) = (refl, refl)
 closes_alike v held reason (Leaving peer setup request) = (refl, refl)
-closes_alike v held reason (Closing peer request) = (refl, refl)
+closes_alike v held reason (Closing peer request checked) = (refl, refl)
 closes_alike v held reason (Crossed peer request) = (refl, refl)
 
 closes_spends : (v : Channels) (held : Held) (reason : CloseReason) → find (has_own held.own) v.held ≡ Some held → Spends v (closes reason held v)
@@ -405,7 +405,7 @@ ends_alike : (v : Channels) (held : Held) (reason : CloseReason) (stage : Stage)
 ends_alike v held reason (Requested request) = (refl, refl)
 ends_alike v held reason (Connected peer setup) = (refl, refl)
 ends_alike v held reason (Leaving peer setup request) = (refl, refl)
-ends_alike v held reason (Closing peer request) = (refl, refl)
+ends_alike v held reason (Closing peer request checked) = (refl, refl)
 ends_alike v held reason (Crossed peer request) = (refl, refl)
 
 ends_spends : (v : Channels) (held : Held) → Spends v (ends RetryLimit held v)
@@ -430,12 +430,12 @@ features_spends v = record {
 }
 
 -- a request is given once more
-fires_kept : (most low tries : ℕ) (v : Channels) (errand : Errand) (request : Request) (spent : Channels → Channels) → 1 ≤ most → 1 ≤ low → Bound most low tries → request_of errand v ≡ Some request → Spends v (spent v) → Holds most low v
-    → Holds most low (times tries errand request spent v)
-fires_kept most low tries v errand request spent some one bound at spends (so_far, below) = by (is_due errand v) refl (nat_le tries request.given) refl
+fires_kept : (e : Errand) (most low tries : ℕ) (v : Channels) (errand : Errand) (request : Request) (spent : Channels → Channels) → 1 ≤ most → 1 ≤ low → Bound most low tries → request_of errand v ≡ Some request → Spends v (spent v) → Holds e most low v
+    → Holds e most low (times tries errand request spent v)
+fires_kept e most low tries v errand request spent some one bound at spends (so_far, below) = by (is_due errand v) refl (nat_le tries request.given) refl
   where
-    again : is_due errand v ≡ false → nat_le tries request.given ≡ false → Kept most (queued (Ask errand) v)
-    again new more e r is = here (same_errand e errand) refl
+    again : is_due errand v ≡ false → nat_le tries request.given ≡ false → Kept e most (queued (Ask errand) v)
+    again new more r is = here (same_errand e errand) refl
       where
         was : request_of e v ≡ Some r
         was = sym (same-requests v (queued (Ask errand) v) refl refl e) ∙ is
@@ -447,69 +447,69 @@ fires_kept most low tries v errand request spent some one bound at spends (so_fa
             let found : Some r ≡ Some request = sym was ∙ (ap (λ x. request_of x v) it ∙ at) in
             let one : r ≡ request = cc in
             let given : r.given ≡ request.given = ap (λ (x : Request). x.given) one in
-            let less : request.given < most = bound request.given (below errand request at) more in
+            let less : request.given < most = bound request.given (below request (ap (λ x. request_of x v) it ∙ at)) more in
             let whole = copies-append e v.queue (Ask errand) ∙ ap (λ t. copies e v.queue + one_if t) same in
             omega (arith, none, given, less, whole)
         here false same =
             let whole = copies-append e v.queue (Ask errand) ∙ ap (λ t. copies e v.queue + one_if t) same in
-            let few = so_far e r was in
+            let few = so_far r was in
             omega (arith, whole, few)
 
-    by : (due : Bool) → is_due errand v ≡ due → (most' : Bool) → nat_le tries request.given ≡ most' → Holds most low (fires (cond due StillDue (cond most' Spent OnceMore)) errand spent v)
+    by : (due : Bool) → is_due errand v ≡ due → (most' : Bool) → nat_le tries request.given ≡ most' → Holds e most low (fires (cond due StillDue (cond most' Spent OnceMore)) errand spent v)
     by true d most' m = (so_far, below)
-    by false d true m = spends_on most low v (spent v) some one spends (so_far, below)
-    by false d false m = (again d m, λ e r is. below e r (sym (same-requests v (queued (Ask errand) v) refl refl e) ∙ is))
+    by false d true m = spends_on e most low v (spent v) some one spends (so_far, below)
+    by false d false m = (again d m, λ r is. below r (sym (same-requests v (queued (Ask errand) v) refl refl e) ∙ is))
 
-carrier_kept : (most low : ℕ) (v : Channels) (carrier : Option Carrier) (held : Held) (setup : Setup) → 1 ≤ most → 1 ≤ low → find (has_own held.own) v.held ≡ Some held → setup_of held.stage ≡ Some setup → Holds most low v → Holds most low (times_carrier carrier held setup v)
-carrier_kept most low v None held setup some one found is so_far = so_far
-carrier_kept most low v (Some (Plain agreed waits)) held setup some one found is so_far = so_far
-carrier_kept most low v (Some (Retransmitting machine)) held setup some one found is so_far =
-    spends_on most low v (times_carrier (Some (Retransmitting machine)) held setup v) some one (settles_spends v (timed machine).closed (timed machine) held setup found is) so_far
+carrier_kept : (e : Errand) (most low : ℕ) (v : Channels) (carrier : Option Carrier) (held : Held) (setup : Setup) → 1 ≤ most → 1 ≤ low → find (has_own held.own) v.held ≡ Some held → setup_of held.stage ≡ Some setup → Holds e most low v → Holds e most low (times_carrier carrier held setup v)
+carrier_kept e most low v None held setup some one found is so_far = so_far
+carrier_kept e most low v (Some (Plain agreed waits)) held setup some one found is so_far = so_far
+carrier_kept e most low v (Some (Retransmitting machine)) held setup some one found is so_far =
+    spends_on e most low v (times_carrier (Some (Retransmitting machine)) held setup v) some one (settles_spends v (timed machine).closed (timed machine) held setup found is) so_far
 
-setup_kept : (most low tries : ℕ) (v : Channels) (own : Own) (held : Held) (setup : Setup) → setup.own ≡ own → 1 ≤ most → 1 ≤ low → Bound most low tries → find (has_own held.own) v.held ≡ Some held → setup_of held.stage ≡ Some setup → for_options held.stage ≡ own_request setup.own → Holds most low v
-    → Holds most low (times_setup own tries held setup v)
-setup_kept most low tries v Unasked held setup own_is some one bound found is asks so_far = carrier_kept most low v setup.carrier held setup some one found is so_far
-setup_kept most low tries v (Asking request options) held setup own_is some one bound found is asks so_far =
-    fires_kept most low tries v (errands.Configuration held.own) request (closes RetryLimit held) some one bound (ap (request_at for_options) found ∙ (asks ∙ ap own_request own_is)) (closes_spends v held RetryLimit found) so_far
-setup_kept most low tries v Granted held setup own_is some one bound found is asks so_far = carrier_kept most low v setup.carrier held setup some one found is so_far
+setup_kept : (e : Errand) (most low tries : ℕ) (v : Channels) (own : Own) (held : Held) (setup : Setup) → setup.own ≡ own → 1 ≤ most → 1 ≤ low → Bound most low tries → find (has_own held.own) v.held ≡ Some held → setup_of held.stage ≡ Some setup → for_options held.stage ≡ own_request setup.own → Holds e most low v
+    → Holds e most low (times_setup own tries held setup v)
+setup_kept e most low tries v Unasked held setup own_is some one bound found is asks so_far = carrier_kept e most low v setup.carrier held setup some one found is so_far
+setup_kept e most low tries v (Asking request options) held setup own_is some one bound found is asks so_far =
+    fires_kept e most low tries v (errands.Configuration held.own) request (closes RetryLimit held) some one bound (ap (request_at for_options) found ∙ (asks ∙ ap own_request own_is)) (closes_spends v held RetryLimit found) so_far
+setup_kept e most low tries v Granted held setup own_is some one bound found is asks so_far = carrier_kept e most low v setup.carrier held setup some one found is so_far
 
-stage_kept : (most low tries : ℕ) (v : Channels) (stage : Stage) (held : Held) → held.stage ≡ stage → 1 ≤ most → 1 ≤ low → Bound most low tries → find (has_own held.own) v.held ≡ Some held → Holds most low v → Holds most low (times_stage stage tries held v)
-stage_kept most low tries v (Requested request) held is some one bound found so_far =
-    fires_kept most low tries v (errands.Connection held.own) request (closes RetryLimit held) some one bound (ap (request_at for_channel) found ∙ ap for_channel is) (closes_spends v held RetryLimit found) so_far
-stage_kept most low tries v (Connected peer setup) held is some one bound found so_far = setup_kept most low tries v setup.own held setup refl some one bound found (ap setup_of is) (ap for_options is) so_far
-stage_kept most low tries v (Leaving peer setup request) held is some one bound found so_far = setup_kept most low tries v setup.own held setup refl some one bound found (ap setup_of is) (ap for_options is) so_far
-stage_kept most low tries v (Closing peer request) held is some one bound found so_far = so_far
-stage_kept most low tries v (Crossed peer request) held is some one bound found so_far = so_far
+stage_kept : (e : Errand) (most low tries : ℕ) (v : Channels) (stage : Stage) (held : Held) → held.stage ≡ stage → 1 ≤ most → 1 ≤ low → Bound most low tries → find (has_own held.own) v.held ≡ Some held → Holds e most low v → Holds e most low (times_stage stage tries held v)
+stage_kept e most low tries v (Requested request) held is some one bound found so_far =
+    fires_kept e most low tries v (errands.Connection held.own) request (closes RetryLimit held) some one bound (ap (request_at for_channel) found ∙ ap for_channel is) (closes_spends v held RetryLimit found) so_far
+stage_kept e most low tries v (Connected peer setup) held is some one bound found so_far = setup_kept e most low tries v setup.own held setup refl some one bound found (ap setup_of is) (ap for_options is) so_far
+stage_kept e most low tries v (Leaving peer setup request) held is some one bound found so_far = setup_kept e most low tries v setup.own held setup refl some one bound found (ap setup_of is) (ap for_options is) so_far
+stage_kept e most low tries v (Closing peer request checked) held is some one bound found so_far = so_far
+stage_kept e most low tries v (Crossed peer request) held is some one bound found so_far = so_far
 
-held_kept : (most low tries own : ℕ) (v : Channels) (held : Option Held) → 1 ≤ most → 1 ≤ low → Bound most low tries → find (has_own own) v.held ≡ held → Holds most low v → Holds most low (times_held held tries v)
-held_kept most low tries own v None some one bound is so_far = so_far
-held_kept most low tries own v (Some held) some one bound is so_far = stage_kept most low tries v held.stage held refl some one bound (found-own own v held is) so_far
+held_kept : (e : Errand) (most low tries own : ℕ) (v : Channels) (held : Option Held) → 1 ≤ most → 1 ≤ low → Bound most low tries → find (has_own own) v.held ≡ held → Holds e most low v → Holds e most low (times_held held tries v)
+held_kept e most low tries own v None some one bound is so_far = so_far
+held_kept e most low tries own v (Some held) some one bound is so_far = stage_kept e most low tries v held.stage held refl some one bound (found-own own v held is) so_far
 
-end_kept : (most low tries : ℕ) (v : Channels) (stage : Stage) (held : Held) → held.stage ≡ stage → 1 ≤ most → 1 ≤ low → Bound most low tries → find (has_own held.own) v.held ≡ Some held → Holds most low v → Holds most low (times_end_at stage tries held v)
-end_kept most low tries v (Requested request) held is some one bound found so_far = so_far
-end_kept most low tries v (Connected peer setup) held is some one bound found so_far = so_far
-end_kept most low tries v (Leaving peer setup request) held is some one bound found so_far =
-    fires_kept most low tries v (errands.Disconnection held.own) request (ends RetryLimit held) some one bound (ap (request_at for_end) found ∙ ap for_end is) (ends_spends v held) so_far
-end_kept most low tries v (Closing peer request) held is some one bound found so_far =
-    fires_kept most low tries v (errands.Disconnection held.own) request (loses_end held) some one bound (ap (request_at for_end) found ∙ ap for_end is) (loses_spends v held) so_far
-end_kept most low tries v (Crossed peer request) held is some one bound found so_far =
-    fires_kept most low tries v (errands.Disconnection held.own) request (loses_end held) some one bound (ap (request_at for_end) found ∙ ap for_end is) (loses_spends v held) so_far
+end_kept : (e : Errand) (most low tries : ℕ) (v : Channels) (stage : Stage) (held : Held) → held.stage ≡ stage → 1 ≤ most → 1 ≤ low → Bound most low tries → find (has_own held.own) v.held ≡ Some held → Holds e most low v → Holds e most low (times_end_at stage tries held v)
+end_kept e most low tries v (Requested request) held is some one bound found so_far = so_far
+end_kept e most low tries v (Connected peer setup) held is some one bound found so_far = so_far
+end_kept e most low tries v (Leaving peer setup request) held is some one bound found so_far =
+    fires_kept e most low tries v (errands.Disconnection held.own) request (ends RetryLimit held) some one bound (ap (request_at for_end) found ∙ ap for_end is) (ends_spends v held) so_far
+end_kept e most low tries v (Closing peer request checked) held is some one bound found so_far =
+    fires_kept e most low tries v (errands.Disconnection held.own) request (loses_end held) some one bound (ap (request_at for_end) found ∙ ap for_end is) (loses_spends v held) so_far
+end_kept e most low tries v (Crossed peer request) held is some one bound found so_far =
+    fires_kept e most low tries v (errands.Disconnection held.own) request (loses_end held) some one bound (ap (request_at for_end) found ∙ ap for_end is) (loses_spends v held) so_far
 
-ended_kept : (most low tries own : ℕ) (v : Channels) (held : Option Held) → 1 ≤ most → 1 ≤ low → Bound most low tries → find (has_own own) v.held ≡ held → Holds most low v → Holds most low (times_end held tries v)
-ended_kept most low tries own v None some one bound is so_far = so_far
-ended_kept most low tries own v (Some held) some one bound is so_far = end_kept most low tries v held.stage held refl some one bound (found-own own v held is) so_far
+ended_kept : (e : Errand) (most low tries own : ℕ) (v : Channels) (held : Option Held) → 1 ≤ most → 1 ≤ low → Bound most low tries → find (has_own own) v.held ≡ held → Holds e most low v → Holds e most low (times_end held tries v)
+ended_kept e most low tries own v None some one bound is so_far = so_far
+ended_kept e most low tries own v (Some held) some one bound is so_far = end_kept e most low tries v held.stage held refl some one bound (found-own own v held is) so_far
 
-channels_kept : (most low tries : ℕ) (owns : List ℕ) (v : Channels) → 1 ≤ most → 1 ≤ low → Bound most low tries → Holds most low v → Holds most low (times_channels tries owns v)
-channels_kept most low tries [] v some one bound so_far = so_far
-channels_kept most low tries (own ∷ owns) v some one bound so_far =
+channels_kept : (e : Errand) (most low tries : ℕ) (owns : List ℕ) (v : Channels) → 1 ≤ most → 1 ≤ low → Bound most low tries → Holds e most low v → Holds e most low (times_channels tries owns v)
+channels_kept e most low tries [] v some one bound so_far = so_far
+channels_kept e most low tries (own ∷ owns) v some one bound so_far =
     let u : Channels = times_held (held_at own v) tries v in
     let w : Channels = times_end (held_at own u) tries u in
-    channels_kept most low tries owns w some one bound (ended_kept most low tries own u (held_at own u) some one bound refl (held_kept most low tries own v (held_at own v) some one bound refl so_far))
+    channels_kept e most low tries owns w some one bound (ended_kept e most low tries own u (held_at own u) some one bound refl (held_kept e most low tries own v (held_at own v) some one bound refl so_far))
 
-features_kept : (most low tries : ℕ) (v : Channels) (features : Option Request) → v.features ≡ features → 1 ≤ most → 1 ≤ low → Bound most low tries → Holds most low v → Holds most low (times_features features tries v)
-features_kept most low tries v None is some one bound so_far = so_far
-features_kept most low tries v (Some request) is some one bound so_far =
-    fires_kept most low tries v errands.Features request loses_features some one bound is (features_spends v) so_far
+features_kept : (e : Errand) (most low tries : ℕ) (v : Channels) (features : Option Request) → v.features ≡ features → 1 ≤ most → 1 ≤ low → Bound most low tries → Holds e most low v → Holds e most low (times_features features tries v)
+features_kept e most low tries v None is some one bound so_far = so_far
+features_kept e most low tries v (Some request) is some one bound so_far =
+    fires_kept e most low tries v errands.Features request loses_features some one bound is (features_spends v) so_far
 
 -- whatever happens but a firing
 one_tame : (policy : Policy) (more : Occurrence) (v : Channels) → is_firing more ≡ false → find (has_own v.next) v.held ≡ None → Distinct own_of v.held → Tame v (value_after policy more v)
@@ -522,44 +522,47 @@ one_tame policy (Gives pdu) v other none lone = gives_tame v v.queue refl lone
 one_tame policy Fires v other none lone = cc
 one_tame policy Tells v other none lone = still-tame v (value_after policy Tells v) refl refl (λ e. omega arith)
 
-timed_holds : (policy : Policy) (most low : ℕ) (v : Channels) → 1 ≤ most → 1 ≤ low → Bound most low policy.tries → Holds most low v → Holds most low (timed_out policy v)
-timed_holds policy most low v some one bound so_far =
+timed_holds : (policy : Policy) (e : Errand) (most low : ℕ) (v : Channels) → 1 ≤ most → 1 ≤ low → Bound most low policy.tries → Holds e most low v → Holds e most low (timed_out policy v)
+timed_holds policy e most low v some one bound so_far =
     let u : Channels = times_channels policy.tries (map (λ held. held.own) v.held) v in
-    features_kept most low policy.tries u u.features refl some one bound (channels_kept most low policy.tries (map (λ held. held.own) v.held) v some one bound so_far)
+    features_kept e most low policy.tries u u.features refl some one bound (channels_kept e most low policy.tries (map (λ held. held.own) v.held) v some one bound so_far)
 
 -- at most as often as the host tries
-timed_kept : (policy : Policy) (most : ℕ) (v : Channels) → 1 ≤ most → policy.tries ≤ most → Kept most v → Kept most (timed_out policy v)
-timed_kept policy most v some low so_far =
-    (timed_holds policy most most v some some (λ given few more. let less = leb-false policy.tries given more in omega (arith, less, low)) (so_far, λ e r is. let all = so_far e r is in omega (arith, all))).0
+timed_kept : (policy : Policy) (e : Errand) (most : ℕ) (v : Channels) → 1 ≤ most → policy.tries ≤ most → Kept e most v → Kept e most (timed_out policy v)
+timed_kept policy e most v some low so_far =
+    (timed_holds policy e most most v some some (λ given few more. let less = leb-false policy.tries given more in omega (arith, less, low)) (so_far, λ r is. let all = so_far r is in omega (arith, all))).0
 
 -- at most once more often
-timed_more : (policy : Policy) (n : ℕ) (v : Channels) → 1 ≤ n → Kept n v → Kept (n + 1) (timed_out policy v)
-timed_more policy n v some so_far =
-    (timed_holds policy (n + 1) n v (omega (arith, some)) some (λ given few more. omega (arith, few)) (
-      λ e r is. let all = so_far e r is in omega (arith, all),
-      λ e r is. let all = so_far e r is in omega (arith, all),
+timed_more : (policy : Policy) (e : Errand) (n : ℕ) (v : Channels) → 1 ≤ n → Kept e n v → Kept e (n + 1) (timed_out policy v)
+timed_more policy e n v some so_far =
+    (timed_holds policy e (n + 1) n v (omega (arith, some)) some (λ given few more. omega (arith, few)) (
+      λ r is. let all = so_far r is in omega (arith, all),
+      λ r is. let all = so_far r is in omega (arith, all),
     )).0
 
-one_kept : (policy : Policy) (most : ℕ) (more : Occurrence) (v : Channels) (firing : Bool) → is_firing more ≡ firing → 1 ≤ most → policy.tries ≤ most → find (has_own v.next) v.held ≡ None → Distinct own_of v.held → Kept most v → Kept most (value_after policy more v)
-one_kept policy most more v false is some low none lone so_far = kept most v (value_after policy more v) some (one_tame policy more v is none lone) so_far
-one_kept policy most (Comes pdu) v true is some low none lone so_far = cc
-one_kept policy most (Connects psm) v true is some low none lone so_far = cc
-one_kept policy most AsksFeatures v true is some low none lone so_far = cc
-one_kept policy most (Disconnects own) v true is some low none lone so_far = cc
-one_kept policy most (Sends own sdu) v true is some low none lone so_far = cc
-one_kept policy most (Gives pdu) v true is some low none lone so_far = cc
-one_kept policy most Fires v true is some low none lone so_far = timed_kept policy most v some low so_far
-one_kept policy most Tells v true is some low none lone so_far = cc
+fires_is : (more : Occurrence) → is_firing more ≡ true → more ≡ Fires
+fires_is (Comes pdu) is = cc
+fires_is (Connects psm) is = cc
+fires_is AsksFeatures is = cc
+fires_is (Disconnects own) is = cc
+fires_is (Sends own sdu) is = cc
+fires_is (Gives pdu) is = cc
+fires_is Fires is = refl
+fires_is Tells is = cc
 
-first_kept : (most : ℕ) → Kept most new_link.value
-first_kept most (errands.Connection own) r is = cc
-first_kept most (errands.Configuration own) r is = cc
-first_kept most (errands.Disconnection own) r is = cc
-first_kept most errands.Features r is = cc
+one_kept : (policy : Policy) (e : Errand) (most : ℕ) (more : Occurrence) (v : Channels) (firing : Bool) → is_firing more ≡ firing → 1 ≤ most → policy.tries ≤ most → find (has_own v.next) v.held ≡ None → Distinct own_of v.held → Kept e most v → Kept e most (value_after policy more v)
+one_kept policy e most more v false is some low none lone so_far = kept e most v (value_after policy more v) some (one_tame policy more v is none lone) so_far
+one_kept policy e most more v true is some low none lone so_far = subst (λ o. Kept e most (value_after policy o v)) (sym (fires_is more is)) (timed_kept policy e most v some low so_far)
+
+first_kept : (e : Errand) (most : ℕ) → Kept e most new_link.value
+first_kept (errands.Connection own) most r is = cc
+first_kept (errands.Configuration own) most r is = cc
+first_kept (errands.Disconnection own) most r is = cc
+first_kept errands.Features most r is = cc
 
 pub tries-are_kept : TriesAreKept
-tries-are_kept policy list most some low =
-    (along policy (λ run. Kept most run.value) (first_kept most) (λ run more sound so_far. one_kept policy most more run.value (is_firing more) refl some low (sound.core.held_below run.value.next (omega arith)) sound.core.lone so_far) list).1
+tries-are_kept policy list most some low errand =
+    (along policy (λ run. Kept errand most run.value) (first_kept errand most) (λ run more sound so_far. one_kept policy errand most more run.value (is_firing more) refl some low (sound.core.held_below run.value.next (omega arith)) sound.core.lone so_far) list).1
 
 pub firings-alone_repeat : FiringsAloneRepeat
 firings-alone_repeat policy list more other errand request is =
@@ -573,24 +576,21 @@ firings_more : (list : List Occurrence) (more : Occurrence) → firings (list ++
 firings_more [] more = refl
 firings_more (one ∷ list) more = let later = firings_more list more in omega (arith, later)
 
-counted_more : (policy : Policy) (list : List Occurrence) (more : Occurrence) (firing : Bool) → is_firing more ≡ firing → Kept (1 + firings list) (run_of policy list).value → Kept (1 + (one_if firing + firings list)) (value_after policy more (run_of policy list).value)
-counted_more policy list more false is so_far = λ e r at.
+counted_more : (policy : Policy) (e : Errand) (n : ℕ) (list : List Occurrence) (more : Occurrence) (firing : Bool) → is_firing more ≡ firing → Kept e (1 + n) (run_of policy list).value → Kept e (1 + (one_if firing + n)) (value_after policy more (run_of policy list).value)
+counted_more policy e n list more false is so_far = λ r at.
     let sound : IsSound policy (run_of policy list) = all-sound policy list in
     let tame = one_tame policy more (run_of policy list).value is (sound.core.held_below (run_of policy list).value.next (omega arith)) sound.core.lone in
-    let few = kept (1 + firings list) (run_of policy list).value (value_after policy more (run_of policy list).value) (omega arith) tame so_far e r at in omega (arith, few)
-counted_more policy list Fires true is so_far = λ e r at. let bound = timed_more policy (1 + firings list) (run_of policy list).value (omega arith) so_far e r at in omega (arith, bound)
-counted_more policy list (Comes pdu) true is so_far = cc
-counted_more policy list (Connects psm) true is so_far = cc
-counted_more policy list AsksFeatures true is so_far = cc
-counted_more policy list (Disconnects own) true is so_far = cc
-counted_more policy list (Sends own sdu) true is so_far = cc
-counted_more policy list (Gives pdu) true is so_far = cc
-counted_more policy list Tells true is so_far = cc
+    let few = kept e (1 + n) (run_of policy list).value (value_after policy more (run_of policy list).value) (omega arith) tame so_far r at in omega (arith, few)
+counted_more policy e n list more true is so_far = subst (λ o. Kept e (1 + (1 + n)) (value_after policy o (run_of policy list).value)) (sym (fires_is more is)) (λ r at. let bound = timed_more policy e (1 + n) (run_of policy list).value (omega arith) so_far r at in omega (arith, bound))
+
+pub firings-are_counted_since : FiringsAreCountedSince
+firings-are_counted_since policy past list errand request new = from_end (λ rest. Kept errand (1 + firings rest) (run_of policy (past ++ rest)).value) (subst (λ l. Kept errand 1 (run_of policy l).value) (sym (append-nil past)) new) step list request
+  where
+    step : (rest : List Occurrence) (more : Occurrence) → Kept errand (1 + firings rest) (run_of policy (past ++ rest)).value → Kept errand (1 + firings (rest ++ more ∷ [])) (run_of policy (past ++ (rest ++ more ∷ []))).value
+    step rest more so_far =
+        subst (λ n. Kept errand (1 + n) (run_of policy (past ++ (rest ++ more ∷ []))).value) (sym (firings_more rest more))
+        (subst (λ l. Kept errand (1 + (one_if (is_firing more) + firings rest)) (run_of policy l).value) (append_assoc past rest (more ∷ []))
+        (subst (λ (run : Run). Kept errand (1 + (one_if (is_firing more) + firings rest)) run.value) (sym (fold-append (run_on policy) new_link (past ++ rest) (more ∷ []))) (counted_more policy errand (firings rest) (past ++ rest) more (is_firing more) refl so_far)))
 
 pub firings-are_counted : FiringsAreCounted
-firings-are_counted policy list = from_end (λ past. Kept (1 + firings past) (run_of policy past).value) (first_kept 1) step list
-  where
-    step : (past : List Occurrence) (more : Occurrence) → Kept (1 + firings past) (run_of policy past).value → Kept (1 + firings (past ++ more ∷ [])) (run_of policy (past ++ more ∷ [])).value
-    step past more so_far =
-        subst (λ n. Kept (1 + n) (run_of policy (past ++ more ∷ [])).value) (sym (firings_more past more))
-        (subst (λ (run : Run). Kept (1 + (one_if (is_firing more) + firings past)) run.value) (sym (fold-append (run_on policy) new_link past (more ∷ []))) (counted_more policy past more (is_firing more) refl so_far))
+firings-are_counted policy list errand request = firings-are_counted_since policy [] list errand request (first_kept errand 1)

@@ -1,5 +1,5 @@
 -- What one meaning more does to what always holds.
-use Rattle.std.proofs.Common.{◌≡◌, ℕ, ◌<◌, List, Bool, true, false, eqb, Option, Some, None, refl, sym, ap, subst, ◌∙◌, arith}
+use Rattle.std.proofs.Common.{◌≡◌, ℕ, ◌<◌, ◌≤◌, List, Bool, true, false, eqb, Option, Some, None, refl, sym, ap, subst, ◌∙◌, arith}
 use Rattle.std.specs.Prelude.{find, filter, option_map}
 use Rattle.std.proofs.lemmas.Bool.{eqb-true}
 use Rattle.capture.specs.declared.flow.Flow.TheVariants.{Into}
@@ -23,17 +23,22 @@ false_if false never = refl
 pub less-apart : (a b : ℕ) → a < b → eqb a b ≡ false
 less-apart a b below = false_if (eqb a b) (λ same. omega (arith, eqb-true a b same, below))
 
+pub more-apart : (a b : ℕ) → b < a → eqb a b ≡ false
+more-apart a b above = false_if (eqb a b) (λ same. omega (arith, eqb-true a b same, above))
+
 -- ---- channels
 
-pub core-one : (policy : Policy) (entries : List Entry) (held held' : List Held) (next : ℕ) (more : Meaning) (here : ℕ) → made_by more ≡ None → here < next → Core policy entries held next
+pub core-one : (policy : Policy) (entries : List Entry) (held held' : List Held) (next : ℕ) (more : Meaning) (here : ℕ) → made_by more ≡ None → here < next → 0x0040 ≤ here → Core policy entries held next
     → ((own : ℕ) → eqb here own ≡ false → find (has_own own) held' ≡ find (has_own own) held) → ((own : ℕ) → eqb here own ≡ false → moved more own entries ≡ read_at own entries)
     → Distinct own_of held' → Reads policy (find (has_own here) held') (moved more here entries) → Core policy (entries_after entries more) held' next
-core-one policy entries held held' next more here none below core held_others read_others lone now = record {
+core-one policy entries held held' next more here none below high core held_others read_others lone now = record {
   reads = λ own. subst (Reads policy (find (has_own own) held')) (sym (read-after more entries own none))
       (at_each (λ n. Reads policy (find (has_own n) held) (read_at n entries)) (λ n. Reads policy (find (has_own n) held') (moved more n entries)) here
       (λ n apart reads. subst (Reads policy (find (has_own n) held')) (sym (read_others n apart)) (subst (λ h. Reads policy h (read_at n entries)) (sym (held_others n apart)) reads)) now core.reads own);
   held_below = λ own above. held_others own (less-apart here own (omega (arith, below, above))) ∙ core.held_below own above;
   read_below = λ own above. read-after more entries own none ∙ ap (option_map (entry_after more)) (core.read_below own above);
+  held_low = λ own low. held_others own (more-apart here own (omega (arith, high, low))) ∙ core.held_low own low;
+  read_low = λ own low. read-after more entries own none ∙ ap (option_map (entry_after more)) (core.read_low own low);
   start = core.start;
   apart = apart-after more entries none core.apart;
   distinct = distinct-after more entries none core.distinct;

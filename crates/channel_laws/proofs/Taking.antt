@@ -7,13 +7,13 @@ use Rattle.l2cap_config.specs.declared.wish.Agreed.{Agreed}
 use Rattle.channel_model.specs.declared.errand.Errand.TheVariants as errands
 use Rattle.channel_model.specs.declared.event.CloseReason.{CloseReason}
 use Rattle.channel_model.specs.Value.{Own, Unasked, Asking, Granted, Carrier, Plain, Retransmitting, Setup, Stage, Requested, Connected, Leaving, Closing, Crossed, Held, Channels}
-use Rattle.channel_model.specs.Changing.{has_own, held_at, setup_of, with_setup, to_setup, forgets}
+use Rattle.channel_model.specs.Changing.{has_own, is_stated, has_fcs_by, held_at, setup_of, with_setup, to_setup, forgets}
 use Rattle.channel_model.specs.Asking.{new_request}
 use Rattle.channel_model.specs.Closing.{closes_at}
 use Rattle.channel_model.specs.Configuring.{opens_if, granted_setup}
 use Rattle.channel_model.specs.Carrying.{reason_of, settles_machine, machine_heard, read_by, carries, is_taken_with, opens_with, takes_with, takes_on, takes_held, takes}
 use Rattle.channel_model.proofs.Lookups.{own_of, found-has, find-placed, find-others}
-use Rattle.channel_model.proofs.Going.{is_stated, staged}
+use Rattle.channel_model.proofs.Going.{staged}
 use Rattle.channel_model.proofs.Walking.{found-own, with-found}
 use Rattle.channel_model.proofs.Calling.{granted-same}
 
@@ -79,9 +79,9 @@ pub record LeavesOthers (own : ℕ) (v w : Channels) : Type 0 where
 
 closed_others : (v : Channels) (held : Held) (reason : CloseReason) (stage : Stage) → LeavesOthers held.own v (closes_at stage reason held v)
 closed_others v held reason (Requested request) = record { others = λ other apart. find-others own_of held.own other v.held apart; next_is = refl }
-closed_others v held reason (Connected peer setup) = record { others = λ other apart. find-placed (staged held (Closing peer (new_request v))) v.held other apart; next_is = refl }
-closed_others v held reason (Leaving peer setup request) = record { others = λ other apart. find-placed (staged held (Closing peer request)) v.held other apart; next_is = refl }
-closed_others v held reason (Closing peer request) = record { others = λ other apart. refl; next_is = refl }
+closed_others v held reason (Connected peer setup) = record { others = λ other apart. find-placed (staged held (Closing peer (new_request v) (has_fcs_by setup))) v.held other apart; next_is = refl }
+closed_others v held reason (Leaving peer setup request) = record { others = λ other apart. find-placed (staged held (Closing peer request (has_fcs_by setup))) v.held other apart; next_is = refl }
+closed_others v held reason (Closing peer request checked) = record { others = λ other apart. refl; next_is = refl }
 closed_others v held reason (Crossed peer request) = record { others = λ other apart. refl; next_is = refl }
 
 settled_others : (u : Channels) (machine : Ertm) (closed : Option ErtmReason) (held : Held) (setup : Setup) → LeavesOthers held.own u (settles_machine closed machine held setup u)

@@ -19,14 +19,14 @@ use Rattle.link_talk.specs.Channels.{Reading, read_on}
 use Rattle.channel_model.specs.declared.request_kind.RequestKind.TheVariants as kinds
 use Rattle.channel_model.specs.Value.{Own, Unasked, Asking, Granted, Carrier, Setup, Held, Channels}
 use Rattle.channel_model.specs.Policies.{Policy}
-use Rattle.channel_model.specs.Changing.{has_own, to_setup, with_setup, is_open, is_granted}
+use Rattle.channel_model.specs.Changing.{has_own, stage_with, to_setup, with_setup, is_open, is_granted}
 use Rattle.channel_model.specs.Configuring.{accepted_setup, refuses}
 use Rattle.channel_model.specs.Following.{remembers, says}
 use Rattle.channel_laws.specs.OwnTalk.{command_with, asked_between}
-use Rattle.channel_laws.specs.Views.{asked_mode, carrier_mode}
+use Rattle.channel_laws.specs.Views.{asked_mode, carrier_mode, Agreeing, standing}
 use Rattle.channel_model.proofs.Lookups.{found-placed}
 use Rattle.channel_laws.proofs.Both.{and-left, and-right}
-use Rattle.channel_laws.proofs.Sound.{Agrees, AgreesIf, CarrierIs, IsAgain, RepeatsIn, part_of, Sound}
+use Rattle.channel_laws.proofs.Sound.{Agrees, AgreesIf, standing-is, CarrierIs, IsAgain, RepeatsIn, part_of, Sound}
 use Rattle.channel_laws.proofs.Agreeing.{answer-agrees, refused-answers, part-answers, whole-answers, carrier-is}
 use Rattle.channel_laws.proofs.Questions.{heard, exchange, asked-none, IsNew}
 use Rattle.channel_laws.proofs.Configuring.{Queries, query-new}
@@ -80,7 +80,7 @@ pub record Fits (policy : Policy) (held : Held) (peer flags answer : ℕ) (octet
 
 pub plainly : (policy : Policy) (r : Reading) (v w : Channels) (one : Read) (identifier : ℕ) (held : Held) (peer : ℕ) (setup after : Setup) (octets : List ℕ) (flags answer : ℕ) (given : List ℕ) → Asked policy r v one identifier held peer setup octets
     → Fits policy held peer flags answer octets setup after
-    → ((said : read.Setup) → Agrees (policy.wish held.psm) after said → RepeatsIn (Some after) said (part_of (terms_of held octets) peer flags answer))
+    → ((said : read.Setup) → Agrees (policy.wish held.psm) after said → RepeatsIn (Agreeing after) said (part_of (terms_of held octets) peer flags answer))
     → w.held ≡ (to_setup held after v).held → w.next ≡ v.next → w.identifier ≡ v.identifier → w.memory ≡ (answering identifier (configuration_response peer flags answer given) v).memory
     → Sound policy (fold read_on r (exchange one identifier (Some (configuration_response peer flags answer given)) ++ asked_between v w)) w
 plainly policy r v w one identifier held peer setup after octets flags answer given asked fits repeats held_is next_is identifier_is memory_is =
@@ -89,9 +89,10 @@ plainly policy r v w one identifier held peer setup after octets flags answer gi
     let first : Sound policy (fold read_on r (exchange one identifier (Some content))) u =
     answers-first policy r v u one identifier held peer setup after octets flags answer given asked.queries asked.new asked.talks held_is next_is refl fits.agrees asked.sound in
     let here : find (has_own held.own) u.held ≡ Some (with_setup held after) = ap (find (has_own held.own)) held_is ∙ found-placed (with_setup held after) held v.held asked.talks.found in
+    let stands : standing (stage_with after held.stage) ≡ Agreeing after = standing-is (stage_with after held.stage) after (asked.talks.setup_with after) in
     let repeated = repeats-now policy (fold read_on r (exchange one identifier (Some content))) u held.own peer flags answer octets (with_setup held after) identifier
     (exchange-queries policy r v one identifier held peer setup octets content asked) here refl (asked.talks.peer_with after)
-    (λ said agrees. subst (λ s. RepeatsIn s said (part_of (terms_of held octets) peer flags answer)) (sym (asked.talks.setup_with after)) (repeats said (subst (λ s. AgreesIf (policy.wish held.psm) s said) (asked.talks.setup_with after) agrees)))
+    (λ said agrees. subst (λ s. RepeatsIn s said (part_of (terms_of held octets) peer flags answer)) (sym stands) (repeats said (subst (λ s. AgreesIf (policy.wish held.psm) s said) stands agrees)))
     first given in
     subst (λ rest. Sound policy (fold read_on r (exchange one identifier (Some content) ++ rest)) w) (sym (asked-none v w identifier_is))
     (remembers-sound policy (fold read_on r (exchange one identifier (Some content))) u w identifier content v.memory refl refl refl memory_is repeated first)
@@ -106,7 +107,7 @@ refused-fits policy held peer answer octets setup after refuses own carrier none
       (λ some. ap is_some carrier ∙ some) (λ unset. refused-answers (policy.wish held.psm) setup after said held.own peer false octets agrees carrier none));
 }
 
-pub refused-repeats : (held : Held) (peer answer : ℕ) (octets : List ℕ) (after : Setup) (said : read.Setup) → eqb answer 0 ≡ false → after.parts.mode ≡ None → RepeatsIn (Some after) said (part_of (terms_of held octets) peer 0 answer)
+pub refused-repeats : (held : Held) (peer answer : ℕ) (octets : List ℕ) (after : Setup) (said : read.Setup) → eqb answer 0 ≡ false → after.parts.mode ≡ None → RepeatsIn (Agreeing after) said (part_of (terms_of held octets) peer 0 answer)
 refused-repeats held peer answer octets after said refuses none =
     λ unset. subst (λ a. IsAgain a false after.parts.mode octets) (sym refuses) none
 
@@ -140,5 +141,5 @@ whole-fits policy held peer octets setup more given is accepts =
     }
 
 -- a channel that is set up has its answers for good
-pub set-repeats : (wish : Wish) (after : Setup) (said : read.Setup) (part : Part) → is_some (asked_mode wish after.own) ≡ true → is_some after.carrier ≡ true → Agrees wish after said → RepeatsIn (Some after) said part
+pub set-repeats : (wish : Wish) (after : Setup) (said : read.Setup) (part : Part) → is_some (asked_mode wish after.own) ≡ true → is_some after.carrier ≡ true → Agrees wish after said → RepeatsIn (Agreeing after) said part
 set-repeats wish after said part own carrier agrees = λ unset. let never : true ≡ false = sym (asked-set wish after said agrees own carrier) ∙ unset in absurd cc

@@ -66,7 +66,7 @@ abbrev pub talks_to : Stage → Option ℕ
 talks_to (Requested request) = None
 talks_to (Connected peer setup) = Some peer
 talks_to (Leaving peer setup request) = Some peer
-talks_to (Closing peer request) = None
+talks_to (Closing peer request checked) = None
 talks_to (Crossed peer request) = None
 
 pub record IsNamed (entries : List Entry) (own peer : ℕ) : Type 0 where
@@ -93,7 +93,7 @@ named_by policy held stage own peer entries (Some entry) is talks read (there, a
     lives (Requested request) to = cc
     lives (Connected other setup) to = refl
     lives (Leaving other setup request) to = refl
-    lives (Closing other request) to = cc
+    lives (Closing other request checked) to = cc
     lives (Crossed other request) to = cc
 
 named_at : (policy : Policy) (held : Held) (stage : Stage) (own peer : ℕ) (entries : List Entry) → held.stage ≡ stage → talks_to stage ≡ Some peer → Reads policy (Some held) (read_at own entries) → IsNamed entries own peer
@@ -104,7 +104,7 @@ named_at policy held (Connected other setup) own peer entries is talks reads =
 named_at policy held (Leaving other setup request) own peer entries is talks reads =
     let same : Some other ≡ Some peer = talks in
     named_by policy held (Leaving other setup request) own peer entries (read_at own entries) is talks refl (subst (λ p. ReadsBy policy held p (read_at own entries)) (ap peer_of is ∙ same) reads)
-named_at policy held (Closing other request) own peer entries is talks reads = cc
+named_at policy held (Closing other request checked) own peer entries is talks reads = cc
 named_at policy held (Crossed other request) own peer entries is talks reads = cc
 
 pub sound-named : (policy : Policy) (past : List Saying) (v : Channels) → Sound policy (reading past) v → AreNamed (reading past).entries v
@@ -196,7 +196,7 @@ asked_talks : (stage : Stage) (m : Option ℕ) → asked_at stage ≡ Some m →
 asked_talks (Requested request) m is = cc
 asked_talks (Connected peer setup) m is = (peer, refl)
 asked_talks (Leaving peer setup request) m is = (peer, refl)
-asked_talks (Closing peer request) m is = cc
+asked_talks (Closing peer request checked) m is = cc
 asked_talks (Crossed peer request) m is = cc
 
 -- one of another channel is nothing for it
@@ -244,7 +244,7 @@ setup_wishes : (stage : Stage) (setup : Setup) (peer : ℕ) (request : Request) 
 setup_wishes (Requested other) setup peer request options has to is = cc
 setup_wishes (Connected p s) setup peer request options has to is = let same : s ≡ setup = cc in (to, ap (λ o. Some (asked_by (own_request o))) (ap (λ (x : Setup). x.own) same ∙ is))
 setup_wishes (Leaving p s other) setup peer request options has to is = let same : s ≡ setup = cc in (to, ap (λ o. Some (asked_by (own_request o))) (ap (λ (x : Setup). x.own) same ∙ is))
-setup_wishes (Closing p other) setup peer request options has to is = cc
+setup_wishes (Closing p other checked) setup peer request options has to is = cc
 setup_wishes (Crossed p other) setup peer request options has to is = cc
 
 -- whatever the host says of its own accord
@@ -278,7 +278,7 @@ new_at : (party : Party) (channel : Channel) (past : List Saying) (w : Channels)
 new_at party channel past w n held (Requested request) is at asks named = cc
 new_at party channel past w n held (Connected peer setup) is at asks named = let asked : asked_by (own_request setup.own) ≡ Some n = cc in new_by party channel past w n peer held setup.own at (ap talks_to is) asked named
 new_at party channel past w n held (Leaving peer setup request) is at asks named = let asked : asked_by (own_request setup.own) ≡ Some n = cc in new_by party channel past w n peer held setup.own at (ap talks_to is) asked named
-new_at party channel past w n held (Closing peer request) is at asks named = cc
+new_at party channel past w n held (Closing peer request checked) is at asks named = cc
 new_at party channel past w n held (Crossed peer request) is at asks named = cc
 
 new_on : (party : Party) (channel : Channel) (past : List Saying) (w : Channels) (n : ℕ) (held : Option Held) → held_at channel.own w ≡ held → asked_on held ≡ Some (Some n)

@@ -41,7 +41,7 @@ words_call w P words own (Some held) at = by held.stage refl
     by (Requested request) is = words.calls own held request at is
     by (Connected peer setup) is = words.none
     by (Leaving peer setup request) is = words.none
-    by (Closing peer request) is = words.none
+    by (Closing peer request checked) is = words.none
     by (Crossed peer request) is = words.none
 
 words_wish : (w : Channels) (P : List Saying → Type 0) → Words w P → (own : ℕ) (held : Option Held) → held_at own w ≡ held → P (map spoken (option_to_list (on_held (λ h. configuration_at h.stage) held)))
@@ -57,7 +57,7 @@ words_wish w P words own (Some held) at = by held.stage refl
     by (Requested request) is = words.none
     by (Connected peer setup) is = asked peer setup (ap setup_of is) (ap peer_of is) setup.own refl
     by (Leaving peer setup request) is = asked peer setup (ap setup_of is) (ap peer_of is) setup.own refl
-    by (Closing peer request) is = words.none
+    by (Closing peer request checked) is = words.none
     by (Crossed peer request) is = words.none
 
 words_end : (w : Channels) (P : List Saying → Type 0) → Words w P → (held : Option Held) → P (map spoken (option_to_list (on_held (λ h. disconnection_at h.stage h) held)))
@@ -68,7 +68,7 @@ words_end w P words (Some held) = by held.stage
     by (Requested request) = words.none
     by (Connected peer setup) = words.none
     by (Leaving peer setup request) = words.ends request.identifier peer held.own
-    by (Closing peer request) = words.ends request.identifier peer held.own
+    by (Closing peer request checked) = words.ends request.identifier peer held.own
     by (Crossed peer request) = words.ends request.identifier peer held.own
 
 words_features : (w : Channels) (P : List Saying → Type 0) → Words w P → (features : Option Request) → w.features ≡ features → P (map spoken (option_to_list (features_command features)))
@@ -105,7 +105,7 @@ words-forgone w P words (Some held) None = by held.stage
     by (Requested request) = words.lets_call request.identifier held.own
     by (Connected peer setup) = words.none
     by (Leaving peer setup request) = words.lets_end held.own peer
-    by (Closing peer request) = words.lets_end held.own peer
+    by (Closing peer request checked) = words.lets_end held.own peer
     by (Crossed peer request) = words.lets_end held.own peer
 words-forgone w P words (Some held) (Some other) = words.none
 

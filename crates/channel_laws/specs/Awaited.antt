@@ -20,14 +20,14 @@ abbrev pub asks_for_channel : Stage → Bool
 asks_for_channel (Requested request) = true
 asks_for_channel (Connected peer setup) = false
 asks_for_channel (Leaving peer setup request) = false
-asks_for_channel (Closing peer request) = false
+asks_for_channel (Closing peer request checked) = false
 asks_for_channel (Crossed peer request) = false
 
 abbrev pub asks_for_end : Stage → Bool
 asks_for_end (Requested request) = false
 asks_for_end (Connected peer setup) = false
 asks_for_end (Leaving peer setup request) = true
-asks_for_end (Closing peer request) = true
+asks_for_end (Closing peer request checked) = true
 asks_for_end (Crossed peer request) = true
 
 abbrev pub is_at : (Stage → Bool) → Option Held → Bool

@@ -1,13 +1,12 @@
 -- Check words: which frames that come in for an own endpoint have one (Core 5.1, Volume 3 Part A, 3.3.5 and 5.5).
-use Rattle.std.specs.Prelude.{ℕ, ◌≡◌, ◌&&◌, not, List}
+use Rattle.std.specs.Prelude.{ℕ, ◌≡◌, List}
 use Rattle.link_talk.specs.Waits.{has_check_word}
 use Rattle.channel_model.specs.Policies.{Policy}
 use Rattle.channel_model.specs.Calls.{has_fcs}
-use Rattle.channel_model.specs.Telling.{is_told_closed}
-use Rattle.channel_laws.specs.Runs.{Occurrence, run_of, arisen}
+use Rattle.channel_laws.specs.Runs.{Occurrence, run_of}
 
--- Whatever happens: a host looks for a check word at an own endpoint exactly where its own talk says that there is one, as
--- long as nothing arose that tells it that the channel is closed.
+-- Whatever happens: a host looks for a check word at an own endpoint exactly where its own talk says that there is one. So it is
+-- until the answer to its request for the end came, also where it had closed the channel before.
 abbrev pub CheckWordsAreRead : Type 0
 CheckWordsAreRead = (policy : Policy) (list : List Occurrence) (own : ℕ)
-    → has_fcs own (run_of policy list).value ≡ (has_check_word (run_of policy list).said own && not (is_told_closed own (arisen (run_of policy list))))
+    → has_fcs own (run_of policy list).value ≡ has_check_word (run_of policy list).said own

@@ -3,6 +3,7 @@ pub mod OwnTalk
 pub mod Runs
 pub mod Laws
 pub mod CheckWords
+pub mod Endings
 pub mod Sdus
 pub mod Pairs
 pub mod Endpoints
@@ -10,8 +11,15 @@ pub mod Repeats
 pub mod Awaited
 pub mod Frames
 pub mod Armed
+pub mod Services
 pub mod Acceptance
 pub mod Ends
 pub mod Signals
 pub mod Belonging
 pub mod Tries
+pub mod Pipes
+pub mod Suiting
+pub mod Granted
+pub mod Common
+pub mod Modes
+pub mod Arrivals

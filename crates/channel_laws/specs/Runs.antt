@@ -43,7 +43,7 @@ abbrev pub forgone_at : Stage → (own : ℕ) → List Saying
 forgone_at (Requested request) own = GaveUp (sayings.Connection request.identifier own) ∷ []
 forgone_at (Connected peer setup) own = []
 forgone_at (Leaving peer setup request) own = GaveUp (sayings.Disconnection own peer) ∷ []
-forgone_at (Closing peer request) own = GaveUp (sayings.Disconnection own peer) ∷ []
+forgone_at (Closing peer request checked) own = GaveUp (sayings.Disconnection own peer) ∷ []
 forgone_at (Crossed peer request) own = GaveUp (sayings.Disconnection own peer) ∷ []
 
 abbrev pub forgone_between : (before after : Option Held) → List Saying

@@ -1,5 +1,5 @@
 -- How often a host gives its own requests (Core 5.1, Volume 3 Part A, 6.2.1).
-use Rattle.std.specs.Prelude.{ℕ, ◌≡◌, ◌≤◌, ◌+◌, ◌⊎◌, Bool, true, false, List, [], ◌∷◌, Option, Some, None}
+use Rattle.std.specs.Prelude.{ℕ, ◌≡◌, ◌≤◌, ◌+◌, ◌⊎◌, Bool, true, false, List, [], ◌∷◌, ◌++◌, Option, Some, None}
 use Rattle.channel_model.specs.declared.errand.Errand.{Errand}
 use Rattle.channel_model.specs.declared.errand.Errand.TheVariants.{Connection, Configuration, Disconnection, Features}
 use Rattle.channel_model.specs.Value.{Request, Queued, Own, Unasked, Asking, Granted, Stage, Requested, Connected, Leaving, Closing, Crossed, Held, Channels}
@@ -13,7 +13,7 @@ abbrev pub for_channel : Stage → Option Request
 for_channel (Requested request) = Some request
 for_channel (Connected peer setup) = None
 for_channel (Leaving peer setup request) = None
-for_channel (Closing peer request) = None
+for_channel (Closing peer request checked) = None
 for_channel (Crossed peer request) = None
 
 abbrev pub own_request : Own → Option Request
@@ -25,14 +25,14 @@ abbrev pub for_options : Stage → Option Request
 for_options (Requested request) = None
 for_options (Connected peer setup) = own_request setup.own
 for_options (Leaving peer setup request) = own_request setup.own
-for_options (Closing peer request) = None
+for_options (Closing peer request checked) = None
 for_options (Crossed peer request) = None
 
 abbrev pub for_end : Stage → Option Request
 for_end (Requested request) = None
 for_end (Connected peer setup) = None
 for_end (Leaving peer setup request) = Some request
-for_end (Closing peer request) = Some request
+for_end (Closing peer request checked) = Some request
 for_end (Crossed peer request) = Some request
 
 abbrev pub request_at : (Stage → Option Request) → Option Held → Option Request
@@ -91,3 +91,10 @@ firings (more ∷ list) = one_if (is_firing more) + firings list
 -- than the timer fired. So it is given for the t-th time only behind t - 1 firings.
 abbrev pub FiringsAreCounted : Type 0
 FiringsAreCounted = (policy : Policy) (list : List Occurrence) (errand : Errand) (request : Request) → request_of errand (run_of policy list).value ≡ Some request → copies errand (run_of policy list).value.queue + request.given ≤ 1 + firings list
+
+-- Since it was new, or none waited: a request was given, with the copies of it that wait, at most once more often than the timer
+-- fired from then on.
+abbrev pub FiringsAreCountedSince : Type 0
+FiringsAreCountedSince = (policy : Policy) (past list : List Occurrence) (errand : Errand) (request : Request)
+    → ((was : Request) → request_of errand (run_of policy past).value ≡ Some was → copies errand (run_of policy past).value.queue + was.given ≤ 1)
+    → request_of errand (run_of policy (past ++ list)).value ≡ Some request → copies errand (run_of policy (past ++ list)).value.queue + request.given ≤ 1 + firings list

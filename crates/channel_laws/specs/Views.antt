@@ -1,5 +1,5 @@
 -- What is held of a channel, as its talk is read.
-use Rattle.std.specs.Prelude.{ℕ, ◌≡◌, ◌==◌, Bool, find, List, Option, Some, None, option_map}
+use Rattle.std.specs.Prelude.{ℕ, ◌≡◌, ◌==◌, ◌&&◌, Bool, find, is_some, List, Option, Some, None, option_map}
 use Rattle.l2cap_config.specs.declared.wish.Mode.{Mode}
 use Rattle.l2cap_config.specs.declared.wish.Mode.TheVariants.{Basic, Enhanced}
 use Rattle.l2cap_config.specs.declared.wish.Wish.{Wish}
@@ -7,10 +7,10 @@ use Rattle.link_talk.specs.declared.channel.Channel.{Channel}
 use Rattle.link_talk.specs.declared.life.Life.{Life}
 use Rattle.link_talk.specs.declared.life.Life.TheVariants as lives
 use Rattle.link_talk.specs.Setups as read
+use Rattle.link_talk.specs.Setups.{is_enhanced}
 use Rattle.link_talk.specs.Channels.{Entry}
 use Rattle.channel_model.specs.Value.{Own, Unasked, Asking, Granted, Carrier, Plain, Retransmitting, Setup, Stage, Requested, Connected, Leaving, Closing, Crossed, Held}
 use Rattle.channel_model.specs.Policies.{Policy}
-use Rattle.channel_model.specs.Changing.{setup_of}
 
 -- ---- how far a channel is
 
@@ -19,7 +19,7 @@ abbrev pub peer_of : Stage → Option ℕ
 peer_of (Requested request) = None
 peer_of (Connected peer setup) = Some peer
 peer_of (Leaving peer setup request) = Some peer
-peer_of (Closing peer request) = Some peer
+peer_of (Closing peer request checked) = Some peer
 peer_of (Crossed peer request) = Some peer
 
 -- a channel that its host closed is on its way to its end, as one whose end it asked for
@@ -27,7 +27,7 @@ abbrev pub life_of : Stage → Life
 life_of (Requested request) = lives.Alive
 life_of (Connected peer setup) = lives.Alive
 life_of (Leaving peer setup request) = lives.Leaving
-life_of (Closing peer request) = lives.Leaving
+life_of (Closing peer request checked) = lives.Leaving
 life_of (Crossed peer request) = lives.Crossed
 
 -- ---- modes
@@ -47,6 +47,26 @@ pub record IsSetUp (wish : Wish) (setup : Setup) (said : read.Setup) : Type 0 wh
   pub asked_is : said.asked ≡ asked_mode wish setup.own
   pub accepted_is : said.accepted ≡ option_map carrier_mode setup.carrier
 
+-- ---- options
+
+-- What is read of the options of a channel: nothing, as it is only asked for, or has ended for its host; how far both sides are
+-- with them; or, where its host has closed it, whether what still comes in has a check word.
+pub data Standing : Type 0 where
+  Unread : Standing
+  Agreeing : (setup : Setup) → Standing
+  Shut : (checked : Bool) → Standing
+
+abbrev pub standing : Stage → Standing
+standing (Requested request) = Unread
+standing (Connected peer setup) = Agreeing setup
+standing (Leaving peer setup request) = Agreeing setup
+standing (Closing peer request checked) = Shut checked
+standing (Crossed peer request) = Unread
+
+-- the host asked for enhanced retransmission mode, and has accepted the peer's request
+abbrev pub is_checked_by : read.Setup → Bool
+is_checked_by said = is_some said.accepted && is_enhanced said.asked
+
 -- ---- a channel
 
 abbrev pub channel_by : (psm own peer : ℕ) → Channel
@@ -56,16 +76,17 @@ pub record IsThere (held : Held) (peer : ℕ) (entry : Entry) : Type 0 where
   pub channel_is : entry.channel ≡ channel_by held.psm held.own peer
   pub life_is : entry.life ≡ life_of held.stage
 
-abbrev pub IsSetUpIf : Wish → Option Setup → read.Setup → Type 0
-IsSetUpIf wish None said = Unit {0}
-IsSetUpIf wish (Some setup) said = IsSetUp wish setup said
+abbrev pub IsSetUpIf : Wish → Standing → read.Setup → Type 0
+IsSetUpIf wish Unread said = Unit {0}
+IsSetUpIf wish (Agreeing setup) said = IsSetUp wish setup said
+IsSetUpIf wish (Shut checked) said = is_checked_by said ≡ checked
 
 -- there is none yet where it was only asked for
 abbrev pub IsReadBy : Policy → Held → (peer : Option ℕ) → Option Entry → Type 0
 IsReadBy policy held None None = Unit {0}
 IsReadBy policy held None (Some entry) = ⊥
 IsReadBy policy held (Some peer) None = ⊥
-IsReadBy policy held (Some peer) (Some entry) = IsThere held peer entry × IsSetUpIf (policy.wish held.psm) (setup_of held.stage) entry.setup
+IsReadBy policy held (Some peer) (Some entry) = IsThere held peer entry × IsSetUpIf (policy.wish held.psm) (standing held.stage) entry.setup
 
 -- what is held at an own endpoint, and what is read of it: a channel that is not held any more is over
 abbrev pub IsRead : Policy → Option Held → Option Entry → Type 0

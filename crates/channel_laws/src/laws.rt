@@ -5,15 +5,17 @@ ghost use Rattle.channel_laws.specs.Armed.{ArmedIsWhatWaits};
 ghost use Rattle.channel_laws.specs.Awaited.{FeaturesAreAwaited, OptionsAreAwaited, RequestsAreAwaited};
 ghost use Rattle.channel_laws.specs.CheckWords.{CheckWordsAreRead};
 ghost use Rattle.channel_laws.specs.Endpoints.{EndpointsNameOneChannel};
+ghost use Rattle.channel_laws.specs.Endings.{EndsAreTold};
 ghost use Rattle.channel_laws.specs.Ends.{EachEndUtters};
 ghost use Rattle.channel_laws.specs.Frames.{FramesAreHeld};
 ghost use Rattle.channel_laws.specs.Laws.{ChannelsAreRead, EndpointsAreNew};
 ghost use Rattle.channel_laws.specs.Pairs.{EachEndRuns};
 ghost use Rattle.channel_laws.specs.Repeats.{RepeatsAreAnswered};
 ghost use Rattle.channel_laws.specs.Sdus.{SdusAreRead};
+ghost use Rattle.channel_laws.specs.Services.{ChannelsAloneWait};
 ghost use Rattle.channel_laws.specs.Belonging.{UtteredIsRead, PledgesWereSaid, ChannelsBelong};
 ghost use Rattle.channel_laws.specs.Signals.{AnswersAreSaid};
-ghost use Rattle.channel_laws.specs.Tries.{FiringsAloneRepeat, FiringsAreCounted, TriesAreKept};
+ghost use Rattle.channel_laws.specs.Tries.{FiringsAloneRepeat, FiringsAreCounted, FiringsAreCountedSince, TriesAreKept};
 
 /// What a host holds of each of its endpoints is what its own talk says, whatever it asks for, whatever
 /// PDUs come in on whatever channels, and whenever its timer fires: which channels there are, how far each
@@ -28,9 +30,14 @@ pub fn endpoints_are_new()
 {}
 
 /// A host looks for a check word in what comes in for an endpoint exactly where its own talk says that there is
-/// one, as long as nothing arose that tells it that the channel is closed.
+/// one: until the answer to its request for the end of the channel came, also where it had closed it before.
 pub fn check_words_are_read()
     ensures { CheckWordsAreRead }
+{}
+
+/// Where a host's own talk has a channel that has ended for it, it arose that the host is told of the end.
+pub fn ends_are_told()
+    ensures { EndsAreTold }
 {}
 
 /// The SDUs that are handed up of a channel, in basic and in enhanced retransmission mode, are those that the
@@ -92,6 +99,12 @@ pub fn armed_is_what_waits()
     ensures { ArmedIsWhatWaits }
 {}
 
+/// Where a host asks for no services, as a server does not, its channels are armed exactly where its own talk says that
+/// something waits.
+pub fn channels_alone_wait()
+    ensures { ChannelsAloneWait }
+{}
+
 /// A host says an SDU or a frame only on a channel that is there, where its own talk so far says that it accepted the
 /// peer's request for options, and that its own one was made and waits no more.
 pub fn sends_behind_acceptance()
@@ -127,6 +140,12 @@ pub fn tries_are_kept()
 /// A request is to be given once more only because the timer fired.
 pub fn firings_alone_repeat()
     ensures { FiringsAloneRepeat }
+{}
+
+/// Since it was new, or none waited, a request was given at most once more often than the timer of its host fired, with the copies
+/// of it that wait: for the t-th time only behind t - 1 firings of its own.
+pub fn firings_are_counted_since()
+    ensures { FiringsAreCountedSince }
 {}
 
 /// A request that waits was given at most once more often than the timer of its host fired, with the copies of it that

@@ -11,7 +11,7 @@ use Rattle.channel_model.specs.declared.event.ChannelEvent.TheVariants.{Disconne
 use Rattle.channel_model.specs.declared.event.CloseReason.TheVariants.{RetryLimit, OwnClosed}
 use Rattle.channel_model.specs.Value.{Request, Queued, Answer, Ask, Own, Unasked, Asking, Granted, Carrier, Plain, Retransmitting, Setup, Stage, Requested, Connected, Leaving, Closing, Crossed, Held, Channels}
 use Rattle.channel_model.specs.Policies.{Policy}
-use Rattle.channel_model.specs.Changing.{has_own, held_at, is_open, queued, setup_of, stage_with, with_setup, to_setup, to_stage, forgets}
+use Rattle.channel_model.specs.Changing.{has_own, held_at, is_stated, is_open, queued, setup_of, stage_with, with_setup, to_setup, to_stage, forgets}
 use Rattle.channel_model.specs.Asking.{new_request, asks, Fired, StillDue, OnceMore, Spent, fired}
 use Rattle.channel_model.specs.Closing.{closes, ends}
 use Rattle.channel_model.specs.Configuring.{opens_if, granted_setup, grants}
@@ -21,7 +21,7 @@ use Rattle.channel_model.specs.Timing.{fires, times_carrier, times_setup, times_
 use Rattle.channel_model.specs.Giving.{one_more, own_given, setup_given, connection_given, configuration_given, disconnection_given, stage_given, counted, gives, carrier_given, carrier_spent, held_given, queue_given, after_given}
 use Rattle.channel_model.specs.Calls.{can_connect, connected, asks_features, disconnected_at, disconnected_held, disconnected, carrier_with, sends_setup, sends_on, sends_held, sends}
 use Rattle.channel_model.proofs.Lookups.{own_of, Distinct, found-distinct}
-use Rattle.channel_model.proofs.Going.{is_stated, OwnGoes, CarrierGoes, SetupGoes, StageGoes, Walks, only-none, placed}
+use Rattle.channel_model.proofs.Going.{OwnGoes, CarrierGoes, SetupGoes, StageGoes, Walks, only-none, placed}
 use Rattle.channel_model.proofs.Walking.{stays, found-own, append_none, own-same, setup-goes, to-setup, with-found, with-setup, closes-goes, ends-goes, grants-goes}
 
 -- ---- carriers
@@ -67,7 +67,7 @@ left_goes policy C R walks v held (Connected peer setup) is found =
     (placed policy C v w held stage [] found refl refl (append_none v.events) (only-none held.own)
     (subst (λ s. StageGoes (policy.wish held.psm) C s (Some stage) false) (sym is) (refl, refl, refl)))
 left_goes policy C R walks v held (Leaving peer setup request) is found = stays policy C R walks v
-left_goes policy C R walks v held (Closing peer request) is found = stays policy C R walks v
+left_goes policy C R walks v held (Closing peer request checked) is found = stays policy C R walks v
 left_goes policy C R walks v held (Crossed peer request) is found = stays policy C R walks v
 
 left_held : (policy : Policy) (C : Carrier → Carrier → Type 0) (R : Channels → Channels → Type 0) (walks : Walks policy C R) (v : Channels) (own : ℕ) (held : Option Held) → find (has_own own) v.held ≡ held → R v (disconnected_held held v)
@@ -123,7 +123,7 @@ pub granted-same : (stage : Stage) (setup : Setup) → setup_of stage ≡ Some s
 granted-same (Requested request) setup is own = cc
 granted-same (Connected peer s) setup is own = let same : s ≡ setup = cc in ap (Connected peer) (ap (λ (o : Own). let x : Setup = record setup { own = o } in x) (sym own) ∙ sym same)
 granted-same (Leaving peer s request) setup is own = let same : s ≡ setup = cc in ap (λ x. Leaving peer x request) (ap (λ (o : Own). let x : Setup = record setup { own = o } in x) (sym own) ∙ sym same)
-granted-same (Closing peer request) setup is own = cc
+granted-same (Closing peer request checked) setup is own = cc
 granted-same (Crossed peer request) setup is own = cc
 
 opened_by : (policy : Policy) (C : Carrier → Carrier → Type 0) (R : Channels → Channels → Type 0) (walks : Walks policy C R) (v : Channels) (pdu : List ℕ) (held : Held) (setup : Setup) (carrier : Carrier) (own : Own) (taken : Bool) → Hearing C pdu
@@ -194,31 +194,31 @@ timed_stage policy C R walks v tries held (Requested request) is firing found =
     fires_go policy C R walks v (fired tries (errands.Connection held.own) request v) (errands.Connection held.own) (closes RetryLimit held) (closes-goes policy C R walks v held RetryLimit held.stage refl found)
 timed_stage policy C R walks v tries held (Connected peer setup) is firing found = timed_setup policy C R walks v tries held setup setup.own firing found (ap setup_of is)
 timed_stage policy C R walks v tries held (Leaving peer setup request) is firing found = timed_setup policy C R walks v tries held setup setup.own firing found (ap setup_of is)
-timed_stage policy C R walks v tries held (Closing peer request) is firing found = stays policy C R walks v
+timed_stage policy C R walks v tries held (Closing peer request checked) is firing found = stays policy C R walks v
 timed_stage policy C R walks v tries held (Crossed peer request) is firing found = stays policy C R walks v
 
-timed_held : (policy : Policy) (C : Carrier → Carrier → Type 0) (R : Channels → Channels → Type 0) (walks : Walks policy C R) (v : Channels) (tries own : ℕ) (held : Option Held) → Firing C → find (has_own own) v.held ≡ held → R v (times_held held tries v)
-timed_held policy C R walks v tries own None firing is = stays policy C R walks v
-timed_held policy C R walks v tries own (Some held) firing is = timed_stage policy C R walks v tries held held.stage refl firing (found-own own v held is)
+pub timed-held : (policy : Policy) (C : Carrier → Carrier → Type 0) (R : Channels → Channels → Type 0) (walks : Walks policy C R) (v : Channels) (tries own : ℕ) (held : Option Held) → Firing C → find (has_own own) v.held ≡ held → R v (times_held held tries v)
+timed-held policy C R walks v tries own None firing is = stays policy C R walks v
+timed-held policy C R walks v tries own (Some held) firing is = timed_stage policy C R walks v tries held held.stage refl firing (found-own own v held is)
 
 lost_end : (policy : Policy) (C : Carrier → Carrier → Type 0) (R : Channels → Channels → Type 0) (walks : Walks policy C R) (v : Channels) (held : Held) → find (has_own held.own) v.held ≡ Some held → R v (loses_end held v)
 lost_end policy C R walks v held found =
     let u : Channels = ends RetryLimit held v in
-    walks.both v u (loses_end held v) (ends-goes policy C R walks v held RetryLimit held.stage found) (walks.tells u (loses_end held v) (DisconnectLost held.own) refl refl refl (λ own. refl))
+    walks.both v u (loses_end held v) (ends-goes policy C R walks v held RetryLimit held.stage refl found) (walks.tells u (loses_end held v) (DisconnectLost held.own) refl refl refl (λ own. refl))
 
 timed_end : (policy : Policy) (C : Carrier → Carrier → Type 0) (R : Channels → Channels → Type 0) (walks : Walks policy C R) (v : Channels) (tries : ℕ) (held : Held) (stage : Stage) → find (has_own held.own) v.held ≡ Some held → R v (times_end_at stage tries held v)
 timed_end policy C R walks v tries held (Requested request) found = stays policy C R walks v
 timed_end policy C R walks v tries held (Connected peer setup) found = stays policy C R walks v
 timed_end policy C R walks v tries held (Leaving peer setup request) found =
-    fires_go policy C R walks v (fired tries (errands.Disconnection held.own) request v) (errands.Disconnection held.own) (ends RetryLimit held) (ends-goes policy C R walks v held RetryLimit held.stage found)
-timed_end policy C R walks v tries held (Closing peer request) found =
+    fires_go policy C R walks v (fired tries (errands.Disconnection held.own) request v) (errands.Disconnection held.own) (ends RetryLimit held) (ends-goes policy C R walks v held RetryLimit held.stage refl found)
+timed_end policy C R walks v tries held (Closing peer request checked) found =
     fires_go policy C R walks v (fired tries (errands.Disconnection held.own) request v) (errands.Disconnection held.own) (loses_end held) (lost_end policy C R walks v held found)
 timed_end policy C R walks v tries held (Crossed peer request) found =
     fires_go policy C R walks v (fired tries (errands.Disconnection held.own) request v) (errands.Disconnection held.own) (loses_end held) (lost_end policy C R walks v held found)
 
-ended_held : (policy : Policy) (C : Carrier → Carrier → Type 0) (R : Channels → Channels → Type 0) (walks : Walks policy C R) (v : Channels) (tries own : ℕ) (held : Option Held) → find (has_own own) v.held ≡ held → R v (times_end held tries v)
-ended_held policy C R walks v tries own None is = stays policy C R walks v
-ended_held policy C R walks v tries own (Some held) is = timed_end policy C R walks v tries held held.stage (found-own own v held is)
+pub ended-held : (policy : Policy) (C : Carrier → Carrier → Type 0) (R : Channels → Channels → Type 0) (walks : Walks policy C R) (v : Channels) (tries own : ℕ) (held : Option Held) → find (has_own own) v.held ≡ held → R v (times_end held tries v)
+ended-held policy C R walks v tries own None is = stays policy C R walks v
+ended-held policy C R walks v tries own (Some held) is = timed_end policy C R walks v tries held held.stage (found-own own v held is)
 
 channels_timed : (policy : Policy) (C : Carrier → Carrier → Type 0) (R : Channels → Channels → Type 0) (walks : Walks policy C R) (tries : ℕ) (owns : List ℕ) (v : Channels) → Firing C → R v (times_channels tries owns v)
 channels_timed policy C R walks tries [] v firing = stays policy C R walks v
@@ -226,17 +226,17 @@ channels_timed policy C R walks tries (own ∷ owns) v firing =
     let u : Channels = times_held (held_at own v) tries v in
     let w : Channels = times_end (held_at own u) tries u in
     walks.both v w (times_channels tries owns w)
-    (walks.both v u w (timed_held policy C R walks v tries own (held_at own v) firing refl) (ended_held policy C R walks u tries own (held_at own u) refl)) (channels_timed policy C R walks tries owns w firing)
+    (walks.both v u w (timed-held policy C R walks v tries own (held_at own v) firing refl) (ended-held policy C R walks u tries own (held_at own u) refl)) (channels_timed policy C R walks tries owns w firing)
 
-features_timed : (policy : Policy) (C : Carrier → Carrier → Type 0) (R : Channels → Channels → Type 0) (walks : Walks policy C R) (tries : ℕ) (features : Option Request) (v : Channels) → R v (times_features features tries v)
-features_timed policy C R walks tries None v = stays policy C R walks v
-features_timed policy C R walks tries (Some request) v =
+pub features-timed : (policy : Policy) (C : Carrier → Carrier → Type 0) (R : Channels → Channels → Type 0) (walks : Walks policy C R) (tries : ℕ) (features : Option Request) (v : Channels) → R v (times_features features tries v)
+features-timed policy C R walks tries None v = stays policy C R walks v
+features-timed policy C R walks tries (Some request) v =
     fires_go policy C R walks v (fired tries errands.Features request v) errands.Features loses_features (walks.tells v (loses_features v) FeaturesLost refl refl refl (λ own. refl))
 
 pub timed-goes : (policy : Policy) (C : Carrier → Carrier → Type 0) (R : Channels → Channels → Type 0) (walks : Walks policy C R) (v : Channels) → Firing C → R v (timed_out policy v)
 timed-goes policy C R walks v firing =
     let u : Channels = times_channels policy.tries (map (λ held. held.own) v.held) v in
-    walks.both v u (timed_out policy v) (channels_timed policy C R walks policy.tries (map (λ held. held.own) v.held) v firing) (features_timed policy C R walks policy.tries u.features u)
+    walks.both v u (timed_out policy v) (channels_timed policy C R walks policy.tries (map (λ held. held.own) v.held) v firing) (features-timed policy C R walks policy.tries u.features u)
 
 -- ---- the next PDU is given
 
@@ -259,21 +259,21 @@ connection_counts : (wish : Wish) (C : Carrier → Carrier → Type 0) → ((car
 connection_counts wish C same (Requested request) = refl
 connection_counts wish C same (Connected peer setup) = (refl, setup-goes wish C same setup setup refl (own-same setup.own), refl)
 connection_counts wish C same (Leaving peer setup request) = (refl, setup-goes wish C same setup setup refl (own-same setup.own), refl)
-connection_counts wish C same (Closing peer request) = refl
+connection_counts wish C same (Closing peer request checked) = refl
 connection_counts wish C same (Crossed peer request) = refl
 
 configuration_counts : (wish : Wish) (C : Carrier → Carrier → Type 0) → ((carrier : Carrier) → C carrier carrier) → Counts wish C configuration_given
 configuration_counts wish C same (Requested request) = refl
 configuration_counts wish C same (Connected peer setup) = (refl, given_setup wish C same setup, refl)
 configuration_counts wish C same (Leaving peer setup request) = (refl, given_setup wish C same setup, refl)
-configuration_counts wish C same (Closing peer request) = refl
+configuration_counts wish C same (Closing peer request checked) = refl
 configuration_counts wish C same (Crossed peer request) = refl
 
 disconnection_counts : (wish : Wish) (C : Carrier → Carrier → Type 0) → ((carrier : Carrier) → C carrier carrier) → Counts wish C disconnection_given
 disconnection_counts wish C same (Requested request) = refl
 disconnection_counts wish C same (Connected peer setup) = (refl, setup-goes wish C same setup setup refl (own-same setup.own), refl)
 disconnection_counts wish C same (Leaving peer setup request) = (refl, setup-goes wish C same setup setup refl (own-same setup.own), refl)
-disconnection_counts wish C same (Closing peer request) = refl
+disconnection_counts wish C same (Closing peer request checked) = refl
 disconnection_counts wish C same (Crossed peer request) = refl
 
 stage_counted : (policy : Policy) (C : Carrier → Carrier → Type 0) (R : Channels → Channels → Type 0) (walks : Walks policy C R) (f : Stage → Stage) (own : ℕ) (held : Option Held) (v : Channels) → ((wish : Wish) → Counts wish C f) → find (has_own own) v.held ≡ held

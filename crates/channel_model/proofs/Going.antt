@@ -10,18 +10,12 @@ use Rattle.channel_model.specs.declared.event.ChannelEvent.TheVariants.{Closed}
 use Rattle.channel_model.specs.declared.event.CloseReason.{CloseReason}
 use Rattle.channel_model.specs.Value.{Own, Unasked, Asking, Granted, Carrier, Setup, no_setup, Stage, Requested, Connected, Leaving, Closing, Crossed, Held, Channels}
 use Rattle.channel_model.specs.Policies.{Policy}
-use Rattle.channel_model.specs.Changing.{has_own, in_place_of, is_open}
+use Rattle.channel_model.specs.Changing.{has_own, in_place_of, is_stated, is_open}
 use Rattle.channel_model.specs.Configuring.{new_carrier}
 use Rattle.channel_model.specs.Telling.{any_reason, closes_for, is_told_closed}
 use Rattle.channel_model.proofs.Lookups.{own_of, Distinct, eqb-same, find-others, find-gone, distinct-filter, found-placed, find-placed, placed-distinct}
 
 -- ---- options
-
--- the own request was made
-abbrev pub is_stated : Own → Bool
-is_stated Unasked = false
-is_stated (Asking request options) = true
-is_stated Granted = true
 
 -- it is made before it is accepted, and it is accepted once
 abbrev pub OwnGoes : Own → Own → Type 0
@@ -61,35 +55,35 @@ pub record SetupGoes (wish : Wish) (C : Carrier → Carrier → Type 0) (before 
 -- ---- a channel, and whether it is told that it was closed
 
 abbrev pub StageGoes : Wish → (C : Carrier → Carrier → Type 0) → (before : Stage) (after : Option Stage) (closed : Bool) → Type 0
-StageGoes wish C (Requested request) None closed = Unit {0}
+StageGoes wish C (Requested request) None closed = closed ≡ true
 StageGoes wish C (Requested request) (Some (Requested again)) closed = closed ≡ false
 StageGoes wish C (Requested request) (Some (Connected peer setup)) closed = (setup.carrier ≡ None) × (closed ≡ false)
 StageGoes wish C (Requested request) (Some (Leaving peer setup other)) closed = ⊥
-StageGoes wish C (Requested request) (Some (Closing peer other)) closed = ⊥
+StageGoes wish C (Requested request) (Some (Closing peer other checked)) closed = ⊥
 StageGoes wish C (Requested request) (Some (Crossed peer other)) closed = ⊥
-StageGoes wish C (Connected peer setup) None closed = Unit {0}
+StageGoes wish C (Connected peer setup) None closed = closed ≡ true
 StageGoes wish C (Connected peer setup) (Some (Requested request)) closed = ⊥
 StageGoes wish C (Connected peer setup) (Some (Connected at after)) closed = (at ≡ peer) × SetupGoes wish C setup after × (closed ≡ false)
 StageGoes wish C (Connected peer setup) (Some (Leaving at after request)) closed = (at ≡ peer) × (after ≡ setup) × (closed ≡ false)
-StageGoes wish C (Connected peer setup) (Some (Closing at request)) closed = (at ≡ peer) × (closed ≡ true)
+StageGoes wish C (Connected peer setup) (Some (Closing at request checked)) closed = (at ≡ peer) × (closed ≡ true)
 StageGoes wish C (Connected peer setup) (Some (Crossed at request)) closed = ⊥
-StageGoes wish C (Leaving peer setup request) None closed = Unit {0}
+StageGoes wish C (Leaving peer setup request) None closed = closed ≡ true
 StageGoes wish C (Leaving peer setup request) (Some (Requested other)) closed = ⊥
 StageGoes wish C (Leaving peer setup request) (Some (Connected at after)) closed = ⊥
 StageGoes wish C (Leaving peer setup request) (Some (Leaving at after other)) closed = (at ≡ peer) × SetupGoes wish C setup after × (closed ≡ false)
-StageGoes wish C (Leaving peer setup request) (Some (Closing at other)) closed = (at ≡ peer) × (closed ≡ true)
-StageGoes wish C (Leaving peer setup request) (Some (Crossed at other)) closed = at ≡ peer
-StageGoes wish C (Closing peer request) None closed = Unit {0}
-StageGoes wish C (Closing peer request) (Some (Requested other)) closed = ⊥
-StageGoes wish C (Closing peer request) (Some (Connected at after)) closed = ⊥
-StageGoes wish C (Closing peer request) (Some (Leaving at after other)) closed = ⊥
-StageGoes wish C (Closing peer request) (Some (Closing at other)) closed = at ≡ peer
-StageGoes wish C (Closing peer request) (Some (Crossed at other)) closed = at ≡ peer
+StageGoes wish C (Leaving peer setup request) (Some (Closing at other checked)) closed = (at ≡ peer) × (closed ≡ true)
+StageGoes wish C (Leaving peer setup request) (Some (Crossed at other)) closed = (at ≡ peer) × (closed ≡ true)
+StageGoes wish C (Closing peer request checked) None closed = Unit {0}
+StageGoes wish C (Closing peer request checked) (Some (Requested other)) closed = ⊥
+StageGoes wish C (Closing peer request checked) (Some (Connected at after)) closed = ⊥
+StageGoes wish C (Closing peer request checked) (Some (Leaving at after other)) closed = ⊥
+StageGoes wish C (Closing peer request checked) (Some (Closing at other still)) closed = at ≡ peer
+StageGoes wish C (Closing peer request checked) (Some (Crossed at other)) closed = at ≡ peer
 StageGoes wish C (Crossed peer request) None closed = Unit {0}
 StageGoes wish C (Crossed peer request) (Some (Requested other)) closed = ⊥
 StageGoes wish C (Crossed peer request) (Some (Connected at after)) closed = ⊥
 StageGoes wish C (Crossed peer request) (Some (Leaving at after other)) closed = ⊥
-StageGoes wish C (Crossed peer request) (Some (Closing at other)) closed = ⊥
+StageGoes wish C (Crossed peer request) (Some (Closing at other checked)) closed = ⊥
 StageGoes wish C (Crossed peer request) (Some (Crossed at other)) closed = at ≡ peer
 
 -- ---- one channel of all
@@ -116,7 +110,7 @@ abbrev pub IsFirst : Stage → Type 0
 IsFirst (Requested request) = Unit {0}
 IsFirst (Connected peer setup) = setup ≡ no_setup
 IsFirst (Leaving peer setup request) = ⊥
-IsFirst (Closing peer request) = ⊥
+IsFirst (Closing peer request checked) = ⊥
 IsFirst (Crossed peer request) = ⊥
 
 abbrev pub new_held : (psm own : ℕ) → Stage → Held
@@ -161,17 +155,18 @@ placed policy C v w held stage more found held_is next_is events_are only goes =
   goes = goes;
 }
 
--- a channel does not count any more
-ends_so : (wish : Wish) (C : Carrier → Carrier → Type 0) (stage : Stage) (closed : Bool) → StageGoes wish C stage None closed
-ends_so wish C (Requested request) closed = tt
-ends_so wish C (Connected peer setup) closed = tt
-ends_so wish C (Leaving peer setup request) closed = tt
-ends_so wish C (Closing peer request) closed = tt
-ends_so wish C (Crossed peer request) closed = tt
+-- a channel does not count any more; one that was not closed before is told to be closed
+pub ends-told : (wish : Wish) (C : Carrier → Carrier → Type 0) (stage : Stage) (closed : Bool) → closed ≡ true → StageGoes wish C stage None closed
+ends-told wish C (Requested request) closed told = told
+ends-told wish C (Connected peer setup) closed told = told
+ends-told wish C (Leaving peer setup request) closed told = told
+ends-told wish C (Closing peer request checked) closed told = tt
+ends-told wish C (Crossed peer request) closed told = tt
 
 pub dropped : (policy : Policy) (C : Carrier → Carrier → Type 0) (v w : Channels) (held : Held) (more : List ChannelEvent) → find (has_own held.own) v.held ≡ Some held
-    → w.held ≡ filter (λ other. not (eqb other.own held.own)) v.held → w.next ≡ v.next → w.events ≡ v.events ++ more → Only held.own more → Moves policy C v w held None more
-dropped policy C v w held more found held_is next_is events_are only = record {
+    → w.held ≡ filter (λ other. not (eqb other.own held.own)) v.held → w.next ≡ v.next → w.events ≡ v.events ++ more → Only held.own more
+    → StageGoes (policy.wish held.psm) C held.stage None (is_told_closed held.own more) → Moves policy C v w held None more
+dropped policy C v w held more found held_is next_is events_are only goes = record {
   found = found;
   becomes = ap (find (has_own held.own)) held_is ∙ find-gone own_of held.own v.held;
   others = λ own apart. ap (find (has_own own)) held_is ∙ find-others own_of held.own own v.held apart;
@@ -179,5 +174,5 @@ dropped policy C v w held more found held_is next_is events_are only = record {
   next_is = next_is;
   events_are = events_are;
   only = only;
-  goes = ends_so (policy.wish held.psm) C held.stage (is_told_closed held.own more);
+  goes = goes;
 }

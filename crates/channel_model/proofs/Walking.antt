@@ -23,7 +23,7 @@ use Rattle.channel_model.specs.declared.request_kind.RequestKind.{RequestKind}
 use Rattle.channel_model.specs.declared.request_kind.RequestKind.TheVariants as kinds
 use Rattle.channel_model.specs.Value.{Request, Own, Unasked, Asking, Granted, Carrier, Setup, no_setup, Stage, Requested, Connected, Leaving, Closing, Crossed, Held, Remembered, Channels}
 use Rattle.channel_model.specs.Policies.{Policy}
-use Rattle.channel_model.specs.Changing.{has_own, held_at, is_open, is_peer, setup_of, stage_with, with_setup, to_setup, to_stage, forgets, tells}
+use Rattle.channel_model.specs.Changing.{has_own, held_at, is_stated, has_fcs_by, is_open, is_peer, setup_of, stage_with, with_setup, to_setup, to_stage, forgets, tells}
 use Rattle.channel_model.specs.Telling.{any_reason, closes_for, is_told_closed}
 use Rattle.channel_model.specs.Asking.{new_request, first_options, asks_options}
 use Rattle.channel_model.specs.Closing.{closes, closes_at, peer_closes_at, ends_at}
@@ -33,7 +33,7 @@ use Rattle.channel_model.specs.Following.{follows_setup, follows_configuration, 
 use Rattle.channel_model.specs.Responses.{is_fresh_endpoint, connects, hears_connected, hears_grant_at, hears_grant, renewed_setup, hears_settled, hears_options, is_asked, hears_response_on, hears_response, hears_end, has_identifier, hears_features, features_in}
 use Rattle.channel_model.specs.Hearing.{hears_content, hears_malformed, is_response_code, is_kind, hears_unread, hears_command, hears_commands}
 use Rattle.channel_model.proofs.Lookups.{own_of, found-has, found-placed}
-use Rattle.channel_model.proofs.Going.{is_stated, OwnGoes, IsAccepted, CarrierGoes, SetupGoes, StageGoes, Walks, only-none, only-closed, closed-told, placed, dropped}
+use Rattle.channel_model.proofs.Going.{OwnGoes, IsAccepted, CarrierGoes, SetupGoes, StageGoes, Walks, only-none, only-closed, closed-told, placed, ends-told, dropped}
 
 -- ---- a channel of all
 
@@ -80,7 +80,7 @@ staged_goes : (wish : Wish) (C : Carrier → Carrier → Type 0) (stage : Stage)
 staged_goes wish C (Requested request) before after is goes = cc
 staged_goes wish C (Connected peer setup) before after is goes = let same : before ≡ setup = cc in (refl, subst (λ s. SetupGoes wish C s after) same goes, refl)
 staged_goes wish C (Leaving peer setup request) before after is goes = let same : before ≡ setup = cc in (refl, subst (λ s. SetupGoes wish C s after) same goes, refl)
-staged_goes wish C (Closing peer request) before after is goes = cc
+staged_goes wish C (Closing peer request checked) before after is goes = cc
 staged_goes wish C (Crossed peer request) before after is goes = cc
 
 pub to-setup : (policy : Policy) (C : Carrier → Carrier → Type 0) (R : Channels → Channels → Type 0) (walks : Walks policy C R) (v w : Channels) (held : Held) (before after : Setup) → find (has_own held.own) v.held ≡ Some held
@@ -97,7 +97,7 @@ pub with-setup : (stage : Stage) (before after : Setup) → setup_of stage ≡ S
 with-setup (Requested request) before after is = cc
 with-setup (Connected peer setup) before after is = refl
 with-setup (Leaving peer setup request) before after is = refl
-with-setup (Closing peer request) before after is = cc
+with-setup (Closing peer request checked) before after is = cc
 with-setup (Crossed peer request) before after is = cc
 
 -- ---- a channel is closed
@@ -106,20 +106,21 @@ pub closes-goes : (policy : Policy) (C : Carrier → Carrier → Type 0) (R : Ch
     → find (has_own held.own) v.held ≡ Some held → R v (closes_at stage reason held v)
 closes-goes policy C R walks v held reason (Requested request) is found =
     walks.moves v (closes_at (Requested request) reason held v) held None (Closed held.own held.psm reason ∷ [])
-    (dropped policy C v (closes_at (Requested request) reason held v) held (Closed held.own held.psm reason ∷ []) found refl refl refl (only-closed held.own held.psm reason))
+    (dropped policy C v (closes_at (Requested request) reason held v) held (Closed held.own held.psm reason ∷ []) found refl refl refl (only-closed held.own held.psm reason)
+    (ends-told (policy.wish held.psm) C held.stage (is_told_closed held.own (Closed held.own held.psm reason ∷ [])) (closed-told held.own held.psm reason)))
 closes-goes policy C R walks v held reason (Connected peer setup) is found =
     let w : Channels = closes_at (Connected peer setup) reason held v in
     let more : List ChannelEvent = Closed held.own held.psm reason ∷ [] in
-    walks.moves v w held (Some (Closing peer (new_request v))) more
-    (placed policy C v w held (Closing peer (new_request v)) more found refl refl refl (only-closed held.own held.psm reason)
-    (subst (λ s. StageGoes (policy.wish held.psm) C s (Some (Closing peer (new_request v))) (is_told_closed held.own more)) (sym is) (refl, closed-told held.own held.psm reason)))
+    walks.moves v w held (Some (Closing peer (new_request v) (has_fcs_by setup))) more
+    (placed policy C v w held (Closing peer (new_request v) (has_fcs_by setup)) more found refl refl refl (only-closed held.own held.psm reason)
+    (subst (λ s. StageGoes (policy.wish held.psm) C s (Some (Closing peer (new_request v) (has_fcs_by setup))) (is_told_closed held.own more)) (sym is) (refl, closed-told held.own held.psm reason)))
 closes-goes policy C R walks v held reason (Leaving peer setup request) is found =
     let w : Channels = closes_at (Leaving peer setup request) reason held v in
     let more : List ChannelEvent = Closed held.own held.psm reason ∷ [] in
-    walks.moves v w held (Some (Closing peer request)) more
-    (placed policy C v w held (Closing peer request) more found refl refl refl (only-closed held.own held.psm reason)
-    (subst (λ s. StageGoes (policy.wish held.psm) C s (Some (Closing peer request)) (is_told_closed held.own more)) (sym is) (refl, closed-told held.own held.psm reason)))
-closes-goes policy C R walks v held reason (Closing peer request) is found = stays policy C R walks v
+    walks.moves v w held (Some (Closing peer request (has_fcs_by setup))) more
+    (placed policy C v w held (Closing peer request (has_fcs_by setup)) more found refl refl refl (only-closed held.own held.psm reason)
+    (subst (λ s. StageGoes (policy.wish held.psm) C s (Some (Closing peer request (has_fcs_by setup))) (is_told_closed held.own more)) (sym is) (refl, closed-told held.own held.psm reason)))
+closes-goes policy C R walks v held reason (Closing peer request checked) is found = stays policy C R walks v
 closes-goes policy C R walks v held reason (Crossed peer request) is found = stays policy C R walks v
 
 pub peer-closes-goes : (policy : Policy) (C : Carrier → Carrier → Type 0) (R : Channels → Channels → Type 0) (walks : Walks policy C R) (v : Channels) (held : Held) (stage : Stage) → held.stage ≡ stage
@@ -127,32 +128,36 @@ pub peer-closes-goes : (policy : Policy) (C : Carrier → Carrier → Type 0) (R
 peer-closes-goes policy C R walks v held (Requested request) is found = stays policy C R walks v
 peer-closes-goes policy C R walks v held (Connected peer setup) is found =
     walks.moves v (peer_closes_at (Connected peer setup) held v) held None (Closed held.own held.psm PeerClosed ∷ [])
-    (dropped policy C v (peer_closes_at (Connected peer setup) held v) held (Closed held.own held.psm PeerClosed ∷ []) found refl refl refl (only-closed held.own held.psm PeerClosed))
+    (dropped policy C v (peer_closes_at (Connected peer setup) held v) held (Closed held.own held.psm PeerClosed ∷ []) found refl refl refl (only-closed held.own held.psm PeerClosed)
+    (ends-told (policy.wish held.psm) C held.stage (is_told_closed held.own (Closed held.own held.psm PeerClosed ∷ [])) (closed-told held.own held.psm PeerClosed)))
 peer-closes-goes policy C R walks v held (Leaving peer setup request) is found =
     let w : Channels = peer_closes_at (Leaving peer setup request) held v in
     let more : List ChannelEvent = Closed held.own held.psm PeerClosed ∷ [] in
     walks.moves v w held (Some (Crossed peer request)) more
     (placed policy C v w held (Crossed peer request) more found refl refl refl (only-closed held.own held.psm PeerClosed)
-    (subst (λ s. StageGoes (policy.wish held.psm) C s (Some (Crossed peer request)) (is_told_closed held.own more)) (sym is) refl))
-peer-closes-goes policy C R walks v held (Closing peer request) is found =
+    (subst (λ s. StageGoes (policy.wish held.psm) C s (Some (Crossed peer request)) (is_told_closed held.own more)) (sym is) (refl, closed-told held.own held.psm PeerClosed)))
+peer-closes-goes policy C R walks v held (Closing peer request checked) is found =
     let w : Channels = to_stage held (Crossed peer request) v in
     walks.moves v w held (Some (Crossed peer request)) []
     (placed policy C v w held (Crossed peer request) [] found refl refl (append_none v.events) (only-none held.own)
     (subst (λ s. StageGoes (policy.wish held.psm) C s (Some (Crossed peer request)) false) (sym is) refl))
 peer-closes-goes policy C R walks v held (Crossed peer request) is found = stays policy C R walks v
 
-pub ends-goes : (policy : Policy) (C : Carrier → Carrier → Type 0) (R : Channels → Channels → Type 0) (walks : Walks policy C R) (v : Channels) (held : Held) (reason : CloseReason) (stage : Stage)
+pub ends-goes : (policy : Policy) (C : Carrier → Carrier → Type 0) (R : Channels → Channels → Type 0) (walks : Walks policy C R) (v : Channels) (held : Held) (reason : CloseReason) (stage : Stage) → held.stage ≡ stage
     → find (has_own held.own) v.held ≡ Some held → R v (ends_at stage reason held v)
-ends-goes policy C R walks v held reason (Requested request) found = stays policy C R walks v
-ends-goes policy C R walks v held reason (Connected peer setup) found = stays policy C R walks v
-ends-goes policy C R walks v held reason (Leaving peer setup request) found =
+ends-goes policy C R walks v held reason (Requested request) is found = stays policy C R walks v
+ends-goes policy C R walks v held reason (Connected peer setup) is found = stays policy C R walks v
+ends-goes policy C R walks v held reason (Leaving peer setup request) is found =
     let w : Channels = ends_at (Leaving peer setup request) reason held v in
     walks.moves v w held None (Closed held.own held.psm reason ∷ [])
-    (dropped policy C v w held (Closed held.own held.psm reason ∷ []) found refl refl refl (only-closed held.own held.psm reason))
-ends-goes policy C R walks v held reason (Closing peer request) found =
-    walks.moves v (ends_at (Closing peer request) reason held v) held None [] (dropped policy C v (ends_at (Closing peer request) reason held v) held [] found refl refl (append_none v.events) (only-none held.own))
-ends-goes policy C R walks v held reason (Crossed peer request) found =
-    walks.moves v (ends_at (Crossed peer request) reason held v) held None [] (dropped policy C v (ends_at (Crossed peer request) reason held v) held [] found refl refl (append_none v.events) (only-none held.own))
+    (dropped policy C v w held (Closed held.own held.psm reason ∷ []) found refl refl refl (only-closed held.own held.psm reason)
+    (ends-told (policy.wish held.psm) C held.stage (is_told_closed held.own (Closed held.own held.psm reason ∷ [])) (closed-told held.own held.psm reason)))
+ends-goes policy C R walks v held reason (Closing peer request checked) is found =
+    walks.moves v (ends_at (Closing peer request checked) reason held v) held None [] (dropped policy C v (ends_at (Closing peer request checked) reason held v) held [] found refl refl (append_none v.events) (only-none held.own)
+    (subst (λ s. StageGoes (policy.wish held.psm) C s None false) (sym is) tt))
+ends-goes policy C R walks v held reason (Crossed peer request) is found =
+    walks.moves v (ends_at (Crossed peer request) reason held v) held None [] (dropped policy C v (ends_at (Crossed peer request) reason held v) held [] found refl refl (append_none v.events) (only-none held.own)
+    (subst (λ s. StageGoes (policy.wish held.psm) C s None false) (sym is) tt))
 
 -- ---- options of the peer
 
@@ -183,7 +188,7 @@ verdict_fair : (policy : Policy) (held : Held) (setup : Setup) (flags : ℕ) (oc
 verdict_fair policy held setup flags octets (Requested request) is = cc
 verdict_fair policy held setup flags octets (Connected peer s) is = let same : s ≡ setup = cc in subst (λ x. Fair (policy.wish held.psm) x (judged_setup peer flags (policy.wish held.psm) s octets)) same (setup_fair peer flags (policy.wish held.psm) s octets)
 verdict_fair policy held setup flags octets (Leaving peer s request) is = let same : s ≡ setup = cc in subst (λ x. Fair (policy.wish held.psm) x (judged_setup peer flags (policy.wish held.psm) s octets)) same (setup_fair peer flags (policy.wish held.psm) s octets)
-verdict_fair policy held setup flags octets (Closing peer request) is = cc
+verdict_fair policy held setup flags octets (Closing peer request checked) is = cc
 verdict_fair policy held setup flags octets (Crossed peer request) is = cc
 
 -- a carrier in place of any before
@@ -286,7 +291,7 @@ connection_goes policy C R walks v psm source true =
     walks.made v w psm (Connected source no_setup) refl refl refl refl
 connection_goes policy C R walks v psm source false = stays policy C R walks v
 
-follows-goes : (policy : Policy) (C : Carrier → Carrier → Type 0) (R : Channels → Channels → Type 0) (walks : Walks policy C R) (content : Content) (v : Channels) → R v (follows policy content v)
+pub follows-goes : (policy : Policy) (C : Carrier → Carrier → Type 0) (R : Channels → Channels → Type 0) (walks : Walks policy C R) (content : Content) (v : Channels) → R v (follows policy content v)
 follows-goes policy C R walks (reject reason rest) v = stays policy C R walks v
 follows-goes policy C R walks (connection_request psm source) v = connection_goes policy C R walks v psm source (eqb (connection_result policy psm source v) 0)
 follows-goes policy C R walks (connection_response destination source answer status) v = stays policy C R walks v
@@ -383,7 +388,7 @@ grant_at policy C R walks v held identifier endpoint result (Requested request) 
     by false = stays policy C R walks v
 grant_at policy C R walks v held identifier endpoint result (Connected peer setup) is found = stays policy C R walks v
 grant_at policy C R walks v held identifier endpoint result (Leaving peer setup request) is found = stays policy C R walks v
-grant_at policy C R walks v held identifier endpoint result (Closing peer request) is found = stays policy C R walks v
+grant_at policy C R walks v held identifier endpoint result (Closing peer request checked) is found = stays policy C R walks v
 grant_at policy C R walks v held identifier endpoint result (Crossed peer request) is found = stays policy C R walks v
 
 grant_goes : (policy : Policy) (C : Carrier → Carrier → Type 0) (R : Channels → Channels → Type 0) (walks : Walks policy C R) (v : Channels) (own identifier endpoint result : ℕ) (held : Option Held) → find (has_own own) v.held ≡ held
@@ -439,7 +444,7 @@ end_goes policy C R walks v own peer None is = stays policy C R walks v
 end_goes policy C R walks v own peer (Some held) is = by (is_peer peer held.stage)
   where
     by : (same : Bool) → R v (cond same (ends_at held.stage OwnClosed held v) v)
-    by true = ends-goes policy C R walks v held OwnClosed held.stage (found-own own v held is)
+    by true = ends-goes policy C R walks v held OwnClosed held.stage refl (found-own own v held is)
     by false = stays policy C R walks v
 
 features_go : (policy : Policy) (C : Carrier → Carrier → Type 0) (R : Channels → Channels → Type 0) (walks : Walks policy C R) (v : Channels) (identifier : ℕ) (features : Option ℕ) → R v (hears_features identifier features v)

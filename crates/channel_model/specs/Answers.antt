@@ -88,7 +88,7 @@ abbrev pub disconnection_by : Stage → (own peer : ℕ) → Option Content
 disconnection_by (Requested request) own peer = Some (no_such_channel own peer)
 disconnection_by (Connected endpoint setup) own peer = if endpoint == peer then Some (disconnection_response own peer) else None
 disconnection_by (Leaving endpoint setup request) own peer = if endpoint == peer then Some (disconnection_response own peer) else None
-disconnection_by (Closing endpoint request) own peer = if endpoint == peer then Some (disconnection_response own peer) else None
+disconnection_by (Closing endpoint request checked) own peer = if endpoint == peer then Some (disconnection_response own peer) else None
 disconnection_by (Crossed endpoint request) own peer = if endpoint == peer then Some (disconnection_response own peer) else None
 
 -- a request that names another endpoint of the peer gets no answer

@@ -9,7 +9,7 @@ use Rattle.channel_model.specs.declared.event.ChannelEvent.{ChannelEvent}
 use Rattle.channel_model.specs.declared.event.ChannelEvent.TheVariants.{Closed}
 use Rattle.channel_model.specs.declared.event.CloseReason.TheVariants.{LinkDown, OwnClosed}
 use Rattle.channel_model.specs.Value.{Request, Own, Unasked, Asking, Granted, Carrier, Plain, Retransmitting, Setup, Stage, Requested, Connected, Leaving, Closing, Crossed, Held, Channels, no_channels}
-use Rattle.channel_model.specs.Changing.{held_at, to_stage, to_setup, setup_of, is_open}
+use Rattle.channel_model.specs.Changing.{held_at, to_stage, to_setup, setup_of, has_fcs_by, is_open}
 use Rattle.channel_model.specs.Asking.{new_request, asks}
 use Rattle.channel_model.specs.Closing.{closes}
 use Rattle.channel_model.specs.Following.{with_channel}
@@ -24,7 +24,7 @@ abbrev pub lost_at : Stage → Held → List ChannelEvent
 lost_at (Requested request) held = Closed held.own held.psm LinkDown ∷ []
 lost_at (Connected peer setup) held = Closed held.own held.psm LinkDown ∷ []
 lost_at (Leaving peer setup request) held = Closed held.own held.psm LinkDown ∷ []
-lost_at (Closing peer request) held = []
+lost_at (Closing peer request checked) held = []
 lost_at (Crossed peer request) held = []
 
 -- the link is no more: each channel that was not closed is so now
@@ -56,7 +56,7 @@ abbrev pub disconnected_at : Stage → Held → Channels → Channels
 disconnected_at (Requested request) held v = closes OwnClosed held v
 disconnected_at (Connected peer setup) held v = asks (Disconnection held.own) (to_stage held (Leaving peer setup (new_request v)) v)
 disconnected_at (Leaving peer setup request) held v = v
-disconnected_at (Closing peer request) held v = v
+disconnected_at (Closing peer request checked) held v = v
 disconnected_at (Crossed peer request) held v = v
 
 abbrev pub disconnected_held : Option Held → Channels → Channels
@@ -142,25 +142,29 @@ abbrev pub is_armed : Stage → Bool
 is_armed (Requested request) = true
 is_armed (Connected peer setup) = own_waits setup.own || carrier_armed setup.carrier
 is_armed (Leaving peer setup request) = true
-is_armed (Closing peer request) = true
+is_armed (Closing peer request checked) = true
 is_armed (Crossed peer request) = true
 
 -- an own request waits for its response, or a machine for an acknowledgement or the answer to a poll
 abbrev pub armed : Channels → Bool
 armed v = is_some v.features || list_any (λ held. is_armed held.stage) v.held
 
-abbrev pub is_retransmitting : Option Carrier → Bool
-is_retransmitting None = false
-is_retransmitting (Some (Plain agreed waiting)) = false
-is_retransmitting (Some (Retransmitting machine)) = true
+-- where the host closed the channel it is as it was before
+abbrev pub has_fcs_at : Stage → Bool
+has_fcs_at (Requested request) = false
+has_fcs_at (Connected peer setup) = has_fcs_by setup
+has_fcs_at (Leaving peer setup request) = has_fcs_by setup
+has_fcs_at (Closing peer request checked) = checked
+has_fcs_at (Crossed peer request) = false
 
-abbrev pub has_fcs_on : Option Setup → Bool
+abbrev pub has_fcs_on : Option Held → Bool
 has_fcs_on None = false
-has_fcs_on (Some setup) = is_retransmitting setup.carrier
+has_fcs_on (Some held) = has_fcs_at held.stage
 
--- what comes in for an endpoint has a check word: its channel wishes retransmission, and the peer's options were accepted
+-- What comes in for an endpoint has a check word: its channel wishes retransmission, and the peer's options were accepted. So
+-- it is until the channel has ended for the host: the answer to its request for the end came, or it answered the peer's.
 abbrev pub has_fcs : (own : ℕ) → Channels → Bool
-has_fcs own v = has_fcs_on (setup_on (held_at own v))
+has_fcs own v = has_fcs_on (held_at own v)
 
 abbrev pub carrier_window : Option Carrier → ℕ
 carrier_window None = 0

@@ -116,7 +116,7 @@ abbrev pub sdu_at : Stage → List ℕ → Option (List ℕ)
 sdu_at (Requested request) pdu = None
 sdu_at (Connected peer setup) pdu = sdu_with setup.carrier setup.own pdu
 sdu_at (Leaving peer setup request) pdu = None
-sdu_at (Closing peer request) pdu = None
+sdu_at (Closing peer request checked) pdu = None
 sdu_at (Crossed peer request) pdu = None
 
 abbrev pub up_by : Option (List ℕ) → Held → Up

@@ -5,7 +5,7 @@ use Rattle.l2cap_signal.specs.Commands.{Content, Command}
 use Rattle.channel_model.specs.declared.errand.Errand.{Errand}
 use Rattle.channel_model.specs.declared.errand.Errand.TheVariants.{Connection, Configuration, Disconnection, Features}
 use Rattle.channel_model.specs.declared.event.ChannelEvent.{ChannelEvent}
-use Rattle.channel_model.specs.Value.{Request, Queued, Answer, Ask, Own, Unasked, Asking, Granted, Setup, Stage, Requested, Connected, Leaving, Closing, Crossed, Held, Channels}
+use Rattle.channel_model.specs.Value.{Request, Queued, Answer, Ask, Own, Unasked, Asking, Granted, Carrier, Plain, Retransmitting, Setup, Stage, Requested, Connected, Leaving, Closing, Crossed, Held, Channels}
 
 -- ---- channels
 
@@ -27,7 +27,7 @@ abbrev pub is_peer : ℕ → Stage → Bool
 is_peer endpoint (Requested request) = false
 is_peer endpoint (Connected peer setup) = endpoint == peer
 is_peer endpoint (Leaving peer setup request) = endpoint == peer
-is_peer endpoint (Closing peer request) = endpoint == peer
+is_peer endpoint (Closing peer request checked) = endpoint == peer
 is_peer endpoint (Crossed peer request) = endpoint == peer
 
 abbrev pub has_peer : ℕ → Held → Bool
@@ -38,7 +38,7 @@ abbrev pub is_live_peer : ℕ → Stage → Bool
 is_live_peer endpoint (Requested request) = false
 is_live_peer endpoint (Connected peer setup) = endpoint == peer
 is_live_peer endpoint (Leaving peer setup request) = endpoint == peer
-is_live_peer endpoint (Closing peer request) = endpoint == peer
+is_live_peer endpoint (Closing peer request checked) = endpoint == peer
 is_live_peer endpoint (Crossed peer request) = false
 
 abbrev pub has_live_peer : ℕ → Held → Bool
@@ -51,14 +51,14 @@ abbrev pub setup_of : Stage → Option Setup
 setup_of (Requested request) = None
 setup_of (Connected peer setup) = Some setup
 setup_of (Leaving peer setup request) = Some setup
-setup_of (Closing peer request) = None
+setup_of (Closing peer request checked) = None
 setup_of (Crossed peer request) = None
 
 abbrev pub stage_with : Setup → Stage → Stage
 stage_with setup (Requested request) = Requested request
 stage_with setup (Connected peer before) = Connected peer setup
 stage_with setup (Leaving peer before request) = Leaving peer setup request
-stage_with setup (Closing peer request) = Closing peer request
+stage_with setup (Closing peer request checked) = Closing peer request checked
 stage_with setup (Crossed peer request) = Crossed peer request
 
 abbrev pub with_setup : Held → Setup → Held
@@ -71,6 +71,21 @@ abbrev pub is_granted : Own → Bool
 is_granted Unasked = false
 is_granted (Asking request options) = false
 is_granted Granted = true
+
+-- the own request was made
+abbrev pub is_stated : Own → Bool
+is_stated Unasked = false
+is_stated (Asking request options) = true
+is_stated Granted = true
+
+abbrev pub is_retransmitting : Option Carrier → Bool
+is_retransmitting None = false
+is_retransmitting (Some (Plain agreed waiting)) = false
+is_retransmitting (Some (Retransmitting machine)) = true
+
+-- what comes in has a check word: the host asked for options, and accepted those of the peer for retransmission (3.3.5)
+abbrev pub has_fcs_by : Setup → Bool
+has_fcs_by setup = is_stated setup.own && is_retransmitting setup.carrier
 
 -- A channel is open where both requests for its options were accepted (6.1.4).
 abbrev pub is_open : Setup → Bool

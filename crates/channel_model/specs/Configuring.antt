@@ -53,7 +53,7 @@ abbrev pub judged_stage : Stage → Wish → (flags : ℕ) → List ℕ → Verd
 judged_stage (Requested request) wish flags octets = NoChannel
 judged_stage (Connected peer setup) wish flags octets = judged_setup peer flags wish setup octets
 judged_stage (Leaving peer setup request) wish flags octets = judged_setup peer flags wish setup octets
-judged_stage (Closing peer request) wish flags octets = TooLate peer
+judged_stage (Closing peer request checked) wish flags octets = TooLate peer
 judged_stage (Crossed peer request) wish flags octets = TooLate peer
 
 abbrev pub verdict_on : Option Held → Policy → (flags : ℕ) → List ℕ → Verdict

@@ -32,7 +32,7 @@ abbrev pub connection_at : Stage → Held → Option Command
 connection_at (Requested request) held = asking request (connection_request held.psm held.own)
 connection_at (Connected peer setup) held = None
 connection_at (Leaving peer setup request) held = None
-connection_at (Closing peer request) held = None
+connection_at (Closing peer request checked) held = None
 connection_at (Crossed peer request) held = None
 
 abbrev pub configuration_by : Own → (peer : ℕ) → Option Command
@@ -44,7 +44,7 @@ abbrev pub configuration_at : Stage → Option Command
 configuration_at (Requested request) = None
 configuration_at (Connected peer setup) = configuration_by setup.own peer
 configuration_at (Leaving peer setup request) = configuration_by setup.own peer
-configuration_at (Closing peer request) = None
+configuration_at (Closing peer request checked) = None
 configuration_at (Crossed peer request) = None
 
 -- the request names the peer's endpoint and then the own one (4.6)
@@ -52,7 +52,7 @@ abbrev pub disconnection_at : Stage → Held → Option Command
 disconnection_at (Requested request) held = None
 disconnection_at (Connected peer setup) held = None
 disconnection_at (Leaving peer setup request) held = asking request (disconnection_request peer held.own)
-disconnection_at (Closing peer request) held = asking request (disconnection_request peer held.own)
+disconnection_at (Closing peer request checked) held = asking request (disconnection_request peer held.own)
 disconnection_at (Crossed peer request) held = asking request (disconnection_request peer held.own)
 
 abbrev pub on_held : (Held → Option Command) → Option Held → Option Command
@@ -85,21 +85,21 @@ abbrev pub connection_given : Stage → Stage
 connection_given (Requested request) = Requested (one_more request)
 connection_given (Connected peer setup) = Connected peer setup
 connection_given (Leaving peer setup request) = Leaving peer setup request
-connection_given (Closing peer request) = Closing peer request
+connection_given (Closing peer request checked) = Closing peer request checked
 connection_given (Crossed peer request) = Crossed peer request
 
 abbrev pub configuration_given : Stage → Stage
 configuration_given (Requested request) = Requested request
 configuration_given (Connected peer setup) = Connected peer (setup_given setup)
 configuration_given (Leaving peer setup request) = Leaving peer (setup_given setup) request
-configuration_given (Closing peer request) = Closing peer request
+configuration_given (Closing peer request checked) = Closing peer request checked
 configuration_given (Crossed peer request) = Crossed peer request
 
 abbrev pub disconnection_given : Stage → Stage
 disconnection_given (Requested request) = Requested request
 disconnection_given (Connected peer setup) = Connected peer setup
 disconnection_given (Leaving peer setup request) = Leaving peer setup (one_more request)
-disconnection_given (Closing peer request) = Closing peer (one_more request)
+disconnection_given (Closing peer request checked) = Closing peer (one_more request) checked
 disconnection_given (Crossed peer request) = Crossed peer (one_more request)
 
 abbrev pub stage_given : (Stage → Stage) → Option Held → Channels → Channels
@@ -126,7 +126,7 @@ abbrev pub stage_gives : Stage → Option Given
 stage_gives (Requested request) = None
 stage_gives (Connected peer setup) = some_carrier_gives setup.carrier peer
 stage_gives (Leaving peer setup request) = some_carrier_gives setup.carrier peer
-stage_gives (Closing peer request) = None
+stage_gives (Closing peer request checked) = None
 stage_gives (Crossed peer request) = None
 
 abbrev pub gives : Held → Bool

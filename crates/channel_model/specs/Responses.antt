@@ -42,7 +42,7 @@ hears_grant_at (Requested request) policy identifier endpoint result held v =
     if request.identifier == identifier then hears_connected policy endpoint result held v else v
 hears_grant_at (Connected peer setup) policy identifier endpoint result held v = v
 hears_grant_at (Leaving peer setup request) policy identifier endpoint result held v = v
-hears_grant_at (Closing peer request) policy identifier endpoint result held v = v
+hears_grant_at (Closing peer request checked) policy identifier endpoint result held v = v
 hears_grant_at (Crossed peer request) policy identifier endpoint result held v = v
 
 abbrev pub hears_grant : Option Held → Policy → (identifier endpoint result : ℕ) → Channels → Channels

@@ -39,7 +39,7 @@ abbrev pub times_stage : Stage → (tries : ℕ) → Held → Channels → Chann
 times_stage (Requested request) tries held v = times tries (Connection held.own) request (closes RetryLimit held) v
 times_stage (Connected peer setup) tries held v = times_setup setup.own tries held setup v
 times_stage (Leaving peer setup request) tries held v = times_setup setup.own tries held setup v
-times_stage (Closing peer request) tries held v = v
+times_stage (Closing peer request checked) tries held v = v
 times_stage (Crossed peer request) tries held v = v
 
 abbrev pub times_held : Option Held → (tries : ℕ) → Channels → Channels
@@ -55,7 +55,7 @@ abbrev pub times_end_at : Stage → (tries : ℕ) → Held → Channels → Chan
 times_end_at (Requested request) tries held v = v
 times_end_at (Connected peer setup) tries held v = v
 times_end_at (Leaving peer setup request) tries held v = times tries (Disconnection held.own) request (ends RetryLimit held) v
-times_end_at (Closing peer request) tries held v = times tries (Disconnection held.own) request (loses_end held) v
+times_end_at (Closing peer request checked) tries held v = times tries (Disconnection held.own) request (loses_end held) v
 times_end_at (Crossed peer request) tries held v = times tries (Disconnection held.own) request (loses_end held) v
 
 abbrev pub times_end : Option Held → (tries : ℕ) → Channels → Channels

@@ -1,5 +1,5 @@
 -- The channels of a link as one of its hosts keeps them, as a value (Core 5.1, Volume 3 Part A, 2.1, 4, 6 and 7).
-use Rattle.std.specs.Prelude.{ℕ, List, [], ◌∷◌, Option, Some, None}
+use Rattle.std.specs.Prelude.{ℕ, Bool, List, [], ◌∷◌, Option, Some, None}
 use Rattle.l2cap_signal.specs.Commands.{Content, Command}
 use Rattle.l2cap_config.specs.declared.options.Options.{Options}
 use Rattle.l2cap_config.specs.declared.wish.Agreed.{Agreed}
@@ -55,8 +55,8 @@ pub data Stage : Type 0 where
   Connected : (peer : ℕ) (setup : Setup) → Stage
   -- it is there, and the host asked for its end
   Leaving : (peer : ℕ) (setup : Setup) (request : Request) → Stage
-  -- the host closed it and waits for the answer to its request for the end
-  Closing : (peer : ℕ) (request : Request) → Stage
+  -- the host closed it and waits for the answer to its request for the end; what comes in until then has a check word, or none
+  Closing : (peer : ℕ) (request : Request) (checked : Bool) → Stage
   -- the same, and the host has answered the peer's request for the end as well
   Crossed : (peer : ℕ) (request : Request) → Stage
 

@@ -165,3 +165,9 @@ both_none links is spare = record {
       subst (λ (o : Option BothLink). IsBothOf [] o) (sym none) refl;
   spare = subst (λ (js : List Held). AllByRecursion IsSpare js) (sym spare) tt;
 }
+
+-- three parts added one after the other
+pub three_added : (t t1 t2 t3 a b c : List ℕ) → t1 ≡ t ++ a → t2 ≡ t1 ++ b → t3 ≡ t2 ++ c → t3 ≡ t ++ ((a ++ b) ++ c)
+three_added t t1 t2 t3 a b c e1 e2 e3 =
+    let s2 : t2 ≡ t ++ (a ++ b) = e2 ∙ ap (λ (x : List ℕ). x ++ b) e1 ∙ append_assoc t a b in
+    e3 ∙ ap (λ (x : List ℕ). x ++ c) s2 ∙ append_assoc t (a ++ b) c

@@ -12,7 +12,7 @@ use Rattle.h4_framing.specs.Framing.{Framing, counted}
 use Rattle.h4_framing.specs.Accounts.{Accounts}
 use Rattle.h4_framing.proofs.LengthLemmas.{front_short}
 use Rattle.h4_view.specs.declared.refusal.ViewRefusal.{ViewRefusal}
-use Rattle.h4_view.specs.declared.refusal.ViewRefusal.TheVariants.{BadIndicator, Truncated, TooLong, BadTag, BadRecord}
+use Rattle.h4_view.specs.declared.refusal.ViewRefusal.TheVariants.{BadIndicator, Truncated, TooLong}
 use Rattle.h4_view.specs.declared.refusal.ViewFault.{ViewFault}
 use Rattle.h4_view.specs.declared.refusal.ViewFault.TheVariants.{Refused, ReadFault, WriteFault, NoMemory}
 use Rattle.h4_view.specs.declared.links.Links.{Links}
@@ -30,9 +30,6 @@ counted_plain n le = omega arith
 ends_by : (verdict : Option (ViewRefusal × ℕ)) (octets : List ℕ) (packets : List Packet) (framing : Framing) → Accounts octets packets framing → framing.fault ≡ None → framing.limit ≡ acl_limit
     → length octets < input_limit → EndsView framing verdict → Stops (length (spellings packets)) framing.held verdict
 ends_by None octets packets framing accounts sound keeps below ends = ends
-ends_by (Some (BadIndicator, place)) octets packets framing accounts sound keeps below ends = absurd ends
-ends_by (Some (BadTag, place)) octets packets framing accounts sound keeps below ends = absurd ends
-ends_by (Some (BadRecord, place)) octets packets framing accounts sound keeps below ends = absurd ends
 ends_by (Some (Truncated, place)) octets packets framing accounts sound keeps below (at, some, (n, least, within)) =
     let behind = held_behind octets packets framing accounts sound in
     let size : length octets ≡ length (spellings packets) + length framing.held = ap length behind.0 ∙ length-append (spellings packets) framing.held in
@@ -49,6 +46,7 @@ ends_by (Some (TooLong, place)) octets packets framing accounts sound keeps belo
     let goes : GoesPast from framing.held = (unfinished, λ p f. omega (arith, least'.none_shorter p f)) in
     let front : take (input_limit - from) framing.held ≡ framing.held = take_all (input_limit - from) framing.held (omega arith) in
     (at, some, subst (λ (t : List ℕ). GoesPast from t) (sym front) goes)
+ends_by (Some (_, place)) octets packets framing accounts sound keeps below ends = absurd ends
 
 pub ended : (verdict : Option (ViewRefusal × ℕ)) (input left old new : Option (List ℕ)) (framing : Framing) (links : Links) (offset fed : ℕ) → Standing input left old new framing links offset fed → fed < input_limit
     → IfSome left (λ octets. octets ≡ []) → EndsView framing verdict → IfSome input (λ all. ShowsAll all left old new (Ok verdict))
@@ -125,10 +123,6 @@ limit_by : (verdict : Option (ViewRefusal × ℕ)) (octets rest : List ℕ) (lef
     → length octets ≡ input_limit → left ≡ Some rest → EndsAtLimit framing left verdict → Stops (length (spellings packets)) (framing.held ++ rest) verdict
 limit_by None octets rest left packets framing accounts sound keeps full left-is ends =
     let none : rest ≡ [] = rw left-is at ends.1 in ap (λ (t : List ℕ). t ++ rest) ends.0 ∙ none
-limit_by (Some (BadIndicator, place)) octets rest left packets framing accounts sound keeps full left-is ends = absurd ends
-limit_by (Some (Truncated, place)) octets rest left packets framing accounts sound keeps full left-is ends = absurd ends
-limit_by (Some (BadTag, place)) octets rest left packets framing accounts sound keeps full left-is ends = absurd ends
-limit_by (Some (BadRecord, place)) octets rest left packets framing accounts sound keeps full left-is ends = absurd ends
 limit_by (Some (TooLong, place)) octets rest left packets framing accounts sound keeps full left-is ends =
     let behind = held_behind octets packets framing accounts sound in
     let from : ℕ = length (spellings packets) in
@@ -141,6 +135,7 @@ limit_by (Some (TooLong, place)) octets rest left packets framing accounts sound
     let unfinished : IsUnfinished acl_limit framing.held = subst (λ (k : ℕ). IsUnfinished k framing.held) keeps behind.1 in
     let goes : GoesPast from framing.held = (unfinished, λ p f. omega (arith, front_short acl_limit framing.held p f)) in
     (ends.0, some, subst (λ (t : List ℕ). GoesPast from t) (sym front) goes)
+limit_by (Some (_, place)) octets rest left packets framing accounts sound keeps full left-is ends = absurd ends
 
 pub at_limit : (verdict : Option (ViewRefusal × ℕ)) (input left old new : Option (List ℕ)) (framing : Framing) (links : Links) (offset fed : ℕ) → Standing input left old new framing links offset fed → input_limit ≤ fed
     → EndsAtLimit framing left verdict → IfSome input (λ all. ShowsAll all left old new (Ok verdict))

@@ -7,5 +7,11 @@ pub mod Stands
 pub mod Endings
 pub mod OneView
 pub mod BothWays
+pub mod Viewing
 pub mod TaggedLines
 pub mod TaggedEnds
+pub mod SnoopLines
+pub mod SnoopEnds
+pub mod OneTagged
+pub mod OneSnoop
+pub mod EachSnoop

@@ -16,7 +16,7 @@ use Rattle.h4_framing.proofs.LengthLemmas.{front_short, least_length}
 use Rattle.h4_framing.proofs.TakingLemmas.{nothing_unfinished}
 use Rattle.h4_framing.proofs.ReadingLemmas.{NoPacket, unfinished_none, wrong_none, nothing_none, no_wrong_nothing, front_packets, same_split, each_read}
 use Rattle.h4_view.specs.declared.refusal.ViewRefusal.{ViewRefusal}
-use Rattle.h4_view.specs.declared.refusal.ViewRefusal.TheVariants.{BadIndicator, Truncated, TooLong, BadTag, BadRecord}
+use Rattle.h4_view.specs.declared.refusal.ViewRefusal.TheVariants.{BadIndicator, Truncated, TooLong}
 use Rattle.h4_view.specs.declared.refusal.ViewFault.{ViewFault}
 use Rattle.h4_view.specs.declared.refusal.ViewFault.TheVariants.{Refused, ReadFault, WriteFault, NoMemory}
 use Rattle.h4_view.specs.View.{acl_limit, input_limit, HasBadIndicator, MayEndWithin, GoesPast, Stops, BeginsWith, IsView, FrontWritten, OfLines, OfAll, ShowsRead, Views, verdict_text, view_text}
@@ -45,8 +45,7 @@ stops_none from rest None h = subst (NoPacket acl_limit) (sym (ap (take (input_l
 stops_none from rest (Some (BadIndicator, place)) h = wrong_none acl_limit (read_of from rest) h4.BadIndicator 0 (bad_read (input_limit - from) rest (omega (arith, h.1)) h.2)
 stops_none from rest (Some (Truncated, place)) h = subst (NoPacket acl_limit) (sym (within_read from rest h.2)) (unfinished_none acl_limit rest (within_unfinished from rest h.2))
 stops_none from rest (Some (TooLong, place)) h = unfinished_none acl_limit (read_of from rest) h.2.0
-stops_none from rest (Some (BadTag, place)) h = absurd h
-stops_none from rest (Some (BadRecord, place)) h = absurd h
+stops_none from rest (Some (_, place)) h = absurd h
 
 -- no two reasons to stop
 none_bad : (rest : List ℕ) → rest ≡ [] → HasBadIndicator rest → ⊥
@@ -80,16 +79,11 @@ stops_same from rest (Some (TooLong, p)) None h k = absurd (h.1 k)
 stops_same from rest (Some (TooLong, p)) (Some (BadIndicator, q)) h k = absurd (bad_past from rest k.1 k.2 h.2)
 stops_same from rest (Some (TooLong, p)) (Some (Truncated, q)) h k = absurd (cut_past from rest k.2 h.2)
 stops_same from rest (Some (TooLong, p)) (Some (TooLong, q)) h k = ap (λ (n : ℕ). Some (TooLong, n)) (h.0 ∙ sym k.0)
-stops_same from rest None (Some (BadTag, q)) h k = absurd k
-stops_same from rest None (Some (BadRecord, q)) h k = absurd k
-stops_same from rest (Some (BadIndicator, p)) (Some (BadTag, q)) h k = absurd k
-stops_same from rest (Some (BadIndicator, p)) (Some (BadRecord, q)) h k = absurd k
-stops_same from rest (Some (Truncated, p)) (Some (BadTag, q)) h k = absurd k
-stops_same from rest (Some (Truncated, p)) (Some (BadRecord, q)) h k = absurd k
-stops_same from rest (Some (TooLong, p)) (Some (BadTag, q)) h k = absurd k
-stops_same from rest (Some (TooLong, p)) (Some (BadRecord, q)) h k = absurd k
-stops_same from rest (Some (BadTag, p)) w h k = absurd h
-stops_same from rest (Some (BadRecord, p)) w h k = absurd h
+stops_same from rest None (Some (_, q)) h k = absurd k
+stops_same from rest (Some (BadIndicator, p)) (Some (_, q)) h k = absurd k
+stops_same from rest (Some (Truncated, p)) (Some (_, q)) h k = absurd k
+stops_same from rest (Some (TooLong, p)) (Some (_, q)) h k = absurd k
+stops_same from rest (Some (_, p)) w h k = absurd h
 
 -- what is read of the input is the packets and what is read behind them
 begins_read : (input : List ℕ) (ps : List Packet) (h : BeginsWith input ps) → take input_limit input ≡ spellings ps ++ read_of (length (spellings ps)) h.rest

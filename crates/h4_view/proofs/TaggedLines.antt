@@ -3,7 +3,6 @@ use Rattle.std.proofs.Common.{◌≡◌, ℕ, ◌+◌, ◌<◌, ◌≤◌, List,
 use Rattle.std.proofs.lemmas.List.{append-nil, take_at}
 use Rattle.std.proofs.lemmas.Grind.{flat_map-append}
 use Rattle.std.proofs.lemmas.List.Elements.{filter_map-append}
-use Rattle.std.specs.List.{AllByRecursion}
 use Rattle.h4_framing.specs.Packets.{Packet}
 use Rattle.push_terms.specs.declared.word.Side.{Side}
 use Rattle.push_terms.specs.declared.word.Side.TheVariants as sides
@@ -19,27 +18,13 @@ use Rattle.h4_view.specs.Lines.{packet_text}
 use Rattle.h4_view.specs.Both.{Sent, KnowsBoth, under_by}
 use Rattle.h4_view.specs.Tagged.{direction_of, flow_text, entry_text, sent_in, sent_of, entry_under, entry_lines, tagged_lines}
 use Rattle.h4_view.specs.TaggedTelling.{KnowsHosts, BehindOffset, EntryShown, HasShown, Finds}
-
-each_more : (es : List Entry) (e : Entry) → AllByRecursion IsEntry es → IsEntry e → AllByRecursion IsEntry (es ++ e ∷ [])
-each_more [] e each is = (is, tt)
-each_more (x ∷ es) e (first, each) is = (first, each_more es e each is)
+use Rattle.h4_view.proofs.Viewing.{each_more, lines_more}
 
 octets_more : (es : List Entry) (e : Entry) → capture_octets (es ++ e ∷ []) ≡ capture_octets es ++ entry_octets e
 octets_more es e = flat_map-append entry_octets es (e ∷ []) ∙ ap (λ (t : List ℕ). capture_octets es ++ t) (append-nil (entry_octets e))
 
 sent_more : (side : Side) (es : List Entry) (e : Entry) (ss : List Sent) → sent_of side (e ∷ []) ≡ ss → sent_of side (es ++ e ∷ []) ≡ sent_of side es ++ ss
 sent_more side es e ss is = filter_map-append (sent_in side) es (e ∷ []) ∙ ap (λ (t : List Sent). sent_of side es ++ t) is
-
-lines_more : (past : List Entry) (offset : ℕ) (es : List Entry) (e : Entry) → tagged_lines past offset (es ++ e ∷ []) ≡ tagged_lines past offset es ++ entry_lines (past ++ es) (offset + length (capture_octets es)) e
-lines_more past offset [] e =
-    append-nil (entry_lines past offset e) ∙ ap (λ (ps : List Entry). entry_lines ps offset e) (sym (append-nil past)) ∙ ap (λ (k : ℕ). entry_lines (past ++ []) k e) (omega arith)
-lines_more past offset (x ∷ es) e =
-    let here : List ℕ = entry_lines past offset x in
-    let after : ℕ = offset + length (entry_octets x) in
-    ap (λ (t : List ℕ). here ++ t) (lines_more (past ++ x ∷ []) after es e)
-    ∙ sym (append_assoc here (tagged_lines (past ++ x ∷ []) after es) (entry_lines ((past ++ x ∷ []) ++ es) (after + length (capture_octets es)) e))
-    ∙ ap (λ (ps : List Entry). (here ++ tagged_lines (past ++ x ∷ []) after es) ++ entry_lines ps (after + length (capture_octets es)) e) (append_assoc past (x ∷ []) es)
-    ∙ ap (λ (k : ℕ). (here ++ tagged_lines (past ++ x ∷ []) after es) ++ entry_lines (past ++ x ∷ es) k e) (omega (arith, length-append (entry_octets x) (capture_octets es)))
 
 -- ---- what an entry tells of links
 
@@ -65,11 +50,11 @@ knows_other past e view a b knows = record {
 
 -- ---- what an entry adds
 
--- the offset, a blank, and what follows
-behind_offset : (offset : ℕ) (text t1 t2 text' body under : List ℕ) → t1 ≡ text ++ decimal offset → t2 ≡ t1 ++ codes " " → text' ≡ t2 ++ ((body ++ codes "\n") ++ under) → text' ≡ text ++ ((((decimal offset ++ codes " ") ++ body) ++ codes "\n") ++ under)
-behind_offset offset text t1 t2 text' body under e1 e2 e3 =
-    let head : List ℕ = decimal offset ++ codes " " in
-    let start : t2 ≡ text ++ head = e2 ∙ ap (λ (t : List ℕ). t ++ codes " ") e1 ∙ append_assoc text (decimal offset) (codes " ") in
+-- something, a blank, and what follows
+pub behind_blank : (front text t1 t2 text' body under : List ℕ) → t1 ≡ text ++ front → t2 ≡ t1 ++ codes " " → text' ≡ t2 ++ ((body ++ codes "\n") ++ under) → text' ≡ text ++ ((((front ++ codes " ") ++ body) ++ codes "\n") ++ under)
+behind_blank front text t1 t2 text' body under e1 e2 e3 =
+    let head : List ℕ = front ++ codes " " in
+    let start : t2 ≡ text ++ head = e2 ∙ ap (λ (t : List ℕ). t ++ codes " ") e1 ∙ append_assoc text front (codes " ") in
     e3
     ∙ ap (λ (t : List ℕ). t ++ ((body ++ codes "\n") ++ under)) start
     ∙ append_assoc text head ((body ++ codes "\n") ++ under)
@@ -80,7 +65,7 @@ entry_shown e old new text t1 t2 text' e1 e2 behind = (
   behind.0,
   λ past knows.
       let here = behind.1 past knows in
-      (behind_offset old.place text t1 t2 text' (entry_text e) (entry_under past e) e1 e2 here.0, here.1),
+      (behind_blank (decimal old.place) text t1 t2 text' (entry_text e) (entry_under past e) e1 e2 here.0, here.1),
 )
 
 -- a packet of host a
@@ -145,13 +130,13 @@ shows_entry old mid new octets text text' rest e n is whole size shown a b place
             here.0,
             record {
               entries = h.entries ++ e ∷ [];
-              each = each_more h.entries e h.each is;
+              each = each_more IsEntry h.entries e h.each is;
               whole = ap (λ (t : List ℕ). t ++ take n octets) h.whole ∙ ap (λ (t : List ℕ). capture_octets h.entries ++ t) front ∙ sym (octets_more h.entries e);
               lines = λ within.
                   let short : length before ≤ input_limit = omega (arith, within, long) in
                   ap (λ (t : List ℕ). t ++ entry_lines h.entries old.place e) (h.lines short)
                   ∙ ap (λ (k : ℕ). tagged_lines [] 0 h.entries ++ entry_lines h.entries k e) (h.place short ∙ ap length h.whole)
-                  ∙ sym (lines_more [] 0 h.entries e ∙ ap (λ (k : ℕ). tagged_lines [] 0 h.entries ++ entry_lines h.entries k e) (omega arith));
+                  ∙ sym (lines_more entry_octets entry_lines [] 0 h.entries e ∙ ap (λ (k : ℕ). tagged_lines [] 0 h.entries ++ entry_lines h.entries k e) (omega arith));
               place = λ within.
                   let short : length before ≤ input_limit = omega (arith, within, long) in
                   place (omega (arith, h.place short, within, long)) ∙ ap (λ (k : ℕ). k + n) (h.place short) ∙ sym long;

@@ -7,8 +7,11 @@ pub mod Details
 pub mod Lanes
 pub mod Both
 pub mod Lines
+pub mod Viewing
 pub mod Tagged
 pub mod TaggedTelling
+pub mod Snoop
+pub mod SnoopTelling
 pub mod Shows
 pub mod Standing
 pub mod View

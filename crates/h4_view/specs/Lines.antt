@@ -6,7 +6,7 @@ use Rattle.h4_view.specs.Names.{command_name, event_name}
 use Rattle.h4_view.specs.Texts.{octets_text, word_text}
 use Rattle.h4_view.specs.Details.{under}
 use Rattle.h4_view.specs.declared.refusal.ViewRefusal.{ViewRefusal}
-use Rattle.h4_view.specs.declared.refusal.ViewRefusal.TheVariants.{BadIndicator, Truncated, TooLong, BadTag, BadRecord}
+use Rattle.h4_view.specs.declared.refusal.ViewRefusal.TheVariants.{BadIndicator, Truncated, TooLong, BadTag, BadRecord, BadMagic, BadVersion, BadLink, BadLength}
 
 -- what a packet's line says behind the offset
 abbrev pub packet_text : Packet → List ℕ
@@ -35,6 +35,10 @@ refusal_name Truncated = codes "Truncated"
 refusal_name TooLong = codes "TooLong"
 refusal_name BadTag = codes "BadTag"
 refusal_name BadRecord = codes "BadRecord"
+refusal_name BadMagic = codes "BadMagic"
+refusal_name BadVersion = codes "BadVersion"
+refusal_name BadLink = codes "BadLink"
+refusal_name BadLength = codes "BadLength"
 
 -- the line of a refusal at that offset
 abbrev pub refusal_line : ViewRefusal → ℕ → List ℕ

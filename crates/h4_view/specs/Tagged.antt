@@ -1,7 +1,6 @@
 -- The view of a capture: its lines, which entries it shows and why it stops (this project's own).
-use Rattle.std.specs.Prelude.{ℕ, ◌≡◌, ◌≢◌, ◌+◌, ◌-◌, ◌<◌, ◌≤◌, ◌⊎◌, List, [], ◌∷◌, ◌++◌, length, take, Option, None, Some, Result, Ok, Err, codes, decimal}
+use Rattle.std.specs.Prelude.{ℕ, ◌≡◌, ◌≢◌, ◌+◌, ◌<◌, ◌≤◌, ◌⊎◌, List, [], ◌++◌, length, Option, None, Some, Result, Err, codes, decimal}
 use Rattle.std.specs.List.{AllByRecursion, filter_map}
-use Rattle.bt_base.specs.Streams.{gained, GainedFront}
 use Rattle.push_terms.specs.declared.word.Side.{Side}
 use Rattle.push_terms.specs.declared.word.Side.TheVariants as sides
 use Rattle.push_terms.specs.Words.{word_text, side_text}
@@ -15,11 +14,12 @@ use Rattle.tagged_entries.specs.Records.{least_length}
 use Rattle.seen_channels.specs.declared.direction.Direction.{Direction}
 use Rattle.seen_channels.specs.declared.direction.Direction.TheVariants.{Out, In}
 use Rattle.item_stream.specs.Running.{input_limit, Took}
+use Rattle.btsnoop.specs.Converting.{read_of}
 use Rattle.h4_view.specs.declared.refusal.ViewRefusal.{ViewRefusal}
-use Rattle.h4_view.specs.declared.refusal.ViewRefusal.TheVariants.{BadIndicator, Truncated, TooLong, BadTag, BadRecord}
+use Rattle.h4_view.specs.declared.refusal.ViewRefusal.TheVariants.{Truncated, TooLong, BadTag, BadRecord}
 use Rattle.h4_view.specs.declared.refusal.ViewFault.{ViewFault}
-use Rattle.h4_view.specs.declared.refusal.ViewFault.TheVariants.{Refused, ReadFault, WriteFault, NoMemory}
-use Rattle.h4_view.specs.Lines.{packet_text, refusal_line}
+use Rattle.h4_view.specs.Lines.{packet_text}
+use Rattle.h4_view.specs.Viewing.{Viewed, ViewsAs, lines_from}
 use Rattle.h4_view.specs.Both.{Sent, under_by}
 
 -- ---- the lines of an entry
@@ -62,14 +62,9 @@ entry_lines past offset entry = decimal offset ++ codes " " ++ entry_text entry 
 
 -- the lines of entries that stand one after the other from that offset on, after these entries
 abbrev pub tagged_lines : List Entry → ℕ → List Entry → List ℕ
-tagged_lines past offset [] = []
-tagged_lines past offset (entry ∷ entries) = entry_lines past offset entry ++ tagged_lines (past ++ entry ∷ []) (offset + length (entry_octets entry)) entries
+tagged_lines past offset entries = lines_from entry_octets entry_lines past offset entries
 
 -- ---- which entries are shown, and why the view stops
-
--- what is read of what is left at an offset: whoever reads stops at the greatest length
-abbrev pub read_of : ℕ → List ℕ → List ℕ
-read_of from rest = take (input_limit - from) rest
 
 -- Why the view stops at an offset, where this is left of the input. No refusal: nothing is left. Truncated: the input ends
 -- within an entry that may end within the greatest length. Too long: up to the greatest length, or up to the end of the
@@ -80,7 +75,7 @@ Stops from rest (Some (BadTag, place)) = (place ≡ from) × (from < input_limit
 Stops from rest (Some (Truncated, place)) = (place ≡ from) × (rest ≢ []) × IsFront rest (Err entry.Truncated) × (from + least_length rest ≤ input_limit)
 Stops from rest (Some (BadRecord, place)) = (place ≡ from) × IsFront (read_of from rest) (Err entry.BadRecord)
 Stops from rest (Some (TooLong, place)) = (place ≡ input_limit) × (rest ≢ []) × IsFront (read_of from rest) (Err entry.Truncated) × (input_limit < from + least_length (read_of from rest))
-Stops from rest (Some (BadIndicator, place)) = ⊥
+Stops from rest (Some (_, place)) = ⊥
 
 -- The input begins with these entries, and they end within the greatest length.
 pub record BeginsWith (input : List ℕ) (entries : List Entry) : Type 0 where
@@ -96,27 +91,18 @@ pub record IsTaggedView (input : List ℕ) (entries : List Entry) (verdict : Opt
 
 -- ---- what a sink gains
 
--- A front of the view's text was written: some of the lines of entries that the input begins with, or all lines and some
--- of the refusal.
-pub data FrontShown (old new : Option (List ℕ)) (input : List ℕ) : Type 0 where
-  OfLines : (entries : List Entry) → BeginsWith input entries → GainedFront old new (tagged_lines [] 0 entries) → FrontShown old new input
-  OfAll : (entries : List Entry) (refusal : ViewRefusal) (place : ℕ) → IsTaggedView input entries (Some (refusal, place)) → GainedFront old new (tagged_lines [] 0 entries ++ refusal_line refusal place) → FrontShown old new input
-
--- All that was read is shown: the input is what was read and what is left of the source, and what was read is these entries
--- and no whole one more.
-pub record ShownRead (input : List ℕ) (left old new : Option (List ℕ)) : Type 0 where
-  pub entries : List Entry
+-- What was read of the input is these entries and no whole one more, and this is left of the source.
+pub record WasRead (input : List ℕ) (left : Option (List ℕ)) (entries : List Entry) : Type 0 where
   pub each : AllByRecursion IsEntry entries
   pub rest : List ℕ
   pub took : Took (Some input) left (capture_octets entries ++ rest)
   pub within : length (capture_octets entries) + length rest ≤ input_limit
   pub unfinished : (rest ≡ []) ⊎ IsFront rest (Err entry.Truncated)
-  pub wrote : new ≡ gained old (tagged_lines [] 0 entries)
 
--- What a sink gains from the view of a capture, of which the source then has `left`. A fault of the source loses nothing.
+-- a capture of two hosts as its view sees it
+abbrev pub tagged_capture : Viewed Entry
+tagged_capture = record { begins = BeginsWith; is_view = IsTaggedView; was_read = WasRead; text = tagged_lines [] 0 }
+
+-- What a sink gains from the view of a capture, of which the source then has `left`.
 abbrev pub TaggedViews : List ℕ → Option (List ℕ) → Option (List ℕ) → Option (List ℕ) → Result (Unit {0}) ViewFault → Type 0
-TaggedViews input left old new (Ok done) = (entries : List Entry) × IsTaggedView input entries None × (new ≡ gained old (tagged_lines [] 0 entries))
-TaggedViews input left old new (Err (Refused refusal place)) = (entries : List Entry) × IsTaggedView input entries (Some (refusal, place)) × (new ≡ gained old (tagged_lines [] 0 entries ++ refusal_line refusal place))
-TaggedViews input left old new (Err ReadFault) = ShownRead input left old new
-TaggedViews input left old new (Err WriteFault) = FrontShown old new input
-TaggedViews input left old new (Err NoMemory) = FrontShown old new input
+TaggedViews input left old new result = ViewsAs tagged_capture input left old new result

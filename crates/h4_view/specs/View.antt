@@ -8,7 +8,7 @@ use Rattle.h4_framing.specs.Packets.{Packet, spelling, spellings, IsPacket}
 use Rattle.h4_framing.specs.Framing.{Framing}
 use Rattle.h4_framing.specs.Stream.{IsFrontOf, IsUnfinished, IsLeastLength, GoesWrong}
 use Rattle.h4_view.specs.declared.refusal.ViewRefusal.{ViewRefusal}
-use Rattle.h4_view.specs.declared.refusal.ViewRefusal.TheVariants.{BadIndicator, Truncated, TooLong, BadTag, BadRecord}
+use Rattle.h4_view.specs.declared.refusal.ViewRefusal.TheVariants.{BadIndicator, Truncated, TooLong}
 use Rattle.h4_view.specs.declared.refusal.ViewFault.{ViewFault}
 use Rattle.h4_view.specs.declared.refusal.ViewFault.TheVariants.{Refused, ReadFault, WriteFault, NoMemory}
 use Rattle.h4_view.specs.declared.links.Links.{Links}
@@ -44,8 +44,7 @@ Stops from rest None = rest ≡ []
 Stops from rest (Some (BadIndicator, place)) = (place ≡ from) × (from < input_limit) × HasBadIndicator rest
 Stops from rest (Some (Truncated, place)) = (place ≡ from) × (rest ≢ []) × MayEndWithin from rest
 Stops from rest (Some (TooLong, place)) = (place ≡ input_limit) × (rest ≢ []) × GoesPast from (take (input_limit - from) rest)
-Stops from rest (Some (BadTag, place)) = ⊥
-Stops from rest (Some (BadRecord, place)) = ⊥
+Stops from rest (Some (_, place)) = ⊥
 
 -- The input begins with these packets, and they end within the greatest length.
 pub record BeginsWith (input : List ℕ) (packets : List Packet) : Type 0 where
@@ -127,18 +126,13 @@ abbrev pub EndsView : Framing → Option (ViewRefusal × ℕ) → Type 0
 EndsView framing None = framing.held ≡ []
 EndsView framing (Some (Truncated, place)) = (place ≡ framing.before) × (framing.held ≢ []) × ((n : ℕ) × IsLeastLength framing.limit framing.held n × (framing.before + n ≤ input_limit))
 EndsView framing (Some (TooLong, place)) = (place ≡ input_limit) × (framing.held ≢ []) × ((n : ℕ) × IsLeastLength framing.limit framing.held n × (input_limit < framing.before + n))
-EndsView framing (Some (BadIndicator, place)) = ⊥
-EndsView framing (Some (BadTag, place)) = ⊥
-EndsView framing (Some (BadRecord, place)) = ⊥
+EndsView framing (Some (_, place)) = ⊥
 
 -- Why it stops where the stream was read up to the greatest length: it ends there, or it is too long.
 abbrev pub EndsAtLimit : Framing → Option (List ℕ) → Option (ViewRefusal × ℕ) → Type 0
 EndsAtLimit framing left None = (framing.held ≡ []) × IfSome left (λ octets. octets ≡ [])
 EndsAtLimit framing left (Some (TooLong, place)) = (place ≡ input_limit) × ((framing.held ≢ []) ⊎ IfSome left (λ octets. octets ≢ []))
-EndsAtLimit framing left (Some (BadIndicator, place)) = ⊥
-EndsAtLimit framing left (Some (Truncated, place)) = ⊥
-EndsAtLimit framing left (Some (BadTag, place)) = ⊥
-EndsAtLimit framing left (Some (BadRecord, place)) = ⊥
+EndsAtLimit framing left (Some (_, place)) = ⊥
 
 -- It is a fault of a port, or want of memory, and no refusal of the input.
 abbrev pub IsOfPorts : ViewFault → Type 0

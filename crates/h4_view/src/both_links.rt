@@ -1,14 +1,15 @@
 //! What is kept of each link where it is known which way each packet goes.
 
-ghost use Rattle.std.specs.Prelude.{◌≡◌, ◌++◌, ◌∷◌, List, Option, [], None, Some, IfOk, OnOk};
+ghost use Rattle.std.specs.Prelude.{◌≡◌, ◌++◌, ◌∷◌, List, Option, [], None, Some, codes, IfOk, OnOk};
 ghost use Rattle.std.specs.List.{AllByRecursion};
 ghost use Rattle.h4_framing.specs.Packets.{Acl, Event as EventPacket, packet};
 ghost use Rattle.h4_view.specs.Details.{IsSpare};
-ghost use Rattle.h4_view.specs.Both.{Sent, SentPiece, both_text, under_sent, IsBoth, IsBothOf, KnowsBoth, without_link};
+ghost use Rattle.h4_view.specs.Lines.{packet_text};
+ghost use Rattle.h4_view.specs.Both.{Sent, SentPiece, both_text, under_by, under_sent, IsBoth, IsBothOf, KnowsBoth, without_link};
 
 use crate::details::{closed_by, push_bad_command, push_bad_event};
 use crate::joined::{link_of, push_on_lane};
-use crate::line::{Text, push_text};
+use crate::line::{Text, push_packet, push_text};
 use crate::links::HANDLES;
 use acl_fragments::Joiner;
 use bt_base::NoMemory;
@@ -212,5 +213,23 @@ pub(crate) fn push_both_details(
         Unit::Sync { .. } => {}
         Unit::Event { code, params } => push_both_event(text, links, direction, code, params)?,
     }
+    Ok(())
+}
+
+/// Adds what a packet that goes that way says, and what stands under it.
+pub(crate) fn push_both_lines(
+    alloc: Global,
+    text: &mut Text,
+    links: &mut BothLinks,
+    direction: Direction,
+    unit: &Unit<'_>,
+) -> Result<(), NoMemory>
+    ensures { OnOk result ((past : List Sent) → KnowsBoth past links.old →
+        (text.new.items ≡ text.old.items ++ ((packet_text (packet unit.now) ++ codes "\n") ++ under_by past direction (packet unit.now)))
+        × KnowsBoth (past ++ record { direction = direction; packet = packet unit.now } ∷ []) links.new) }
+{
+    push_packet(text, unit)?;
+    push_text(text, "\n")?;
+    push_both_details(alloc, text, links, direction, unit)?;
     Ok(())
 }

@@ -1,6 +1,6 @@
 //! What stands under a packet's line: refused parameters, and what becomes of pieces of PDUs.
 
-ghost use Rattle.std.specs.Prelude.{◌≡◌, ◌++◌, ◌∷◌, [], ◌<◌, List, ℕ, Some, length, OnOk, IfSome};
+ghost use Rattle.std.specs.Prelude.{◌≡◌, ◌++◌, ◌∷◌, [], ◌<◌, List, Some, OnOk};
 ghost use Rattle.h4_framing.specs.Packets.{Packet, Event as EventPacket, packet};
 ghost use Rattle.hci_packets.specs.Commands.{command_refusal};
 ghost use Rattle.hci_packets.specs.Events.{event_refusal};

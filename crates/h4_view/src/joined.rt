@@ -1,6 +1,6 @@
 //! What stands under the line of an ACL packet: what becomes of pieces of PDUs.
 
-ghost use Rattle.std.specs.Prelude.{◌≡◌, ◌++◌, ◌∷◌, [], ◌<◌, List, ℕ, Option, Some, None, codes, OnOk, IfOk, IfSome, if◌then◌else◌};
+ghost use Rattle.std.specs.Prelude.{◌≡◌, ◌++◌, ◌∷◌, [], ◌<◌, List, Option, Some, None, codes, OnOk, IfOk, IfSome, if◌then◌else◌};
 ghost use Rattle.std.specs.List.{AllByRecursion};
 ghost use Rattle.h4_framing.specs.Packets.{Packet, Acl};
 ghost use Rattle.acl_fragments.specs.Pieces.{Piece};
@@ -8,8 +8,8 @@ ghost use Rattle.acl_fragments.specs.Answers.{Pdu};
 ghost use Rattle.acl_fragments.specs.Joiners.{HoldsOpen, plain_answer};
 ghost use Rattle.seen_channels.specs.Tellings.{Learnt};
 ghost use Rattle.seen_channels.specs.Tables.{Keeps};
-ghost use Rattle.h4_view.specs.Pdus.{pdu_limit, direction_after, turned, said_in, with_pdu, learnt};
-ghost use Rattle.h4_view.specs.Details.{drop_name, answer_text, joined_text, link_of, under, IsJoinerOf, IsSpare, IsLink, IsLinkOf, Knows, HeardPdus, goes_on};
+ghost use Rattle.h4_view.specs.Pdus.{pdu_limit, turned, with_pdu};
+ghost use Rattle.h4_view.specs.Details.{drop_name, joined_text, link_of, under, IsJoinerOf, IsSpare, IsLink, IsLinkOf, Knows, HeardPdus, goes_on};
 ghost use Rattle.h4_view.specs.Lanes.{LaneShown, LaneKept};
 
 use crate::line::{Text, push_decimal, push_hex, push_reason, push_text};

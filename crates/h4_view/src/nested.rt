@@ -7,7 +7,7 @@ ghost use Rattle.ertm_frames.specs.Answers as enhanced;
 ghost use Rattle.ertm_frames.specs.Reading.{answer_in};
 ghost use Rattle.seen_channels.specs.Tellings.{Learnt};
 ghost use Rattle.seen_channels.specs.Tables.{Keeps};
-ghost use Rattle.h4_view.specs.Nested.{numbered, refused, sdp_text, mux_name, mux_refusal, rfcomm_text, supervisory_name, frame_refusal, ertm_text, protocol_text, nested_text};
+ghost use Rattle.h4_view.specs.Nested.{numbered, sdp_text, mux_name, mux_refusal, rfcomm_text, supervisory_name, frame_refusal, ertm_text, protocol_text, nested_text};
 
 use crate::line::{Text, push_decimal, push_hex, push_reason, push_text};
 use crate::signals::push_signals;

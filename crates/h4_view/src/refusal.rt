@@ -20,6 +20,15 @@ pub enum ViewRefusal {
     BadTag,
     /// The payload of an entry of a capture is not one of its tag.
     BadRecord,
+    /// The identification of a btsnoop file is another.
+    BadMagic,
+    /// The version of a btsnoop file is not 1.
+    BadVersion,
+    /// The datalink of a btsnoop file is not 1002, packets as on the UART.
+    BadLink,
+    /// A record of a btsnoop file includes more than 65,540 octets, or more than its packet had. The
+    /// place is that of the record.
+    BadLength,
 }
 
 /// Why a view stopped before the end of a stream of whole packets.
@@ -72,6 +81,10 @@ impl ViewRefusal {
             ViewRefusal::TooLong => "TooLong",
             ViewRefusal::BadTag => "BadTag",
             ViewRefusal::BadRecord => "BadRecord",
+            ViewRefusal::BadMagic => "BadMagic",
+            ViewRefusal::BadVersion => "BadVersion",
+            ViewRefusal::BadLink => "BadLink",
+            ViewRefusal::BadLength => "BadLength",
         }
     }
 }

@@ -1,6 +1,6 @@
 //! What stands under a PDU of the signalling channel.
 
-ghost use Rattle.std.specs.Prelude.{◌≡◌, ◌++◌, length, OnOk, Ok};
+ghost use Rattle.std.specs.Prelude.{◌≡◌, ◌++◌, OnOk, Ok};
 ghost use Rattle.std.specs.List.{flat_map};
 ghost use Rattle.bt_base.specs.Octets.{le16};
 ghost use Rattle.l2cap_signal.specs.Commands.{code_of, command, content, payload_of};

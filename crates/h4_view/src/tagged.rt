@@ -1,6 +1,6 @@
 //! The view of a capture of two hosts.
 
-ghost use Rattle.std.specs.Prelude.{◌≡◌, ◌++◌, ◌∷◌, List, [], codes, decimal, OnOk, IfOk, IfErr, IfSome, IsErrOf};
+ghost use Rattle.std.specs.Prelude.{◌≡◌, ◌++◌, ◌∷◌, List, [], codes, decimal, OnOk, IfOk, IfSome, IsErrOf};
 ghost use Rattle.h4_framing.specs.Packets.{packet};
 ghost use Rattle.push_terms.specs.Words.{word_text, side_text};
 ghost use Rattle.push_terms.specs.Outcomes.{outcome_text};
@@ -12,8 +12,8 @@ ghost use Rattle.h4_view.specs.View.{Blames, IsAnswered};
 ghost use Rattle.h4_view.specs.TaggedTelling.{BehindOffset, EntryShown, VerdictOf, IsNew};
 ghost use Rattle.capture.specs.Entries.{Moved};
 
-use crate::both_links::{BothLinks, push_both_details};
-use crate::line::{Text, push_decimal, push_packet, push_text};
+use crate::both_links::{BothLinks, push_both_lines};
+use crate::line::{Text, push_decimal, push_text};
 use crate::raw::refuse;
 use crate::refusal::{ViewFault, ViewRefusal};
 use bt_base::{NoMemory, Sink, Source};
@@ -98,9 +98,7 @@ fn push_moved(
 {
     push_text(text, mark)?;
     push_text(text, " ")?;
-    push_packet(text, unit)?;
-    push_text(text, "\n")?;
-    push_both_details(alloc, text, links, direction, unit)?;
+    push_both_lines(alloc, text, links, direction, unit)?;
     Ok(())
 }
 

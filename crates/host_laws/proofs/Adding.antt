@@ -21,7 +21,7 @@ use Rattle.channel_model.specs.declared.event.CloseReason.{CloseReason}
 use Rattle.channel_model.specs.declared.event.CloseReason.TheVariants.{NoAgreement, Refused, OwnClosed}
 use Rattle.channel_model.specs.Value.{Request, Queued, Answer, Ask, Own, Unasked, Asking, Granted, Carrier, Plain, Retransmitting, Setup, no_setup, Stage, Requested, Connected, Leaving, Closing, Crossed, Held, Channels}
 use Rattle.channel_model.specs.Policies.{Policy}
-use Rattle.channel_model.specs.Changing.{has_own, held_at, is_peer, setup_of, stage_with, with_setup, to_setup, is_copy, is_copy_about, forgets, tells}
+use Rattle.channel_model.specs.Changing.{has_own, has_fcs_by, held_at, is_peer, setup_of, stage_with, with_setup, to_setup, is_copy, is_copy_about, forgets, tells}
 use Rattle.channel_model.specs.Asking.{next_identifier, new_request, first_options, asks, asks_options}
 use Rattle.channel_model.specs.Closing.{closes, closes_at, peer_closes_at, ends_at}
 use Rattle.channel_model.specs.Configuring.{Verdict, NoChannel, TooLate, Unreadable, Incomplete, Judged, verdict, accepted_setup, accepts_with, refused_setup, follows_answer, follows_verdict, opens_if, granted_setup, grants}
@@ -82,27 +82,27 @@ if_adds false v one other this that = that
 closes_adds : (v : Channels) → Replies v.queue → (held : Held) (reason : CloseReason) (stage : Stage) → find (has_own held.own) v.held ≡ Some held → Adds v (closes_at stage reason held v)
 closes_adds v all held reason (Requested request) found = Stays refl (none_about held.own v.queue all)
 closes_adds v all held reason (Connected peer setup) found =
-    let after : Held = record held { stage = Closing peer (new_request v) } in
+    let after : Held = record held { stage = Closing peer (new_request v) (has_fcs_by setup) } in
     Demands (errands.Disconnection held.own) refl
     (ap (λ (queue : List Queued). filter (λ waiting. not (is_copy (errands.Disconnection held.own) waiting)) queue ++ Ask (errands.Disconnection held.own) ∷ []) (no_copies (errands.Configuration held.own) v.queue all)
     ∙ ap (λ (queue : List Queued). queue ++ Ask (errands.Disconnection held.own) ∷ []) (no_copies (errands.Disconnection held.own) v.queue all))
     (ap (λ (h : Option Held). is_some (on_held (λ x. disconnection_at x.stage x) h)) (found-placed after held v.held found))
 closes_adds v all held reason (Leaving peer setup request) found = Stays refl (no_copies (errands.Configuration held.own) v.queue all)
-closes_adds v all held reason (Closing peer request) found = same_adds v
+closes_adds v all held reason (Closing peer request checked) found = same_adds v
 closes_adds v all held reason (Crossed peer request) found = same_adds v
 
 peer_adds : (v : Channels) → Replies v.queue → (held : Held) (stage : Stage) → Adds v (peer_closes_at stage held v)
 peer_adds v all held (Requested request) = same_adds v
 peer_adds v all held (Connected peer setup) = Stays refl (none_about held.own v.queue all)
 peer_adds v all held (Leaving peer setup request) = Stays refl (no_copies (errands.Configuration held.own) v.queue all)
-peer_adds v all held (Closing peer request) = Stays refl refl
+peer_adds v all held (Closing peer request checked) = Stays refl refl
 peer_adds v all held (Crossed peer request) = same_adds v
 
 ends_adds : (v : Channels) → Replies v.queue → (held : Held) (reason : CloseReason) (stage : Stage) → Adds v (ends_at stage reason held v)
 ends_adds v all held reason (Requested request) = same_adds v
 ends_adds v all held reason (Connected peer setup) = same_adds v
 ends_adds v all held reason (Leaving peer setup request) = Stays refl (none_about held.own v.queue all)
-ends_adds v all held reason (Closing peer request) = Stays refl (none_about held.own v.queue all)
+ends_adds v all held reason (Closing peer request checked) = Stays refl (none_about held.own v.queue all)
 ends_adds v all held reason (Crossed peer request) = Stays refl (none_about held.own v.queue all)
 
 -- ---- options
@@ -111,7 +111,7 @@ asking_some : (stage : Stage) (before after : Setup) (request : Request) (option
 asking_some (Requested request) before after asked options is = cc
 asking_some (Connected peer setup) before after asked options is = refl
 asking_some (Leaving peer setup request) before after asked options is = refl
-asking_some (Closing peer request) before after asked options is = cc
+asking_some (Closing peer request checked) before after asked options is = cc
 asking_some (Crossed peer request) before after asked options is = cc
 
 options_add : (v : Channels) → Replies v.queue → (held was : Held) (before after : Setup) (options : Options) → find (has_own held.own) v.held ≡ Some was → setup_of held.stage ≡ Some before → Adds v (asks_options held after options v)
@@ -197,7 +197,7 @@ grant_at_adds v all policy held identifier endpoint result (Requested request) f
     if_adds (eqb request.identifier identifier) v (hears_connected policy endpoint result held v) v (granted_adds v all policy held endpoint result found) (same_adds v)
 grant_at_adds v all policy held identifier endpoint result (Connected peer setup) found = same_adds v
 grant_at_adds v all policy held identifier endpoint result (Leaving peer setup request) found = same_adds v
-grant_at_adds v all policy held identifier endpoint result (Closing peer request) found = same_adds v
+grant_at_adds v all policy held identifier endpoint result (Closing peer request checked) found = same_adds v
 grant_at_adds v all policy held identifier endpoint result (Crossed peer request) found = same_adds v
 
 pub grant-adds : (v : Channels) → Replies v.queue → (policy : Policy) (own : ℕ) (held : Option Held) (identifier endpoint result : ℕ) → find (has_own own) v.held ≡ held → Adds v (hears_grant held policy identifier endpoint result v)
@@ -326,7 +326,7 @@ left_adds v all held (Connected peer setup) found =
     Demands (errands.Disconnection held.own) refl (ap (λ (queue : List Queued). queue ++ Ask (errands.Disconnection held.own) ∷ []) (no_copies (errands.Disconnection held.own) v.queue all))
     (ap (λ (h : Option Held). is_some (on_held (λ x. disconnection_at x.stage x) h)) (found-placed after held v.held found))
 left_adds v all held (Leaving peer setup request) found = same_adds v
-left_adds v all held (Closing peer request) found = same_adds v
+left_adds v all held (Closing peer request checked) found = same_adds v
 left_adds v all held (Crossed peer request) found = same_adds v
 
 left_held_adds : (v : Channels) → Replies v.queue → (own : ℕ) (held : Option Held) → find (has_own own) v.held ≡ held → Adds v (disconnected_held held v)

@@ -9,7 +9,7 @@ use Rattle.channel_model.specs.declared.errand.Errand.TheVariants as errands
 use Rattle.channel_model.specs.declared.event.CloseReason.{CloseReason}
 use Rattle.channel_model.specs.declared.event.CloseReason.TheVariants.{RetryLimit}
 use Rattle.channel_model.specs.Value.{Request, Queued, Answer, Ask, Own, Unasked, Asking, Granted, Carrier, Plain, Retransmitting, Setup, Stage, Requested, Connected, Leaving, Closing, Crossed, Held, Channels}
-use Rattle.channel_model.specs.Changing.{has_own, held_at, in_place_of, to_setup, with_setup, setup_of, same_errand, is_copy, is_due, is_about, is_copy_about, queued}
+use Rattle.channel_model.specs.Changing.{has_own, has_fcs_by, held_at, in_place_of, to_setup, with_setup, setup_of, same_errand, is_copy, is_due, is_about, is_copy_about, queued}
 use Rattle.channel_model.specs.Asking.{new_request, StillDue, OnceMore, Spent}
 use Rattle.channel_model.specs.Closing.{closes, closes_at, ends, ends_at}
 use Rattle.channel_model.specs.Carrying.{reason_of, settles_machine}
@@ -146,7 +146,7 @@ module _ (tries : ℕ) (u : Channels) (held : Held) (found : held_at held.own u 
   ends_half (Requested request) some = half-still held.own u u refl refl same_kept
   ends_half (Connected peer setup) some = half-still held.own u u refl refl same_kept
   ends_half (Leaving peer setup request) some = let w = ends_at (Leaving peer setup request) RetryLimit held u in half-still held.own u w refl (clear_gone held.own u.queue clear) (gone_kept w refl refl)
-  ends_half (Closing peer request) some = let w = ends_at (Closing peer request) RetryLimit held u in half-still held.own u w refl (clear_gone held.own u.queue clear) (gone_kept w refl refl)
+  ends_half (Closing peer request checked) some = let w = ends_at (Closing peer request checked) RetryLimit held u in half-still held.own u w refl (clear_gone held.own u.queue clear) (gone_kept w refl refl)
   ends_half (Crossed peer request) some = let w = ends_at (Crossed peer request) RetryLimit held u in half-still held.own u w refl (clear_gone held.own u.queue clear) (gone_kept w refl refl)
 
   loses_half : (stage : Stage) → held.stage ≡ stage → is_some (disconnection_at stage held) ≡ true → HalfTo held.own u (loses_end held u)
@@ -156,7 +156,7 @@ module _ (tries : ℕ) (u : Channels) (held : Held) (found : held_at held.own u 
       let w = loses_end held u in
       half-still held.own u w (ap (λ s. (ends_at s RetryLimit held u).identifier) is) (ap (λ s. (ends_at s RetryLimit held u).queue) is ∙ clear_gone held.own u.queue clear)
       (gone_kept w (ap (λ s. (ends_at s RetryLimit held u).held) is) (ap (λ s. (ends_at s RetryLimit held u).features) is))
-  loses_half (Closing peer request) is some =
+  loses_half (Closing peer request checked) is some =
       let w = loses_end held u in
       half-still held.own u w (ap (λ s. (ends_at s RetryLimit held u).identifier) is) (ap (λ s. (ends_at s RetryLimit held u).queue) is ∙ clear_gone held.own u.queue clear)
       (gone_kept w (ap (λ s. (ends_at s RetryLimit held u).held) is) (ap (λ s. (ends_at s RetryLimit held u).features) is))
@@ -180,8 +180,8 @@ module _ (tries : ℕ) (u : Channels) (held : Held) (found : held_at held.own u 
   end-at (Leaving peer setup request) is =
       let some = ap (λ s. is_some (disconnection_at s held)) is in
       end_by request (ends RetryLimit held) some (subst (λ s. HalfTo held.own u (ends_at s RetryLimit held u)) (sym is) (ends_half (Leaving peer setup request) refl))
-  end-at (Closing peer request) is =
-      let some = ap (λ s. is_some (disconnection_at s held)) is in end_by request (loses_end held) some (loses_half (Closing peer request) is refl)
+  end-at (Closing peer request checked) is =
+      let some = ap (λ s. is_some (disconnection_at s held)) is in end_by request (loses_end held) some (loses_half (Closing peer request checked) is refl)
   end-at (Crossed peer request) is =
       let some = ap (λ s. is_some (disconnection_at s held)) is in end_by request (loses_end held) some (loses_half (Crossed peer request) is refl)
 
@@ -203,7 +203,7 @@ module _ (tries : ℕ) (u : Channels) (held : Held) (found : held_at held.own u 
   close_mid reason (Connected peer setup) some =
       let errand = errands.Disconnection held.own in
       let w = closes_at (Connected peer setup) reason held u in
-      let after : Held = record held { stage = Closing peer (new_request u) } in
+      let after : Held = record held { stage = Closing peer (new_request u) (has_fcs_by setup) } in
       let there = found-placed after held u.held found in
       let kept_queue = clear_copies held.own (errands.Configuration held.own) u.queue (configuration_apart held.own) clear in
       let asked = filter (λ waiting. not (is_copy errand waiting)) (filter (λ waiting. not (is_copy (errands.Configuration held.own) waiting)) u.queue) in
@@ -223,9 +223,9 @@ module _ (tries : ℕ) (u : Channels) (held : Held) (found : held_at held.own u 
       or_on false = refl
   close_mid reason (Leaving peer setup request) some =
       let w = closes_at (Leaving peer setup request) reason held u in
-      let after : Held = record held { stage = Closing peer request } in
+      let after : Held = record held { stage = Closing peer request (has_fcs_by setup) } in
       Rests w refl (clear_copies held.own (errands.Configuration held.own) u.queue (configuration_apart held.own) clear) (placed_kept w after refl refl refl)
-  close_mid reason (Closing peer request) some = cc
+  close_mid reason (Closing peer request checked) some = cc
   close_mid reason (Crossed peer request) some = cc
 
   carrier_mid : (setup : Setup) (carrier : Option Carrier) → is_some (setup_of held.stage) ≡ true → Mid (times_carrier carrier held setup u)
@@ -257,7 +257,7 @@ module _ (tries : ℕ) (u : Channels) (held : Held) (found : held_at held.own u 
       by (Requested request) nothing = refl
       by (Connected peer setup) nothing = refl
       by (Leaving peer setup request) nothing = cc
-      by (Closing peer request) nothing = cc
+      by (Closing peer request checked) nothing = cc
       by (Crossed peer request) nothing = cc
 
   asked_at : (own : Own) (peer : ℕ) → own_waits own ≡ true → is_some (configuration_by own peer) ≡ true
@@ -281,5 +281,5 @@ module _ (tries : ℕ) (u : Channels) (held : Held) (found : held_at held.own u 
   stage-mid (Leaving peer setup request) is steady =
       let none = steady peer setup request refl in
       setup_mid setup setup.own refl (ap (λ s. is_some (setup_of s)) is) (λ waits. let never : true ≡ false = sym waits ∙ none in absurd cc) (λ waits w same. let never : true ≡ false = sym waits ∙ none in absurd cc)
-  stage-mid (Closing peer request) is steady = stays_mid
+  stage-mid (Closing peer request checked) is steady = stays_mid
   stage-mid (Crossed peer request) is steady = stays_mid

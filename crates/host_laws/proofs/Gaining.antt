@@ -50,18 +50,18 @@ use Rattle.host_laws.proofs.Gains.{state, gain, states, gain-both, gain-still, g
 
 -- ---- what a server is told makes all that it gains
 
-abbrev served_by : Tiding → List push.Occurrence
+abbrev pub served_by : Tiding → List push.Occurrence
 served_by (Brings own psm sdu) = push.Came psm sdu ∷ []
 served_by (Tells event) = event_served event
 served_by (Turns Up) = []
 served_by (Turns (Down reason)) = push.LinkDown ∷ []
 
-abbrev all_served : List Tiding → List push.Occurrence
+abbrev pub all_served : List Tiding → List push.Occurrence
 all_served tidings = flat_map served_by tidings
 
-record Same (xs ys : List push.Occurrence) : Type 0 where
-  gain_is : (most : ℕ) (packets : List (List ℕ)) → gain most packets xs ≡ gain most packets ys
-  states_are : (packets : List (List ℕ)) → states packets xs ≡ states packets ys
+pub record Same (xs ys : List push.Occurrence) : Type 0 where
+  pub gain_is : (most : ℕ) (packets : List (List ℕ)) → gain most packets xs ≡ gain most packets ys
+  pub states_are : (packets : List (List ℕ)) → states packets xs ≡ states packets ys
 
 same_all : (xs ys : List push.Occurrence) → xs ≡ ys → Same xs ys
 same_all xs ys same = record { gain_is = λ most packets. ap (gain most packets) same; states_are = λ packets. ap (states packets) same }
@@ -106,7 +106,7 @@ feed_same serving (Happens event v) = same_all (event_served event) (event_serve
 feed_same serving (Sent v) = same_all [] [] refl
 feed_same serving (Steps v) = lent_same (lent_sdu (lends serving.server)) v serving
 
-feeds_same : (settings : Settings) (content : Option Contents) (serving : ServerProfile) (feeds : List Feed) → Same (served_from settings content serving feeds) (all_served (tidings_of feeds))
+pub feeds_same : (settings : Settings) (content : Option Contents) (serving : ServerProfile) (feeds : List Feed) → Same (served_from settings content serving feeds) (all_served (tidings_of feeds))
 feeds_same settings content serving [] = same_all [] [] refl
 feeds_same settings content serving (feed ∷ feeds) =
     let next = fed (server_profile settings content) serving feed in
@@ -195,7 +195,7 @@ brings_fit channel entries own psm peer psm_is all of = by (read_at own entries)
         off false now never = refl
         off true now never = absurd (never now)
 
-abbrev NoTurn : Tiding → Type 0
+abbrev pub NoTurn : Tiding → Type 0
 NoTurn (Brings own psm sdu) = Unit {0}
 NoTurn (Tells event) = Unit {0}
 NoTurn (Turns event) = ⊥
@@ -208,7 +208,7 @@ with_no_turn : (up : Handed) (list : List ChannelEvent) (rest : List Tiding) →
 with_no_turn Nothing list rest all = events_no_turn list rest all
 with_no_turn (Received own psm sdu) list rest all = (tt, events_no_turn list rest all)
 
-no_turns : (policy : Policy) (v : Channels) (list : List Occurrence) → AllByRecursion NoTurn (tidings_from policy v list)
+pub no_turns : (policy : Policy) (v : Channels) (list : List Occurrence) → AllByRecursion NoTurn (tidings_from policy v list)
 no_turns policy v [] = tt
 no_turns policy v (one ∷ list) = with_no_turn (up_with one v) (told_in one v) (tidings_from policy (value_after policy one v) list) (no_turns policy (value_after policy one v) list)
 
@@ -237,6 +237,22 @@ all_end own all before (Tells event ∷ rest) is last =
     )
 all_end own all before (Turns event ∷ rest) is last = all_end own all (before ++ Turns event ∷ []) rest (is ∙ sym (append_assoc before (Turns event ∷ []) rest)) last
 
+-- an event brings none where there was none
+pub event_still : (most : ℕ) (event : ChannelEvent) (rest : List push.Occurrence) → gain most [] (event_served event ++ rest) ≡ gain most [] rest
+event_still most (events.Opened own psm) rest = refl
+event_still most (events.Closed own psm reason) rest = by (is_told reason)
+  where
+    here : (b : Bool) → (let none : List (List ℕ) = [] in cond b none none ≡ none)
+    here true = refl
+    here false = refl
+
+    by : (told : Bool) → gain most [] (cond told (push.Closed psm ∷ []) [] ++ rest) ≡ gain most [] rest
+    by true = gain-still most [] (push.Closed psm) rest (here (eqb psm object_psm))
+    by false = refl
+event_still most (events.Features features) rest = refl
+event_still most events.FeaturesLost rest = refl
+event_still most (events.DisconnectLost own) rest = refl
+
 -- ---- one link
 
 module _ (policy : Policy) (party : Party) (states_frame : StatesFrame policy party) where
@@ -254,7 +270,7 @@ module _ (policy : Policy) (party : Party) (states_frame : StatesFrame policy pa
       by (inl same) = same
       by (inr more) = let never : true ≡ false = sym more.0 ∙ one.unbroken in absurd cc
 
-  link_gain : (list : List Occurrence) (one : OneObjectChannel policy list) → (run_of policy list).value.events ≡ [] → gain party.packet [] (all_served (told_on policy list)) ≡ spelled_on list
+  pub link_gain : (list : List Occurrence) (one : OneObjectChannel policy list) → (run_of policy list).value.events ≡ [] → gain party.packet [] (all_served (told_on policy list)) ≡ spelled_on list
   link_gain list one none =
       let told = told_on policy list in
       told_gain party.packet one.channel told [] (all_fit one.channel (reading (run_of policy list).said).entries told one.psm_is one.alone (channels-are_named policy list) one.closings (no_turns policy no_channels list))
@@ -267,7 +283,7 @@ module _ (policy : Policy) (party : Party) (states_frame : StatesFrame policy pa
   lost_none (Requested request) held = refl
   lost_none (Connected peer setup) held = refl
   lost_none (Leaving peer setup request) held = refl
-  lost_none (Closing peer request) held = refl
+  lost_none (Closing peer request checked) held = refl
   lost_none (Crossed peer request) held = refl
 
   all_lost : (hs : List Held) → all_served (map Tells (flat_map (λ (held : Held). lost_at held.stage held) hs)) ≡ []
@@ -303,7 +319,7 @@ module _ (policy : Policy) (party : Party) (states_frame : StatesFrame policy pa
   bare_states (Tells event ∷ rest) bare still = fold-append state [] (event_served event) (all_served rest) ∙ (ap (λ p. states p (all_served rest)) (event_state event) ∙ bare_states rest bare.1 still.1)
   bare_states (Turns event ∷ rest) bare still = absurd still.0
 
-  ends_over : (event : LinkEvent) (list : List Occurrence) (rest : List push.Occurrence) → (run_of policy list).value.events ≡ [] → StartsBare policy event list
+  pub ends_over : (event : LinkEvent) (list : List Occurrence) (rest : List push.Occurrence) → (run_of policy list).value.events ≡ [] → StartsBare policy event list
       → gain party.packet (states [] (all_served (told_on policy list))) (all_served (end_tidings event (values_after policy no_channels list)) ++ rest) ≡ gain party.packet [] rest
   ends_over Up list rest none bare = ap (λ p. gain party.packet p rest) (bare_states (told_on policy list) bare (no_turns policy no_channels list))
   ends_over (Down reason) list rest none bare =

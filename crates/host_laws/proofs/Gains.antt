@@ -34,7 +34,7 @@ state packets LinkDown = []
 state packets Asked = packets
 state packets (Answering answers) = packets
 
-state_is : (past : List Occurrence) (one : Occurrence) → packets_over L2cap (past ++ one ∷ []) ≡ state (packets_over L2cap past) one
+pub state_is : (past : List Occurrence) (one : Occurrence) → packets_over L2cap (past ++ one ∷ []) ≡ state (packets_over L2cap past) one
 state_is past (Came psm sdu) = read_more (came_on object_psm) object_psm past (Came psm sdu) refl ∙ by (eqb psm object_psm)
   where
     by : (here : Bool) → packets_over L2cap past ++ cons_option (cond here (Some sdu) None) [] ≡ cond here (packets_over L2cap past ++ sdu ∷ []) (packets_over L2cap past)

@@ -39,7 +39,7 @@ asked-append A asks p (x ∷ xs) ys =
     ap (λ (rest : List Occurrence). asked_with A asks p x ++ rest) (asked-append A asks (fed A p x) xs ys)
     ∙ sym (append_assoc (asked_with A asks p x) (asked_from A asks (fed A p x) xs) (asked_from A asks (all_fed A p (x ∷ xs)) ys))
 
-calm-both : (policy : Policy) (v : Channels) (xs ys : List Occurrence) → IsCalm policy v xs → IsCalm policy (values_after policy v xs) ys → IsCalm policy v (xs ++ ys)
+pub calm-both : (policy : Policy) (v : Channels) (xs ys : List Occurrence) → IsCalm policy v xs → IsCalm policy (values_after policy v xs) ys → IsCalm policy v (xs ++ ys)
 calm-both policy v [] ys one two = two
 calm-both policy v (x ∷ xs) ys one two = (one.0, calm-both policy (value_after policy x v) xs ys one.1 two)
 
@@ -249,3 +249,16 @@ module _ {P : Type 0} (A : Profile P) (asks : Asks A) (C : Type 0) where
   pub act_grows : (act : Act Circumstance) (old new : Host P) → StaysOnLink act → (C → IsCalmAct A act old) → Does (upper A) act old new → Grows A asks C (from_act act) old new
   act_grows (Hears circumstances news) old new stays calm does = subst (λ (host : Host P). Grows A asks C (from_news news) old host) (sym does) (hears_grow circumstances news old stays calm)
   act_grows (Says pdu) old new stays calm does = subst (Says_it old) does (says_grow old (next_given old.channels) old.may_say refl) calm
+
+-- it is so of a host that need not be calm
+abbrev pub without_calm : {P : Type 0} (A : Profile P) (asks : Asks A) (acted : List Occurrence) (old new : Host P) → Grows A asks (Unit {0}) acted old new → Grows A asks ⊥ acted old new
+without_calm A asks acted old new grows = record {
+  list = grows.list;
+  feeds = grows.feeds;
+  channels_are = grows.channels_are;
+  profile_is = grows.profile_is;
+  tidings_are = grows.tidings_are;
+  asked_is = grows.asked_is;
+  acted_is = grows.acted_is;
+  calm = λ never. absurd never;
+}

@@ -13,6 +13,8 @@ pub mod Sending
 pub mod Moving
 pub mod Calming
 pub mod Talking
+pub mod OverLinks
+pub mod Spoken
 pub mod Firing
 pub mod Clearing
 pub mod Steadying
@@ -21,6 +23,9 @@ pub mod OneWay
 pub mod OneCarrier
 pub mod Gains
 pub mod Gaining
+pub mod GainingOver
+pub mod Carriers
 pub mod Telling
 pub mod Silence
 pub mod Profiles
+pub mod Arming

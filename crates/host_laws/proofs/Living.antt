@@ -23,27 +23,27 @@ use Rattle.host_laws.proofs.Draining.{happenings, each_fed, each_told, each_aske
 use Rattle.host_laws.proofs.Growing.{tidings-append, asked-append, readies, drives_grow, act_grows}
 use Rattle.host_laws.proofs.Links.{value_run, drives_told, act_told, linked_new}
 
-tidings-both : (xs ys : List Feed) → tidings_of (xs ++ ys) ≡ tidings_of xs ++ tidings_of ys
+pub tidings-both : (xs ys : List Feed) → tidings_of (xs ++ ys) ≡ tidings_of xs ++ tidings_of ys
 tidings-both xs ys = flat_map-append tidings_in xs ys
 
-more_marks : (xs ys : List Occurrence) → marks_on (xs ++ ys) ≡ marks_on xs ++ marks_on ys
+pub more_marks : (xs ys : List Occurrence) → marks_on (xs ++ ys) ≡ marks_on xs ++ marks_on ys
 more_marks xs ys = ap (map Occurred) (filter_map-append outer xs ys) ∙ map-append Occurred (filter_map outer xs) (filter_map outer ys)
 
 abbrev asked_in : List Span → List Occurrence
 asked_in spans = flat_map (λ (span : Span). filter_map asked span.list) spans
 
-spans_more : (policy : Policy) (spans : List Span) (span : Span) → AllByRecursion (λ (one : Span). (run_of policy one.list).value.events ≡ []) spans → (run_of policy span.list).value.events ≡ []
+pub spans_more : (policy : Policy) (spans : List Span) (span : Span) → AllByRecursion (λ (one : Span). (run_of policy one.list).value.events ≡ []) spans → (run_of policy span.list).value.events ≡ []
     → AllByRecursion (λ (one : Span). (run_of policy one.list).value.events ≡ []) (spans ++ span ∷ [])
 spans_more policy [] span all is = (is, tt)
 spans_more policy (one ∷ spans) span all is = (all.0, spans_more policy spans span all.1 is)
 
 module _ {P : Type 0} (A : Profile P) (asks : Asks A) where
-  first_lives : Lives A asks [] (first_host A)
+  unfoldable pub first_lives : Lives A asks [] (first_host A)
   first_lives = record { spans = []; now = []; feeds = []; channels_run = refl; all_told = refl; spans_told = tt; profile_is = refl; tidings_are = refl; asked_are = refl; marks_are = refl }
 
   -- ---- on its link
 
-  pub goes-on : (marks : List Mark) (acted : List Occurrence) (old new : Host P) → Lives A asks marks old → Grows A asks ⊥ acted old new → new.channels.events ≡ [] → Lives A asks (marks ++ map Occurred acted) new
+  unfoldable pub goes-on : (marks : List Mark) (acted : List Occurrence) (old new : Host P) → Lives A asks marks old → Grows A asks ⊥ acted old new → new.channels.events ≡ [] → Lives A asks (marks ++ map Occurred acted) new
   goes-on marks acted old new lives grows told =
       let value : old.channels ≡ values_after A.policy no_channels lives.now = lives.channels_run ∙ value_run A.policy lives.now new_link in
       record {
@@ -77,27 +77,27 @@ module _ {P : Type 0} (A : Profile P) (asks : Asks A) where
   at_end Up v circumstances = Learns circumstances (Linked Up) ∷ []
   at_end (Down reason) v circumstances = happenings (link_down v) (link_down v).events ++ Learns circumstances (Linked (Down reason)) ∷ []
 
-  end_told : (event : LinkEvent) (v : Channels) (circumstances : List Circumstance) → tidings_of (at_end event v circumstances) ≡ end_tidings event v
+  pub end_told : (event : LinkEvent) (v : Channels) (circumstances : List Circumstance) → tidings_of (at_end event v circumstances) ≡ end_tidings event v
   end_told Up v circumstances = refl
   end_told (Down reason) v circumstances =
       let news : List Feed = Learns circumstances (Linked (Down reason)) ∷ [] in
       tidings-both (happenings (link_down v) (link_down v).events) news ∙ ap (λ (told : List Tiding). told ++ Turns (Down reason) ∷ []) (each_told (link_down v) (link_down v).events)
 
-  none_asked : (event : LinkEvent) (v : Channels) (circumstances : List Circumstance) (p : P) → asked_from A asks p (at_end event v circumstances) ≡ []
+  pub none_asked : (event : LinkEvent) (v : Channels) (circumstances : List Circumstance) (p : P) → asked_from A asks p (at_end event v circumstances) ≡ []
   none_asked Up v circumstances p = refl
   none_asked (Down reason) v circumstances p =
       let w = link_down v in
       let news : List Feed = Learns circumstances (Linked (Down reason)) ∷ [] in
       asked-append A asks p (happenings w w.events) news ∙ ap (λ (l : List Occurrence). l ++ []) (each_asked A asks w w.events p)
 
-  end_fed : (event : LinkEvent) (circumstances : List Circumstance) (host : Host P) → (hears_news A circumstances (Linked event) host).profile ≡ all_fed A host.profile (at_end event host.channels circumstances)
+  pub end_fed : (event : LinkEvent) (circumstances : List Circumstance) (host : Host P) → (hears_news A circumstances (Linked event) host).profile ≡ all_fed A host.profile (at_end event host.channels circumstances)
   end_fed Up circumstances host = refl
   end_fed (Down reason) circumstances host =
       let v = link_down host.channels in
       let news : List Feed = Learns circumstances (Linked (Down reason)) ∷ [] in
       ap (A.told circumstances (Linked (Down reason))) (each_fed A v v.events host.profile) ∙ sym (fold-append (fed A) host.profile (happenings v v.events) news)
 
-  pub turns-on : (marks : List Mark) (event : LinkEvent) (circumstances : List Circumstance) (host : Host P) → Lives A asks marks host → Lives A asks (marks ++ Turned event ∷ []) (hears_news A circumstances (Linked event) host)
+  unfoldable pub turns-on : (marks : List Mark) (event : LinkEvent) (circumstances : List Circumstance) (host : Host P) → Lives A asks marks host → Lives A asks (marks ++ Turned event ∷ []) (hears_news A circumstances (Linked event) host)
   turns-on marks event circumstances host lives =
       let fresh = linked_new A circumstances event host lives.all_told in
       let value : host.channels ≡ values_after A.policy no_channels lives.now = lives.channels_run ∙ value_run A.policy lives.now new_link in

@@ -58,7 +58,7 @@ moved-more list one =
 
 -- ---- what is so at each moment
 
-abbrev pending : Channels → List Saying
+abbrev pub pending : Channels → List Saying
 pending v = waiting_in v.queue v ++ whole_said (held_gives (find gives v.held))
 
 record Seen (seen : List Saying) (said : List Saying) (v : Channels) : Type 0 where
@@ -132,7 +132,7 @@ forgone_none : (stage : Stage) (own : ℕ) → spoken_of (forgone_at stage own) 
 forgone_none (Requested request) own = refl
 forgone_none (Connected peer setup) own = refl
 forgone_none (Leaving peer setup request) own = refl
-forgone_none (Closing peer request) own = refl
+forgone_none (Closing peer request checked) own = refl
 forgone_none (Crossed peer request) own = refl
 
 pub given-up_none : (before after : Option Held) → spoken_of (forgone_between before after) ≡ []
@@ -197,7 +197,7 @@ none_signal (Leaving peer setup request) command is = by setup.carrier is
         on : (frame : Option PlainFrame) → option_map (Framed peer) frame ≡ Some (Signal command) → ⊥
         on None now = cc
         on (Some frame) now = cc
-none_signal (Closing peer request) command is = cc
+none_signal (Closing peer request checked) command is = cc
 none_signal (Crossed peer request) command is = cc
 
 held_signal : (found : Option Held) (command : Command) → held_gives found ≡ Some (Signal command) → ⊥
@@ -441,7 +441,14 @@ all_more policy before (one ∷ list) so calm =
     (subst (λ (r : Run). Seen (moved before ++ moved (one ∷ [])) r.said r.value) (sym same) now))
     (subst (λ (r : Run). IsCalm policy r.value list) (sym same) calm.1))
 
-pub own_talk_moves : OwnTalkMoves
-own_talk_moves policy list calm quiet =
+all_seen : (policy : Policy) (list : List Occurrence) → IsCalm policy no_channels list → Seen (moved list) (run_of policy list).said (run_of policy list).value
+all_seen policy list calm =
     let first : Seen [] [] no_channels = record { told = refl; due = tt; plainly = NoneWaits (λ own. refl) } in
-    all_moved (moved list) (run_of policy list).said (run_of policy list).value (all_more policy [] list first calm) quiet
+    all_more policy [] list first calm
+
+-- behind what moved stands what waits
+pub talk-waits : (policy : Policy) (list : List Occurrence) → IsCalm policy no_channels list → spoken_of (run_of policy list).said ≡ moved list ++ pending (run_of policy list).value
+talk-waits policy list calm = (all_seen policy list calm).told
+
+pub own_talk_moves : OwnTalkMoves
+own_talk_moves policy list calm quiet = all_moved (moved list) (run_of policy list).said (run_of policy list).value (all_seen policy list calm) quiet

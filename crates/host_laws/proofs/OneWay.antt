@@ -32,7 +32,7 @@ out_other : (list : List (List ℕ)) → spoken_one_way Out (map (spoken_as Into
 out_other [] = refl
 out_other (x ∷ list) = out_other list
 
-into_other : (list : List (List ℕ)) → spoken_one_way Into (map (spoken_as Out) list) ≡ []
+pub into_other : (list : List (List ℕ)) → spoken_one_way Into (map (spoken_as Out) list) ≡ []
 into_other [] = refl
 into_other (x ∷ list) = into_other list
 

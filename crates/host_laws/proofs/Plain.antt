@@ -65,27 +65,27 @@ stage_plain wish before None held closed goes is = refl
 stage_plain wish (Requested request) (Some (Requested again)) held closed goes is = refl
 stage_plain wish (Requested request) (Some (Connected peer setup)) held closed goes is = ap plain_carrier goes.0
 stage_plain wish (Requested request) (Some (Leaving peer setup other)) held closed goes is = absurd goes
-stage_plain wish (Requested request) (Some (Closing peer other)) held closed goes is = refl
+stage_plain wish (Requested request) (Some (Closing peer other checked)) held closed goes is = refl
 stage_plain wish (Requested request) (Some (Crossed peer other)) held closed goes is = refl
 stage_plain wish (Connected peer setup) (Some (Requested request)) held closed goes is = refl
 stage_plain wish (Connected peer setup) (Some (Connected at after)) held closed goes is = carrier_plain wish (is_open setup) setup.carrier after.carrier goes.1.carrier_goes is
 stage_plain wish (Connected peer setup) (Some (Leaving at after request)) held closed goes is = ap (λ (s : Setup). plain_carrier s.carrier) goes.1 ∙ is
-stage_plain wish (Connected peer setup) (Some (Closing at request)) held closed goes is = refl
+stage_plain wish (Connected peer setup) (Some (Closing at request checked)) held closed goes is = refl
 stage_plain wish (Connected peer setup) (Some (Crossed at request)) held closed goes is = refl
 stage_plain wish (Leaving peer setup request) (Some (Requested other)) held closed goes is = refl
 stage_plain wish (Leaving peer setup request) (Some (Connected at after)) held closed goes is = absurd goes
 stage_plain wish (Leaving peer setup request) (Some (Leaving at after other)) held closed goes is = carrier_plain wish (is_open setup) setup.carrier after.carrier goes.1.carrier_goes is
-stage_plain wish (Leaving peer setup request) (Some (Closing at other)) held closed goes is = refl
+stage_plain wish (Leaving peer setup request) (Some (Closing at other checked)) held closed goes is = refl
 stage_plain wish (Leaving peer setup request) (Some (Crossed at other)) held closed goes is = refl
-stage_plain wish (Closing peer request) (Some (Requested other)) held closed goes is = refl
-stage_plain wish (Closing peer request) (Some (Connected at after)) held closed goes is = absurd goes
-stage_plain wish (Closing peer request) (Some (Leaving at after other)) held closed goes is = absurd goes
-stage_plain wish (Closing peer request) (Some (Closing at other)) held closed goes is = refl
-stage_plain wish (Closing peer request) (Some (Crossed at other)) held closed goes is = refl
+stage_plain wish (Closing peer request checked) (Some (Requested other)) held closed goes is = refl
+stage_plain wish (Closing peer request checked) (Some (Connected at after)) held closed goes is = absurd goes
+stage_plain wish (Closing peer request checked) (Some (Leaving at after other)) held closed goes is = absurd goes
+stage_plain wish (Closing peer request checked) (Some (Closing at other still)) held closed goes is = refl
+stage_plain wish (Closing peer request checked) (Some (Crossed at other)) held closed goes is = refl
 stage_plain wish (Crossed peer request) (Some (Requested other)) held closed goes is = refl
 stage_plain wish (Crossed peer request) (Some (Connected at after)) held closed goes is = absurd goes
 stage_plain wish (Crossed peer request) (Some (Leaving at after other)) held closed goes is = absurd goes
-stage_plain wish (Crossed peer request) (Some (Closing at other)) held closed goes is = refl
+stage_plain wish (Crossed peer request) (Some (Closing at other checked)) held closed goes is = refl
 stage_plain wish (Crossed peer request) (Some (Crossed at other)) held closed goes is = refl
 
 abbrev pub GoesPlain : Channels → Channels → Type 0
@@ -102,7 +102,7 @@ first_plain : (psm own : ℕ) (stage : Stage) → IsFirst stage → plain_at (le
 first_plain psm own (Requested request) is = refl
 first_plain psm own (Connected peer setup) is = ap (λ (s : Setup). plain_carrier s.carrier) is
 first_plain psm own (Leaving peer setup request) is = absurd is
-first_plain psm own (Closing peer request) is = absurd is
+first_plain psm own (Closing peer request checked) is = absurd is
 first_plain psm own (Crossed peer request) is = absurd is
 
 either_plain : (found : Option Held) (new : Held) (here : Bool) → plain_at found ≡ false → plain_at (Some new) ≡ false → plain_at (option_or found (cond here (Some new) None)) ≡ false
@@ -145,7 +145,7 @@ pub stage-whole : (stage : Stage) → plain_setup (setup_of stage) ≡ false →
 stage-whole (Requested request) is = refl
 stage-whole (Connected peer setup) is = none_whole setup.carrier peer is
 stage-whole (Leaving peer setup request) is = none_whole setup.carrier peer is
-stage-whole (Closing peer request) is = refl
+stage-whole (Closing peer request checked) is = refl
 stage-whole (Crossed peer request) is = refl
 
 pub none-whole : (v : Channels) → Distinct own_of v.held → NoPlain v → whole_said (held_gives (find gives v.held)) ≡ []

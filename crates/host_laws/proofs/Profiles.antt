@@ -1,10 +1,9 @@
 -- What a profile is told on each link, and where its host looks for check words.
-use Rattle.std.proofs.Common.{◌≡◌, ℕ, List, [], ◌∷◌, ◌++◌, map, not, ◌&&◌, sym, ap, ap₂, subst, ◌∙◌, append-nil}
+use Rattle.std.proofs.Common.{◌≡◌, ℕ, List, [], ◌∷◌, ◌++◌, map, sym, ap, ap₂, subst, ◌∙◌, append-nil}
 use Rattle.std.specs.List.{AllByRecursion}
 use Rattle.capture.specs.declared.flow.Flow.TheVariants.{Into}
 use Rattle.link_talk.specs.declared.party.Party.{Party}
 use Rattle.link_talk.specs.Sdus.{sdus}
-use Rattle.link_talk.specs.Waits.{has_check_word}
 use Rattle.channel_model.specs.declared.event.ChannelEvent.{ChannelEvent}
 use Rattle.channel_model.specs.Value.{Channels}
 use Rattle.channel_model.specs.Policies.{Policy}
@@ -14,9 +13,10 @@ use Rattle.channel_laws.specs.Runs.{Occurrence, run_of, arisen}
 use Rattle.channel_laws.specs.Sdus.{StatesFrame, IsHandedUp}
 use Rattle.channel_laws.proofs.CheckWords.{check_words-are_read}
 use Rattle.channel_laws.proofs.Incoming.{sdus-are_read}
+use Rattle.channel_laws.proofs.Endings.{ends-are_told}
 use Rattle.host_model.specs.Profiles.{Profile}
 use Rattle.host_laws.specs.Lives.{Span}
-use Rattle.host_laws.specs.Told.{events_told, sdus_told, told_on, IsToldOn, SdusAreToldOn, ProfilesAreTold, AllSdusAreTold, ChecksAreRead}
+use Rattle.host_laws.specs.Told.{events_told, sdus_told, told_on, IsToldOn, SdusAreToldOn, EndsAreToldOn, ProfilesAreTold, AllSdusAreTold, AllEndsAreTold, ChecksAreRead}
 use Rattle.host_laws.proofs.Telling.{events_run, sdus_run}
 use Rattle.host_laws.proofs.Silence.{ends-are_last, told-ended, channels-are_named}
 
@@ -43,11 +43,14 @@ all_told : (policy : Policy) (spans : List Span) (now : List Occurrence) → All
 all_told policy [] now = (is_told policy now, tt)
 all_told policy (span ∷ spans) now = (is_told policy span.list, all_told policy spans now)
 
-all_sdus : (policy : Policy) (party : Party) (spans : List Span) (now : List Occurrence) → StatesFrame policy party
-    → AllByRecursion (λ (span : Span). (run_of policy span.list).value.events ≡ []) spans → (run_of policy now).value.events ≡ []
-    → AllByRecursion (SdusAreToldOn policy party) (map (λ (span : Span). span.list) spans ++ now ∷ [])
-all_sdus policy party [] now states none last = (sdus-so policy party now states last, tt)
-all_sdus policy party (span ∷ spans) now states none last = (sdus-so policy party span.list states none.0, all_sdus policy party spans now states none.1 last)
+ends-so : (policy : Policy) (list : List Occurrence) → (run_of policy list).value.events ≡ [] → EndsAreToldOn policy list
+ends-so policy list none own ended = ap (is_told_closed own) (sym (arisen_told policy list none)) ∙ ends-are_told policy list own ended
+
+-- where no more is to be told
+all_so : (policy : Policy) (Q : List Occurrence → Type 0) (spans : List Span) (now : List Occurrence) → ((list : List Occurrence) → (run_of policy list).value.events ≡ [] → Q list)
+    → AllByRecursion (λ (span : Span). (run_of policy span.list).value.events ≡ []) spans → (run_of policy now).value.events ≡ [] → AllByRecursion Q (map (λ (span : Span). span.list) spans ++ now ∷ [])
+all_so policy Q [] now so none last = (so now last, tt)
+all_so policy Q (span ∷ spans) now so none last = (so span.list none.0, all_so policy Q spans now so none.1 last)
 
 module _ {P : Type 0} (A : Profile P) where
   pub profiles_are_told : ProfilesAreTold A
@@ -55,11 +58,12 @@ module _ {P : Type 0} (A : Profile P) where
 
   pub all_sdus_are_told : AllSdusAreTold A
   all_sdus_are_told party asks marks host lives states =
-      all_sdus A.policy party lives.spans lives.now states lives.spans_told (ap (λ (v : Channels). v.events) (sym lives.channels_run) ∙ lives.all_told)
+      all_so A.policy (SdusAreToldOn A.policy party) lives.spans lives.now (λ list. sdus-so A.policy party list states) lives.spans_told (ap (λ (v : Channels). v.events) (sym lives.channels_run) ∙ lives.all_told)
+
+  pub all_ends_are_told : AllEndsAreTold A
+  all_ends_are_told asks marks host lives =
+      all_so A.policy (EndsAreToldOn A.policy) lives.spans lives.now (ends-so A.policy) lives.spans_told (ap (λ (v : Channels). v.events) (sym lives.channels_run) ∙ lives.all_told)
 
   pub checks_are_read : ChecksAreRead A
   checks_are_read asks marks host lives own =
-      let run = run_of A.policy lives.now in
-      let none : run.value.events ≡ [] = ap (λ (v : Channels). v.events) (sym lives.channels_run) ∙ lives.all_told in
-      ap (has_fcs own) lives.channels_run
-      ∙ (check_words-are_read A.policy lives.now own ∙ ap (λ (events : List ChannelEvent). has_check_word run.said own && not (is_told_closed own events)) (arisen_told A.policy lives.now none))
+      ap (has_fcs own) lives.channels_run ∙ check_words-are_read A.policy lives.now own

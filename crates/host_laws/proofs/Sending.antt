@@ -85,7 +85,7 @@ machine_none : (stage : Stage) (before after : Setup) (machine : Ertm) → setup
 machine_none (Requested request) before after machine is carrier = cc
 machine_none (Connected peer setup) before after machine is carrier = rw carrier (framed_none (next_frame machine) peer)
 machine_none (Leaving peer setup request) before after machine is carrier = rw carrier (framed_none (next_frame machine) peer)
-machine_none (Closing peer request) before after machine is carrier = cc
+machine_none (Closing peer request checked) before after machine is carrier = cc
 machine_none (Crossed peer request) before after machine is carrier = cc
 
 record IsWhole (stage : Stage) (after : Setup) (sdu : List ℕ) : Type 0 where
@@ -97,7 +97,7 @@ plain_whole : (stage : Stage) (before after : Setup) (agreed : Agreed) (sdu : Li
 plain_whole (Requested request) before after agreed sdu is carrier = cc
 plain_whole (Connected peer setup) before after agreed sdu is carrier = record { peer = peer; gives_it = rw carrier refl; peer_is = refl }
 plain_whole (Leaving peer setup request) before after agreed sdu is carrier = record { peer = peer; gives_it = rw carrier refl; peer_is = refl }
-plain_whole (Closing peer request) before after agreed sdu is carrier = cc
+plain_whole (Closing peer request checked) before after agreed sdu is carrier = cc
 plain_whole (Crossed peer request) before after agreed sdu is carrier = cc
 
 -- it is given next, and then none waits
@@ -163,7 +163,7 @@ by_open v held setup sdu false none silent plain found is open_is =
     same_stage (Requested request) s at = refl
     same_stage (Connected peer before) s at = let same : s ≡ before = cc in ap (λ x. Connected peer x) same
     same_stage (Leaving peer before request) s at = let same : s ≡ before = cc in ap (λ x. Leaving peer x request) same
-    same_stage (Closing peer request) s at = refl
+    same_stage (Closing peer request checked) s at = refl
     same_stage (Crossed peer request) s at = refl
 
 sent_on : (v : Channels) (held : Held) (sdu : List ℕ) (setup : Option Setup) → v.queue ≡ [] → find gives v.held ≡ None → NoPlain v → find (has_own held.own) v.held ≡ Some held → setup_of held.stage ≡ setup

@@ -56,7 +56,7 @@ up_stage v held (Connected peer setup) pdu is found = by (sdu_at (Connected peer
     by None = tt
     by (Some octets) = subst (IsConnected held.psm held.own) (sym found) (peer, setup, is, refl, refl)
 up_stage v held (Leaving peer setup request) pdu is found = tt
-up_stage v held (Closing peer request) pdu is found = tt
+up_stage v held (Closing peer request checked) pdu is found = tt
 up_stage v held (Crossed peer request) pdu is found = tt
 
 up_held : (v : Channels) (own : ℕ) (found : Option Held) (pdu : List ℕ) → held_at own v ≡ found → Comes_of v (up_on found pdu)
@@ -179,8 +179,8 @@ held_ended policy (Some held) entry told read = by held.stage refl entry told re
     by (Requested request) is (Some entry) told read = absurd read
     by (Connected peer setup) is entry told read = let never = told.1 in cc
     by (Leaving peer setup request) is entry told read = let never = told.1 in cc
-    by (Closing peer request) is None told read = tt
-    by (Closing peer request) is (Some entry) told read = ap is_alive (read.0.life_is ∙ ap life_of is)
+    by (Closing peer request checked) is None told read = tt
+    by (Closing peer request checked) is (Some entry) told read = ap is_alive (read.0.life_is ∙ ap life_of is)
     by (Crossed peer request) is None told read = tt
     by (Crossed peer request) is (Some entry) told read = ap is_alive (read.0.life_is ∙ ap life_of is)
 

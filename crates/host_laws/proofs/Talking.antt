@@ -14,20 +14,19 @@ use Rattle.host_model.specs.Profiles.{Profile}
 use Rattle.host_model.specs.Hosts.{Host, most_steps, driven, ready, hears_news}
 use Rattle.host_model.specs.Machines.{upper}
 use Rattle.host_laws.specs.Acts.{Act, Hears, Says, Acting, from_news, from_act, from_acts}
-use Rattle.host_laws.specs.Calls.{Asks, values_after}
+use Rattle.host_laws.specs.Calls.{values_after}
 use Rattle.host_laws.specs.Lives.{act_marks}
 use Rattle.host_laws.specs.Turning.{Deed, Learned, Spoke, deed_of, deeds_in, AreInQuiet}
 use Rattle.host_laws.specs.Seen.{spoken_of, pdu_of, IsQuiet, IsCalm}
 use Rattle.host_laws.specs.Calm.{IsCalmAct, AreCalm, IsGentleAct, AreGentle, pdus_in, HostsTalkInTurns}
-use Rattle.host_laws.proofs.Steps.{Grows}
-use Rattle.host_laws.proofs.Growing.{grows_then, drives_grow, readies}
+use Rattle.host_laws.proofs.Growing.{grows_then, drives_grow, readies, without_calm}
 use Rattle.host_laws.proofs.Links.{value_run, drives_told, act_told, linked_new}
 use Rattle.host_laws.proofs.Living.{still, lives_from, since-up, now-is}
 use Rattle.host_laws.proofs.Moving.{own_talk_moves}
 use Rattle.host_laws.proofs.Calming.{outer-pdus, acts-grow}
 
 module _ {P : Type 0} (A : Profile P) where
-  act_calm : (act : Act Circumstance) (host : Host P) → (let U = upper A in AreInQuiet U (act ∷ []) host) → IsGentleAct A act host → IsCalmAct A act host
+  pub act_calm : (act : Act Circumstance) (host : Host P) → (let U = upper A in AreInQuiet U (act ∷ []) host) → IsGentleAct A act host → IsCalmAct A act host
   act_calm (Hears circumstances (Linked event)) host quiet gentle = tt
   act_calm (Hears circumstances (Failed status)) host quiet gentle = tt
   act_calm (Hears circumstances (Heard pdu)) host quiet gentle = (gentle.0 quiet.0, gentle.1)
@@ -42,7 +41,7 @@ module _ {P : Type 0} (A : Profile P) where
 
 -- ---- PDUs
 
-abbrev deed_pdus : Deed → List Pdu
+abbrev pub deed_pdus : Deed → List Pdu
 deed_pdus (Learned news) = pdus_in (Told news)
 deed_pdus (Spoke pdu) = pdus_in (Said pdu)
 
@@ -74,7 +73,7 @@ talk_pdus (Unsent pdu) = refl
 talk_pdus (Met fate checked) = refl
 talk_pdus (Done outcome) = refl
 
-talks_pdus : (talks : List Talk) → flat_map deed_pdus (flat_map deeds_in talks) ≡ flat_map pdus_in talks
+pub talks_pdus : (talks : List Talk) → flat_map deed_pdus (flat_map deeds_in talks) ≡ flat_map pdus_in talks
 talks_pdus [] = refl
 talks_pdus (talk ∷ talks) = flat_map-append deed_pdus (deeds_in talk) (flat_map deeds_in talks) ∙ ap₂ (λ (a b : List Pdu). a ++ b) (talk_pdus talk) (talks_pdus talks)
 
@@ -83,18 +82,6 @@ talks_pdus (talk ∷ talks) = flat_map-append deed_pdus (deeds_in talk) (flat_ma
 acts_told : {P : Type 0} (A : Profile P) (acts : List (Act Circumstance)) (old new : Host P) → Acting (upper A) acts old new → old.channels.events ≡ [] → new.channels.events ≡ []
 acts_told A [] old new same is = ap (λ (host : Host _). host.channels.events) same ∙ is
 acts_told A (act ∷ acts) old new (mid, does, rest) is = acts_told A acts mid new rest (act_told A act old mid does is)
-
-abbrev without_calm : {P : Type 0} (A : Profile P) (asks : Asks A) (acted : List Occurrence) (old new : Host P) → Grows A asks (Unit {0}) acted old new → Grows A asks ⊥ acted old new
-without_calm A asks acted old new grows = record {
-  list = grows.list;
-  feeds = grows.feeds;
-  channels_are = grows.channels_are;
-  profile_is = grows.profile_is;
-  tidings_are = grows.tidings_are;
-  asked_is = grows.asked_is;
-  acted_is = grows.acted_is;
-  calm = λ never. absurd never;
-}
 
 pub hosts_talk_in_turns : {P : Type 0} (A : Profile P) → HostsTalkInTurns A
 hosts_talk_in_turns {P} A asks talk now on gentle none back =

@@ -52,21 +52,21 @@ connection_view : (held : Held) (stage : Stage) → SameView (staged_as held sta
 connection_view held (Requested request) = record { own_is = refl; connection_is = refl; configuration_is = refl; disconnection_is = refl; gives_is = refl }
 connection_view held (Connected peer setup) = record { own_is = refl; connection_is = refl; configuration_is = refl; disconnection_is = refl; gives_is = refl }
 connection_view held (Leaving peer setup request) = record { own_is = refl; connection_is = refl; configuration_is = refl; disconnection_is = refl; gives_is = refl }
-connection_view held (Closing peer request) = record { own_is = refl; connection_is = refl; configuration_is = refl; disconnection_is = refl; gives_is = refl }
+connection_view held (Closing peer request checked) = record { own_is = refl; connection_is = refl; configuration_is = refl; disconnection_is = refl; gives_is = refl }
 connection_view held (Crossed peer request) = record { own_is = refl; connection_is = refl; configuration_is = refl; disconnection_is = refl; gives_is = refl }
 
 configuration_view : (held : Held) (stage : Stage) → SameView (staged_as held stage) (staged_as held (configuration_given stage))
 configuration_view held (Requested request) = record { own_is = refl; connection_is = refl; configuration_is = refl; disconnection_is = refl; gives_is = refl }
 configuration_view held (Connected peer setup) = record { own_is = refl; connection_is = refl; configuration_is = own_view setup.own peer; disconnection_is = refl; gives_is = refl }
 configuration_view held (Leaving peer setup request) = record { own_is = refl; connection_is = refl; configuration_is = own_view setup.own peer; disconnection_is = refl; gives_is = refl }
-configuration_view held (Closing peer request) = record { own_is = refl; connection_is = refl; configuration_is = refl; disconnection_is = refl; gives_is = refl }
+configuration_view held (Closing peer request checked) = record { own_is = refl; connection_is = refl; configuration_is = refl; disconnection_is = refl; gives_is = refl }
 configuration_view held (Crossed peer request) = record { own_is = refl; connection_is = refl; configuration_is = refl; disconnection_is = refl; gives_is = refl }
 
 disconnection_view : (held : Held) (stage : Stage) → SameView (staged_as held stage) (staged_as held (disconnection_given stage))
 disconnection_view held (Requested request) = record { own_is = refl; connection_is = refl; configuration_is = refl; disconnection_is = refl; gives_is = refl }
 disconnection_view held (Connected peer setup) = record { own_is = refl; connection_is = refl; configuration_is = refl; disconnection_is = refl; gives_is = refl }
 disconnection_view held (Leaving peer setup request) = record { own_is = refl; connection_is = refl; configuration_is = refl; disconnection_is = refl; gives_is = refl }
-disconnection_view held (Closing peer request) = record { own_is = refl; connection_is = refl; configuration_is = refl; disconnection_is = refl; gives_is = refl }
+disconnection_view held (Closing peer request checked) = record { own_is = refl; connection_is = refl; configuration_is = refl; disconnection_is = refl; gives_is = refl }
 disconnection_view held (Crossed peer request) = record { own_is = refl; connection_is = refl; configuration_is = refl; disconnection_is = refl; gives_is = refl }
 
 -- a request of the channel that is put in place

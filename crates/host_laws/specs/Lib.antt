@@ -4,9 +4,14 @@ pub mod Calls
 pub mod Feeds
 pub mod Lives
 pub mod Told
+pub mod Armed
 pub mod Seen
 pub mod Steady
 pub mod Calm
+pub mod OverLinks
+pub mod Spoken
 pub mod Serving
 pub mod OneCarrier
 pub mod Gaining
+pub mod GainingOver
+pub mod Carriers

@@ -12,7 +12,7 @@ abbrev pub IsSteadyStage : Stage → Type 0
 IsSteadyStage (Requested request) = Unit {0}
 IsSteadyStage (Connected peer setup) = Unit {0}
 IsSteadyStage (Leaving peer setup request) = own_waits setup.own ≡ false
-IsSteadyStage (Closing peer request) = Unit {0}
+IsSteadyStage (Closing peer request checked) = Unit {0}
 IsSteadyStage (Crossed peer request) = Unit {0}
 
 abbrev pub IsSteadyAt : Option Held → Type 0

@@ -1,5 +1,5 @@
 -- What a profile is told on a link, as its host's own talk is read (Core 5.1, Volume 3 Part A, 3.1, 3.3 and 4).
-use Rattle.std.specs.Prelude.{ℕ, ◌≡◌, ◌==◌, ◌&&◌, not, true, false, List, [], ◌++◌, Option, Some, None, if◌then◌else◌}
+use Rattle.std.specs.Prelude.{ℕ, ◌≡◌, ◌==◌, true, false, List, [], ◌++◌, Option, Some, None, if◌then◌else◌}
 use Rattle.std.specs.List.{AllByRecursion, filter_map}
 use Rattle.capture.specs.declared.flow.Flow.TheVariants.{Into}
 use Rattle.link_talk.specs.declared.channel.Channel.{Channel}
@@ -14,6 +14,7 @@ use Rattle.channel_model.specs.Policies.{Policy}
 use Rattle.channel_model.specs.Telling.{is_told_closed, is_told_broken}
 use Rattle.channel_laws.specs.Runs.{Occurrence, run_of}
 use Rattle.channel_laws.specs.Views.{channel_by, read_at}
+use Rattle.channel_laws.specs.Endings.{HasEnded}
 use Rattle.channel_laws.specs.Sdus.{StatesFrame, IsHandedUp}
 use Rattle.channel_laws.specs.Endpoints.{IsOf}
 use Rattle.host_model.specs.Profiles.{Profile}
@@ -69,6 +70,10 @@ abbrev pub SdusAreTold : Party → (said : List Saying) (tidings : List Tiding) 
 SdusAreTold party said tidings =
     (channel : Channel) → IsHandedUp (is_told_broken channel.own (events_told tidings)) (sdus_told channel.own tidings) (sdus party channel Into said)
 
+-- and a channel that is read as ended for its host was told to have ended
+abbrev pub EndsAreToldIn : (said : List Saying) (tidings : List Tiding) → Type 0
+EndsAreToldIn said tidings = (own : ℕ) → HasEnded (read_at own (reading said).entries) → is_told_closed own (events_told tidings) ≡ true
+
 -- ---- the laws
 
 -- what channels tell with all that happened to them on a link
@@ -81,6 +86,9 @@ IsToldOn policy list = IsTold (run_of policy list).said (told_on policy list)
 abbrev pub SdusAreToldOn : Policy → Party → List Occurrence → Type 0
 SdusAreToldOn policy party list = SdusAreTold party (run_of policy list).said (told_on policy list)
 
+abbrev pub EndsAreToldOn : Policy → List Occurrence → Type 0
+EndsAreToldOn policy list = EndsAreToldIn (run_of policy list).said (told_on policy list)
+
 -- What the profile of a host is told on each of its links.
 abbrev pub ProfilesAreTold : {P : Type 0} → Profile P → Type 0
 ProfilesAreTold {P} A = (asks : Asks A) (marks : List Mark) (host : Host P) (lives : Lives A asks marks host) → AllByRecursion (IsToldOn A.policy) (on_links A asks marks host lives)
@@ -90,8 +98,10 @@ AllSdusAreTold {P} A =
     (party : Party) (asks : Asks A) (marks : List Mark) (host : Host P) (lives : Lives A asks marks host) → StatesFrame A.policy party
     → AllByRecursion (SdusAreToldOn A.policy party) (on_links A asks marks host lives)
 
--- A host looks for a check word at an endpoint where its own talk says that there is one, until its profile was told the end of the
--- channel.
+abbrev pub AllEndsAreTold : {P : Type 0} → Profile P → Type 0
+AllEndsAreTold {P} A = (asks : Asks A) (marks : List Mark) (host : Host P) (lives : Lives A asks marks host) → AllByRecursion (EndsAreToldOn A.policy) (on_links A asks marks host lives)
+
+-- A host looks for a check word at an endpoint where its own talk says that there is one.
 abbrev pub ChecksAreRead : {P : Type 0} → Profile P → Type 0
 ChecksAreRead {P} A = (asks : Asks A) (marks : List Mark) (host : Host P) (lives : Lives A asks marks host) (own : ℕ)
-    → (upper A).has_check host own ≡ (has_check_word (run_of A.policy lives.now).said own && not (is_told_closed own (events_told (told_on A.policy lives.now))))
+    → (upper A).has_check host own ≡ has_check_word (run_of A.policy lives.now).said own

@@ -1,14 +1,19 @@
 //! Laws of a host above its line.
 
+ghost use Rattle.host_laws.specs.Armed.{ArmedIsRead, ServersAreArmed};
 ghost use Rattle.host_laws.specs.Calls.{HostsAsk};
+ghost use Rattle.host_laws.specs.Carriers.{HostsGainByCarriers};
 ghost use Rattle.host_laws.specs.Calm.{CalmHostsMove, HostsTalkInTurns};
 ghost use Rattle.host_laws.specs.Gaining.{HostsGainTalk};
+ghost use Rattle.host_laws.specs.GainingOver.{HostsGainOverLinks};
 ghost use Rattle.host_laws.specs.Lives.{HostsRun};
 ghost use Rattle.host_laws.specs.OneCarrier.{OneCarrierGains};
+ghost use Rattle.host_laws.specs.OverLinks.{AllLinksAreActs, HostsTalkOverLinks};
 ghost use Rattle.host_laws.specs.Seen.{OwnTalkMoves};
 ghost use Rattle.host_laws.specs.Serving.{HostsGain, ServersAreServed};
+ghost use Rattle.host_laws.specs.Spoken.{ObjectsMove};
 ghost use Rattle.host_laws.specs.Steady.{SteadyFirePlainly};
-ghost use Rattle.host_laws.specs.Told.{AllSdusAreTold, ChecksAreRead, ProfilesAreTold};
+ghost use Rattle.host_laws.specs.Told.{AllEndsAreTold, AllSdusAreTold, ChecksAreRead, ProfilesAreTold};
 ghost use Rattle.host_laws.specs.Turning.{LinksAreActs, TurnsAreActs};
 ghost use Rattle.host_model.specs.Profiles.{Profile};
 ghost use Rattle.world_model.specs.Machines.{Upper};
@@ -37,10 +42,27 @@ pub fn all_sdus_are_told<P>()
     ensures { (A : Profile P) → AllSdusAreTold A }
 {}
 
-/// A host looks for a check word at an endpoint exactly where its own talk says that there is one, until its profile
-/// was told the end of the channel.
+/// Where a host's own talk has a channel that has ended for it, its profile was told the end.
+pub fn all_ends_are_told<P>()
+    ensures { (A : Profile P) → AllEndsAreTold A }
+{}
+
+/// A host looks for a check word at an endpoint exactly where its own talk says that there is one: until the answer to its
+/// request for the end of the channel came, also where it had closed it before.
 pub fn checks_are_read<P>()
     ensures { (A : Profile P) → ChecksAreRead A }
+{}
+
+/// The timer of a host is armed exactly where its own talk says that something waits, where its profile waits for services
+/// as the talk has it.
+pub fn armed_is_read<P>()
+    ensures { (A : Profile P) → ArmedIsRead A }
+{}
+
+/// The timer of a server is armed exactly where its own talk says that something waits, where none of its SDUs is a request
+/// for services.
+pub fn servers_are_armed()
+    ensures { ServersAreArmed }
 {}
 
 /// What a host was told and said in a run of turns is what it heard and said by itself, one thing after the other: so all
@@ -99,4 +121,34 @@ pub fn one_carrier_gains()
 /// talk spells over all its links, in their order, where no call of the inbox fails and no request is ignored.
 pub fn hosts_gain_talk()
     ensures { HostsGainTalk }
+{}
+
+/// What a host was told and said in a run of turns is what it heard and said by itself, over all its links; and while a link is
+/// up it hears PDUs, and its timer fires, where it has said all.
+pub fn all_links_are_acts<S, T, G, H>()
+    ensures { (U : Upper S G) (V : Upper T H) → AllLinksAreActs U V }
+{}
+
+/// A host of a run of turns lives so that on each of its links its own talk is what moved there, but for what it gave up, and
+/// behind it what it let wait and did not say before the link was gone.
+pub fn hosts_talk_over_links<P>()
+    ensures { (A : Profile P) → HostsTalkOverLinks A }
+{}
+
+/// The objects of a host's own talk are those of what moved, whatever the host gave up and let wait at the end, where it asks for no
+/// channel and its peer gives each of its endpoints to one channel.
+pub fn objects_move()
+    ensures { ObjectsMove }
+{}
+
+/// At each moment of a run of turns the inbox of a host has gained exactly the objects that the PDUs spell which moved on its links, link
+/// after link, where one channel carries packets on each link, over L2CAP.
+pub fn hosts_gain_over_links()
+    ensures { HostsGainOverLinks }
+{}
+
+/// The inbox of a host gains exactly the objects that the PDUs spell which moved on its links, link after link, over L2CAP or over RFCOMM
+/// on each: where one channel alone carries packets there, and the SDUs that its server was told and that went are those of the talk.
+pub fn hosts_gain_by_carriers()
+    ensures { HostsGainByCarriers }
 {}

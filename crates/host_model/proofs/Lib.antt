@@ -2,6 +2,7 @@ pub mod Keeping
 pub mod Resting
 pub mod Paging
 pub mod Orderly
+pub mod Setting
 pub mod Spelled
 pub mod Worked
 pub mod Stopping

@@ -1,6 +1,9 @@
 -- Both hosts are orderly.
-use Rattle.std.proofs.Common.{true≢false, ap, sym, subst, ◌≡◌, ◌⊎◌, inl, inr, ℕ, zero, suc, Bool, true, false, ◌&&◌, not, List, length, nat_le, ◌==◌, Option, Some, None, refl, if◌then◌else◌, tests, arith}
+use Rattle.std.proofs.Common.{true≢false, ap, sym, subst, ◌≡◌, ◌⊎◌, inl, inr, ℕ, zero, suc, Bool, true, false, ◌&&◌, not, List, [], ◌∷◌, length, nat_lt, nat_le, ◌==◌, Option, Some, None, refl, if◌then◌else◌, tests, arith}
+use Rattle.std.proofs.lemmas.Bool.{ltb-true}
+use Rattle.bt_base.specs.Octets.{IsOctets}
 use Rattle.bt_base.specs.declared.settings.Settings.{Settings}
+use Rattle.h4_framing.proofs.OctetLists.{IsOctets-cons, IsOctets-nil}
 use Rattle.acl_fragments.specs.Pieces.{pdu_length}
 use Rattle.channel_model.specs.Giving.{Given, next_given}
 use Rattle.push_model.specs.declared.course.Stage.{Stage}
@@ -11,7 +14,7 @@ use Rattle.world_model.specs.Stations.{longest_pdu}
 use Rattle.turn_laws.specs.Premises.{IsFrame, SaysFrames, IsAside, Idles}
 use Rattle.rest_laws.specs.Premises.{AsksOnce}
 use Rattle.host_model.specs.Circumstances.{Circumstance}
-use Rattle.host_model.specs.Pdus.{pdu_of, is_frame}
+use Rattle.host_model.specs.Pdus.{pdu_of, are_octets, is_frame}
 use Rattle.host_model.specs.Profiles.{Profile}
 use Rattle.host_model.specs.Hosts.{Host, most_steps, after_said, says, next, ready, hears_news, hear}
 use Rattle.host_model.specs.Clients.{ClientProfile, client_profile, is_paging}
@@ -28,15 +31,22 @@ both : (a b : Bool) → (a && b) ≡ true → (a ≡ true) × (b ≡ true)
 both true b holds = (refl, holds)
 both false b holds = absurd (true≢false (sym holds))
 
-framed : (pdu : List ℕ) → is_frame pdu ≡ true → IsFrame pdu
+octets_by : (xs : List ℕ) → are_octets xs ≡ true → IsOctets xs
+octets_by [] holds = IsOctets-nil
+octets_by (x ∷ xs) holds =
+    let first = both (nat_lt x 256) (are_octets xs) holds in
+    IsOctets-cons x xs (ltb-true x 256 first.0) (octets_by xs first.1)
+
+framed : (pdu : List ℕ) → is_frame pdu ≡ true → IsFrame pdu × IsOctets pdu
 framed pdu holds =
-    let first = both (nat_le 4 (length pdu)) ((pdu_length pdu == length pdu) && nat_le (length pdu) longest_pdu) holds in
+    let zeroth = both (are_octets pdu) (nat_le 4 (length pdu) && ((pdu_length pdu == length pdu) && nat_le (length pdu) longest_pdu)) holds in
+    let first = both (nat_le 4 (length pdu)) ((pdu_length pdu == length pdu) && nat_le (length pdu) longest_pdu) zeroth.1 in
     let second = both (pdu_length pdu == length pdu) (nat_le (length pdu) longest_pdu) first.1 in
-    record { pdu = (grind (arith, tests, first.0), grind (arith, tests, second.0)); short = grind (arith, tests, second.1) }
+    (record { pdu = (grind (arith, tests, first.0), grind (arith, tests, second.0)); short = grind (arith, tests, second.1) }, octets_by pdu zeroth.0)
 
 abbrev Frames : {P : Type 0} → Option (List ℕ × Host P) → Type 0
 Frames None = Unit {0}
-Frames (Some one) = IsFrame one.0
+Frames (Some one) = IsFrame one.0 × IsOctets one.0
 
 frames_by : {P : Type 0} (test : Bool) (pdu : List ℕ) (host : Host P) → is_frame pdu ≡ test → Frames {P = P} (if test then Some (pdu, host) else None)
 frames_by true pdu host is = framed pdu is
@@ -47,8 +57,11 @@ frames A None count host = tt
 frames A (Some given) zero host = tt
 frames A (Some given) (suc count) host = frames_by (is_frame (pdu_of given)) (pdu_of given) (after_said A count host) refl
 
-says_frames : {P : Type 0} (A : Profile P) → SaysFrames (upper A)
-says_frames A host pdu after same = subst Frames same (frames A (next_given host.channels) host.may_say host)
+pub says_frames : {P : Type 0} (A : Profile P) → SaysFrames (upper A)
+says_frames A host pdu after same = (subst Frames same (frames A (next_given host.channels) host.may_say host)).0
+
+pub says_octets : {P : Type 0} (A : Profile P) (host : Host P) (pdu : List ℕ) (after : Host P) → next A host ≡ Some (pdu, after) → IsOctets pdu
+says_octets A host pdu after same = (subst Frames same (frames A (next_given host.channels) host.may_say host)).1
 
 -- ---- idle clients
 
@@ -63,7 +76,7 @@ none_wanted : (paging idle : Bool) → idle ≡ true → (paging && not idle) �
 none_wanted true idle holds = ap not holds
 none_wanted false idle holds = refl
 
-idles : (settings : Settings) → Idles (client_host settings)
+pub idles : (settings : Settings) → Idles (client_host settings)
 idles settings = record {
   first = refl;
   wants_none = λ host is. none_wanted (is_paging host.profile.bid) (is_idle host.profile.client) is;
@@ -106,7 +119,7 @@ comes_up settings circumstances host =
     unpaged (is_paging after.profile.bid) (is_idle after.profile.client)
     (drives_on (client_profile settings) PagesNot (keeps_unpaged settings) most_steps (hears_news (client_profile settings) circumstances (Linked Up) (ready (client_profile settings) circumstances host)) refl)
 
-asks_once : (settings : Settings) → AsksOnce (client_host settings)
+pub asks_once : (settings : Settings) → AsksOnce (client_host settings)
 asks_once settings = record {
   comes = comes_up settings;
   hears = λ circumstances news host aside off. hears_none settings circumstances news host aside (apart (is_paging host.profile.bid) (is_idle host.profile.client) off);

@@ -1,7 +1,8 @@
 -- The octets of what a host gives are those that are worked out, and no others; a PDU that is given says its own length.
 use Rattle.std.proofs.Common.{ap, sym, subst, ◌∙◌, ◌≡◌, ◌<◌, ◌≤◌, ℕ, suc, ◌+◌, ◌*◌, ◌/◌, ◌%◌, ◌^◌, ◌==◌, ◌&&◌, nat_lt, nat_le, Bool, true, false, List, [], ◌∷◌, ◌++◌, length, refl, arith, tests, length-append, append_assoc, inl, inr, if◌then◌else◌}
 use Rattle.std.proofs.lemmas.Bool.{cases_lt}
-use Rattle.bt_base.specs.Octets.{le16}
+use Rattle.bt_base.specs.Octets.{IsOctets, le16}
+use Rattle.h4_framing.proofs.OctetLists.{IsOctets-tail}
 use Rattle.check_words.specs.CheckWords.{L2capCheckHolds, l2cap_check, rfcomm_check, low_bits}
 use Rattle.check_words.proofs.Octets.{word-holds}
 use Rattle.check_words.proofs.LowBits.{low_bits-same}
@@ -12,7 +13,7 @@ use Rattle.rfcomm_frames.specs.Lengths.{shortest, one_octet, two_octets, States}
 use Rattle.rfcomm_frames.specs.Frames as mux
 use Rattle.channel_model.specs.Giving.{Given, Signal, Whole, Framed, headed, IsPdu}
 use Rattle.push_model.specs.Payloads.{Payload, Octets, Framed as Muxed, IsSaid, IsShortest}
-use Rattle.host_model.specs.Pdus.{number_of, checked, frame_octets, pdu_of, mux_octets, sdu_of, is_frame}
+use Rattle.host_model.specs.Pdus.{number_of, checked, frame_octets, pdu_of, mux_octets, sdu_of, are_octets, is_frame}
 use Rattle.host_model.proofs.Spelled.{word_fits, word_is, octet_fits, octet_is}
 
 -- ---- L2CAP
@@ -41,22 +42,30 @@ only_pdu (Framed peer frame) pdu is = frame_is peer frame pdu is
 says_length : (n peer : ℕ) (payload : List ℕ) → length payload ≡ n → n < 2 ^ 16 → (pdu_length (le16 n ++ (le16 peer ++ payload)) == length (le16 n ++ (le16 peer ++ payload))) ≡ true
 says_length n peer payload is small = let fits : n % 256 + 256 * (n / 256 % 256) ≡ n = omega (arith, small) in grind (arith, tests, is, fits)
 
-framed : (pdu : List ℕ) (n peer : ℕ) (payload : List ℕ) → pdu ≡ le16 n ++ (le16 peer ++ payload) → length payload ≡ n → length pdu ≤ 32775 → is_frame pdu ≡ true
-framed pdu n peer payload is long short =
+octets_of : (xs : List ℕ) → IsOctets xs → are_octets xs ≡ true
+octets_of [] octets = refl
+octets_of (x ∷ xs) octets =
+    let below = octets 0 in
+    let first : nat_lt x 256 ≡ true = grind (arith, tests, below) in
+    ap (λ (b : Bool). b && are_octets xs) first ∙ octets_of xs (IsOctets-tail x xs octets)
+
+framed : (pdu : List ℕ) (n peer : ℕ) (payload : List ℕ) → IsOctets pdu → pdu ≡ le16 n ++ (le16 peer ++ payload) → length payload ≡ n → length pdu ≤ 32775 → is_frame pdu ≡ true
+framed pdu n peer payload octets is long short =
     let raw = ap length is in
     let size : length pdu ≡ 4 + length payload = omega (arith, raw) in
     let small : n < 2 ^ 16 = omega (arith, size, long, short) in
     let says = ap (λ xs. pdu_length xs == length xs) is ∙ says_length n peer payload long small in
     let first : nat_le 4 (length pdu) ≡ true = grind (arith, tests, size) in
     let last : nat_le (length pdu) 32775 ≡ true = grind (arith, tests, short) in
-    ap (λ (b : Bool). b && ((pdu_length pdu == length pdu) && nat_le (length pdu) 32775)) first ∙ ap (λ (b : Bool). b && nat_le (length pdu) 32775) says ∙ last
+    ap (λ (b : Bool). b && (nat_le 4 (length pdu) && ((pdu_length pdu == length pdu) && nat_le (length pdu) 32775))) (octets_of pdu octets)
+    ∙ ap (λ (b : Bool). b && ((pdu_length pdu == length pdu) && nat_le (length pdu) 32775)) first ∙ ap (λ (b : Bool). b && nat_le (length pdu) 32775) says ∙ last
 
-pub pdu_is_frame : (given : Given) (pdu : List ℕ) → IsPdu given pdu → length pdu ≤ 32775 → is_frame pdu ≡ true
-pdu_is_frame (Signal command) pdu is short = framed pdu (length (spelling command)) 0x0001 (spelling command) is refl short
-pdu_is_frame (Whole peer sdu) pdu is short = framed pdu (length sdu) peer sdu is refl short
-pdu_is_frame (Framed peer frame) pdu s short =
+pub pdu_is_frame : (given : Given) (pdu : List ℕ) → IsPdu given pdu → IsOctets pdu → length pdu ≤ 32775 → is_frame pdu ≡ true
+pdu_is_frame (Signal command) pdu is octets short = framed pdu (length (spelling command)) 0x0001 (spelling command) octets is refl short
+pdu_is_frame (Whole peer sdu) pdu is octets short = framed pdu (length sdu) peer sdu octets is refl short
+pdu_is_frame (Framed peer frame) pdu s octets short =
     let body = body_of frame in
-    framed pdu (4 + length body) peer (le16 (control_of frame) ++ body ++ le16 s.check) s.parts (let tail = length-append body (le16 s.check) in omega (arith, tail)) short
+    framed pdu (4 + length body) peer (le16 (control_of frame) ++ body ++ le16 s.check) octets s.parts (let tail = length-append body (le16 s.check) in omega (arith, tail)) short
 
 -- ---- RFCOMM
 

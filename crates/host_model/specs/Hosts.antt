@@ -1,7 +1,7 @@
 -- A host above its line, as a value: the channels of its link and its profile. What it hears goes to the channels first. Behind each
 -- thing that it hears or says its profile is asked for steps, until the channels have a PDU or the profile waits; what it says is the
 -- channels' next PDU (this project's own).
-use Rattle.std.specs.Prelude.{ℕ, zero, suc, ◌^◌, List, [], ◌∷◌, Option, Some, None, is_some, if◌then◌else◌}
+use Rattle.std.specs.Prelude.{ℕ, zero, suc, ◌^◌, ◌&&◌, nat_lt, Bool, List, [], ◌∷◌, Option, Some, None, is_some, if◌then◌else◌}
 use Rattle.acl_fragments.specs.Pieces.{channel_of}
 use Rattle.channel_model.specs.declared.event.ChannelEvent.{ChannelEvent}
 use Rattle.channel_model.specs.Value.{Channels, no_channels}
@@ -105,6 +105,10 @@ abbrev pub hear : {P : Type 0} → Profile P → List Circumstance → News → 
 hear A circumstances news host = driven A (hears_news A circumstances news (ready A circumstances host))
 
 -- ---- saying
+
+-- its channels have a PDU, and it may say it
+abbrev pub has_more : {P : Type 0} → Host P → Bool
+has_more host = nat_lt 0 host.may_say && is_some (next_given host.channels)
 
 abbrev pub says_frame : {P : Type 0} → List ℕ → Host P → Option (List ℕ × Host P)
 says_frame pdu after = if is_frame pdu then Some (pdu, after) else None

@@ -8,6 +8,7 @@ pub mod Clients
 pub mod Servers
 pub mod Waiting
 pub mod Machines
+pub mod Settings
 pub mod Spelling
 pub mod Examples
 pub mod Laws

@@ -1,5 +1,5 @@
 -- The octets of what a host gives: commands, SDUs and frames (Core 5.1, Volume 3 Part A, 3.1, 3.3 and 4; TS 07.10, 5.2.1).
-use Rattle.std.specs.Prelude.{ℕ, ◌+◌, ◌*◌, ◌==◌, ◌&&◌, nat_le, Bool, true, false, List, [], ◌∷◌, ◌++◌, length}
+use Rattle.std.specs.Prelude.{ℕ, ◌+◌, ◌*◌, ◌==◌, ◌&&◌, nat_lt, nat_le, Bool, true, false, List, [], ◌∷◌, ◌++◌, length}
 use Rattle.bt_base.specs.Octets.{le16}
 use Rattle.check_words.specs.CheckWords.{l2cap_check, rfcomm_check}
 use Rattle.acl_fragments.specs.Pieces.{pdu_length}
@@ -38,6 +38,11 @@ abbrev pub sdu_of : Payload → List ℕ
 sdu_of (payloads.Octets octets) = octets
 sdu_of (payloads.Framed frame) = mux_octets frame
 
--- a PDU that says its own length, and that hosts take
+-- each member is an octet
+abbrev pub are_octets : List ℕ → Bool
+are_octets [] = true
+are_octets (x ∷ xs) = nat_lt x 256 && are_octets xs
+
+-- a PDU of octets that says its own length, and that hosts take
 abbrev pub is_frame : List ℕ → Bool
-is_frame pdu = nat_le 4 (length pdu) && ((pdu_length pdu == length pdu) && nat_le (length pdu) longest_pdu)
+is_frame pdu = are_octets pdu && (nat_le 4 (length pdu) && ((pdu_length pdu == length pdu) && nat_le (length pdu) longest_pdu))

@@ -19,5 +19,8 @@ fewer A None count host = tt
 fewer A (Some given) zero host = tt
 fewer A (Some given) (suc count) host = frame_fewer A (is_frame (pdu_of given)) count (pdu_of given) host
 
+pub says_fewer : {P : Type 0} (A : Profile P) (host : Host P) → Fewer host.may_say (next A host)
+says_fewer A host = fewer A (next_given host.channels) host.may_say host
+
 pub says_less : {P : Type 0} (A : Profile P) (host : Host P) (pdu : List ℕ) (after : Host P) → next A host ≡ Some (pdu, after) → after.may_say < host.may_say
-says_less A host pdu after same = subst (Fewer host.may_say) same (fewer A (next_given host.channels) host.may_say host)
+says_less A host pdu after same = subst (Fewer host.may_say) same (says_fewer A host)

@@ -98,28 +98,28 @@ changed : (f : Setup → Setup) (s : Setup) (stage : Stage) → setup_of stage �
 changed f s (Requested request) is = cc
 changed f s (Connected peer setup) is = ap (λ (x : Setup). Connected peer (f x)) (same_some setup s is)
 changed f s (Leaving peer setup request) is = ap (λ (x : Setup). Leaving peer (f x) request) (same_some setup s is)
-changed f s (Closing peer request) is = cc
+changed f s (Closing peer request checked) is = cc
 changed f s (Crossed peer request) is = cc
 
 changed_again : (f : Setup → Setup) (s : Setup) (stage : Stage) → with_change f (stage_with s stage) ≡ stage_with (f s) (stage_with s stage)
 changed_again f s (Requested request) = refl
 changed_again f s (Connected peer setup) = refl
 changed_again f s (Leaving peer setup request) = refl
-changed_again f s (Closing peer request) = refl
+changed_again f s (Closing peer request checked) = refl
 changed_again f s (Crossed peer request) = refl
 
 same_stage : (s : Setup) (stage : Stage) → setup_of stage ≡ Some s → stage_with s stage ≡ stage
 same_stage s (Requested request) is = cc
 same_stage s (Connected peer setup) is = ap (λ (x : Setup). Connected peer x) (sym (same_some setup s is))
 same_stage s (Leaving peer setup request) is = ap (λ (x : Setup). Leaving peer x request) (sym (same_some setup s is))
-same_stage s (Closing peer request) is = cc
+same_stage s (Closing peer request checked) is = cc
 same_stage s (Crossed peer request) is = cc
 
 opened_setup_of : (s : Option Setup) (stage : Stage) → setup_of stage ≡ s → setup_of (with_change opened_setup stage) ≡ option_map opened_setup s
 opened_setup_of s (Requested request) is = ap (option_map opened_setup) is
 opened_setup_of s (Connected peer setup) is = ap (option_map opened_setup) is
 opened_setup_of s (Leaving peer setup request) is = ap (option_map opened_setup) is
-opened_setup_of s (Closing peer request) is = ap (option_map opened_setup) is
+opened_setup_of s (Closing peer request checked) is = ap (option_map opened_setup) is
 opened_setup_of s (Crossed peer request) is = ap (option_map opened_setup) is
 
 -- ---- what follows, by what is taken
@@ -337,7 +337,7 @@ up_untaken (Some h) pdu none = ap (λ (x : Option (List ℕ)). up_by x h) (sym (
     by_stage (Requested request) none = refl
     by_stage (Connected peer setup) none = sdu_untaken setup.carrier setup.own pdu none
     by_stage (Leaving peer setup request) none = refl
-    by_stage (Closing peer request) none = refl
+    by_stage (Closing peer request checked) none = refl
     by_stage (Crossed peer request) none = refl
 
 pub up_basic : (o : Option Held) (pdu sdu : List ℕ) → taken_at o pdu ≡ Basic sdu → handed_up o sdu ≡ up_on o pdu
@@ -348,7 +348,7 @@ up_basic (Some h) pdu sdu is = ap (λ (x : Option (List ℕ)). up_by x h) (sym (
     by_stage (Requested request) is = refl
     by_stage (Connected peer setup) is = sdu_basic setup.carrier setup.own pdu sdu is
     by_stage (Leaving peer setup request) is = refl
-    by_stage (Closing peer request) is = refl
+    by_stage (Closing peer request checked) is = refl
     by_stage (Crossed peer request) is = refl
 
 pub up_refused : (o : Option Held) (pdu : List ℕ) (refusal : FrameRefusal) → taken_at o pdu ≡ Framed (Err refusal) → model.Nothing ≡ up_on o pdu
@@ -359,14 +359,14 @@ up_refused (Some h) pdu refusal is = ap (λ (x : Option (List ℕ)). up_by x h) 
     by_stage (Requested request) is = refl
     by_stage (Connected peer setup) is = sdu_refused setup.carrier setup.own pdu refusal is
     by_stage (Leaving peer setup request) is = refl
-    by_stage (Closing peer request) is = refl
+    by_stage (Closing peer request checked) is = refl
     by_stage (Crossed peer request) is = refl
 
 up_framed : (stage : Stage) (pdu : List ℕ) (frame : PlainFrame) → taken_on (setup_of stage) pdu ≡ Framed (Ok frame) → frame_sdu (with_change opened_setup stage) frame ≡ sdu_at stage pdu
 up_framed (Requested request) pdu frame is = refl
 up_framed (Connected peer setup) pdu frame is = sym (sdu_framed setup.carrier setup.own pdu frame is)
 up_framed (Leaving peer setup request) pdu frame is = refl
-up_framed (Closing peer request) pdu frame is = refl
+up_framed (Closing peer request checked) pdu frame is = refl
 up_framed (Crossed peer request) pdu frame is = refl
 
 pub up_stays : (o : Option Held) (pdu : List ℕ) (frame : PlainFrame) → taken_at o pdu ≡ Framed (Ok frame) → frame_up (option_map opened o) frame ≡ up_on o pdu
@@ -386,7 +386,7 @@ up_shuts (Some h) pdu frame r is open_ some =
     by_stage (Requested request) open_ some = refl
     by_stage (Connected peer setup) open_ some = sdu_shut setup.carrier frame r open_ some
     by_stage (Leaving peer setup request) open_ some = refl
-    by_stage (Closing peer request) open_ some = refl
+    by_stage (Closing peer request checked) open_ some = refl
     by_stage (Crossed peer request) open_ some = refl
 
 -- ---- the own request is accepted where it waits
@@ -437,14 +437,14 @@ asked_stage : (stage : Stage) → is_some (asked_on (setup_of stage)) ≡ true �
 asked_stage (Requested request) some = refl
 asked_stage (Connected peer setup) some = ap (λ (x : Setup). Connected peer x) (asked_setup setup some)
 asked_stage (Leaving peer setup request) some = ap (λ (x : Setup). Leaving peer x request) (asked_setup setup some)
-asked_stage (Closing peer request) some = refl
+asked_stage (Closing peer request checked) some = refl
 asked_stage (Crossed peer request) some = refl
 
 unasked_stage : (stage : Stage) → is_some (asked_on (setup_of stage)) ≡ false → with_change opened_setup stage ≡ stage
 unasked_stage (Requested request) none = refl
 unasked_stage (Connected peer setup) none = ap (λ (x : Setup). Connected peer x) (unasked_setup setup none)
 unasked_stage (Leaving peer setup request) none = ap (λ (x : Setup). Leaving peer x request) (unasked_setup setup none)
-unasked_stage (Closing peer request) none = refl
+unasked_stage (Closing peer request checked) none = refl
 unasked_stage (Crossed peer request) none = refl
 
 pub asked_there : (o : Option Held) → is_some (asked_on (place_setup o)) ≡ true → option_map granted o ≡ option_map opened o

@@ -1,5 +1,5 @@
 -- What the timer makes of the channel at a place.
-use Rattle.std.proofs.Common.{◌≡◌, ◌∙◌, ℕ, zero, suc, List, [], ◌∷◌, drop, sym, ap}
+use Rattle.std.proofs.Common.{◌≡◌, ◌∙◌, ℕ, zero, suc, Bool, List, [], ◌∷◌, drop, sym, ap}
 use Rattle.std.specs.Prelude.{Option, Some, None, option_map, slice_get}
 use Rattle.std.specs.List.{fold}
 use Rattle.channel_model.specs.declared.errand.Errand.TheVariants.{Connection, Configuration, Disconnection}
@@ -51,10 +51,10 @@ leaving_by (Some h) own tries peer request v own_is is =
     ∙ ap (λ (stage : Stage). times tries (Disconnection h.own) (request_value request) (ends_lost_at stage h) v) is.1
     ∙ ap (λ (stage : Stage). times_end_at stage tries h v) (sym is.1)
 
-pub closing_by : (o : Option Held) (own tries peer : ℕ) (request : Kept) (v : Channels) → option_map (λ (h : Held). h.own) o ≡ Some own → IsStageAt o (Closing peer request)
+pub closing_by : (o : Option Held) (own tries peer : ℕ) (request : Kept) (checked : Bool) (v : Channels) → option_map (λ (h : Held). h.own) o ≡ Some own → IsStageAt o (Closing peer request checked)
     → times tries (Disconnection own) (request_value request) (ends_lost o) v ≡ times_end o tries v
-closing_by None own tries peer request v own_is is = absurd is
-closing_by (Some h) own tries peer request v own_is is =
+closing_by None own tries peer request checked v own_is is = absurd is
+closing_by (Some h) own tries peer request checked v own_is is =
     ap (λ (n : ℕ). times tries (Disconnection n) (request_value request) (ends_lost (Some h)) v) (sym (same_some h.own own own_is))
     ∙ ap (λ (stage : Stage). times tries (Disconnection h.own) (request_value request) (ends_lost_at stage h) v) is.1
     ∙ ap (λ (stage : Stage). times_end_at stage tries h v) (sym is.1)

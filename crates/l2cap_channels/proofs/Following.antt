@@ -10,8 +10,9 @@ use Rattle.channel_model.specs.declared.event.ChannelEvent.TheVariants.{Opened}
 use Rattle.channel_model.specs.declared.event.CloseReason.{CloseReason}
 use Rattle.channel_model.specs.declared.event.CloseReason.TheVariants.{NoAgreement}
 use Rattle.channel_model.specs.Value.{Request, Own, Unasked, Asking, Granted, Setup, Stage, Requested, Connected, Leaving, Closing, Crossed, Held, Channels}
-use Rattle.channel_model.specs.Changing.{in_place_of, to_stage, stage_with, setup_of, forgets, tells}
+use Rattle.channel_model.specs.Changing.{in_place_of, to_stage, stage_with, setup_of, has_fcs_by, forgets, tells}
 use Rattle.channel_model.specs.Asking.{new_request, asks, first_options}
+use Rattle.channel_model.specs.Calls.{has_fcs_at}
 use Rattle.channel_model.specs.Closing.{closes, closed_event}
 use Rattle.channel_model.specs.Configuring.{accepts, accepts_with, accepted_setup, refuses, refused_setup, grants, granted_setup, new_carrier, opens_if}
 use Rattle.channel_model.specs.Responses.{renews, renewed_setup}
@@ -52,7 +53,7 @@ accepted_stage : (stage : Stage) (psm own : ℕ) (wish : Wish) (options : Option
 accepted_stage (Requested request) psm own wish options v there = cc
 accepted_stage (Connected peer setup) psm own wish options v there = by_own setup.own wish options (record { psm = psm; own = own; stage = Connected peer setup }) setup v refl
 accepted_stage (Leaving peer setup request) psm own wish options v there = by_own setup.own wish options (record { psm = psm; own = own; stage = Leaving peer setup request }) setup v refl
-accepted_stage (Closing peer request) psm own wish options v there = cc
+accepted_stage (Closing peer request checked) psm own wish options v there = cc
 accepted_stage (Crossed peer request) psm own wish options v there = cc
 
 pub asks_by : (o : Option Held) (wish : Wish) (options : Options) (own : ℕ) (v : Channels) → option_map (λ (h : Held). h.own) o ≡ Some own → acceptance_on (place_setup o) ≡ Asks → is_some (place_setup o) ≡ true
@@ -98,20 +99,22 @@ twice (x ∷ xs) a b same =
 abbrev changed : Held → Setup → Held
 changed held setup = record held { stage = stage_with setup held.stage }
 
-closes_stage : (stage : Stage) (psm own : ℕ) (setup : Setup) (reason : CloseReason) (v : Channels) → is_some (setup_of stage) ≡ true
+closes_stage : (stage : Stage) (psm own : ℕ) (setup : Setup) (reason : CloseReason) (v : Channels) → is_some (setup_of stage) ≡ true → has_fcs_at (stage_with setup stage) ≡ has_fcs_at stage
     → closes reason (changed (record { psm = psm; own = own; stage = stage }) setup) (to_stage (record { psm = psm; own = own; stage = stage }) (stage_with setup stage) v)
     ≡ closes reason (record { psm = psm; own = own; stage = stage }) v
-closes_stage (Requested request) psm own setup reason v there = cc
-closes_stage (Connected peer before) psm own setup reason v there =
+closes_stage (Requested request) psm own setup reason v there same = cc
+closes_stage (Connected peer before) psm own setup reason v there same =
     let held : Held = record { psm = psm; own = own; stage = Connected peer before } in
     ap (λ (xs : List Held). closed_event reason held (asks (Disconnection own) (record (forgets (Configuration own) v) { held = xs })))
-    (twice v.held (record held { stage = Closing peer (new_request v) }) (record held { stage = Connected peer setup }) refl)
-closes_stage (Leaving peer before request) psm own setup reason v there =
+    (twice v.held (record held { stage = Closing peer (new_request v) (has_fcs_by setup) }) (record held { stage = Connected peer setup }) refl)
+    ∙ ap (λ (checked : Bool). closed_event reason held (asks (Disconnection own) (to_stage held (Closing peer (new_request v) checked) (forgets (Configuration own) v)))) same
+closes_stage (Leaving peer before request) psm own setup reason v there same =
     let held : Held = record { psm = psm; own = own; stage = Leaving peer before request } in
     ap (λ (xs : List Held). closed_event reason held (record (forgets (Configuration own) v) { held = xs }))
-    (twice v.held (record held { stage = Closing peer request }) (record held { stage = Leaving peer setup request }) refl)
-closes_stage (Closing peer request) psm own setup reason v there = cc
-closes_stage (Crossed peer request) psm own setup reason v there = cc
+    (twice v.held (record held { stage = Closing peer request (has_fcs_by setup) }) (record held { stage = Leaving peer setup request }) refl)
+    ∙ ap (λ (checked : Bool). closed_event reason held (to_stage held (Closing peer request checked) (forgets (Configuration own) v))) same
+closes_stage (Closing peer request checked) psm own setup reason v there same = cc
+closes_stage (Crossed peer request) psm own setup reason v there same = cc
 
 -- ---- options are not acceptable
 
@@ -119,10 +122,10 @@ refused_stage : (stage : Stage) (psm own : ℕ) (v : Channels) → 2 ≤ refused
     → closes NoAgreement (record { psm = psm; own = own; stage = stage }) v ≡ with_setup_at (λ held setup. refuses held (refused_setup setup)) (record { psm = psm; own = own; stage = stage }) v
 refused_stage (Requested request) psm own v many = absurd (omega (arith, many))
 refused_stage (Connected peer setup) psm own v many =
-    rw (le-leb 3 (setup.refused + 1) (omega (arith, many))) (sym (closes_stage (Connected peer setup) psm own (refused_setup setup) NoAgreement v refl))
+    rw (le-leb 3 (setup.refused + 1) (omega (arith, many))) (sym (closes_stage (Connected peer setup) psm own (refused_setup setup) NoAgreement v refl refl))
 refused_stage (Leaving peer setup request) psm own v many =
-    rw (le-leb 3 (setup.refused + 1) (omega (arith, many))) (sym (closes_stage (Leaving peer setup request) psm own (refused_setup setup) NoAgreement v refl))
-refused_stage (Closing peer request) psm own v many = absurd (omega (arith, many))
+    rw (le-leb 3 (setup.refused + 1) (omega (arith, many))) (sym (closes_stage (Leaving peer setup request) psm own (refused_setup setup) NoAgreement v refl refl))
+refused_stage (Closing peer request checked) psm own v many = absurd (omega (arith, many))
 refused_stage (Crossed peer request) psm own v many = absurd (omega (arith, many))
 
 pub refused_by : (o : Option Held) (v : Channels) → 2 ≤ refused_on (place_setup o) → on_place (closes NoAgreement) o v ≡ on_place (with_setup_at (λ held setup. refuses held (refused_setup setup))) o v
@@ -139,7 +142,7 @@ refusing_stage : (stage : Stage) (psm own : ℕ) (v : Channels) → refused_on (
 refusing_stage (Requested request) psm own v few there = cc
 refusing_stage (Connected peer setup) psm own v few there = rw (below setup.refused few) refl
 refusing_stage (Leaving peer setup request) psm own v few there = rw (below setup.refused few) refl
-refusing_stage (Closing peer request) psm own v few there = cc
+refusing_stage (Closing peer request checked) psm own v few there = cc
 refusing_stage (Crossed peer request) psm own v few there = cc
 
 pub refusing_by : (o : Option Held) (v : Channels) → refused_on (place_setup o) < 2 → is_some (place_setup o) ≡ true
@@ -153,10 +156,10 @@ renewed_stage : (stage : Stage) (psm own : ℕ) (options : Options) (v : Channel
     → closes NoAgreement (record { psm = psm; own = own; stage = stage }) v ≡ with_setup_at (λ held setup. renews options held (renewed_setup setup)) (record { psm = psm; own = own; stage = stage }) v
 renewed_stage (Requested request) psm own options v many = absurd (omega (arith, many))
 renewed_stage (Connected peer setup) psm own options v many =
-    rw (le-leb 3 (setup.renewed + 1) (omega (arith, many))) (sym (closes_stage (Connected peer setup) psm own (renewed_setup setup) NoAgreement v refl))
+    rw (le-leb 3 (setup.renewed + 1) (omega (arith, many))) (sym (closes_stage (Connected peer setup) psm own (renewed_setup setup) NoAgreement v refl refl))
 renewed_stage (Leaving peer setup request) psm own options v many =
-    rw (le-leb 3 (setup.renewed + 1) (omega (arith, many))) (sym (closes_stage (Leaving peer setup request) psm own (renewed_setup setup) NoAgreement v refl))
-renewed_stage (Closing peer request) psm own options v many = absurd (omega (arith, many))
+    rw (le-leb 3 (setup.renewed + 1) (omega (arith, many))) (sym (closes_stage (Leaving peer setup request) psm own (renewed_setup setup) NoAgreement v refl refl))
+renewed_stage (Closing peer request checked) psm own options v many = absurd (omega (arith, many))
 renewed_stage (Crossed peer request) psm own options v many = absurd (omega (arith, many))
 
 pub renewed_by : (o : Option Held) (options : Options) (v : Channels) → 2 ≤ renewed_on (place_setup o)
@@ -170,7 +173,7 @@ renewing_stage : (stage : Stage) (psm own : ℕ) (options : Options) (v : Channe
 renewing_stage (Requested request) psm own options v few there = cc
 renewing_stage (Connected peer setup) psm own options v few there = rw (below setup.renewed few) refl
 renewing_stage (Leaving peer setup request) psm own options v few there = rw (below setup.renewed few) refl
-renewing_stage (Closing peer request) psm own options v few there = cc
+renewing_stage (Closing peer request checked) psm own options v few there = cc
 renewing_stage (Crossed peer request) psm own options v few there = cc
 
 pub renewing_by : (o : Option Held) (own : ℕ) (options : Options) (v : Channels) → option_map (λ (h : Held). h.own) o ≡ Some own → renewed_on (place_setup o) < 2 → is_some (place_setup o) ≡ true
@@ -190,7 +193,7 @@ granted_stage : (stage : Stage) (psm own : ℕ) (v : Channels) → is_some (setu
 granted_stage (Requested request) psm own v there = cc
 granted_stage (Connected peer setup) psm own v there = refl
 granted_stage (Leaving peer setup request) psm own v there = refl
-granted_stage (Closing peer request) psm own v there = cc
+granted_stage (Closing peer request checked) psm own v there = cc
 granted_stage (Crossed peer request) psm own v there = cc
 
 pub granted_by : (o : Option Held) (own : ℕ) (v : Channels) → option_map (λ (h : Held). h.own) o ≡ Some own → carries_on (place_setup o) ≡ false → is_some (place_setup o) ≡ true

@@ -40,7 +40,7 @@ spent_same : (stage : Stage) → stage_gives stage ≡ None → spent stage ≡ 
 spent_same (Requested request) none = refl
 spent_same (Connected peer setup) none = ap (λ (k : Option Carrier). Connected peer (record setup { carrier = k })) (carrier_same setup.carrier peer none)
 spent_same (Leaving peer setup request) none = ap (λ (k : Option Carrier). Leaving peer (record setup { carrier = k }) request) (carrier_same setup.carrier peer none)
-spent_same (Closing peer request) none = refl
+spent_same (Closing peer request checked) none = refl
 spent_same (Crossed peer request) none = refl
 
 set_get : (held : List Held) (at : ℕ) (h : Held) → slice_get held at ≡ Some h → slice_set held at h ≡ held
@@ -81,7 +81,7 @@ spent_stage : (stage : Stage) (psm own : ℕ) (v : Channels) → is_some (stage_
 spent_stage (Requested request) psm own v some = cc
 spent_stage (Connected peer setup) psm own v some = refl
 spent_stage (Leaving peer setup request) psm own v some = refl
-spent_stage (Closing peer request) psm own v some = cc
+spent_stage (Closing peer request checked) psm own v some = cc
 spent_stage (Crossed peer request) psm own v some = cc
 
 pub spent_is : (o : Option Held) (v : Channels) (old new : List ℕ) (n : ℕ) → WritesNext (place_gives o) old (Some n) new

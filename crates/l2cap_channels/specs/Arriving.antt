@@ -44,14 +44,14 @@ abbrev pub is_connected : Stage → Bool
 is_connected (Requested request) = false
 is_connected (Connected peer setup) = true
 is_connected (Leaving peer setup request) = false
-is_connected (Closing peer request) = false
+is_connected (Closing peer request checked) = false
 is_connected (Crossed peer request) = false
 
 abbrev pub handed_at : Stage → List ℕ → Option (List ℕ)
 handed_at (Requested request) sdu = None
 handed_at (Connected peer setup) sdu = Some sdu
 handed_at (Leaving peer setup request) sdu = None
-handed_at (Closing peer request) sdu = None
+handed_at (Closing peer request checked) sdu = None
 handed_at (Crossed peer request) sdu = None
 
 abbrev pub handed_up : Option Held → List ℕ → Up
@@ -92,7 +92,7 @@ abbrev pub frame_sdu : Stage → PlainFrame → Option (List ℕ)
 frame_sdu (Requested request) frame = None
 frame_sdu (Connected peer setup) frame = sdu_heard (carrier_answer setup.carrier frame)
 frame_sdu (Leaving peer setup request) frame = None
-frame_sdu (Closing peer request) frame = None
+frame_sdu (Closing peer request checked) frame = None
 frame_sdu (Crossed peer request) frame = None
 
 abbrev pub frame_up : Option Held → PlainFrame → Up

@@ -24,7 +24,7 @@ abbrev pub stage_value : Stage → value.Setup → value.Stage
 stage_value (Requested request) setup = value.Requested (request_value request)
 stage_value (Connected peer) setup = value.Connected peer setup
 stage_value (Leaving peer request) setup = value.Leaving peer setup (request_value request)
-stage_value (Closing peer request) setup = value.Closing peer (request_value request)
+stage_value (Closing peer request checked) setup = value.Closing peer (request_value request) checked
 stage_value (Crossed peer request) setup = value.Crossed peer (request_value request)
 
 abbrev pub place_value : Inside → value.Held
@@ -55,7 +55,7 @@ abbrev pub hides_setup : Stage → Bool
 hides_setup (Requested request) = true
 hides_setup (Connected peer) = false
 hides_setup (Leaving peer request) = false
-hides_setup (Closing peer request) = true
+hides_setup (Closing peer request checked) = true
 hides_setup (Crossed peer request) = true
 
 -- a channel that is there, once the host asked for its end
@@ -63,7 +63,7 @@ abbrev pub left : value.Request → value.Stage → value.Stage
 left request (value.Requested before) = value.Requested before
 left request (value.Connected peer setup) = value.Leaving peer setup request
 left request (value.Leaving peer setup before) = value.Leaving peer setup before
-left request (value.Closing peer before) = value.Closing peer before
+left request (value.Closing peer before checked) = value.Closing peer before checked
 left request (value.Crossed peer before) = value.Crossed peer before
 
 abbrev pub sent_on : Option value.Setup → List ℕ → value.Stage → value.Stage

@@ -33,7 +33,7 @@ abbrev pub with_change : (Setup → Setup) → Stage → Stage
 with_change f (Requested request) = Requested request
 with_change f (Connected peer setup) = Connected peer (f setup)
 with_change f (Leaving peer setup request) = Leaving peer (f setup) request
-with_change f (Closing peer request) = Closing peer request
+with_change f (Closing peer request checked) = Closing peer request checked
 with_change f (Crossed peer request) = Crossed peer request
 
 abbrev pub noted : Options → Setup → Setup

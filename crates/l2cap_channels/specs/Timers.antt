@@ -1,10 +1,10 @@
 -- What the timer makes of a channel.
-use Rattle.std.specs.Prelude.{ℕ, Option, Some, None}
+use Rattle.std.specs.Prelude.{ℕ, Bool, false, Option, Some, None}
 use Rattle.ertm_model.specs.declared.reason.ErtmReason.{ErtmReason}
 use Rattle.ertm_model.specs.Value.{Ertm}
 use Rattle.ertm_model.specs.Giving.{timed}
 use Rattle.channel_model.specs.Value.{Request, Own, Unasked, Asking, Granted, Carrier, Plain, Retransmitting, Setup, Stage, Requested, Connected, Leaving, Closing, Crossed, Held, Channels}
-use Rattle.channel_model.specs.Changing.{setup_of, stage_with}
+use Rattle.channel_model.specs.Changing.{is_retransmitting, has_fcs_by, setup_of, stage_with}
 use Rattle.channel_model.specs.Asking as asking
 use Rattle.channel_model.specs.Timing.{times_carrier, times_setup, loses_end}
 use Rattle.channel_model.specs.declared.event.CloseReason.TheVariants.{RetryLimit}
@@ -20,9 +20,9 @@ fired_value Spent = asking.Spent
 -- a channel that closes, with this request for its end unless one waits
 abbrev pub shut : Request → Stage → Stage
 shut request (Requested before) = Requested before
-shut request (Connected peer setup) = Closing peer request
-shut request (Leaving peer setup before) = Closing peer before
-shut request (Closing peer before) = Closing peer before
+shut request (Connected peer setup) = Closing peer request (has_fcs_by setup)
+shut request (Leaving peer setup before) = Closing peer before (has_fcs_by setup)
+shut request (Closing peer before checked) = Closing peer before checked
 shut request (Crossed peer before) = Crossed peer before
 
 -- a channel whose machine has changed, and closes with it
@@ -39,6 +39,11 @@ abbrev pub carrier_stage : Option Carrier → Request → Setup → Stage → St
 carrier_stage None request setup stage = stage
 carrier_stage (Some (Plain agreed waiting)) request setup stage = stage
 carrier_stage (Some (Retransmitting machine)) request setup stage = settled (timed machine).closed (timed machine) request setup stage
+
+-- the carrier of a channel that is there is a machine
+abbrev pub retransmits_on : Option Setup → Bool
+retransmits_on None = false
+retransmits_on (Some setup) = is_retransmitting setup.carrier
 
 abbrev pub reason_on : Option Setup → Option ErtmReason
 reason_on None = None
@@ -85,7 +90,7 @@ abbrev pub ends_lost_at : Stage → Held → Channels → Channels
 ends_lost_at (Requested request) held v = v
 ends_lost_at (Connected peer setup) held v = v
 ends_lost_at (Leaving peer setup request) held v = ends RetryLimit held v
-ends_lost_at (Closing peer request) held v = loses_end held v
+ends_lost_at (Closing peer request checked) held v = loses_end held v
 ends_lost_at (Crossed peer request) held v = loses_end held v
 
 abbrev pub ends_lost : Option Held → Channels → Channels

@@ -65,7 +65,8 @@ impl Place {
         match self.stage {
             Stage::Connected(_) => self.setup.own.taken(self.line.read(pdu)),
             Stage::Leaving(_, _) => self.setup.own.taken(self.line.read(pdu)),
-            Stage::Requested(_) | Stage::Closing(_, _) | Stage::Crossed(_, _) => Reading::Nothing,
+            Stage::Requested(_) | Stage::Closing(_, _, _) | Stage::Crossed(_, _) =>
+                Reading::Nothing,
         }
     }
 
@@ -81,7 +82,7 @@ impl Place {
             },
             Stage::Requested(_)
             | Stage::Leaving(_, _)
-            | Stage::Closing(_, _)
+            | Stage::Closing(_, _, _)
             | Stage::Crossed(_, _) => Up::Nothing,
         }
     }
@@ -94,7 +95,7 @@ impl Place {
         match self.stage {
             Stage::Connected(_) => self.line.fault(frame),
             Stage::Leaving(_, _) => self.line.fault(frame),
-            Stage::Requested(_) | Stage::Closing(_, _) | Stage::Crossed(_, _) => None,
+            Stage::Requested(_) | Stage::Closing(_, _, _) | Stage::Crossed(_, _) => None,
         }
     }
 

@@ -157,15 +157,24 @@ impl Channels {
         self.places[at].waits()
     }
 
+    /// Whether what comes in for the channel at a place has a check word.
+    fn has_fcs_at(&self, at: usize) -> bool
+        requires { at < length self.now.channels.held }
+        ensures { result ≡ calls.has_fcs_on (slice_get self.now.channels.held at) }
+    {
+        self.places[at].has_fcs()
+    }
+
     /// Whether what comes in for an own endpoint has a check word: its channel wishes retransmission,
-    /// and the peer's options were accepted.
+    /// and the peer's options were accepted. So it is until the channel has ended for the host: the
+    /// answer to its request for the end came, or it answered the peer's.
     pub fn has_fcs(&self, cid: u16) -> bool
         ensures { result ≡ calls.has_fcs cid self.now.channels }
     {
         let Some(at) = self.place_of(cid) else {
             return false;
         };
-        self.places[at].has_fcs()
+        self.has_fcs_at(at)
     }
 
     /// The most frames that are not acknowledged on a channel.
@@ -333,6 +342,7 @@ impl Channels {
     {
         let event = self.closed(at, reason);
         let own = self.endpoint(at);
+        let checked = self.has_fcs_at(at);
         match self.stage(at) {
             Stage::Requested(_) => {
                 self.remove(at);
@@ -342,15 +352,15 @@ impl Channels {
                 let request = Request::new(self.identifier);
                 self.forget(Errand::Configuration { own });
                 self.ask(Errand::Disconnection { own });
-                self.hide(at, Stage::Closing(peer, request));
+                self.hide(at, Stage::Closing(peer, request, checked));
                 self.tell(event);
             }
             Stage::Leaving(peer, request) => {
                 self.forget(Errand::Configuration { own });
-                self.hide(at, Stage::Closing(peer, request));
+                self.hide(at, Stage::Closing(peer, request, checked));
                 self.tell(event);
             }
-            Stage::Closing(_, _) | Stage::Crossed(_, _) => {}
+            Stage::Closing(_, _, _) | Stage::Crossed(_, _) => {}
         }
     }
 
@@ -368,7 +378,7 @@ impl Channels {
                 self.ask(Errand::Disconnection { own });
                 self.leave(at, request);
             }
-            Stage::Leaving(_, _) | Stage::Closing(_, _) | Stage::Crossed(_, _) => {}
+            Stage::Leaving(_, _) | Stage::Closing(_, _, _) | Stage::Crossed(_, _) => {}
         }
     }
 
@@ -417,7 +427,7 @@ impl Channels {
     {
         match self.stage(at) {
             Stage::Connected(_) | Stage::Leaving(_, _) => self.put(at, sdu),
-            Stage::Requested(_) | Stage::Closing(_, _) | Stage::Crossed(_, _) => {}
+            Stage::Requested(_) | Stage::Closing(_, _, _) | Stage::Crossed(_, _) => {}
         }
     }
 

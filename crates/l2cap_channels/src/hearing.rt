@@ -189,7 +189,7 @@ impl Channels {
                 self.remove(at);
                 self.tell(event);
             }
-            Stage::Closing(_, _) | Stage::Crossed(_, _) => self.remove(at),
+            Stage::Closing(_, _, _) | Stage::Crossed(_, _) => self.remove(at),
             Stage::Requested(_) | Stage::Connected(_) => {}
         }
     }
@@ -233,7 +233,7 @@ impl Channels {
                 self.hide(at, Stage::Crossed(peer, request));
                 self.tell(event);
             }
-            Stage::Closing(peer, request) => self.hide(at, Stage::Crossed(peer, request)),
+            Stage::Closing(peer, request, _) => self.hide(at, Stage::Crossed(peer, request)),
             Stage::Requested(_) | Stage::Crossed(_, _) => {}
         }
     }

@@ -3,6 +3,7 @@
 ghost use Rattle.std.specs.Prelude.{◌≡◌, ◌≤◌, ℕ, None, Some, false, length, is_some, IfOk, IfSome};
 ghost use Rattle.std.specs.Option.{option_map};
 ghost use Rattle.channel_model.specs.Calls as calls;
+ghost use Rattle.channel_model.specs.Changing.{is_retransmitting};
 ghost use Rattle.channel_model.specs.Configuring.{new_carrier};
 ghost use Rattle.channel_model.specs.Giving.{some_carrier_gives, carrier_given};
 ghost use Rattle.ertm_frames.specs.Frames.{plain, IsFrame};
@@ -153,7 +154,7 @@ impl Line {
 
     /// Whether it is a retransmission machine.
     pub(crate) fn is_retransmitting(&self) -> bool
-        ensures { result ≡ calls.is_retransmitting self.now }
+        ensures { result ≡ is_retransmitting self.now }
     {
         match self.carrying {
             Carrying::Nothing => false,

@@ -25,7 +25,7 @@ impl Place {
         match self.stage {
             Stage::Connected(_) => self.line.gives(),
             Stage::Leaving(_, _) => self.line.gives(),
-            Stage::Requested(_) | Stage::Closing(_, _) | Stage::Crossed(_, _) => false,
+            Stage::Requested(_) | Stage::Closing(_, _, _) | Stage::Crossed(_, _) => false,
         }
     }
 
@@ -45,7 +45,7 @@ impl Place {
     {
         match self.stage {
             Stage::Requested(_) | Stage::Connected(_) => false,
-            Stage::Leaving(_, _) | Stage::Closing(_, _) | Stage::Crossed(_, _) => true,
+            Stage::Leaving(_, _) | Stage::Closing(_, _, _) | Stage::Crossed(_, _) => true,
         }
     }
 

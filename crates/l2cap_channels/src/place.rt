@@ -64,7 +64,7 @@ fn put_options_request(peer: Cid, request: &Request, options: &Options, into: &m
 
 impl Place {
     ghost use Rattle.l2cap_channels.specs.Parts.{request_value};
-    ghost use Rattle.l2cap_channels.specs.Timers.{asked_on, reason_on, timed_stage};
+    ghost use Rattle.l2cap_channels.specs.Timers.{asked_on, retransmits_on, reason_on, timed_stage};
     ghost use Rattle.l2cap_channels.specs.Places.{stage_value, IsOpenLine, IsLineOf, IsStage, hides_setup, left, sent};
 
     /// A channel of which nothing is agreed on.
@@ -141,17 +141,30 @@ impl Place {
     {
         match self.stage {
             Stage::Connected(_) | Stage::Leaving(_, _) => Some(&self.line),
-            Stage::Requested(_) | Stage::Closing(_, _) | Stage::Crossed(_, _) => None,
+            Stage::Requested(_) | Stage::Closing(_, _, _) | Stage::Crossed(_, _) => None,
+        }
+    }
+
+    /// Whether its carrier is a machine.
+    pub(crate) fn is_retransmitting(&self) -> bool
+        ensures { result ≡ retransmits_on (setup_of self.now.stage) }
+    {
+        match self.line() {
+            Some(line) => line.is_retransmitting(),
+            None => false,
         }
     }
 
     /// Whether what comes in for it has a check word.
     pub(crate) fn has_fcs(&self) -> bool
-        ensures { result ≡ calls.has_fcs_on (setup_of self.now.stage) }
+        ensures { result ≡ calls.has_fcs_at self.now.stage }
     {
-        match self.line() {
-            Some(line) => line.is_retransmitting(),
-            None => false,
+        match self.stage {
+            Stage::Connected(_) | Stage::Leaving(_, _) => {
+                self.setup.own.is_stated() && self.line.is_retransmitting()
+            }
+            Stage::Closing(_, _, checked) => checked,
+            Stage::Requested(_) | Stage::Crossed(_, _) => false,
         }
     }
 
@@ -176,7 +189,7 @@ impl Place {
             }
             Stage::Requested(_)
             | Stage::Leaving(_, _)
-            | Stage::Closing(_, _)
+            | Stage::Closing(_, _, _)
             | Stage::Crossed(_, _) => true,
         }
     }
@@ -189,7 +202,7 @@ impl Place {
             Stage::Requested(_) | Stage::Connected(_) | Stage::Leaving(_, _) => {
                 Some(self.closed(CloseReason::LinkDown))
             }
-            Stage::Closing(_, _) | Stage::Crossed(_, _) => None,
+            Stage::Closing(_, _, _) | Stage::Crossed(_, _) => None,
         }
     }
 
@@ -246,7 +259,7 @@ impl Place {
         match stage {
             Stage::Connected(peer) => self.line.give(peer, into),
             Stage::Leaving(peer, _) => self.line.give(peer, into),
-            Stage::Requested(_) | Stage::Closing(_, _) | Stage::Crossed(_, _) => None,
+            Stage::Requested(_) | Stage::Closing(_, _, _) | Stage::Crossed(_, _) => None,
         }
     }
 
@@ -287,7 +300,7 @@ impl Place {
         match self.stage {
             Stage::Connected(peer) => Some(put_options_request(peer, request, options, into)),
             Stage::Leaving(peer, _) => Some(put_options_request(peer, request, options, into)),
-            Stage::Requested(_) | Stage::Closing(_, _) | Stage::Crossed(_, _) => None,
+            Stage::Requested(_) | Stage::Closing(_, _, _) | Stage::Crossed(_, _) => None,
         }
     }
 
@@ -297,7 +310,7 @@ impl Place {
     {
         let (peer, request) = match self.stage {
             Stage::Leaving(peer, request) => (peer, request),
-            Stage::Closing(peer, request) => (peer, request),
+            Stage::Closing(peer, request, _) => (peer, request),
             Stage::Crossed(peer, request) => (peer, request),
             Stage::Requested(_) | Stage::Connected(_) => return None,
         };
@@ -343,8 +356,8 @@ impl Place {
             Stage::Leaving(peer, request) => {
                 self.stage = Stage::Leaving(peer, request.once_more());
             }
-            Stage::Closing(peer, request) => {
-                self.stage = Stage::Closing(peer, request.once_more());
+            Stage::Closing(peer, request, checked) => {
+                self.stage = Stage::Closing(peer, request.once_more(), checked);
             }
             Stage::Crossed(peer, request) => {
                 self.stage = Stage::Crossed(peer, request.once_more());
@@ -370,10 +383,11 @@ impl Place {
         ensures after { self.new ≡ record self.old { stage = timed_stage (request_value request) self.old.stage } }
     {
         let stage = self.stage;
+        let checked = self.has_fcs();
         let shut = match stage {
-            Stage::Connected(peer) => Stage::Closing(peer, request),
-            Stage::Leaving(peer, before) => Stage::Closing(peer, before),
-            Stage::Requested(_) | Stage::Closing(_, _) | Stage::Crossed(_, _) => return None,
+            Stage::Connected(peer) => Stage::Closing(peer, request, checked),
+            Stage::Leaving(peer, before) => Stage::Closing(peer, before, checked),
+            Stage::Requested(_) | Stage::Closing(_, _, _) | Stage::Crossed(_, _) => return None,
         };
         let reason = self.line.fire()?;
         self.stage = shut;
@@ -387,7 +401,7 @@ impl Place {
         match self.stage {
             Stage::Connected(peer) => endpoint == peer.get(),
             Stage::Leaving(peer, _) => endpoint == peer.get(),
-            Stage::Closing(peer, _) => endpoint == peer.get(),
+            Stage::Closing(peer, _, _) => endpoint == peer.get(),
             Stage::Crossed(peer, _) => endpoint == peer.get(),
             Stage::Requested(_) => false,
         }
@@ -400,7 +414,7 @@ impl Place {
         match self.stage {
             Stage::Connected(peer) => endpoint == peer.get(),
             Stage::Leaving(peer, _) => endpoint == peer.get(),
-            Stage::Closing(peer, _) => endpoint == peer.get(),
+            Stage::Closing(peer, _, _) => endpoint == peer.get(),
             Stage::Requested(_) | Stage::Crossed(_, _) => false,
         }
     }

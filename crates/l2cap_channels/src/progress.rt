@@ -134,7 +134,7 @@ impl Place {
         let stage = self.stage;
         let peer = match stage {
             Stage::Requested(_) => return Verdict::NoChannel,
-            Stage::Closing(peer, _) => return Verdict::TooLate(peer.get()),
+            Stage::Closing(peer, _, _) => return Verdict::TooLate(peer.get()),
             Stage::Crossed(peer, _) => return Verdict::TooLate(peer.get()),
             Stage::Connected(peer) => peer.get(),
             Stage::Leaving(peer, _) => peer.get(),

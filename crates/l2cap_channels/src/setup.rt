@@ -28,7 +28,7 @@ pub(crate) struct Setup {
 
 impl Own {
     ghost use Rattle.std.specs.Prelude.{◌≡◌};
-    ghost use Rattle.channel_model.specs.Changing.{is_granted};
+    ghost use Rattle.channel_model.specs.Changing.{is_granted, is_stated};
     ghost use Rattle.channel_model.specs.Giving.{own_given};
     ghost use Rattle.l2cap_channels.specs.Places.{own_value};
 
@@ -37,6 +37,13 @@ impl Own {
         ensures { result ≡ is_granted (own_value self.now) }
     {
         matches!(self, Own::Granted)
+    }
+
+    /// Whether it was made.
+    pub(crate) fn is_stated(&self) -> bool
+        ensures { result ≡ is_stated (own_value self.now) }
+    {
+        !matches!(self, Own::Unasked)
     }
 
     /// It was given once more.

@@ -10,8 +10,9 @@ pub(crate) enum Stage {
     Connected(Cid),
     /// It is there, and the host asked for its end.
     Leaving(Cid, Request),
-    /// The host closed it and waits for the answer to its request for the end.
-    Closing(Cid, Request),
+    /// The host closed it and waits for the answer to its request for the end; and whether what comes in
+    /// until then has a check word.
+    Closing(Cid, Request, bool),
     /// The same, and the host has answered the peer's request for the end as well.
     Crossed(Cid, Request),
 }

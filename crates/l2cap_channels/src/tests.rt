@@ -215,3 +215,30 @@ fn two_ends_with_a_timer(rt: HostRuntime) -> Result<(), Fail> {
     assert!(rt; !client.armed());
     Ok(())
 }
+
+/// Whether the next event is that a channel's machine closed it.
+fn is_closed_by_its_machine(channels: &mut Channels) -> bool {
+    matches!(
+        channels.next_event(),
+        Some(ChannelEvent::Closed(_, _, CloseReason::Ertm(_)))
+    )
+}
+
+#[test]
+fn check_words_go_on_to_the_end(rt: HostRuntime) -> Result<(), Fail> {
+    let mut client = channels(rt.alloc(), 4, false)?;
+    let mut server = channels(rt.alloc(), 4, true)?;
+    let own = asks(&mut client, PUSH)?;
+    assert!(rt; !client.has_fcs(own.get()));
+    assert!(rt; are_agreed(&mut client, &mut server));
+    assert!(rt; client.has_fcs(own.get()));
+    let reject = [4, 0, 0x40, 0, 0x0D, 0, 0x10, 0xD4];
+    assert!(rt; hears(&mut client, own.get(), &reject, None));
+    assert!(rt; is_closed_by_its_machine(&mut client));
+    assert!(rt; client.has_fcs(own.get()));
+    assert!(rt; passes(&mut client, &mut server, None));
+    assert!(rt; client.has_fcs(own.get()));
+    assert!(rt; passes(&mut server, &mut client, None));
+    assert!(rt; !client.has_fcs(own.get()));
+    Ok(())
+}

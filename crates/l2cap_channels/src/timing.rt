@@ -6,7 +6,6 @@ ghost use Rattle.channel_model.specs.Asking.{fired};
 ghost use Rattle.channel_model.specs.Changing.{held_at, is_due, queued, to_stage, setup_of};
 ghost use Rattle.channel_model.specs.Closing.{closes, ends};
 ghost use Rattle.channel_model.specs.Timing as timing;
-ghost use Rattle.channel_model.specs.Calls as calls;
 ghost use Rattle.channel_model.specs.Carrying.{reason_of};
 ghost use Rattle.channel_model.specs.Value as value;
 ghost use Rattle.channel_model.specs.declared.event.CloseReason.TheVariants.{RetryLimit};
@@ -49,7 +48,7 @@ pub(crate) fn reason_of(reason: ErtmReason) -> CloseReason
 
 impl Channels {
     ghost use Rattle.l2cap_channels.specs.Parts.{request_value};
-    ghost use Rattle.l2cap_channels.specs.Timers.{fired_value, timed_stage, reason_on, asked_on, times_machine, times_options, ends_lost};
+    ghost use Rattle.l2cap_channels.specs.Timers.{fired_value, retransmits_on, timed_stage, reason_on, asked_on, times_machine, times_options, ends_lost};
 
     /// What the timer finds of an own request.
     fn fired(&self, errand: Errand, request: &Request) -> Fired
@@ -149,16 +148,16 @@ impl Channels {
         match self.stage(at) {
             Stage::Requested(request) => self.fire(at, Errand::Connection { own }, &request),
             Stage::Connected(_) | Stage::Leaving(_, _) => self.fire_options(at),
-            Stage::Closing(_, _) | Stage::Crossed(_, _) => {}
+            Stage::Closing(_, _, _) | Stage::Crossed(_, _) => {}
         }
     }
 
     /// Whether what carries the SDUs of the channel at a place is a machine.
     fn is_retransmitting(&self, at: usize) -> bool
         requires { at < length self.now.channels.held }
-        ensures { result ≡ calls.has_fcs_on (place_setup (slice_get self.now.channels.held at)) }
+        ensures { result ≡ retransmits_on (place_setup (slice_get self.now.channels.held at)) }
     {
-        self.places[at].has_fcs()
+        self.places[at].is_retransmitting()
     }
 
     /// The own request for options that waits, of the channel at a place.
@@ -194,7 +193,7 @@ impl Channels {
                 self.remove(at);
                 self.tell(event);
             }
-            Stage::Closing(_, _) | Stage::Crossed(_, _) => {
+            Stage::Closing(_, _, _) | Stage::Crossed(_, _) => {
                 self.remove(at);
                 self.tell(ChannelEvent::DisconnectLost(names.0));
             }
@@ -228,7 +227,7 @@ impl Channels {
         let errand = Errand::Disconnection { own };
         match self.stage(at) {
             Stage::Leaving(_, request) => self.fire_request(at, errand, &request),
-            Stage::Closing(_, request) => self.fire_request(at, errand, &request),
+            Stage::Closing(_, request, _) => self.fire_request(at, errand, &request),
             Stage::Crossed(_, request) => self.fire_request(at, errand, &request),
             Stage::Requested(_) | Stage::Connected(_) => {}
         }

@@ -44,11 +44,13 @@ use Rattle.push_model.specs.Server.{Server, Reacted, Lent, hears_up, hears_searc
 use Rattle.push_laws.specs.Occurrences.{Occurrence, Came, Went, Closed, LinkDown, Asked, Answering, done, all_done}
 use Rattle.push_laws.specs.Readings.{closes, since, came_on, packets_over}
 use Rattle.push_laws.specs.Faults.{faults_of}
-use Rattle.push_laws.specs.Answers.{Replied, requests, says_success, SaysWhatIsStored, said, responses, went_on}
+use Rattle.push_laws.specs.Answers.{Replied, requests, says_success, IsAnswered, said, responses, went_on}
 use Rattle.push_laws.specs.Premises.{IsHeard, AllGranted, MayCome, AllMayCome, new_packets}
 use Rattle.push_laws.specs.Laws.{new_over, AnswersComeInTurn}
+use Rattle.push_laws.proofs.Sessions.{kept_session}
 use Rattle.push_laws.proofs.Readings.{read_more, read_same, read_closed, drop_front, spelled_stored}
 use Rattle.push_laws.proofs.Servers.{by_psm}
+use Rattle.push_laws.proofs.Codes.{said_to, IsDue, said-due}
 use Rattle.push_laws.proofs.Gaining.{unfailed, taken_all, Clear, clear_more, first_holds, clean, clean_reads}
 
 -- ---- the response over L2CAP stays
@@ -116,20 +118,13 @@ lends_keep (Some outlet) server = refl
 
 -- ---- what is said to a packet
 
-come_granted : (calls : List InboxCall) (answers : List Answer) → faults_of answers ≡ 0 → come_of calls answers ≡ Ok tt
+pub come_granted : (calls : List InboxCall) (answers : List Answer) → faults_of answers ≡ 0 → come_of calls answers ≡ Ok tt
 come_granted [] answers e = refl
 come_granted (call ∷ calls) [] e = refl
 come_granted (call ∷ calls) (Ok done ∷ answers) e = come_granted calls answers e
 come_granted (call ∷ calls) (Err fault ∷ answers) e = absurd (omega (arith, e))
 
-kept_session : (t : Transport) (session : Serving) (sessions : Sessions) → session_of t (with_session (other_of t) session sessions) ≡ session_of t sessions
-kept_session L2cap session sessions = refl
-kept_session Rfcomm session sessions = refl
-
-abbrev said_to : Serving → List ℕ → List Answer → List ℕ
-said_to session packet answers = octets_said packet session.maximum (heard_with session packet answers).saying
-
-response_is : (t : Transport) (packet : List ℕ) (sessions : Sessions) (gift : Gift) → (is_naming t packet sessions ≡ true → has_object (session_of (other_of t) sessions) ≡ false)
+pub response_is : (t : Transport) (packet : List ℕ) (sessions : Sessions) (gift : Gift) → (is_naming t packet sessions ≡ true → has_object (session_of (other_of t) sessions) ≡ false)
     → (hears t packet sessions gift).response ≡ said_to (session_of t sessions) packet gift.answers
 response_is t packet sessions gift alone =
     cond_both (is_naming t packet sessions) _ _ (λ (h : model.Heard). h.response ≡ said_to (session_of t sessions) packet gift.answers)
@@ -148,12 +143,20 @@ response_is t packet sessions gift alone =
 pub record AnswersSoFar (settings : Settings) (past : List Occurrence) (response : List ℕ) : Type 0 where
   pub replied : List Replied
   pub all : requests replied ≡ packets_over L2cap past
-  pub means : EachAfter (SaysWhatIsStored (own_maximum L2cap settings)) [] replied
+  pub means : EachAfter (IsAnswered (own_maximum L2cap settings)) [] replied
   pub in_turn : responses replied ≡ filter_map (went_on object_psm) (since object_psm past) ++ cons_option (said response) []
 
 over_is : (response : List ℕ) (service : Service) → (response_over L2cap response service).response ≡ cond (is_empty response) service.response response
 over_is [] service = refl
 over_is (octet ∷ octets) service = refl
+
+-- the response that waits behind a request
+pub response_behind : (sdu : List ℕ) (service : Service) (gift : Gift) → is_ignored L2cap sdu service ≡ false → (is_naming L2cap sdu service.sessions ≡ true → has_object (session_of Rfcomm service.sessions) ≡ false)
+    → (hears_packet L2cap sdu service gift).service.response ≡ cond (is_empty (said_to service.sessions.direct sdu gift.answers)) service.response (said_to service.sessions.direct sdu gift.answers)
+response_behind sdu service gift taken alone =
+    let h = hears L2cap sdu service.sessions gift in
+    ap (λ (s : Served). s.service.response) (cond-false _ _ (after_heard L2cap service h) taken) ∙ over_is h.response (record service { sessions = h.sessions; failed = service.failed || h.short })
+    ∙ ap (λ (x : List ℕ). cond (is_empty x) service.response x) (response_is L2cap sdu service.sessions gift alone)
 
 none_waits : (octets : List ℕ) (more : Bool) → (not (is_empty octets) || more) ≡ false → octets ≡ []
 none_waits [] more e = refl
@@ -224,7 +227,6 @@ module _ (settings : Settings) (before : List Object) (past : List Occurrence) w
   came_turn sdu at c taken alone a =
       let service : Service = at.server.listener.service in
       let session : Serving = service.sessions.direct in
-      let h = hears L2cap sdu service.sessions at.gift in
       let r : List ℕ = said_to session sdu at.gift.answers in
       let new : Replied = record { request = sdu; response = r } in
       let one : Occurrence = Came 0x1001 sdu in
@@ -237,17 +239,17 @@ module _ (settings : Settings) (before : List Object) (past : List Occurrence) w
       subst (λ (n : ℕ). length (beyond (spelled_within n (packets_over L2cap past)) (spelled_within n (packets_over L2cap past ++ sdu ∷ []))) ≡ cond (says_success n new) 1 0) (stands.maxima L2cap)
       (stored_says session (packets_over L2cap past) sdu at.gift.answers come progress) in
       let behind : requests (a.replied ++ new ∷ []) ≡ requests a.replied ++ sdu ∷ [] = map-append (λ (x : Replied). x.request) a.replied (new ∷ []) in
-      let response_now : (hears_packet L2cap sdu service at.gift).service.response ≡ cond (is_empty r) service.response r =
-      ap (λ (s : Served). s.service.response) (cond-false _ _ (after_heard L2cap service h) taken)
-      ∙ over_is h.response (record service { sessions = h.sessions; failed = service.failed || h.short })
-      ∙ ap (λ (x : List ℕ). cond (is_empty x) service.response x) (response_is L2cap sdu service.sessions at.gift alone) in
+      let response_now : (hears_packet L2cap sdu service at.gift).service.response ≡ cond (is_empty r) service.response r = response_behind sdu service at.gift taken alone in
       let went : List (List ℕ) = filter_map (went_on object_psm) (since object_psm past) in
       record {
         replied = a.replied ++ new ∷ [];
         all = behind ∙ ap (λ (ps : List (List ℕ)). ps ++ sdu ∷ []) a.all ∙ sym (read_more (came_on object_psm) object_psm past one refl);
-        means = each_after-more (SaysWhatIsStored maximum) a.replied new a.means
-            (ap (λ (ps : List (List ℕ)). length (beyond (spelled_within maximum (requests a.replied)) (spelled_within maximum ps))) behind
-            ∙ ap (λ (ps : List (List ℕ)). length (beyond (spelled_within maximum ps) (spelled_within maximum (ps ++ sdu ∷ [])))) a.all ∙ means);
+        means = each_after-more (IsAnswered maximum) a.replied new a.means
+            (record {
+              stored = ap (λ (ps : List (List ℕ)). length (beyond (spelled_within maximum (requests a.replied)) (spelled_within maximum ps))) behind
+                  ∙ ap (λ (ps : List (List ℕ)). length (beyond (spelled_within maximum ps) (spelled_within maximum (ps ++ sdu ∷ [])))) a.all ∙ means;
+              due = subst (λ (n : ℕ). IsDue n sdu r) (stands.maxima L2cap) (said-due session sdu at.gift.answers come);
+            });
         in_turn = filter_map-append (λ (x : Replied). said x.response) a.replied (new ∷ []) ∙ ap (λ (ps : List (List ℕ)). ps ++ cons_option (said r) []) a.in_turn
             ∙ append_assoc went (cons_option (said service.response) []) (cons_option (said r) [])
             ∙ ap (λ (ps : List (List ℕ)). went ++ ps) (one_waits r service.response (free_or_silent service sdu at.gift c.spared taken))

@@ -91,7 +91,7 @@ waits_at : (P : Talk → Type 0) (object : Bool) (client : Client) (parts : List
 waits_at P false client parts is waits p = at_talk P client.stage client parts is p
 waits_at P true client parts is waits p = subst (λ (s : Stage). P (talk_of (steps_at s client parts).client)) (sym (object_of client.stage is)) (waits_object P client.transport client parts waits p)
 
-waits_talk : (P : Talk → Type 0) (client : Client) (parts : List Part) → is_waiting client.session.awaited ≡ true → P (talk_of client) → P (talk_of (steps.steps client parts).client)
+pub waits_talk : (P : Talk → Type 0) (client : Client) (parts : List Part) → is_waiting client.session.awaited ≡ true → P (talk_of client) → P (talk_of (steps.steps client parts).client)
 waits_talk P client parts waits p =
     step_either P client.failed (record { client = client; step = steps.NoMemory; left = parts }) (if client.given then rests client parts else steps_at client.stage client parts) p
     (step_either P client.given (rests client parts) (steps_at client.stage client parts) p (waits_at P (is_object client.stage) client parts refl waits p))

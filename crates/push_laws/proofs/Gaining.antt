@@ -3,7 +3,7 @@ use Rattle.std.proofs.Common.{Bool, true, false, cond, ltb, ◌+◌, ◌-◌, �
 use Rattle.std.specs.List.{AllByRecursion, cons_option}
 use Rattle.std.proofs.lemmas.Bool.{cond-false, ltb-false}
 use Rattle.std.proofs.lemmas.List.{map-append}
-use Rattle.std.proofs.lemmas.List.Sums.{sum_by-append, sum_by-cons}
+use Rattle.std.proofs.lemmas.List.Sums.{sum_by-cons}
 use Rattle.bt_base.specs.declared.settings.Settings.{Settings}
 use Rattle.bt_base.specs.declared.settings.Transport.{Transport}
 use Rattle.bt_base.specs.declared.settings.Transport.TheVariants.{L2cap, Rfcomm}
@@ -30,14 +30,14 @@ use Rattle.push_laws.specs.Occurrences.{Occurrence, Came, Went, Closed, LinkDown
 use Rattle.push_laws.specs.Readings.{closes, came_on, octets_heard, packets_over}
 use Rattle.push_laws.specs.Gains as clear
 use Rattle.push_laws.specs.Gains.{objects_over}
-use Rattle.push_laws.specs.Faults.{Marked, unmarked, heard_as, heard_behind, heard_from, heard_over, stored_over, objects_with, objects, counted, failures, faults_of, faults_by, faults}
+use Rattle.push_laws.specs.Faults.{Marked, unmarked, heard_as, heard_behind, heard_from, heard_over, stored_over, objects_with, objects, counted, failures, faults_of, fails_with, mark_of, marked_from, faults_before, spent_from}
 use Rattle.push_laws.specs.Faults as faulty
 use Rattle.obex_session.specs.Serving as serving
 use Rattle.obex_session.specs.Marks as marks
 use Rattle.obex_headers.specs.Reading as reading
 use Rattle.obex_headers.specs.declared.packet.Phase.TheVariants as phase
 use Rattle.push_laws.specs.Premises.{is_under_way, IsHeard, IsTaken, AllGranted, NoneShort, AnswersAre, MayCome, AllMayCome, new_packets, AllMayFail}
-use Rattle.push_laws.specs.Laws.{stored_in, new_over, paid_for, GainsWhatIsHeard, GainsAllButFaults, CreditsAreRead}
+use Rattle.push_laws.specs.Laws.{stored_in, new_over, paid_for, GainsWhatIsHeard, CreditsAreRead}
 use Rattle.push_laws.proofs.Sessions as opened
 use Rattle.push_laws.proofs.Readings.{read_more, read_closed, drop_front, unmarked_more, heard_more, spelled_stored}
 use Rattle.push_laws.proofs.Streams.{no_packets}
@@ -59,7 +59,7 @@ module _ (settings : Settings) (before : List Object) where
   unfailed past at calm h = cond-false _ _ _ h.upholds.listens.serves.enough
 
   abbrev NextTo : List Marked → Reacted → List ℕ → Occurrence → Reacted → Type 0
-  NextTo past at got one at' = Next settings (unmarked past) (heard_over L2cap past) (heard_over Rfcomm past) (before ++ objects settings past) got one at.gift at'
+  NextTo past at got one at' = Next settings (unmarked past) (heard_over L2cap past) (heard_over Rfcomm past) (before ++ objects settings past) got one at.server.listener.service at.gift at'
 
   next_after : (past : List Marked) (one : Occurrence) (at : Reacted) (h : Holds settings before past at) → MayCome NoneShort (IsTaken settings (unmarked past) at.server.listener.service) settings (unmarked past) at one → NextTo past at h.got one (done one at)
   next_after past (Came psm sdu) at h may =
@@ -73,10 +73,10 @@ module _ (settings : Settings) (before : List Object) where
   next_after past LinkDown at h may =
       subst (NextTo past at h.got LinkDown) (sym (unfailed past at _ h)) (down_next settings (unmarked past) (heard_over L2cap past) (heard_over Rfcomm past) (before ++ objects settings past) h.got at h.upholds)
   next_after past Asked at h may =
-      same_next settings (unmarked past) (heard_over L2cap past) (heard_over Rfcomm past) (before ++ objects settings past) h.got Asked at.gift (done Asked at) refl refl refl refl
+      same_next settings (unmarked past) (heard_over L2cap past) (heard_over Rfcomm past) (before ++ objects settings past) h.got Asked at.server.listener.service at.gift (done Asked at) refl refl refl refl
       (asked_upholds (most settings) (settings.mtu - 6) settings.credits (heard_over L2cap past) (heard_over Rfcomm past) (passed (unmarked past)) h.got (before ++ objects settings past) at.server at.gift h.upholds) (omega arith)
   next_after past (Answering answers) at h may =
-      same_next settings (unmarked past) (heard_over L2cap past) (heard_over Rfcomm past) (before ++ objects settings past) h.got (Answering answers) at.gift (done (Answering answers) at) refl refl refl refl
+      same_next settings (unmarked past) (heard_over L2cap past) (heard_over Rfcomm past) (before ++ objects settings past) h.got (Answering answers) at.server.listener.service at.gift (done (Answering answers) at) refl refl refl refl
       (answers_uphold (most settings) (settings.mtu - 6) settings.credits (heard_over L2cap past) (heard_over Rfcomm past) (passed (unmarked past)) h.got (before ++ objects settings past) at.server at.gift answers may.answers h.upholds)
       (omega arith)
 
@@ -96,12 +96,13 @@ module _ (settings : Settings) (before : List Object) where
       ∙ ap (λ (ps : List (List ℕ)). map octets_of (heard_over L2cap past) ++ ps) (packets_as failed (new_packets L2cap (unmarked past) one) ∙ ap (beyond old) more ∙ drop_front old (cons_option (came_on object_psm one) []))
       ∙ ap (λ (ps : List (List ℕ)). ps ++ cons_option (came_on object_psm one) []) is ∙ sym more
 
-  record More (past : List Marked) (one : Occurrence) (at : Reacted) : Type 0 where
-    failed : Bool
-    holds : Holds settings before (past ++ record { occurrence = one; failed = failed } ∷ []) (done one at)
-    paid : faults_of (done one at).gift.answers + counted failed ≤ faults_of at.gift.answers + faults_by one
+  pub record More (past : List Marked) (one : Occurrence) (at : Reacted) : Type 0 where
+    pub failed : Bool
+    pub is : failed ≡ fails_with (unmarked past) at.server.listener.service at.gift.answers one
+    pub holds : Holds settings before (past ++ record { occurrence = one; failed = failed } ∷ []) (done one at)
+    pub paid : faults_of (done one at).gift.answers + counted failed ≤ faults_before one at.gift.answers
 
-  holds_more : (past : List Marked) (one : Occurrence) (at : Reacted) → Holds settings before past at → MayCome NoneShort (IsTaken settings (unmarked past) at.server.listener.service) settings (unmarked past) at one → More past one at
+  pub holds_more : (past : List Marked) (one : Occurrence) (at : Reacted) → Holds settings before past at → MayCome NoneShort (IsTaken settings (unmarked past) at.server.listener.service) settings (unmarked past) at one → More past one at
   holds_more past one at h may =
       let next = next_after past one at h may in
       let last : Marked = record { occurrence = one; failed = next.failed } in
@@ -117,6 +118,7 @@ module _ (settings : Settings) (before : List Object) where
       append_assoc before (objects settings past) (objects_with settings past last) ∙ ap (λ (os : List Object). before ++ os) (sym (given_by-more (objects_with settings) past last)) in
       record {
         failed = next.failed;
+        is = next.is;
         holds = record {
           got = next.octets;
           heard = ap octets_heard occurrences ∙ heard;
@@ -134,30 +136,27 @@ module _ (settings : Settings) (before : List Object) where
 
   -- ---- where calls fail
 
-  record Walked (past : List Marked) (occurrences : List Occurrence) (at : Reacted) : Type 0 where
-    all : List Marked
-    same : unmarked all ≡ unmarked past ++ occurrences
-    holds : Holds settings before all (all_done occurrences at)
-    paid : faults_of (all_done occurrences at).gift.answers + failures all ≤ faults_of at.gift.answers + failures past + faults occurrences
+  pub record Walked (past : List Marked) (occurrences : List Occurrence) (at : Reacted) : Type 0 where
+    pub holds : Holds settings before (past ++ marked_from (unmarked past) at occurrences) (all_done occurrences at)
+    pub few : failures (marked_from (unmarked past) at occurrences) ≤ spent_from at occurrences
 
-  failures_more : (past : List Marked) (one : Marked) → failures (past ++ one ∷ []) ≡ failures past + counted one.failed
-  failures_more past one =
-      let two = sum_by-append (λ (m : Marked). counted m.failed) past (one ∷ []) in
-      let last = sum_by-cons (λ (m : Marked). counted m.failed) one [] in
-      omega (arith, two, last)
+  marked_more : (past : List Marked) (one : Occurrence) (rest : List Occurrence) (at : Reacted) → marked_from (unmarked (past ++ mark_of (unmarked past) at one ∷ [])) (done one at) rest ≡ marked_from (unmarked past ++ one ∷ []) (done one at) rest
+  marked_more past one rest at = ap (λ (os : List Occurrence). marked_from os (done one at) rest) (unmarked_more past (mark_of (unmarked past) at one))
 
-  holds_all : (occurrences : List Occurrence) (past : List Marked) (at : Reacted) → Holds settings before past at → AllMayFail settings (unmarked past) at occurrences → Walked past occurrences at
-  holds_all [] past at h all = record { all = past; same = sym (append-nil (unmarked past)); holds = h; paid = omega arith }
+  pub holds_all : (occurrences : List Occurrence) (past : List Marked) (at : Reacted) → Holds settings before past at → AllMayFail settings (unmarked past) at occurrences → Walked past occurrences at
+  holds_all [] past at h all = record { holds = subst (λ (ms : List Marked). Holds settings before ms at) (sym (append-nil past)) h; few = omega arith }
   holds_all (one ∷ rest) past at h all =
       let more = holds_more past one at h all.0 in
-      let last : Marked = record { occurrence = one; failed = more.failed } in
+      let last : Marked = mark_of (unmarked past) at one in
       let later : List Marked = past ++ last ∷ [] in
-      let then = holds_all rest later (done one at) more.holds (subst (λ (os : List Occurrence). AllMayFail settings os (done one at) rest) (sym (unmarked_more past last)) all.1) in
+      let holds : Holds settings before later (done one at) = subst (λ (b : Bool). Holds settings before (past ++ record { occurrence = one; failed = b } ∷ []) (done one at)) more.is more.holds in
+      let then = holds_all rest later (done one at) holds (subst (λ (os : List Occurrence). AllMayFail settings os (done one at) rest) (sym (unmarked_more past last)) all.1) in
+      let marks = marked_more past one rest at in
       record {
-        all = then.all;
-        same = then.same ∙ ap (λ (os : List Occurrence). os ++ rest) (unmarked_more past last) ∙ append_assoc (unmarked past) (one ∷ []) rest;
-        holds = then.holds;
-        paid = (let first = more.paid in let second = then.paid in let count = failures_more past last in let total = sum_by-cons faults_by one rest in omega (arith, first, second, count, total));
+        holds = subst (λ (ms : List Marked). Holds settings before ms (all_done rest (done one at))) (append_assoc past (last ∷ []) (marked_from (unmarked later) (done one at) rest) ∙ ap (λ (ms : List Marked). past ++ last ∷ ms) marks) then.holds;
+        few = (let paid = subst (λ (b : Bool). faults_of (done one at).gift.answers + counted b ≤ faults_before one at.gift.answers) more.is more.paid in
+            let second = subst (λ (ms : List Marked). failures ms ≤ spent_from (done one at) rest) marks then.few in
+            let count = sum_by-cons (λ (m : Marked). counted m.failed) last (marked_from (unmarked past ++ one ∷ []) (done one at) rest) in omega (arith, paid, second, count));
       }
 
   -- ---- at first
@@ -266,13 +265,13 @@ module _ (settings : Settings) (before : List Object) where
   granted_none (Ok done ∷ answers) all = granted_none answers all.1
   granted_none (Err fault ∷ answers) all = absurd (let e : (let answer : Answer = Err fault in answer) ≡ Ok tt = all.0 in cc)
 
-  answers_none : (one : Occurrence) → AnswersAre AllGranted one → faults_by one ≡ 0
-  answers_none (Came psm sdu) all = refl
-  answers_none (Went psm sdu) all = refl
-  answers_none (Closed psm) all = refl
-  answers_none LinkDown all = refl
-  answers_none Asked all = refl
-  answers_none (Answering answers) all = granted_none answers all
+  answers_none : (one : Occurrence) (old : List Answer) → AnswersAre AllGranted one → faults_of old ≡ 0 → faults_before one old ≡ 0
+  answers_none (Came psm sdu) old all none = none
+  answers_none (Went psm sdu) old all none = none
+  answers_none (Closed psm) old all none = none
+  answers_none LinkDown old all none = none
+  answers_none Asked old all none = none
+  answers_none (Answering answers) old all none = granted_none answers all
 
   may_come : (past : List Occurrence) (one : Occurrence) (at : Reacted) → Holds settings before (clean past) at → MayCome AllGranted (IsHeard settings past at.server.listener.service) settings past at one
       → MayCome NoneShort (IsTaken settings past at.server.listener.service) settings past at one
@@ -299,7 +298,7 @@ module _ (settings : Settings) (before : List Object) where
   pub clear_more : (past : List Occurrence) (one : Occurrence) (at : Reacted) → Clear past at → MayCome AllGranted (IsHeard settings past at.server.listener.service) settings past at one → Clear (past ++ one ∷ []) (done one at)
   clear_more past one at c may =
       let more = holds_more (clean past) one at c.holds (subst (λ (os : List Occurrence). MayCome NoneShort (IsTaken settings os at.server.listener.service) settings os at one) (sym (clean_same past)) (may_come past one at c.holds may)) in
-      let none = answers_none one may.answers in
+      let none = answers_none one at.gift.answers may.answers c.spared in
       let paid = more.paid in
       let spared = c.spared in
       let last : Marked = record { occurrence = one; failed = false } in
@@ -331,17 +330,12 @@ gains-what_is_heard settings before occurrences all =
     let c = clear_all settings before occurrences [] (new_over settings before) (record { holds = first_holds settings before; spared = refl; same = refl }) all in
     ap stored_in c.holds.upholds.listens.serves.stands.holds ∙ ap (λ (os : List Object). Some (before ++ os)) c.same
 
-pub gains-all_but_faults : GainsAllButFaults
-gains-all_but_faults settings before occurrences all =
-    let w = holds_all settings before occurrences [] (new_over settings before) (first_holds settings before) all in
-    record {
-      marked = w.all;
-      same = w.same;
-      few = (let paid = w.paid in omega (arith, paid));
-      gains = ap stored_in w.holds.upholds.listens.serves.stands.holds;
-    }
-
 -- ---- credits
+
+-- marks leave what happened as it is
+unmarked_all : (occurrences past : List Occurrence) (at : Reacted) → unmarked (marked_from past at occurrences) ≡ occurrences
+unmarked_all [] past at = refl
+unmarked_all (one ∷ rest) past at = ap (λ (os : List Occurrence). one ∷ os) (unmarked_all rest (past ++ one ∷ []) (done one at))
 
 -- the multiplexer refused nothing to the end
 still_orderly : (settings : Settings) (occurrences : List Occurrence) (past : List Occurrence) (at : Reacted) → IsOrderly at.server.mux.closed → AllMayFail settings past at occurrences → IsOrderly (all_done occurrences at).server.mux.closed
@@ -356,9 +350,10 @@ pub credits-are_read : CreditsAreRead
 credits-are_read settings before occurrences all =
     let at : Reacted = all_done occurrences (new_over settings before) in
     let w = holds_all settings before occurrences [] (new_over settings before) (first_holds settings before) all in
-    let has = carries_credits (settings.mtu - 6) settings.credits (passed (unmarked w.all)) w.holds.got at.server.mux at.server.frame w.holds.upholds.carries (still_orderly settings occurrences [] (new_over settings before) tt all) in
+    let marked : List Marked = marked_from [] (new_over settings before) occurrences in
+    let has = carries_credits (settings.mtu - 6) settings.credits (passed (unmarked marked)) w.holds.got at.server.mux at.server.frame w.holds.upholds.carries (still_orderly settings occurrences [] (new_over settings before) tt all) in
     record {
       spare = has.spare;
-      credits = ap (λ (os : List Occurrence). credits_held 18 Responder (passed os)) (sym w.same) ∙ has.credits;
+      credits = ap (λ (os : List Occurrence). credits_held 18 Responder (passed os)) (sym (unmarked_all occurrences [] (new_over settings before))) ∙ has.credits;
       exact = λ open_. has.exact open_ ∙ waiting_paid at.server.frame;
     }

@@ -7,8 +7,11 @@ pub mod Listening
 pub mod Servers
 pub mod Running
 pub mod Gaining
+pub mod Codes
 pub mod Answering
+pub mod Marking
 pub mod Beginning
+pub mod Example
 pub mod Calling
 pub mod SmallFrames
 pub mod SmallAnswers
@@ -19,3 +22,7 @@ pub mod Asking
 pub mod Sending
 pub mod Spelling
 pub mod Finals
+pub mod Opening
+pub mod Turns
+pub mod Success
+pub mod Exchanges

@@ -1,5 +1,5 @@
 -- A listener behind packets and closings over both transports.
-use Rattle.std.proofs.Common.{inl, inr, Bool, true, false, cond, ◌⊎◌, ◌+◌, ◌<◌, ◌≤◌, ◌≡◌, ℕ, List, [], ◌∷◌, ◌++◌, length, take, map, None, refl, sym, ap, subst, ◌∙◌, arith, append_assoc, append-nil, length-append}
+use Rattle.std.proofs.Common.{inl, inr, Bool, true, false, cond, ◌||◌, ◌⊎◌, ◌+◌, ◌<◌, ◌≤◌, ◌≡◌, ℕ, List, [], ◌∷◌, ◌++◌, length, take, map, None, refl, sym, ap, subst, ◌∙◌, arith, append_assoc, append-nil, length-append}
 use Rattle.std.specs.List.{flat_map, AllByRecursion}
 use Rattle.std.proofs.lemmas.Bool.{cond-false, or_from}
 use Rattle.std.proofs.lemmas.List.{map-append}
@@ -23,7 +23,7 @@ use Rattle.push_model.specs.Sessions.{Gift, session_of, other_of, has_object, is
 use Rattle.push_model.specs.Service.{Service, without_answer, is_ignored, hears_packet}
 use Rattle.push_model.specs.Listening.{Listener, Heeded, Received, has_bad_length, heeds, lets_go_by, heeds_carried, hears_stream}
 use Rattle.push_model.specs.Server.{unanswering}
-use Rattle.push_laws.specs.Faults.{heard_as, counted, faults_of}
+use Rattle.push_laws.specs.Faults.{heard_as, counted, faults_of, fails_at, any_fails}
 use Rattle.push_laws.proofs.Sessions.{Pasts, headers, pending, Adds, gain}
 use Rattle.push_laws.proofs.Services.{Serves, let_go_of, packet_heard, nothing_pending, refused_heard}
 use Rattle.push_laws.proofs.Readings.{drop_front, drop_same, stored_more}
@@ -83,13 +83,14 @@ alone_over most past t packet stored service gift s well named = idle_over most 
 -- ---- over L2CAP
 
 -- what is heard with one packet more
-pub record DirectAs (most : Transport → ℕ) (direct carried : List Heard) (got : List ℕ) (sdu : List ℕ) (stored : List Object) (gift : Gift) (listener' : Listener) (held : List ℕ) (gift' : Gift) : Type 0 where
+pub record DirectAs (most : Transport → ℕ) (direct carried : List Heard) (got : List ℕ) (sdu : List ℕ) (stored : List Object) (gift : Gift) (fails : Bool) (listener' : Listener) (held : List ℕ) (gift' : Gift) : Type 0 where
   pub failed : Bool
+  pub is : failed ≡ fails
   pub listens : Listens most (direct ++ (sdu, failed) ∷ []) carried got (stored ++ beyond (stored_by (most L2cap) direct) (stored_by (most L2cap) (direct ++ (sdu, failed) ∷ []))) listener' held gift'
   pub paid : faults_of gift'.answers + counted failed ≤ faults_of gift.answers
 
 pub direct_heard : (most : Transport → ℕ) (direct carried : List Heard) (got : List ℕ) (stored : List Object) (listener : Listener) (held : List ℕ) (gift : Gift) (sdu : List ℕ) → Listens most direct carried got stored listener held gift
-    → IsWell L2cap listener.service sdu → DirectAs most direct carried got sdu stored gift (heeds L2cap sdu listener gift).listener held (heeds L2cap sdu listener gift).gift
+    → IsWell L2cap listener.service sdu → DirectAs most direct carried got sdu stored gift (fails_at L2cap sdu listener.service gift.answers) (heeds L2cap sdu listener gift).listener held (heeds L2cap sdu listener gift).gift
 direct_heard most direct carried got stored listener held gift sdu l well =
     let past : Pasts = pasts direct carried l.tail in
     let then = packet_heard most past L2cap sdu stored listener.service gift l.serves well.taken (alone_over most past L2cap sdu stored listener.service gift l.serves well) in
@@ -97,6 +98,7 @@ direct_heard most direct carried got stored listener held gift sdu l well =
     let served = hears_packet L2cap sdu listener.service gift in
     record {
       failed = then.failed;
+      is = then.is;
       listens = record {
         tail = l.tail;
         serves = subst (λ (os : List Object). Serves most past' (stored ++ os) served.service served.gift) (sym (stored_more (most L2cap) direct (sdu, then.failed))) (then.serves past' (record { here = refl; there = refl }));
@@ -125,6 +127,10 @@ carried_closed most direct carried got stored listener held gift l = record {
   packets = sym no_packets;
   cut = record { quiet = refl; whole = refl; partial = inl (omega arith) };
 }
+
+pub or-false : (b : Bool) → (b || false) ≡ b
+or-false true = refl
+or-false false = refl
 
 wrong_size : (most : ℕ) (rest : List ℕ) (refusal : ObexRefusal) → BeginsNone most rest refusal → (3 ≤ length rest) × ((most < stated_size rest) ⊎ (stated_size rest < 3))
 wrong_size most rest AboveMaximum begins = (begins.0, inl (let same = same_length rest begins.0 in let above = begins.1 in omega arith))
@@ -183,8 +189,9 @@ abbrev pub carried_gain : (Transport → ℕ) → List Heard → List Heard → 
 carried_gain most old new = beyond (stored_by (most Rfcomm) old) (stored_by (most Rfcomm) new)
 
 -- the same with the packets that are whole, and whether a call failed at one
-pub record CarriedAs (most : Transport → ℕ) (direct carried : List Heard) (got : List ℕ) (new : List (List ℕ)) (stored : List Object) (gift : Gift) (r : Received) : Type 0 where
+pub record CarriedAs (most : Transport → ℕ) (direct carried : List Heard) (got : List ℕ) (new : List (List ℕ)) (stored : List Object) (service : Service) (gift : Gift) (r : Received) : Type 0 where
   pub failed : Bool
+  pub is : failed ≡ any_fails Rfcomm service gift.answers new
   pub listens : Listens most direct (carried ++ heard_as failed new) got (stored ++ carried_gain most carried (carried ++ heard_as failed new)) r.listener r.held r.gift
   pub paid : faults_of r.gift.answers + counted failed ≤ faults_of gift.answers
 
@@ -193,12 +200,13 @@ nothing_more most stored old new same =
     sym (append-nil stored) ∙ ap (λ (os : List Object). stored ++ os) (sym (drop_same (stored_by (most Rfcomm) old)) ∙ ap (λ (hs : List Heard). carried_gain most old hs) (sym same))
 
 -- no packet
-carries_none : (most : Transport → ℕ) (direct carried : List Heard) (got : List ℕ) (new : List (List ℕ)) (stored : List Object) (gift : Gift) (r : Received) → new ≡ [] → map octets_of carried ≡ obex_packets got
-    → Ends most direct carried got stored (faults_of gift.answers) r → CarriedAs most direct carried got new stored gift r
-carries_none most direct carried got new stored gift r none packets e =
+carries_none : (most : Transport → ℕ) (direct carried : List Heard) (got : List ℕ) (new : List (List ℕ)) (stored : List Object) (service : Service) (gift : Gift) (r : Received) → new ≡ [] → map octets_of carried ≡ obex_packets got
+    → Ends most direct carried got stored (faults_of gift.answers) r → CarriedAs most direct carried got new stored service gift r
+carries_none most direct carried got new stored service gift r none packets e =
     let same : carried ++ heard_as false new ≡ carried = ap (λ (ps : List (List ℕ)). carried ++ heard_as false ps) none ∙ append-nil carried in
     record {
       failed = false;
+      is = sym (ap (any_fails Rfcomm service gift.answers) none);
       listens = subst (λ (os : List Object). Listens most direct (carried ++ heard_as false new) got os r.listener r.held r.gift) (nothing_more most stored carried (carried ++ heard_as false new) same)
           (subst (λ (hs : List Heard). Listens most direct hs got stored r.listener r.held r.gift) (sym same) (record { tail = e.tail; serves = e.serves; packets = packets; cut = e.cut }));
       paid = (let paid = e.paid in omega arith);
@@ -208,7 +216,7 @@ carries_none most direct carried got new stored gift r none packets e =
 one_ends : (most : Transport → ℕ) (direct carried : List Heard) (got packet rest : List ℕ) (stored : List Object) (steps : ℕ) (listener : Listener) (gift : Gift) → 7 ≤ most Rfcomm → Serves most (pasts direct carried []) stored listener.service gift
     → listener.breaks ≡ false → got ≡ stream_of carried ++ (packet ++ rest) → length (packet ++ rest) ≤ steps → IsPacket packet → HasNoPacket rest
     → IsWell Rfcomm listener.service packet → has_bad_length (packet_in Request (most Rfcomm) packet) ≡ false → map octets_of carried ++ packet ∷ [] ≡ obex_packets got
-    → CarriedAs most direct carried got (packet ∷ []) stored gift (hears_stream steps (packet ++ rest) listener gift)
+    → CarriedAs most direct carried got (packet ∷ []) stored listener.service gift (hears_stream steps (packet ++ rest) listener gift)
 one_ends most direct carried got packet rest stored steps listener gift least s sound whole long is none well right packets =
     let past : Pasts = pasts direct carried [] in
     let framed : IsFramed listener.service.sessions.carried.maximum packet = (is.0, subst (λ (n : ℕ). length packet ≤ n) (sym (s.stands.maxima Rfcomm)) (right_length (most Rfcomm) packet least right), same_length packet is.0 ∙ is.1) in
@@ -227,9 +235,10 @@ one_ends most direct carried got packet rest stored steps listener gift least s 
     whole ∙ sym (append_assoc (stream_of carried) packet rest)
     ∙ ap (λ (xs : List ℕ). xs ++ rest) (ap (λ (xs : List ℕ). stream_of carried ++ xs) (sym (append-nil packet)) ∙ sym (flat_map-append octets_of carried ((packet, then.failed) ∷ []))) in
     let e = none_ends most direct now got rest (stored ++ carried_gain most carried now) first.less middle.listener middle.gift serves unbroken all first.enough none in
-    subst (CarriedAs most direct carried got (packet ∷ []) stored gift) (sym (first.hears ∙ cond-false _ _ _ (or_from middle.listener.breaks middle.listener.service.failed unbroken serves.enough)))
+    subst (CarriedAs most direct carried got (packet ∷ []) stored listener.service gift) (sym (first.hears ∙ cond-false _ _ _ (or_from middle.listener.breaks middle.listener.service.failed unbroken serves.enough)))
     (record {
       failed = then.failed;
+      is = then.is ∙ sym (or-false (fails_at Rfcomm packet listener.service gift.answers));
       listens = record { tail = e.tail; serves = e.serves; packets = map-append octets_of carried ((packet, then.failed) ∷ []) ∙ packets; cut = e.cut };
       paid = (let first = then.paid in let second = e.paid in omega arith);
     })
@@ -246,13 +255,13 @@ joined_is (one ∷ carried) = ap (λ (xs : List ℕ). one.0 ++ xs) (joined_is ca
 
 stream_on : (most : Transport → ℕ) (direct carried : List Heard) (got ys held : List ℕ) (stored : List Object) (listener : Listener) (gift : Gift) (new : List (List ℕ)) → 7 ≤ most Rfcomm
     → Serves most (pasts direct carried []) stored listener.service gift → listener.breaks ≡ false → got ≡ stream_of carried ++ held → AreObexPackets (held ++ ys) new → map octets_of carried ++ new ≡ obex_packets (got ++ ys)
-    → OneAtATime most listener.service new → CarriedAs most direct carried (got ++ ys) new stored gift (hears_stream (length (held ++ ys)) (held ++ ys) listener gift)
+    → OneAtATime most listener.service new → CarriedAs most direct carried (got ++ ys) new stored listener.service gift (hears_stream (length (held ++ ys)) (held ++ ys) listener gift)
 stream_on most direct carried got ys held stored listener gift [] least s sound whole are packets one =
-    carries_none most direct carried (got ++ ys) [] stored gift (hears_stream (length (held ++ ys)) (held ++ ys) listener gift) refl (sym (append-nil (map octets_of carried)) ∙ packets)
+    carries_none most direct carried (got ++ ys) [] stored listener.service gift (hears_stream (length (held ++ ys)) (held ++ ys) listener gift) refl (sym (append-nil (map octets_of carried)) ∙ packets)
     (none_ends most direct carried (got ++ ys) (held ++ ys) stored (length (held ++ ys)) listener gift s sound (ap (λ (xs : List ℕ). xs ++ ys) whole ∙ append_assoc (stream_of carried) held ys) (omega arith) (subst HasNoPacket (sym are.whole) are.no_more))
 stream_on most direct carried got ys held stored listener gift (packet ∷ []) least s sound whole are packets one =
     let parts : held ++ ys ≡ packet ++ are.rest = are.whole ∙ ap (λ (xs : List ℕ). xs ++ are.rest) (append-nil packet) in
-    subst (λ (xs : List ℕ). CarriedAs most direct carried (got ++ ys) (packet ∷ []) stored gift (hears_stream (length xs) xs listener gift)) (sym parts)
+    subst (λ (xs : List ℕ). CarriedAs most direct carried (got ++ ys) (packet ∷ []) stored listener.service gift (hears_stream (length xs) xs listener gift)) (sym parts)
     (one_ends most direct carried (got ++ ys) packet are.rest stored (length (packet ++ are.rest)) listener gift least s sound
     (ap (λ (xs : List ℕ). xs ++ ys) whole ∙ append_assoc (stream_of carried) held ys ∙ ap (λ (xs : List ℕ). stream_of carried ++ xs) parts) (omega arith) are.each.0 are.no_more one.heard.0 one.lengths.0 packets)
 stream_on most direct carried got ys held stored listener gift (packet ∷ other ∷ others) least s sound whole are packets one = absurd (let few = one.single in omega arith)
@@ -274,7 +283,7 @@ still_none most rest ys (packet ∷ others) least long wrong are right =
 
 broken_on : (most : Transport → ℕ) (direct carried : List Heard) (got ys held : List ℕ) (stored : List Object) (listener : Listener) (gift : Gift) (tail : List Heard) (new : List (List ℕ))
     → Serves most (pasts direct carried tail) stored listener.service gift → listener.breaks ≡ true → BrokeOff (most Rfcomm) carried got tail
-    → map octets_of carried ++ new ≡ obex_packets (got ++ ys) → new ≡ [] → CarriedAs most direct carried (got ++ ys) new stored gift (record { listener = listener; held = held; gift = gift })
+    → map octets_of carried ++ new ≡ obex_packets (got ++ ys) → new ≡ [] → CarriedAs most direct carried (got ++ ys) new stored listener.service gift (record { listener = listener; held = held; gift = gift })
 broken_on most direct carried got ys held stored listener gift tail new s breaks off packets none =
     let longer : BrokeOff (most Rfcomm) carried (got ++ ys) tail = record {
       rest = off.rest ++ ys;
@@ -283,7 +292,7 @@ broken_on most direct carried got ys held stored listener gift tail new s breaks
       wrong = subst (λ (n : ℕ). (most Rfcomm < n) ⊎ (n < 3)) (sym (front_size off.rest ys off.long)) off.wrong;
       cleared = off.cleared;
     } in
-    carries_none most direct carried (got ++ ys) new stored gift (record { listener = listener; held = held; gift = gift }) none (sym (append-nil (map octets_of carried)) ∙ ap (λ (ps : List (List ℕ)). map octets_of carried ++ ps) (sym none) ∙ packets)
+    carries_none most direct carried (got ++ ys) new stored listener.service gift (record { listener = listener; held = held; gift = gift }) none (sym (append-nil (map octets_of carried)) ∙ ap (λ (ps : List (List ℕ)). map octets_of carried ++ ps) (sym none) ∙ packets)
     (record { tail = tail; serves = s; cut = subst (IsCut (most Rfcomm) carried (got ++ ys) held tail) (sym breaks) longer; paid = omega arith })
 
 -- which packets are whole with more octets
@@ -297,22 +306,22 @@ news_are carried got rest ys packets whole =
 
 octets_by : (breaks : Bool) (most : Transport → ℕ) (direct carried : List Heard) (got ys held : List ℕ) (stored : List Object) (listener : Listener) (gift : Gift) → listener.breaks ≡ breaks → 7 ≤ most Rfcomm
     → Listens most direct carried got stored listener held gift → OneAtATime most listener.service (beyond (obex_packets got) (obex_packets (got ++ ys)))
-    → CarriedAs most direct carried (got ++ ys) (beyond (obex_packets got) (obex_packets (got ++ ys))) stored gift (cond breaks (record { listener = listener; held = held; gift = gift }) (hears_stream (length (held ++ ys)) (held ++ ys) listener gift))
+    → CarriedAs most direct carried (got ++ ys) (beyond (obex_packets got) (obex_packets (got ++ ys))) stored listener.service gift (cond breaks (record { listener = listener; held = held; gift = gift }) (hears_stream (length (held ++ ys)) (held ++ ys) listener gift))
 octets_by false most direct carried got ys held stored listener gift sound least l one =
     let cut : GoesOn (most Rfcomm) carried got held l.tail = subst (IsCut (most Rfcomm) carried got held l.tail) sound l.cut in
     let news = news_are carried got held ys l.packets cut.whole in
-    subst (λ (ps : List (List ℕ)). CarriedAs most direct carried (got ++ ys) ps stored gift (hears_stream (length (held ++ ys)) (held ++ ys) listener gift)) (sym news.1)
+    subst (λ (ps : List (List ℕ)). CarriedAs most direct carried (got ++ ys) ps stored listener.service gift (hears_stream (length (held ++ ys)) (held ++ ys) listener gift)) (sym news.1)
     (stream_on most direct carried got ys held stored listener gift (obex_packets (held ++ ys)) least
     (subst (λ (t : List Heard). Serves most (pasts direct carried t) stored listener.service gift) cut.quiet l.serves) sound cut.whole (obex_packets-right (held ++ ys)) (sym news.0)
     (subst (OneAtATime most listener.service) news.1 one))
 octets_by true most direct carried got ys held stored listener gift breaks least l one =
     let off : BrokeOff (most Rfcomm) carried got l.tail = subst (IsCut (most Rfcomm) carried got held l.tail) breaks l.cut in
     let news = news_are carried got off.rest ys l.packets off.whole in
-    subst (λ (ps : List (List ℕ)). CarriedAs most direct carried (got ++ ys) ps stored gift (record { listener = listener; held = held; gift = gift })) (sym news.1)
+    subst (λ (ps : List (List ℕ)). CarriedAs most direct carried (got ++ ys) ps stored listener.service gift (record { listener = listener; held = held; gift = gift })) (sym news.1)
     (broken_on most direct carried got ys held stored listener gift l.tail (obex_packets (off.rest ++ ys)) l.serves breaks off (sym news.0)
     (still_none (most Rfcomm) off.rest ys (obex_packets (off.rest ++ ys)) least off.long off.wrong (obex_packets-right (off.rest ++ ys)) (subst (OneAtATime most listener.service) news.1 one).lengths))
 
 pub octets_heard : (most : Transport → ℕ) (direct carried : List Heard) (got ys held : List ℕ) (stored : List Object) (listener : Listener) (gift : Gift) → 7 ≤ most Rfcomm
     → Listens most direct carried got stored listener held gift → OneAtATime most listener.service (beyond (obex_packets got) (obex_packets (got ++ ys)))
-    → CarriedAs most direct carried (got ++ ys) (beyond (obex_packets got) (obex_packets (got ++ ys))) stored gift (hears_more ys listener held gift)
+    → CarriedAs most direct carried (got ++ ys) (beyond (obex_packets got) (obex_packets (got ++ ys))) stored listener.service gift (hears_more ys listener held gift)
 octets_heard most direct carried got ys held stored listener gift least l one = octets_by listener.breaks most direct carried got ys held stored listener gift refl least l one

@@ -1,5 +1,5 @@
 -- A server behind each occurrence stands for what can be read off them all.
-use Rattle.std.proofs.Common.{Bool, true, false, cond, eqb, ◌+◌, ◌-◌, ◌≤◌, ◌≡◌, ℕ, List, [], ◌∷◌, ◌++◌, length, Option, Some, None, refl, sym, ap, subst, ◌∙◌, arith, append-nil}
+use Rattle.std.proofs.Common.{Bool, true, false, cond, eqb, ◌+◌, ◌-◌, ◌≤◌, ◌≡◌, ℕ, List, [], ◌∷◌, ◌++◌, length, Option, Some, None, refl, sym, ap, ap₂, subst, ◌∙◌, ◌||◌, arith, append-nil}
 use Rattle.std.specs.List.{filter_map, AllByRecursion}
 use Rattle.std.proofs.Math.Seq.{drop-nil}
 use Rattle.std.proofs.lemmas.Bool.{cond_both, cond-false}
@@ -28,13 +28,13 @@ use Rattle.push_model.specs.Payloads.{Framed, IsSaid}
 use Rattle.push_model.specs.Sessions.{Gift}
 use Rattle.push_model.specs.Service.{Service}
 use Rattle.push_model.specs.Server.{Server, Reacted, Lent, hears_search, hears_up, hears_on, object_psm, rfcomm_psm, frame_lent, lent_by, taken_by, remuxed, unanswered, unreplied, lets_go_on, closed_on, lets_go_twice}
-use Rattle.push_laws.specs.Occurrences.{Occurrence, Came, Went, Closed, LinkDown, done}
+use Rattle.push_laws.specs.Occurrences.{Occurrence, Came, Went, Closed, LinkDown, Asked, Answering, done}
 use Rattle.push_laws.specs.Readings.{closes, since, came_on, passed_by, octets_heard, packets_over}
-use Rattle.push_laws.specs.Faults.{heard_as, counted, faults_of, faults_by}
+use Rattle.push_laws.specs.Faults.{heard_as, counted, faults_of, fails_at, any_fails, fails_with, faults_before}
 use Rattle.push_laws.specs.Premises.{IsTaken, NoneShort, only_carries, FrameIsHeard, MayCome, new_packets}
 use Rattle.push_laws.proofs.Readings.{read_more, read_same, read_closed, drop_front, drop_same}
 use Rattle.push_laws.proofs.Listening as listening
-use Rattle.push_laws.proofs.Listening.{Listens, IsWell, OneAtATime, hears_more, direct_heard, direct_closed, carried_closed}
+use Rattle.push_laws.proofs.Listening.{Listens, IsWell, OneAtATime, or-false, hears_more, direct_heard, direct_closed, carried_closed}
 use Rattle.push_laws.proofs.Services.{let_go_paid}
 use Rattle.push_laws.proofs.Frames.{Carries, carries_read, carries_new, carries_came, carries_went, only_quiet, reached_kept}
 use Rattle.push_laws.proofs.Servers.{Upholds, octets_uphold, octets_give, by_psm, up_keeps}
@@ -106,17 +106,19 @@ module _ (settings : Settings) (past : List Occurrence) (direct carried : List H
   carried_after one failed octets = cond (closes rfcomm_psm one) [] (carried ++ heard_as failed (beyond (obex_packets got) (obex_packets octets)))
 
   -- behind one occurrence more, at which a call failed or not
-  pub record Next (one : Occurrence) (gift : Gift) (at : Reacted) : Type 0 where
+  pub record Next (one : Occurrence) (service : Service) (gift : Gift) (at : Reacted) : Type 0 where
     pub failed : Bool
+    pub is : failed ≡ fails_with past service gift.answers one
     pub octets : List ℕ
     pub upholds : Stands (direct_after one failed) (carried_after one failed octets) (passed (past ++ one ∷ [])) octets (stored ++ (direct_gain (direct_after one failed) ++ carried_gain (carried_after one failed octets))) at
-    pub paid : faults_of at.gift.answers + counted failed ≤ faults_of gift.answers + faults_by one
+    pub paid : faults_of at.gift.answers + counted failed ≤ faults_before one gift.answers
 
-  next_by : (one : Occurrence) (gift : Gift) (at : Reacted) (failed : Bool) (direct' carried' : List Heard) (on : List Passed) (octets : List ℕ) (held : List Object) → direct_after one failed ≡ direct' → carried_after one failed octets ≡ carried'
-      → passed (past ++ one ∷ []) ≡ on → held ≡ stored ++ (direct_gain direct' ++ carried_gain carried') → Stands direct' carried' on octets held at → faults_of at.gift.answers + counted failed ≤ faults_of gift.answers + faults_by one
-      → Next one gift at
-  next_by one gift at failed direct' carried' on octets held d c p h u paid = record {
+  next_by : (one : Occurrence) (service : Service) (gift : Gift) (at : Reacted) (failed : Bool) (direct' carried' : List Heard) (on : List Passed) (octets : List ℕ) (held : List Object) → failed ≡ fails_with past service gift.answers one → direct_after one failed ≡ direct' → carried_after one failed octets ≡ carried'
+      → passed (past ++ one ∷ []) ≡ on → held ≡ stored ++ (direct_gain direct' ++ carried_gain carried') → Stands direct' carried' on octets held at → faults_of at.gift.answers + counted failed ≤ faults_before one gift.answers
+      → Next one service gift at
+  next_by one service gift at failed direct' carried' on octets held is d c p h u paid = record {
     failed = failed;
+    is = is;
     octets = octets;
     upholds =
         subst (λ (ps : List Passed). Stands (direct_after one failed) (carried_after one failed octets) ps octets (stored ++ (direct_gain (direct_after one failed) ++ carried_gain (carried_after one failed octets))) at) (sym p)
@@ -136,47 +138,68 @@ module _ (settings : Settings) (past : List Occurrence) (direct carried : List H
   nothing_new : stored ≡ stored ++ (direct_gain direct ++ carried_gain carried)
   nothing_new = no_gain stored (direct_gain direct) (carried_gain carried) (nothing_gained (own_maximum L2cap settings) direct) (nothing_gained (own_maximum Rfcomm settings) carried)
 
+  -- which packets are whole with it
+  no_direct : (one : Occurrence) → closes object_psm one ≡ false → came_on object_psm one ≡ None → new_packets L2cap past one ≡ []
+  no_direct one stays none = ap (beyond (packets_over L2cap past)) (read_same (came_on object_psm) object_psm past one stays none) ∙ drop_same (packets_over L2cap past)
+
+  pub no_carried : (one : Occurrence) → closes rfcomm_psm one ≡ false → passed_by one ≡ None → new_packets Rfcomm past one ≡ []
+  no_carried one stays none = ap (λ (ps : List Passed). beyond (obex_packets (octets_heard past)) (obex_packets (user_octets 18 Responder Initiator ps))) (read_same passed_by rfcomm_psm past one stays none) ∙ drop_same (obex_packets (octets_heard past))
+
+  none_fails : (service : Service) (gift : Gift) (one : Occurrence) → came_on object_psm one ≡ None → passed_by one ≡ None → false ≡ fails_with past service gift.answers one
+  none_fails service gift (Came psm sdu) came pass =
+      sym (ap₂ (λ a b. a || b) (ap (any_fails L2cap service gift.answers) (no_direct (Came psm sdu) refl came)) (ap (any_fails Rfcomm service gift.answers) (no_carried (Came psm sdu) refl pass)))
+  none_fails service gift (Went psm sdu) came pass = refl
+  none_fails service gift (Closed psm) came pass = refl
+  none_fails service gift LinkDown came pass = refl
+  none_fails service gift Asked came pass = refl
+  none_fails service gift (Answering answers) came pass = refl
+
   -- nothing is read off it
-  pub same_next : (one : Occurrence) (gift : Gift) (at : Reacted) → closes object_psm one ≡ false → closes rfcomm_psm one ≡ false → came_on object_psm one ≡ None → passed_by one ≡ None → Now at → faults_of at.gift.answers ≤ faults_of gift.answers + faults_by one → Next one gift at
-  same_next one gift at a b came pass u paid =
-      next_by one gift at false direct carried (passed past) got stored (direct_same one false a (read_same (came_on object_psm) object_psm past one a came)) (carried_same one false b) (read_same passed_by rfcomm_psm past one b pass) nothing_new u (omega arith)
+  pub same_next : (one : Occurrence) (service : Service) (gift : Gift) (at : Reacted) → closes object_psm one ≡ false → closes rfcomm_psm one ≡ false → came_on object_psm one ≡ None → passed_by one ≡ None → Now at → faults_of at.gift.answers ≤ faults_before one gift.answers → Next one service gift at
+  same_next one service gift at a b came pass u paid =
+      next_by one service gift at false direct carried (passed past) got stored (none_fails service gift one came pass) (direct_same one false a (read_same (came_on object_psm) object_psm past one a came)) (carried_same one false b) (read_same passed_by rfcomm_psm past one b pass) nothing_new u (omega arith)
 
   -- ---- an SDU comes
 
-  search_next : (sdu : List ℕ) (at : Reacted) → Now at → Next (Came 0x0001 sdu) at.gift (record { server = hears_search sdu at.server; gift = at.gift })
+  search_next : (sdu : List ℕ) (at : Reacted) → Now at → Next (Came 0x0001 sdu) at.server.listener.service at.gift (record { server = hears_search sdu at.server; gift = at.gift })
   search_next sdu at u =
-      same_next (Came 0x0001 sdu) at.gift (record { server = hears_search sdu at.server; gift = at.gift }) refl refl refl refl
+      same_next (Came 0x0001 sdu) at.server.listener.service at.gift (record { server = hears_search sdu at.server; gift = at.gift }) refl refl refl refl
       (cond_both (is_empty at.server.reply) _ _ (λ (s : Server). Now (record { server = s; gift = at.gift })) (λ none. record { listens = u.listens; carries = u.carries }) (λ some. u)) (omega arith)
 
   wells : (t : Transport) (service : Service) (packets : List (List ℕ)) → AllByRecursion (IsTaken settings past service t) packets → AllByRecursion (IsWell t service) packets
   wells t service [] all = tt
   wells t service (packet ∷ packets) all = (record { taken = all.0.taken; alone = all.0.alone }, wells t service packets all.1)
 
-  object_next : (sdu : List ℕ) (at : Reacted) → AllByRecursion (IsTaken settings past at.server.listener.service L2cap) (new_packets L2cap past (Came 0x1001 sdu)) → Now at → Next (Came 0x1001 sdu) at.gift (hears_on 0x1001 sdu at.server at.gift)
+  object_next : (sdu : List ℕ) (at : Reacted) → AllByRecursion (IsTaken settings past at.server.listener.service L2cap) (new_packets L2cap past (Came 0x1001 sdu)) → Now at → Next (Came 0x1001 sdu) at.server.listener.service at.gift (hears_on 0x1001 sdu at.server at.gift)
   object_next sdu at requests u =
       let one : Occurrence = Came 0x1001 sdu in
       let new : new_packets L2cap past one ≡ sdu ∷ [] = ap (beyond (packets_over L2cap past)) (read_more (came_on object_psm) object_psm past one refl) ∙ drop_front (packets_over L2cap past) (sdu ∷ []) in
       let well = (wells L2cap at.server.listener.service (sdu ∷ []) (subst (AllByRecursion (IsTaken settings past at.server.listener.service L2cap)) new requests)).0 in
       let then = direct_heard (most settings) direct carried got stored at.server.listener at.server.held at.gift sdu u.listens well in
       let now : List Heard = direct ++ (sdu, then.failed) ∷ [] in
-      next_by one at.gift (hears_on 0x1001 sdu at.server at.gift) then.failed now carried (passed past) got (stored ++ direct_gain now) (ap (λ (ps : List (List ℕ)). direct ++ heard_as then.failed ps) new) (carried_same one then.failed refl)
+      let is : then.failed ≡ fails_with past at.server.listener.service at.gift.answers one =
+      then.is ∙ sym (ap₂ (λ a b. a || b) (ap (any_fails L2cap at.server.listener.service at.gift.answers) new) (ap (any_fails Rfcomm at.server.listener.service at.gift.answers) (no_carried one refl refl))
+      ∙ ap (λ b. b || false) (or-false (fails_at L2cap sdu at.server.listener.service at.gift.answers)) ∙ or-false (fails_at L2cap sdu at.server.listener.service at.gift.answers)) in
+      next_by one at.server.listener.service at.gift (hears_on 0x1001 sdu at.server at.gift) then.failed now carried (passed past) got (stored ++ direct_gain now) is (ap (λ (ps : List (List ℕ)). direct ++ heard_as then.failed ps) new) (carried_same one then.failed refl)
       (read_same passed_by rfcomm_psm past one refl refl) (left_gain stored (direct_gain now) (carried_gain carried) (nothing_gained (own_maximum Rfcomm settings) carried)) (record { listens = then.listens; carries = u.carries })
       (let paid = then.paid in omega arith)
 
   -- what comes up of a frame
-  record Comes (on : List Passed) (octets : List ℕ) (gift : Gift) (at : Reacted) : Type 0 where
+  record Comes (on : List Passed) (octets : List ℕ) (service : Service) (gift : Gift) (at : Reacted) : Type 0 where
     failed : Bool
+    is : failed ≡ any_fails Rfcomm service gift.answers (beyond (obex_packets got) (obex_packets octets))
     stands : Stands direct (carried ++ heard_as failed (beyond (obex_packets got) (obex_packets octets))) on octets (stored ++ carried_gain (carried ++ heard_as failed (beyond (obex_packets got) (obex_packets octets)))) at
     paid : faults_of at.gift.answers + counted failed ≤ faults_of gift.answers
 
   no_octets : (on : List Passed) (server : Server) (gift : Gift) → Listens (most settings) direct carried got stored server.listener server.held gift → Carries (settings.mtu - 6) settings.credits on (got ++ []) server.mux server.frame
-      → Comes on (got ++ []) gift (record { server = server; gift = gift })
+      → Comes on (got ++ []) server.listener.service gift (record { server = server; gift = gift })
   no_octets on server gift l c =
       let now : carried ++ heard_as false (beyond (obex_packets got) (obex_packets (got ++ []))) ≡ carried =
       ap (λ (xs : List ℕ). carried ++ heard_as false (beyond (obex_packets got) (obex_packets xs))) (append-nil got) ∙ ap (λ (ps : List (List ℕ)). carried ++ heard_as false ps) (drop_same (obex_packets got)) ∙ append-nil carried in
       let same : stored ≡ stored ++ carried_gain carried = sym (append-nil stored) ∙ ap (λ (os : List Object). stored ++ os) (sym (nothing_gained (own_maximum Rfcomm settings) carried)) in
       record {
         failed = false;
+        is = sym (ap (λ (xs : List ℕ). any_fails Rfcomm server.listener.service gift.answers (beyond (obex_packets got) (obex_packets xs))) (append-nil got) ∙ ap (any_fails Rfcomm server.listener.service gift.answers) (drop_same (obex_packets got)));
         stands = subst (λ (cs : List Heard). Stands direct cs on (got ++ []) (stored ++ carried_gain cs) (record { server = server; gift = gift })) (sym now)
             (record {
               listens = subst (λ (os : List Object). Listens (most settings) direct carried (got ++ []) os server.listener server.held gift) same
@@ -188,7 +211,7 @@ module _ (settings : Settings) (past : List Occurrence) (direct carried : List H
 
   up_comes : (u : Up) (on : List Passed) (server : Server) (gift : Gift) → Listens (most settings) direct carried got stored server.listener server.held gift
       → Carries (settings.mtu - 6) settings.credits on (got ++ handed u) server.mux server.frame → OneAtATime (most settings) server.listener.service (beyond (obex_packets got) (obex_packets (got ++ handed u)))
-      → Comes on (got ++ handed u) gift (hears_up u server gift)
+      → Comes on (got ++ handed u) server.listener.service gift (hears_up u server gift)
   up_comes nothing on server gift l c one = no_octets on server gift l c
   up_comes opened on server gift l c one = no_octets on server gift l c
   up_comes (closed reason) on server gift l c one = no_octets on server gift l c
@@ -197,12 +220,13 @@ module _ (settings : Settings) (past : List Occurrence) (direct carried : List H
       let now : List Heard = carried ++ heard_as then.failed (beyond (obex_packets got) (obex_packets (got ++ octets))) in
       record {
         failed = then.failed;
+        is = then.is;
         stands = octets_uphold (most settings) (settings.mtu - 6) settings.credits direct now on (got ++ octets) (stored ++ carried_gain now) octets server gift then.listens c;
         paid = subst (λ (g : Gift). faults_of g.answers + counted then.failed ≤ faults_of gift.answers) (sym (octets_give octets server gift)) then.paid;
       }
 
   frame_next : (sdu : List ℕ) (at : Reacted) → octets_heard past ≡ got → MayCome NoneShort (IsTaken settings past at.server.listener.service) settings past at (Came 0x0003 sdu) → done (Came 0x0003 sdu) at ≡ hears_on 0x0003 sdu at.server at.gift → Now at
-      → Next (Came 0x0003 sdu) at.gift (hears_on 0x0003 sdu at.server at.gift)
+      → Next (Came 0x0003 sdu) at.server.listener.service at.gift (hears_on 0x0003 sdu at.server at.gift)
   frame_next sdu at heard may is u =
       let one : Occurrence = Came 0x0003 sdu in
       let server : Server = record (at.server) { mux = hears sdu at.server.mux } in
@@ -220,7 +244,9 @@ module _ (settings : Settings) (past : List Occurrence) (direct carried : List H
       subst (OneAtATime (most settings) at.server.listener.service) new (record { single = requests.single; heard = wells Rfcomm at.server.listener.service (new_packets Rfcomm past one) (requests.heard Rfcomm); lengths = requests.lengths }) in
       let then = up_comes comes on server at.gift u.listens carries single in
       let now : List Heard = carried ++ heard_as then.failed (beyond (obex_packets got) (obex_packets octets)) in
-      next_by one at.gift (hears_on 0x0003 sdu at.server at.gift) then.failed direct now on octets (stored ++ carried_gain now)
+      let is : then.failed ≡ fails_with past at.server.listener.service at.gift.answers one =
+      then.is ∙ sym (ap₂ (λ a b. a || b) (ap (any_fails L2cap at.server.listener.service at.gift.answers) (no_direct one refl refl)) (ap (any_fails Rfcomm at.server.listener.service at.gift.answers) new)) in
+      next_by one at.server.listener.service at.gift (hears_on 0x0003 sdu at.server at.gift) then.failed direct now on octets (stored ++ carried_gain now) is
       (direct_same one then.failed refl (read_same (came_on object_psm) object_psm past one refl refl)) refl more (right_gain stored (direct_gain direct) (carried_gain now) (nothing_gained (own_maximum L2cap settings) direct)) then.stands
       (let paid = then.paid in omega arith)
     where
@@ -228,15 +254,15 @@ module _ (settings : Settings) (past : List Occurrence) (direct carried : List H
       quiet None e = e
       quiet (Some frame) e = e
 
-  other_next : (psm : ℕ) (sdu : List ℕ) (at : Reacted) → eqb psm 0x0001 ≡ false → eqb psm 0x0003 ≡ false → eqb psm 0x1001 ≡ false → Now at → Next (Came psm sdu) at.gift (hears_on psm sdu at.server at.gift)
+  other_next : (psm : ℕ) (sdu : List ℕ) (at : Reacted) → eqb psm 0x0001 ≡ false → eqb psm 0x0003 ≡ false → eqb psm 0x1001 ≡ false → Now at → Next (Came psm sdu) at.server.listener.service at.gift (hears_on psm sdu at.server at.gift)
   other_next psm sdu at a b c u =
-      subst (Next (Came psm sdu) at.gift) (sym (cond-false _ _ _ a ∙ (cond-false _ _ _ b ∙ cond-false _ _ (let r : Reacted = record { server = at.server; gift = at.gift } in r) c)))
-      (same_next (Came psm sdu) at.gift at refl refl (cond-false _ _ _ c) (cond-false _ _ _ b) u (omega arith))
+      subst (Next (Came psm sdu) at.server.listener.service at.gift) (sym (cond-false _ _ _ a ∙ (cond-false _ _ _ b ∙ cond-false _ _ (let r : Reacted = record { server = at.server; gift = at.gift } in r) c)))
+      (same_next (Came psm sdu) at.server.listener.service at.gift at refl refl (cond-false _ _ _ c) (cond-false _ _ _ b) u (omega arith))
 
   pub came_next : (sdu : List ℕ) (at : Reacted) → octets_heard past ≡ got → Now at → (psm : ℕ) → MayCome NoneShort (IsTaken settings past at.server.listener.service) settings past at (Came psm sdu) → done (Came psm sdu) at ≡ hears_on psm sdu at.server at.gift
-      → Next (Came psm sdu) at.gift (hears_on psm sdu at.server at.gift)
+      → Next (Came psm sdu) at.server.listener.service at.gift (hears_on psm sdu at.server at.gift)
   came_next sdu at heard u psm =
-      by_psm (λ p. MayCome NoneShort (IsTaken settings past at.server.listener.service) settings past at (Came p sdu) → done (Came p sdu) at ≡ hears_on p sdu at.server at.gift → Next (Came p sdu) at.gift (hears_on p sdu at.server at.gift))
+      by_psm (λ p. MayCome NoneShort (IsTaken settings past at.server.listener.service) settings past at (Came p sdu) → done (Came p sdu) at ≡ hears_on p sdu at.server at.gift → Next (Came p sdu) at.server.listener.service at.gift (hears_on p sdu at.server at.gift))
       (λ may is. search_next sdu at u) (λ may is. frame_next sdu at heard may is u) (λ may is. object_next sdu at (may.requests.heard L2cap) u) (λ p a b c may is. other_next p sdu at a b c u) psm
 
   -- ---- an SDU goes
@@ -247,10 +273,10 @@ module _ (settings : Settings) (past : List Occurrence) (direct carried : List H
   none_lent : (lent : Lent) → None ≡ Some lent → ⊥
   none_lent lent e = cc
 
-  frame_went : (sdu : List ℕ) (at : Reacted) (f : PlainFrame) → at.server.frame ≡ Some f → IsSaid (Framed f) sdu → IsOctets sdu → Now at → Next (Went 0x0003 sdu) at.gift (record at { server = record (at.server) { frame = None; lent = None } })
+  frame_went : (sdu : List ℕ) (at : Reacted) (f : PlainFrame) → at.server.frame ≡ Some f → IsSaid (Framed f) sdu → IsOctets sdu → Now at → Next (Went 0x0003 sdu) at.server.listener.service at.gift (record at { server = record (at.server) { frame = None; lent = None } })
   frame_went sdu at f is said octets u =
       let one : Occurrence = Went 0x0003 sdu in
-      next_by one at.gift (record at { server = record (at.server) { frame = None; lent = None } }) false direct carried (passed past ++ record { from = Responder; sdu = sdu } ∷ []) got stored
+      next_by one at.server.listener.service at.gift (record at { server = record (at.server) { frame = None; lent = None } }) false direct carried (passed past ++ record { from = Responder; sdu = sdu } ∷ []) got stored refl
       (direct_same one false refl (read_same (came_on object_psm) object_psm past one refl refl)) (carried_same one false refl) (read_more passed_by rfcomm_psm past one refl) nothing_new
       (record {
         listens = u.listens;
@@ -258,49 +284,49 @@ module _ (settings : Settings) (past : List Occurrence) (direct carried : List H
       }) (omega arith)
 
   muxed_next : (psm : ℕ) (sdu : List ℕ) (at : Reacted) (lent : Lent) (o : Option PlainFrame) → at.server.frame ≡ o → frame_lent o ≡ Some lent → lent.psm ≡ psm → IsSaid lent.payload sdu → IsOctets sdu → Now at
-      → Next (Went psm sdu) at.gift (record at { server = record (at.server) { frame = None; lent = None } })
+      → Next (Went psm sdu) at.server.listener.service at.gift (record at { server = record (at.server) { frame = None; lent = None } })
   muxed_next psm sdu at lent None is e p said octets u = absurd (none_lent lent e)
   muxed_next psm sdu at lent (Some f) is e p said octets u =
       let same = same_lent (record { psm = 0x0003; payload = Framed f }) lent e in
-      subst (λ (n : ℕ). Next (Went n sdu) at.gift (record at { server = record (at.server) { frame = None; lent = None } })) (ap (λ (l : Lent). l.psm) same ∙ p)
+      subst (λ (n : ℕ). Next (Went n sdu) at.server.listener.service at.gift (record at { server = record (at.server) { frame = None; lent = None } })) (ap (λ (l : Lent). l.psm) same ∙ p)
       (frame_went sdu at f is (subst (λ (l : Lent). IsSaid l.payload sdu) (sym same) said) octets u)
 
-  pub went_next : (o : Option Outlet) (psm : ℕ) (sdu : List ℕ) (at : Reacted) (lent : Lent) → lent_by o at.server ≡ Some lent → lent.psm ≡ psm → IsSaid lent.payload sdu → IsOctets sdu → Now at → Next (Went psm sdu) at.gift (record at { server = taken_by o at.server })
+  pub went_next : (o : Option Outlet) (psm : ℕ) (sdu : List ℕ) (at : Reacted) (lent : Lent) → lent_by o at.server ≡ Some lent → lent.psm ≡ psm → IsSaid lent.payload sdu → IsOctets sdu → Now at → Next (Went psm sdu) at.server.listener.service at.gift (record at { server = taken_by o at.server })
   went_next None psm sdu at lent e p said octets u = absurd (none_lent lent e)
   went_next (Some Muxed) psm sdu at lent e p said octets u = muxed_next psm sdu at lent at.server.frame refl e p said octets u
   went_next (Some Records) psm sdu at lent e p said octets u =
-      subst (λ (n : ℕ). Next (Went n sdu) at.gift (record at { server = taken_by (Some Records) at.server })) (ap (λ (l : Lent). l.psm) (same_lent _ lent e) ∙ p)
-      (same_next (Went 0x0001 sdu) at.gift (record at { server = taken_by (Some Records) at.server }) refl refl refl refl (record { listens = u.listens; carries = u.carries }) (omega arith))
+      subst (λ (n : ℕ). Next (Went n sdu) at.server.listener.service at.gift (record at { server = taken_by (Some Records) at.server })) (ap (λ (l : Lent). l.psm) (same_lent _ lent e) ∙ p)
+      (same_next (Went 0x0001 sdu) at.server.listener.service at.gift (record at { server = taken_by (Some Records) at.server }) refl refl refl refl (record { listens = u.listens; carries = u.carries }) (omega arith))
   went_next (Some Direct) psm sdu at lent e p said octets u =
-      subst (λ (n : ℕ). Next (Went n sdu) at.gift (record at { server = taken_by (Some Direct) at.server })) (ap (λ (l : Lent). l.psm) (same_lent _ lent e) ∙ p)
-      (same_next (Went 0x1001 sdu) at.gift (record at { server = taken_by (Some Direct) at.server }) refl refl refl refl
+      subst (λ (n : ℕ). Next (Went n sdu) at.server.listener.service at.gift (record at { server = taken_by (Some Direct) at.server })) (ap (λ (l : Lent). l.psm) (same_lent _ lent e) ∙ p)
+      (same_next (Went 0x1001 sdu) at.server.listener.service at.gift (record at { server = taken_by (Some Direct) at.server }) refl refl refl refl
       (record { listens = record { tail = u.listens.tail; serves = u.listens.serves; packets = u.listens.packets; cut = u.listens.cut }; carries = u.carries }) (omega arith))
 
   -- ---- a channel is closed, or the link goes down
 
-  pub closed_next : (at : Reacted) → Now at → (psm : ℕ) → Next (Closed psm) at.gift (closed_on psm at.server at.gift)
+  pub closed_next : (at : Reacted) → Now at → (psm : ℕ) → Next (Closed psm) at.server.listener.service at.gift (closed_on psm at.server at.gift)
   closed_next at u psm =
-      by_psm (λ p. Next (Closed p) at.gift (closed_on p at.server at.gift))
-      (same_next (Closed 0x0001) at.gift (closed_on 0x0001 at.server at.gift) refl refl refl refl (record { listens = u.listens; carries = u.carries }) (omega arith))
-      (next_by (Closed 0x0003) at.gift (closed_on 0x0003 at.server at.gift) false direct [] [] [] stored (direct_same (Closed 0x0003) false refl (read_same (came_on object_psm) object_psm past (Closed 0x0003) refl refl)) refl
+      by_psm (λ p. Next (Closed p) at.server.listener.service at.gift (closed_on p at.server at.gift))
+      (same_next (Closed 0x0001) at.server.listener.service at.gift (closed_on 0x0001 at.server at.gift) refl refl refl refl (record { listens = u.listens; carries = u.carries }) (omega arith))
+      (next_by (Closed 0x0003) at.server.listener.service at.gift (closed_on 0x0003 at.server at.gift) false direct [] [] [] stored refl (direct_same (Closed 0x0003) false refl (read_same (came_on object_psm) object_psm past (Closed 0x0003) refl refl)) refl
       (read_closed passed_by rfcomm_psm past (Closed 0x0003) refl) (no_gain stored (direct_gain direct) (carried_gain []) (nothing_gained (own_maximum L2cap settings) direct) (all_forgotten (own_maximum Rfcomm settings) carried))
       (carried_upholds (most settings) (settings.mtu - 6) settings.credits direct carried (passed past) got stored at.server at.gift u)
       (let paid = let_go_paid Rfcomm (remuxed at.server).listener.service at.gift in omega arith))
-      (next_by (Closed 0x1001) at.gift (closed_on 0x1001 at.server at.gift) false [] carried (passed past) got stored refl (carried_same (Closed 0x1001) false refl)
+      (next_by (Closed 0x1001) at.server.listener.service at.gift (closed_on 0x1001 at.server at.gift) false [] carried (passed past) got stored refl refl (carried_same (Closed 0x1001) false refl)
       (read_same passed_by rfcomm_psm past (Closed 0x1001) refl refl) (no_gain stored (direct_gain []) (carried_gain carried) (all_forgotten (own_maximum L2cap settings) direct) (nothing_gained (own_maximum Rfcomm settings) carried))
       (direct_upholds (most settings) (settings.mtu - 6) settings.credits direct carried (passed past) got stored at.server at.gift u)
       (let paid = let_go_paid L2cap (unanswered at.server).listener.service at.gift in omega arith))
-      (λ p a b c. subst (Next (Closed p) at.gift) (sym (cond-false _ _ _ a ∙ (cond-false _ _ _ b ∙ cond-false _ _ (let r : Reacted = record { server = at.server; gift = at.gift } in r) c)))
-      (same_next (Closed p) at.gift at c b refl refl u (omega arith)))
+      (λ p a b c. subst (Next (Closed p) at.server.listener.service at.gift) (sym (cond-false _ _ _ a ∙ (cond-false _ _ _ b ∙ cond-false _ _ (let r : Reacted = record { server = at.server; gift = at.gift } in r) c)))
+      (same_next (Closed p) at.server.listener.service at.gift at c b refl refl u (omega arith)))
       psm
 
-  pub down_next : (at : Reacted) → Now at → Next LinkDown at.gift (lets_go_twice (lets_go_on L2cap (unanswered at.server) at.gift))
+  pub down_next : (at : Reacted) → Now at → Next LinkDown at.server.listener.service at.gift (lets_go_twice (lets_go_on L2cap (unanswered at.server) at.gift))
   down_next at u =
       let first : Reacted = lets_go_on L2cap (unanswered at.server) at.gift in
       let v = direct_upholds (most settings) (settings.mtu - 6) settings.credits direct carried (passed past) got stored at.server at.gift u in
       let second : Reacted = lets_go_on Rfcomm (remuxed (unreplied first.server)) first.gift in
-      subst (Next LinkDown at.gift) (sym (cond-false _ first second v.listens.serves.enough))
-      (next_by LinkDown at.gift second false [] [] [] [] stored refl refl (read_closed passed_by rfcomm_psm past LinkDown refl)
+      subst (Next LinkDown at.server.listener.service at.gift) (sym (cond-false _ first second v.listens.serves.enough))
+      (next_by LinkDown at.server.listener.service at.gift second false [] [] [] [] stored refl refl refl (read_closed passed_by rfcomm_psm past LinkDown refl)
       (no_gain stored (direct_gain []) (carried_gain []) (all_forgotten (own_maximum L2cap settings) direct) (all_forgotten (own_maximum Rfcomm settings) carried))
       (carried_upholds (most settings) (settings.mtu - 6) settings.credits [] carried (passed past) got stored (unreplied first.server) first.gift (record { listens = v.listens; carries = v.carries }))
       (let one = let_go_paid L2cap (unanswered at.server).listener.service at.gift in let two = let_go_paid Rfcomm (remuxed (unreplied first.server)).listener.service first.gift in omega arith))

@@ -12,7 +12,7 @@ use Rattle.obex_headers.specs.Runs.{put_of, run_headers, objects_from}
 use Rattle.obex_session.specs.Marks.{kind_of}
 use Rattle.obex_session.specs.Past.{put_heard, open_from, pending_of}
 use Rattle.obex_session.specs.Serving.{has_name}
-use Rattle.push_laws.specs.Faults.{counted, faults_of}
+use Rattle.push_laws.specs.Faults.{counted, faults_of, fails_at}
 use Rattle.push_model.specs.Sessions.{Sessions, Gift, other_of, lets_go, is_naming, hears}
 use Rattle.push_model.specs.Service.{Service, Served, response_over, after_heard, is_ignored, hears_packet, parts}
 use Rattle.push_laws.proofs.Sessions.{Pasts, pending, Stands, StandsAfter, Adds, gain, run_of, headers_behind, gone, gone_paid, heard}
@@ -54,20 +54,22 @@ pub let_go_paid : (t : Transport) (service : Service) (gift : Gift) → faults_o
 let_go_paid t service gift = gone_paid t service.sessions gift
 
 -- a packet was heard, and a call failed at it or not
-pub record ServedAs (most : Transport → ℕ) (past : Pasts) (t : Transport) (packet : List ℕ) (stored : List Object) (gift : Gift) (service' : Service) (gift' : Gift) : Type 0 where
+pub record ServedAs (most : Transport → ℕ) (past : Pasts) (t : Transport) (packet : List ℕ) (stored : List Object) (gift : Gift) (fails : Bool) (service' : Service) (gift' : Gift) : Type 0 where
   pub failed : Bool
+  pub is : failed ≡ fails
   pub serves : (past' : Pasts) → Adds t (packet, failed) past past' → Serves most past' (stored ++ gain most past t (packet, failed)) service' gift'
   pub paid : faults_of gift'.answers + counted failed ≤ faults_of gift.answers
 
 after_hearing : (most : Transport → ℕ) (past : Pasts) (t : Transport) (packet : List ℕ) (stored : List Object) (service : Service) (gift : Gift) → Serves most past stored service gift
     → (is_naming t packet service.sessions ≡ true → pending most past (other_of t) ≡ None)
-    → let served = after_heard t service (hears t packet service.sessions gift) in ServedAs most past t packet stored gift served.service served.gift
+    → let served = after_heard t service (hears t packet service.sessions gift) in ServedAs most past t packet stored gift (fails_at t packet service gift.answers) served.service served.gift
 after_hearing most past t packet stored service gift s alone =
     let h = hears t packet service.sessions gift in
     let before : Service = record service { sessions = h.sessions; failed = service.failed || h.short } in
     let then = heard most past t packet stored service.sessions gift s.stands s.none_short alone in
     record {
       failed = then.failed;
+      is = then.is;
       serves = λ past' adds.
           serves_with most past' (stored ++ gain most past t (packet, then.failed)) h.sessions _ h.gift h.short service.failed _ (then.stands past' adds) s.enough (over_sessions t h.response before) (over_failed t h.response before);
       paid = then.paid;
@@ -76,9 +78,9 @@ after_hearing most past t packet stored service gift s alone =
 -- a packet that is not ignored
 pub packet_heard : (most : Transport → ℕ) (past : Pasts) (t : Transport) (packet : List ℕ) (stored : List Object) (service : Service) (gift : Gift) → Serves most past stored service gift
     → is_ignored t packet service ≡ false → (is_naming t packet service.sessions ≡ true → pending most past (other_of t) ≡ None)
-    → ServedAs most past t packet stored gift (hears_packet t packet service gift).service (hears_packet t packet service gift).gift
+    → ServedAs most past t packet stored gift (fails_at t packet service gift.answers) (hears_packet t packet service gift).service (hears_packet t packet service gift).gift
 packet_heard most past t packet stored service gift s taken alone =
-    subst (λ (served : Served). ServedAs most past t packet stored gift served.service served.gift) (sym (cond-false _ _ _ taken)) (after_hearing most past t packet stored service gift s alone)
+    subst (λ (served : Served). ServedAs most past t packet stored gift (fails_at t packet service gift.answers) served.service served.gift) (sym (cond-false _ _ _ taken)) (after_hearing most past t packet stored service gift s alone)
 
 -- ---- octets that begin no packet
 

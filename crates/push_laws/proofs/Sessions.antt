@@ -55,6 +55,14 @@ other_session : (t : Transport) (session : Serving) (sessions : Sessions) → se
 other_session L2cap session sessions = refl
 other_session Rfcomm session sessions = refl
 
+pub kept_session : (t : Transport) (session : Serving) (sessions : Sessions) → session_of t (with_session (other_of t) session sessions) ≡ session_of t sessions
+kept_session L2cap session sessions = refl
+kept_session Rfcomm session sessions = refl
+
+-- a call fails that a packet asks for
+abbrev pub come_fails : Transport → List ℕ → Sessions → List Answer → Bool
+come_fails t packet sessions answers = is_err (come_of (ruling_on (session_of t sessions) packet).calls answers)
+
 -- ---- what was heard over each transport, and what is under way
 
 abbrev pub Pasts : Type 0
@@ -85,7 +93,7 @@ pub record StandsAfter (most : Transport → ℕ) (past : Pasts) (stored : List 
 fault_apart : (fault : PortFault) → (let answer : Answer = Err fault in answer) ≡ Ok tt → ⊥
 fault_apart fault e = cc
 
-come_enough : (calls : List InboxCall) (answers : List Answer) → NoneShort answers → come_of calls answers ≡ Err NoMemory → ⊥
+pub come_enough : (calls : List InboxCall) (answers : List Answer) → NoneShort answers → come_of calls answers ≡ Err NoMemory → ⊥
 come_enough [] answers all e = fault_apart NoMemory (sym e)
 come_enough (call ∷ calls) [] all e = fault_apart NoMemory (sym e)
 come_enough (call ∷ calls) (Ok done ∷ answers) all e = come_enough calls answers all.1 e
@@ -187,8 +195,9 @@ here_at : (most : Transport → ℕ) (past : Pasts) (t on : Transport) → on �
 here_at most past t on e idle = ap (pending most past) (sym (ap other_of e ∙ other_twice t)) ∙ idle
 
 -- it was heard, and a call failed at it or not
-pub record HeardAs (most : Transport → ℕ) (past : Pasts) (t : Transport) (packet : List ℕ) (stored : List Object) (gift : Gift) (sessions' : Sessions) (gift' : Gift) (short : Bool) : Type 0 where
+pub record HeardAs (most : Transport → ℕ) (past : Pasts) (t : Transport) (packet : List ℕ) (stored : List Object) (gift : Gift) (fails : Bool) (sessions' : Sessions) (gift' : Gift) (short : Bool) : Type 0 where
   pub failed : Bool
+  pub is : failed ≡ fails
   pub stands : (past' : Pasts) → Adds t (packet, failed) past past' → StandsAfter most past' (stored ++ gain most past t (packet, failed)) sessions' gift' short
   pub paid : faults_of gift'.answers + counted failed ≤ faults_of gift.answers
 
@@ -282,14 +291,16 @@ answered_badly most past past' t packet stored sessions gift s enough badly adds
 
 answered_by : (come : Answer) (most : Transport → ℕ) (past : Pasts) (t : Transport) (packet : List ℕ) (stored : List Object) (sessions : Sessions) (gift : Gift) → come_of (ruling_on (session_of t sessions) packet).calls gift.answers ≡ come
     → Stands most past stored sessions gift.content → NoneShort gift.answers → (is_naming t packet sessions ≡ true → pending most past (other_of t) ≡ None)
-    → HeardAs most past t packet stored gift (answers_to t packet sessions gift).sessions (answers_to t packet sessions gift).gift (answers_to t packet sessions gift).short
+    → HeardAs most past t packet stored gift (come_fails t packet sessions gift.answers) (answers_to t packet sessions gift).sessions (answers_to t packet sessions gift).gift (answers_to t packet sessions gift).short
 answered_by (Ok done) most past t packet stored sessions gift e s enough alone = record {
   failed = false;
+  is = sym (ap is_err e);
   stands = λ past' adds. answered_well most past past' t packet stored sessions gift s enough e adds alone;
   paid = subst (λ (a : Answer). faults_of (left_by (ruling_on (session_of t sessions) packet).calls gift.answers) + counted (is_err a) ≤ faults_of gift.answers) e (left_faults (ruling_on (session_of t sessions) packet).calls gift.answers);
 }
 answered_by (Err Failed) most past t packet stored sessions gift e s enough alone = record {
   failed = true;
+  is = sym (ap is_err e);
   stands = λ past' adds. answered_badly most past past' t packet stored sessions gift s enough e adds alone;
   paid = subst (λ (a : Answer). faults_of (left_by (ruling_on (session_of t sessions) packet).calls gift.answers) + counted (is_err a) ≤ faults_of gift.answers) e (left_faults (ruling_on (session_of t sessions) packet).calls gift.answers);
 }
@@ -343,19 +354,23 @@ gone_paid t sessions gift = let paid = left_faults (aborts (progress_in (session
 
 -- ---- a packet comes
 
-abbrev HeardWell : (Transport → ℕ) → Pasts → Transport → List ℕ → List Object → Gift → model.Heard → Type 0
-HeardWell most past t packet stored gift h = HeardAs most past t packet stored gift h.sessions h.gift h.short
+abbrev HeardWell : (Transport → ℕ) → Pasts → Transport → List ℕ → List Object → Gift → Bool → model.Heard → Type 0
+HeardWell most past t packet stored gift fails h = HeardAs most past t packet stored gift fails h.sessions h.gift h.short
 
 pub heard : (most : Transport → ℕ) (past : Pasts) (t : Transport) (packet : List ℕ) (stored : List Object) (sessions : Sessions) (gift : Gift) → Stands most past stored sessions gift.content → NoneShort gift.answers
     → (is_naming t packet sessions ≡ true → pending most past (other_of t) ≡ None)
-    → HeardAs most past t packet stored gift (hears t packet sessions gift).sessions (hears t packet sessions gift).gift (hears t packet sessions gift).short
+    → HeardAs most past t packet stored gift (come_fails t packet sessions gift.answers) (hears t packet sessions gift).sessions (hears t packet sessions gift).gift (hears t packet sessions gift).short
 heard most past t packet stored sessions gift s enough alone =
-    cond_both (is_naming t packet sessions) _ _ (HeardWell most past t packet stored gift)
+    cond_both (is_naming t packet sessions) _ _ (HeardWell most past t packet stored gift (come_fails t packet sessions gift.answers))
     (λ named.
     let free = alone named in
     let parted = lets_go (other_of t) sessions gift in
     let before = gone most past past (other_of t) stored sessions gift s enough free refl in
     let then = answered_by (come_of (ruling_on (session_of t parted.sessions) packet).calls parted.gift.answers) most past t packet stored parted.sessions parted.gift refl before.stands before.none_short (λ again. free) in
-    subst (HeardWell most past t packet stored gift) (sym (cond-false parted.short _ (answers_to t packet parted.sessions parted.gift) before.enough))
-    (record { failed = then.failed; stands = then.stands; paid = (let first = gone_paid (other_of t) sessions gift in let second = then.paid in omega arith) }))
+    let none : aborts (progress_in (session_of (other_of t) sessions).course) ≡ [] = no_aborts (progress_in (session_of (other_of t) sessions).course) (ap is_under_way (s.progress (other_of t) ∙ idle_progress (headers most past (other_of t)) free)) in
+    let same : come_fails t packet parted.sessions parted.gift.answers ≡ come_fails t packet sessions gift.answers =
+    ap (λ (x : Serving). is_err (come_of (ruling_on x packet).calls parted.gift.answers)) (kept_session t (rested (session_of (other_of t) sessions)) sessions)
+    ∙ ap (λ (cs : List InboxCall). come_fails t packet sessions (left_by cs gift.answers)) none in
+    subst (HeardWell most past t packet stored gift (come_fails t packet sessions gift.answers)) (sym (cond-false parted.short _ (answers_to t packet parted.sessions parted.gift) before.enough))
+    (record { failed = then.failed; is = then.is ∙ same; stands = then.stands; paid = (let first = gone_paid (other_of t) sessions gift in let second = then.paid in omega arith) }))
     (λ unnamed. answered_by (come_of (ruling_on (session_of t sessions) packet).calls gift.answers) most past t packet stored sessions gift refl s enough (λ named. alone named))

@@ -71,14 +71,14 @@ free_either : (test : Bool) (a b : Outcome) → is_reserved a ≡ false → is_r
 free_either true a b x y = x
 free_either false a b x y = y
 
-link_free : (reason : ℕ) → is_reserved (cause_of_link reason) ≡ false
+pub link_free : (reason : ℕ) → is_reserved (cause_of_link reason) ≡ false
 link_free reason = free_either (reason == 0x13) outcomes.PeerClosed outcomes.LinkLost refl refl
 
-abbrev AreFree : Option Outcome → Type 0
+abbrev pub AreFree : Option Outcome → Type 0
 AreFree None = Unit {0}
 AreFree (Some outcome) = is_reserved outcome ≡ false
 
-close_free : (cause : CloseCause) → AreFree (cause_of_close cause)
+pub close_free : (cause : CloseCause) → AreFree (cause_of_close cause)
 close_free closing.Peer = refl
 close_free (closing.Refused result) = refl
 close_free closing.NoAgreement = refl
@@ -86,7 +86,7 @@ close_free closing.RetryLimit = refl
 close_free (closing.Broken number) = free_either (number == 5) outcomes.RetryLimit (outcomes.PeerFault 2 number) refl refl
 close_free closing.Own = tt
 
-query_free : (reason : QueryReason) → AreFree (cause_of_query reason)
+pub query_free : (reason : QueryReason) → AreFree (cause_of_query reason)
 query_free BadReply = refl
 query_free (ErrorCode code) = refl
 query_free WrongTransaction = tt

@@ -1,17 +1,21 @@
 -- The objects that packets spell where calls of the inbox fail: a packet at which one failed counts as a refused PUT
 -- (this project's own).
-use Rattle.std.specs.Prelude.{ℕ, ◌+◌, Bool, List, [], ◌∷◌, ◌++◌, map, sum_by, Ok, Err, if◌then◌else◌}
+use Rattle.std.specs.Prelude.{ℕ, ◌+◌, ◌-◌, ◌||◌, Bool, false, List, [], ◌∷◌, ◌++◌, map, sum_by, is_err, Ok, Err, if◌then◌else◌}
+use Rattle.std.specs.List.{list_any}
 use Rattle.bt_base.specs.declared.settings.Settings.{Settings}
 use Rattle.bt_base.specs.declared.settings.Transport.{Transport}
 use Rattle.bt_base.specs.declared.settings.Transport.TheVariants.{L2cap, Rfcomm}
 use Rattle.bt_base.specs.Objects.{Object}
 use Rattle.capture.specs.Histories.{given_by}
 use Rattle.link_talk.specs.Gains.{gained}
-use Rattle.obex_session.specs.InboxCalls.{Answer}
+use Rattle.obex_session.specs.InboxCalls.{Answer, come_of}
 use Rattle.obex_session.specs.Past.{Heard, stored_by}
+use Rattle.obex_session.specs.Serving.{ruling_on}
 use Rattle.push_model.specs.Client.{own_maximum}
-use Rattle.push_model.specs.Server.{object_psm, rfcomm_psm}
-use Rattle.push_laws.specs.Occurrences.{Occurrence, Came, Went, Closed, LinkDown, Asked, Answering}
+use Rattle.push_model.specs.Service.{Service}
+use Rattle.push_model.specs.Sessions.{session_of}
+use Rattle.push_model.specs.Server.{Reacted, object_psm, rfcomm_psm}
+use Rattle.push_laws.specs.Occurrences.{Occurrence, Came, Went, Closed, LinkDown, Asked, Answering, done}
 use Rattle.push_laws.specs.Readings.{closes, packets_over}
 
 -- an occurrence, and whether a call of the inbox failed at the packet that is whole with it
@@ -64,14 +68,48 @@ faults_of [] = 0
 faults_of (Ok done ∷ answers) = faults_of answers
 faults_of (Err fault ∷ answers) = faults_of answers + 1
 
-abbrev pub faults_by : Occurrence → ℕ
-faults_by (Came psm sdu) = 0
-faults_by (Went psm sdu) = 0
-faults_by (Closed psm) = 0
-faults_by LinkDown = 0
-faults_by Asked = 0
-faults_by (Answering answers) = faults_of answers
+-- ---- which packets are marked
 
--- the faults among the answers of an inbox
-abbrev pub faults : List Occurrence → ℕ
-faults occurrences = sum_by faults_by occurrences
+-- a call of the inbox fails that a packet asks for: a fault is among the answers that these calls use up
+abbrev pub fails_at : Transport → List ℕ → Service → List Answer → Bool
+fails_at transport packet service answers = is_err (come_of (ruling_on (session_of transport service.sessions) packet).calls answers)
+
+abbrev pub any_fails : Transport → Service → List Answer → List (List ℕ) → Bool
+any_fails transport service answers packets = list_any (λ (packet : List ℕ). fails_at transport packet service answers) packets
+
+-- the same of the packets that are whole with an occurrence
+abbrev pub fails_with : List Occurrence → Service → List Answer → Occurrence → Bool
+fails_with past service answers (Came psm sdu) =
+    any_fails L2cap service answers (gained (packets_over L2cap) past (Came psm sdu)) || any_fails Rfcomm service answers (gained (packets_over Rfcomm) past (Came psm sdu))
+fails_with past service answers (Went psm sdu) = false
+fails_with past service answers (Closed psm) = false
+fails_with past service answers LinkDown = false
+fails_with past service answers Asked = false
+fails_with past service answers (Answering later) = false
+
+abbrev pub mark_of : List Occurrence → Reacted → Occurrence → Marked
+mark_of past at one = record { occurrence = one; failed = fails_with past at.server.listener.service at.gift.answers one }
+
+-- what happens to a server from a moment on, with its marks
+abbrev pub marked_from : List Occurrence → Reacted → List Occurrence → List Marked
+marked_from past at [] = []
+marked_from past at (one ∷ rest) = mark_of past at one ∷ marked_from (past ++ one ∷ []) (done one at) rest
+
+-- ---- how many faults are used up
+
+-- the faults that the inbox is to answer with when its calls begin
+abbrev pub faults_before : Occurrence → List Answer → ℕ
+faults_before (Came psm sdu) answers = faults_of answers
+faults_before (Went psm sdu) answers = faults_of answers
+faults_before (Closed psm) answers = faults_of answers
+faults_before LinkDown answers = faults_of answers
+faults_before Asked answers = faults_of answers
+faults_before (Answering later) answers = faults_of later
+
+-- those that calls use up; what is told and not asked for counts nothing
+abbrev pub spends : Reacted → Occurrence → ℕ
+spends at one = faults_before one at.gift.answers - faults_of (done one at).gift.answers
+
+abbrev pub spent_from : Reacted → List Occurrence → ℕ
+spent_from at [] = 0
+spent_from at (one ∷ rest) = spends at one + spent_from (done one at) rest

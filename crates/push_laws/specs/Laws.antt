@@ -17,7 +17,8 @@ use Rattle.push_laws.specs.Occurrences.{Occurrence, Came, all_done, begun}
 use Rattle.push_laws.specs.Readings.{since, passed_by, user_dlci}
 use Rattle.push_laws.specs.Answers.{AnswersInTurn}
 use Rattle.push_laws.specs.Faults as with_faults
-use Rattle.push_laws.specs.Faults.{Marked, unmarked, failures, faults}
+use Rattle.push_laws.specs.Faults.{marked_from, failures, spent_from}
+use Rattle.push_laws.specs.Marks.{AllSayMarks}
 use Rattle.push_laws.specs.Gains.{objects}
 use Rattle.push_laws.specs.Premises.{AllMayCome, AllMayFail}
 
@@ -36,12 +37,11 @@ GainsWhatIsHeard = (settings : Settings) (before : List Object) (occurrences : L
     → stored_in (all_done occurrences (new_over settings before)).gift.content ≡ Some (before ++ objects settings occurrences)
 
 -- Where calls of the inbox fail, it gains what the packets spell if those at which one failed count as refused: no more of
--- them than there are faults among its answers.
+-- them than there are faults that its calls used up. Over L2CAP D0 says that a call failed, and A0 that an object is stored.
 pub record GainsBut (settings : Settings) (before : List Object) (occurrences : List Occurrence) : Type 0 where
-  pub marked : List Marked
-  pub same : unmarked marked ≡ occurrences
-  pub few : failures marked ≤ faults occurrences
-  pub gains : stored_in (all_done occurrences (new_over settings before)).gift.content ≡ Some (before ++ with_faults.objects settings marked)
+  pub gains : stored_in (all_done occurrences (new_over settings before)).gift.content ≡ Some (before ++ with_faults.objects settings (marked_from [] (new_over settings before) occurrences))
+  pub few : failures (marked_from [] (new_over settings before) occurrences) ≤ spent_from (new_over settings before) occurrences
+  pub said : AllSayMarks settings [] (new_over settings before) occurrences
 
 abbrev pub GainsAllButFaults : Type 0
 GainsAllButFaults = (settings : Settings) (before : List Object) (occurrences : List Occurrence) → AllMayFail settings [] (new_over settings before) occurrences → GainsBut settings before occurrences
@@ -66,8 +66,8 @@ CreditsAreRead = (settings : Settings) (before : List Object) (occurrences : Lis
 
 -- ---- responses
 
--- Over L2CAP the requests are answered in their order, each once, and success is said to a PUT exactly where it stores an
--- object: where no call of the inbox fails and no request is ignored.
+-- Over L2CAP the requests are answered in their order, each once, with the code that is due, and success is said to a PUT exactly
+-- where it stores an object: where no call of the inbox fails and no request is ignored.
 abbrev pub AnswersComeInTurn : Type 0
 AnswersComeInTurn = (settings : Settings) (before : List Object) (occurrences : List Occurrence) → AllMayCome settings [] (new_over settings before) occurrences
     → AnswersInTurn settings occurrences (all_done occurrences (new_over settings before)).server

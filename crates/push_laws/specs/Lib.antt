@@ -3,7 +3,13 @@ pub mod Readings
 pub mod Gains
 pub mod Faults
 pub mod Answers
+pub mod Marks
 pub mod Premises
 pub mod Calls
 pub mod Laws
 pub mod Sending
+pub mod Example
+pub mod Opening
+pub mod Turns
+pub mod Success
+pub mod Exchanges

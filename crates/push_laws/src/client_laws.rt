@@ -1,6 +1,9 @@
 //! Laws of a client of Object Push, for every list of what may happen to it from a begin on.
 
+ghost use Rattle.push_laws.specs.Exchanges.{SendsBehindResponses};
+ghost use Rattle.push_laws.specs.Opening.{OpensTheTarget};
 ghost use Rattle.push_laws.specs.Sending.{NothingIsCancelledLate, SendsOnePush, SpellsWhatIsPushed};
+ghost use Rattle.push_laws.specs.Success.{DoneExactly};
 
 /// From a begin to the next one a client sends nothing, or one CONNECT, the PUTs that spell its object or a front of them,
 /// ABORT and DISCONNECT, over L2CAP and over RFCOMM, whatever it hears. The body is what the shelf answered, in one pass.
@@ -18,4 +21,24 @@ pub fn spells_what_is_pushed()
 /// Once the final PUT was sent and no cause is known, the push may not be cancelled, and its outcome is never `cancelled`.
 pub fn nothing_is_cancelled_late()
     ensures { NothingIsCancelledLate }
+{}
+
+/// Each channel that a client opens is the one to the service records or the one of the target of the answer that it heard
+/// there in this push, in this order: over L2CAP the PSM that the target names, behind a question for the peer's features,
+/// and over RFCOMM that of the multiplexer. No channel is opened on a number that no answer named.
+pub fn opens_the_target()
+    ensures { OpensTheTarget }
+{}
+
+/// A push is done exactly where success to its final PUT is heard, which was sent to its last octet, and no cause came
+/// before it: over L2CAP the SDU is that response, and over RFCOMM it is whole with the octets that an SDU brings. No
+/// response to the final PUT lets a client go on.
+pub fn done_exactly()
+    ensures { DoneExactly }
+{}
+
+/// A client sends nothing while the response to what it sent before is due: over L2CAP that is the next SDU on the channel of
+/// the object, and over RFCOMM an SDU came at least. PUTs of single response mode of which more follow have none.
+pub fn sends_behind_responses()
+    ensures { SendsBehindResponses }
 {}

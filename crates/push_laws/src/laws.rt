@@ -1,7 +1,9 @@
 //! Laws of a server of Object Push, for every list of what may happen to it.
 
 ghost use Rattle.push_laws.specs.Calls.{InboxIsCalledByRuns};
+ghost use Rattle.push_laws.specs.Example.{OneFaultIsHeard, OnePushIsHeard};
 ghost use Rattle.push_laws.specs.Laws.{AnswersComeInTurn, CreditsAreRead, GainsAllButFaults, GainsWhatIsHeard, LendsFewOctets, OnePacketIsHeard};
+ghost use Rattle.push_laws.specs.Turns.{NoRequestIsIgnored};
 
 /// From a new server on the inbox gains exactly the objects that the heard packets spell, over both transports and through
 /// every closing, in the order of their last packets. That is so where no call of the inbox fails, no request is ignored,
@@ -10,8 +12,9 @@ pub fn gains_what_is_heard()
     ensures { GainsWhatIsHeard }
 {}
 
-/// Where calls of the inbox fail, it gains what the packets spell if those at which one failed count as refused. Each of
-/// them takes a fault of its own, and want of memory is not among the faults.
+/// Where calls of the inbox fail, it gains what the packets spell if those at which one failed count as refused: a fault is
+/// among the answers that the calls of such a packet use up, and each has a fault of its own. Over L2CAP D0 is said to such a
+/// packet, and success to a PUT exactly where it stores an object. Want of memory is not among the faults.
 pub fn gains_all_but_faults()
     ensures { GainsAllButFaults }
 {}
@@ -30,7 +33,8 @@ pub fn inbox_is_called_by_runs()
 {}
 
 /// Over L2CAP each request is answered once, in order, but for those that are passed over in silence, and one response waits
-/// at most. Success is said to a PUT exactly where it stores an object.
+/// at most. Success is said to a PUT exactly where it stores an object, and to CONNECT, DISCONNECT and ABORT; C0 is said to what
+/// is refused as a packet, and D1 to any other request.
 pub fn answers_come_in_turn()
     ensures { AnswersComeInTurn }
 {}
@@ -43,4 +47,21 @@ pub fn lends_few_octets()
 /// Any packet may come first over L2CAP, and the objects that are then heard are those that it spells by itself.
 pub fn one_packet_is_heard()
     ensures { OnePacketIsHeard }
+{}
+
+/// What the laws above ask for is met over RFCOMM: the frames that open the multiplexer and the channel and then carry an
+/// object may come, and spell it.
+pub fn one_push_is_heard()
+    ensures { OnePushIsHeard }
+{}
+
+/// Where the inbox fails at that object, its packet is the one that is marked, and spells nothing.
+pub fn one_fault_is_heard()
+    ensures { OneFaultIsHeard }
+{}
+
+/// Over L2CAP no request is ignored where each comes behind the response to the one before, unless it has none itself, and
+/// nothing comes to the multiplexer: all that the laws above ask of what may come holds then.
+pub fn no_request_is_ignored()
+    ensures { NoRequestIsIgnored }
 {}

@@ -11,7 +11,7 @@ use Rattle.radio_air.specs.Radio.{after_offer}
 use Rattle.world_model.specs.Machines.{Upper}
 use Rattle.world_model.specs.Stations.{Order, Station}
 use Rattle.world_model.specs.Worlds.{all_entries, entries_of}
-use Rattle.radio_world.specs.Hosts.{Asking, answering, GoesOn, JoinAnswers}
+use Rattle.radio_world.specs.Hosts.{Asking, answering, Reacts, JoinAnswers}
 use Rattle.radio_world.specs.Leaving.{Medium, after_all, after_leaving, in_radio, leaving_entry, leaving_entries}
 use Rattle.radio_world.specs.Halves.{Half, Motion, Leaving, Returning, happening_of, happenings_of, MakesAll, half_of, Goes}
 use Rattle.radio_world.proofs.Entering.{tryings, tries, silent}
@@ -72,10 +72,10 @@ leave U side (order ∷ orders) medium station are =
     (record { medium = after_leaving side order medium; station = record station { out = orders } }, (orders, are, refl), leave U side orders (after_leaving side order medium) (record station { out = orders }) refl)
 
 pub goes_out :
-    {S G P : Type 0} (U : Upper S G) (side : Side) (Answers : P → List G → P → Type 0) (medium medium' : Medium) (host host' : Asking S G) (port : P) (trace trace' : Option (List ℕ))
-    → JoinAnswers Answers → medium' ≡ after_all side host.out medium → GoesOn U side (record host { out = [] }) host' → trace' ≡ gained trace (capture_octets (leaving_entries side host.out))
-    → Goes U side Answers medium medium' host host' port port trace trace'
-goes_out {S} {G} U side Answers medium medium' host host' port trace trace' joins moved taken written =
+    {S G P : Type 0} (U : Upper S G) (side : Side) (Answers : P → List G → P → Type 0) (medium medium' : Medium) (host host' : Asking S G) (port port' : P) (trace trace' : Option (List ℕ))
+    → medium' ≡ after_all side host.out medium → Reacts U side Answers (λ used station. station) (record host { out = [] }) host' port port' → trace' ≡ gained trace (capture_octets (leaving_entries side host.out))
+    → Goes U side Answers medium medium' host host' port port' trace trace'
+goes_out {S} {G} U side Answers medium medium' host host' port port' trace trace' moved taken written =
     let after : Medium = after_all side host.out medium in
     let offered : Asking S G = record host { out = [] } in
     let entries : all_entries (happenings_of side (leavings host.out ++ tryings taken.efforts)) ≡ leaving_entries side host.out =
@@ -83,12 +83,13 @@ goes_out {S} {G} U side Answers medium medium' host host' port trace trace' join
     ∙ ap (λ es. leaving_entries side host.out ++ es) (silent side taken.efforts) ∙ append-nil (leaving_entries side host.out) in
     record {
       motions = leavings host.out ++ tryings taken.efforts;
-      used = [];
-      answered = joins.none port;
+      used = taken.used;
+      answered = taken.answered;
       makes = λ rest.
-          subst (λ (m : Medium). MakesAll U side (leavings host.out ++ tryings taken.efforts) (half_of medium host rest) (half_of m host' rest)) (sym moved)
-          (makes_then U side (leavings host.out) (tryings taken.efforts) (half_of medium host rest) (half_of after offered rest) (half_of after host' rest) (leave U side host.out medium (answering rest host) refl)
-          (tries U side taken.efforts after (answering rest offered) (answering rest host') (taken.goes rest)));
+          let known : List G = taken.used ++ rest in
+          subst (λ (m : Medium). MakesAll U side (leavings host.out ++ tryings taken.efforts) (half_of medium host known) (half_of m host' rest)) (sym moved)
+          (makes_then U side (leavings host.out) (tryings taken.efforts) (half_of medium host known) (half_of after offered known) (half_of after host' rest) (leave U side host.out medium (answering known host) refl)
+          (tries U side taken.efforts after (answering known offered) (answering rest host') (taken.reacts rest)));
       written = written ∙ ap (λ es. gained trace (capture_octets es)) (sym entries);
     }
 

@@ -89,18 +89,20 @@ pub record Reacts {S G P : Type 0} (U : Upper S G) (side : Side) (Answers : P �
   pub efforts : List Effort
   pub reacts : (rest : List G) → MakesEfforts U side efforts (change (used ++ rest) (answering (used ++ rest) old)) (answering rest new)
 
--- it goes on by itself, and its ports are not asked
-pub record GoesOn {S G : Type 0} (U : Upper S G) (side : Side) (old new : Asking S G) : Type 0 where
-  pub efforts : List Effort
-  pub goes : (rest : List G) → MakesEfforts U side efforts (answering rest old) (answering rest new)
+-- octets of a whole packet, which a controller of this world may let come to that host
+pub record Comes {S : Type 0} (side : Side) (host : Station S) (octets : List ℕ) : Type 0 where
+  pub coming : Coming
+  pub may : MayBeHeard host coming
+  pub is : IsPacket acl_limit (coming_packet side coming)
+  pub spelled : octets ≡ spelling (coming_packet side coming)
 
 -- Octets of a packet come to it, behind those that it holds. It holds them until the packet is whole, and then hears it, where
--- it is one that a controller of this world may let come.
-pub record Hears {S G P : Type 0} (U : Upper S G) (side : Side) (Answers : P → List G → P → Type 0) (held octets held' : List ℕ) (old new : Asking S G) (port port' : P) : Type 0 where
+-- it is one that a controller of this world may let come; so it stays sound.
+pub record Hears {S G P : Type 0} (U : Upper S G) (side : Side) (Answers : P → List G → P → Type 0) (held octets held' : List ℕ) (old new : Asking S G) (port port' : P) (Sound : Type 0) : Type 0 where
   pub part : (coming : Coming) (left : List ℕ) → IsPacket acl_limit (coming_packet side coming) → spelling (coming_packet side coming) ≡ held ++ (octets ++ left) → left ≢ []
-      → (held' ≡ held ++ octets) × (new ≡ old) × Answers port [] port'
+      → (held' ≡ held ++ octets) × (new ≡ old) × Answers port [] port' × Sound
   pub whole : (coming : Coming) → MayBeHeard old coming → IsPacket acl_limit (coming_packet side coming) → spelling (coming_packet side coming) ≡ held ++ octets
-      → (held' ≡ []) × Reacts U side Answers (hears_coming U side coming) old new port port'
+      → (held' ≡ []) × Reacts U side Answers (hears_coming U side coming) old new port port' × Sound
 
 -- one list of answers behind another, from port to port
 pub record JoinAnswers {G P : Type 0} (Answers : P → List G → P → Type 0) : Type 0 where

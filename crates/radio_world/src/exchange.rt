@@ -25,15 +25,15 @@ impl Medium {
         &mut self,
         side: Side,
         host: &mut H,
-        port: &P,
+        port: &mut P,
         trace: &mut T,
     ) -> Result<bool, WorldFault>
         requires side { H.side ≡ side }
-        requires sound { H.is_sound host.old port.now }
-        ensures goes { OnOk result (Goes H.machine side H.answers self.old self.new (H.station host.old port.now) (H.station host.new port.now) port.now port.now (T.content trace.old) (T.content trace.new)) }
-        ensures none { result ≡ Ok false → (H.station host.old port.now).out ≡ [] × (self.new ≡ self.old) × (H.station host.new port.now ≡ H.station host.old port.now) }
+        requires sound { H.is_sound host.old port.old }
+        ensures goes { OnOk result (Goes H.machine side H.answers self.old self.new (H.station host.old port.old) (H.station host.new port.new) port.old port.new (T.content trace.old) (T.content trace.new)) }
+        ensures none { result ≡ Ok false → (H.station host.old port.old).out ≡ [] × (self.new ≡ self.old) × (H.station host.new port.new ≡ H.station host.old port.old) }
         ensures held { OnOk result (H.held host.new ≡ H.held host.old) }
-        ensures sound { OnOk result (H.is_sound host.new port.now) }
+        ensures sound { OnOk result (H.is_sound host.new port.new) }
         ensures blames { Blames (T.faults trace.old) (T.faults trace.new) result }
     {
         let offered = host.out();
@@ -42,7 +42,7 @@ impl Medium {
             return Ok(false);
         }
         self.take_all(side, offered, trace)?;
-        host.taken(count, port);
+        host.taken(count, port)?;
         Ok(true)
     }
 

@@ -6,7 +6,7 @@ ghost use Rattle.push_terms.specs.declared.word.Side.{Side};
 ghost use Rattle.world_model.specs.Machines.{Upper, TimerFired, Cancelled, Opening};
 ghost use Rattle.world_model.specs.Stations.{IsStopped, told};
 ghost use Rattle.radio_world.specs.Measures.{IsMostOf};
-ghost use Rattle.radio_world.specs.Hosts.{Asking, answering, order_octets, AreSent, Reacts, GoesOn, Hears, JoinAnswers};
+ghost use Rattle.radio_world.specs.Hosts.{Asking, answering, order_octets, AreSent, Reacts, Hears, JoinAnswers};
 
 use bt_base::NoMemory;
 use push_terms::Outcome;
@@ -36,7 +36,7 @@ pub trait Host<P>: Drop {
     /// The octets that it holds of a packet which is not whole yet.
     ghost held: { Self → List ℕ };
 
-    /// What it needs of its port.
+    /// What holds of it and its port between two calls.
     ghost is_sound: { Self → P → Type 0 };
 
     /// The port gave these answers, one after the other, from one state to another.
@@ -48,23 +48,24 @@ pub trait Host<P>: Drop {
 
     /// The octets for its controller.
     fn out(&self) -> &[u8]
-        ensures octets { (port : P) → result.now ≡ order_octets side (station self.now port).out }
-        ensures sent { (port : P) → AreSent side (station self.now port).out };
+        ensures octets { (port : P) → is_sound self.now port → result.now ≡ order_octets side (station self.now port).out }
+        ensures sent { (port : P) → is_sound self.now port → AreSent side (station self.now port).out };
 
-    /// Its controller took all `n` octets of `out`. It puts out then what it held back for want of
-    /// room; its port is not asked.
-    fn taken(&mut self, n: usize, port: &P)
-        requires all { n ≡ length (order_octets side (station self.old port.now).out) }
-        requires sound { is_sound self.old port.now }
-        ensures goes { GoesOn machine side (record (station self.old port.now) { out = [] }) (station self.new port.now) }
-        ensures held { held self.new ≡ held self.old }
-        ensures sound { is_sound self.new port.now };
+    /// Its controller took all `n` octets of `out`. It goes on by itself: it puts out what it held
+    /// back for want of room, and may ask its port for what comes next.
+    fn taken(&mut self, n: usize, port: &mut P) -> Result<(), NoMemory>
+        requires all { n ≡ length (order_octets side (station self.old port.old).out) }
+        requires sound { is_sound self.old port.old }
+        ensures goes { OnOk result (Reacts machine side answers (λ used station. station) (record (station self.old port.old) { out = [] }) (station self.new port.new) port.old port.new) }
+        ensures held { OnOk result (held self.new ≡ held self.old) }
+        ensures sound { OnOk result (is_sound self.new port.new) }
+        ensures lacked { OnErr result (lacked port.old port.new) };
 
-    /// Takes octets of its controller.
+    /// Takes octets of its controller. It stays sound where they are of packets that a controller may
+    /// let come.
     fn feed(&mut self, octets: &[u8], port: &mut P) -> Result<(), NoMemory>
         requires sound { is_sound self.old port.old }
-        ensures hears { OnOk result (Hears machine side answers (held self.old) octets.now (held self.new) (station self.old port.old) (station self.new port.new) port.old port.new) }
-        ensures sound { OnOk result (is_sound self.new port.new) }
+        ensures hears { OnOk result (Hears machine side answers (held self.old) octets.now (held self.new) (station self.old port.old) (station self.new port.new) port.old port.new (is_sound self.new port.new)) }
         ensures lacked { OnErr result (lacked port.old port.new) };
 
     /// Whether something waits for its timer.
@@ -85,6 +86,9 @@ pub trait Host<P>: Drop {
 
     /// Lists of answers join.
     ghost joins: { JoinAnswers answers };
+
+    /// Memory that is found wanting later was found wanting.
+    ghost lacks: { (first mid last : P) (used : List Answer) → answers first used mid → lacked mid last → lacked first last };
 
     /// Where all that it put out was taken, it can do nothing more by itself.
     ghost stops: { (host : Self) (port : P) → is_sound host port → (station host port).out ≡ [] → (rest : List Answer) → IsStopped machine side (answering rest (station host port)) };

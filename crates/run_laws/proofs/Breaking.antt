@@ -46,8 +46,8 @@ pub written_is_happened : {S T G H : Type 0} (U : Upper S G) (V : Upper T H) →
 written_is_happened U V size count names happenings w next runs may =
     let there = does_then U V next w may in
     record {
-      happenings = happenings ++ next ∷ [];
-      world = there.0;
+      new = there.0;
+      does = there.1;
       runs = runs_more U V happenings next (first_world U V size count names) w there.0 runs there.1;
       captured = flat_map-append entries_of happenings (next ∷ []) ∙ ap (λ (es : List Entry). all_entries happenings ++ es) (append-nil (entries_of next));
     }

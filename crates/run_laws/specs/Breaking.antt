@@ -13,7 +13,7 @@ use Rattle.world_model.specs.Machines.{Upper}
 use Rattle.world_model.specs.Pushes.{next_name}
 use Rattle.world_model.specs.Turns.{may_be_cancelled}
 use Rattle.world_model.specs.Stations.{Order}
-use Rattle.world_model.specs.Worlds.{World, Happening, Departure, Piecemeal, Answering, Turns, Opens, IsAtRest, Runs, entries_of, all_entries, first_world}
+use Rattle.world_model.specs.Worlds.{World, Happening, Departure, Piecemeal, Answering, Turns, Opens, IsAtRest, Does, Runs, entries_of, all_entries, first_world}
 use Rattle.turn_laws.specs.Laws.{IsFront}
 
 -- a word finds what can be done
@@ -46,11 +46,18 @@ pub record IsRunOf {S T G H : Type 0} (U : Upper S G) (V : Upper T H) (size coun
   pub runs : Runs U V happenings (first_world U V size count names) world
   pub captured : all_entries happenings ≡ capture
 
+-- One happening more: both hosts, what was under way and the pushes are those of the run, but for what that happening makes of them.
+pub record GoesOnWith {S T G H : Type 0} (U : Upper S G) (V : Upper T H) (size count : ℕ) (names : List (List ℕ)) (happenings : List Happening) (w : World S T) (next : Happening) : Type 0 where
+  pub new : World S T
+  pub does : Does U V next w new
+  pub runs : Runs U V (happenings ++ next ∷ []) (first_world U V size count names) new
+  pub captured : all_entries (happenings ++ next ∷ []) ≡ all_entries happenings ++ entries_of next
+
 -- an entry that was written, and not heard or half heard, is that of one more happening
 abbrev pub WrittenIsHappened : {S T G H : Type 0} → Upper S G → Upper T H → Type 0
 WrittenIsHappened {S} {T} U V =
     (size count : ℕ) (names : List (List ℕ)) (happenings : List Happening) (w : World S T) (next : Happening) → Runs U V happenings (first_world U V size count names) w → IsWritten U V next w
-    → IsRunOf U V size count names (all_entries happenings ++ entries_of next)
+    → GoesOnWith U V size count names happenings w next
 
 -- each front of a capture, wherever it was cut, is the capture of a run
 abbrev pub FrontsAreRuns : {S T G H : Type 0} → Upper S G → Upper T H → Type 0

@@ -25,9 +25,8 @@ pub fn rest_is_of_less<S, M, T, N, G, H>()
     ensures { (embed_a : S → M) (embed_b : T → N) (U : Upper S G) (U' : Upper M G) (V : Upper T H) (V' : Upper N H) → RestIsOfLess embed_a embed_b U U' V V' }
 {}
 
-/// A run that broke off with an entry written, and its packet not heard or half heard, is one more happening: so early ends need no
-/// laws of their own.
-#[tactic(auto, using(crate::proofs::Breaking::written_is_happened))]
+/// A run that broke off with an entry written, and its packet not heard or half heard, goes on with one more happening, from both hosts
+/// as they were: so early ends need no laws of their own.
 pub fn written_entries_happen<S, T, G, H>()
     ensures { (U : Upper S G) (V : Upper T H) → WrittenIsHappened U V }
 {}

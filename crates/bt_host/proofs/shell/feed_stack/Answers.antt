@@ -2,6 +2,7 @@ use Rattle.std.proofs.Common.{◌∙◌, ap, Ok, Err}
 use Rattle.std.proofs.lemmas.Result.{err_from_is_err_and}
 use Rattle.h4_framing.specs.Packets.{packet}
 use Rattle.l2cap_channels.specs.Machine.{Machine}
+use Rattle.bt_host.proofs.Reacting.{resting_by}
 use Rattle.bt_host.proofs.Feeding.{served_packet, served_refused, one_by}
 use Rattle.bt_host.proofs.shell.feed_stack.Goals as goal
 
@@ -24,5 +25,7 @@ loop-unit-preserved g c =
           (one_by g.E.End.profile g.E.End.answers g.E.End.lacked g.E.End.pushing _ _ (packet c.in-Whole.unit) c.place-place.result _ _ (Ok tt) so_far.same hear.heard);
       sound = hear.sound;
       of = hear.of;
+      rests = resting_by g.E.End.profile g.E.End.pushing c.loop-unit.stack.upper.machine.settings c.args.stack.now.upper.machine.settings (record { stack = c.hear.new.self; port = c.hear.new.port }) so_far.same hear.rests;
+      paged = c.hear.ensures.paged ∙ so_far.paged;
       same = ap (λ (m : Machine). m.settings) c.hear.ensures.machine ∙ so_far.same;
     }

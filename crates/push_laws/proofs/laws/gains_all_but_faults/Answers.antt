@@ -1,4 +1,4 @@
-use Rattle.push_laws.proofs.Gaining.{gains-all_but_faults}
+use Rattle.push_laws.proofs.Marking.{gains-all_but_faults}
 use Rattle.push_laws.proofs.laws.gains_all_but_faults.Goals as goal
 
 pub returns : goal.returns

@@ -14,18 +14,24 @@ all_gone (x ∷ xs) empty is all = let none = eqb-true (length (x ∷ xs)) 0 (sy
 pub loop-rest-init : goal.loop-rest-init
 loop-rest-init g c =
     let host = g.H.Host in
-    (λ coming may is spelled. fed_first host.machine host.side host.answers coming c.args.octets.now (host.held c.args.host.now) (host.station c.args.host.now c.args.port.now) c.args.port.now g.met.H.Host.joins spelled c.requires.none_held, c.requires.sound)
+    λ coming may is spelled.
+    fed_first host.machine host.side host.answers coming c.args.octets.now (host.held c.args.host.now) (host.station c.args.host.now c.args.port.now) c.args.port.now (host.is_sound c.args.host.now c.args.port.now)
+    g.met.H.Host.joins spelled c.requires.none_held c.requires.sound
+
+pub feed-requires : goal.feed-requires
+feed-requires g c =
+    let comes = c.requires.comes in
+    record { sound = ((c.loop-rest.invariant comes.coming comes.may comes.is comes.spelled).under_way (some_left c.loop-rest.rest.now c.is_empty.result c.is_empty.ensures c.loop-rest-test.true)).3 }
 
 pub loop-rest-preserved : goal.loop-rest-preserved
 loop-rest-preserved g c =
-    let host = g.H.Host in (
-      λ coming may is spelled.
-          fed_more host.machine host.side host.answers coming c.args.octets.now c.loop-rest.rest.now c.split_at.result.0.now c.split_at.result.1.now (host.held c.loop-rest.host) (host.held c.feed.new.self)
-          (host.station c.args.host.now c.args.port.now) (host.station c.loop-rest.host c.loop-rest.port) (host.station c.feed.new.self c.feed.new.port) c.args.port.now c.loop-rest.port c.feed.new.port g.met.H.Host.joins may is spelled
-          (some_left c.loop-rest.rest.now c.is_empty.result c.is_empty.ensures c.loop-rest-test.true) c.split_at.ensures.by_index.0
-          (c.loop-rest.invariant.0 coming may is spelled) c.in_ok-feed.ensures.hears,
-      c.in_ok-feed.ensures.sound,
-    )
+    let host = g.H.Host in
+    λ coming may is spelled.
+    fed_more host.machine host.side host.answers coming c.args.octets.now c.loop-rest.rest.now c.split_at.result.0.now c.split_at.result.1.now (host.held c.loop-rest.host) (host.held c.feed.new.self)
+    (host.station c.args.host.now c.args.port.now) (host.station c.loop-rest.host c.loop-rest.port) (host.station c.feed.new.self c.feed.new.port) c.args.port.now c.loop-rest.port c.feed.new.port
+    (host.is_sound c.loop-rest.host c.loop-rest.port) (host.is_sound c.feed.new.self c.feed.new.port) g.met.H.Host.joins may is spelled
+    (some_left c.loop-rest.rest.now c.is_empty.result c.is_empty.ensures c.loop-rest-test.true) c.split_at.ensures.by_index.0
+    (c.loop-rest.invariant coming may is spelled) c.in_ok-feed.ensures.hears
 
-pub returns-clause-hears : goal.returns-clause-hears
-returns-clause-hears g c = λ coming may is spelled. (c.loop-rest.invariant.0 coming may is spelled).done (all_gone c.loop-rest.rest.now c.is_empty.result c.is_empty.ensures c.loop-rest-test.false)
+pub returns : goal.returns
+returns g c = record { hears = λ coming may is spelled. (c.loop-rest.invariant coming may is spelled).done (all_gone c.loop-rest.rest.now c.is_empty.result c.is_empty.ensures c.loop-rest-test.false) }

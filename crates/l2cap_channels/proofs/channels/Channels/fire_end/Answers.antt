@@ -12,7 +12,7 @@ returns-in-Leaving-clause-after c =
 pub returns-in-Closing-clause-after : goal.returns-in-Closing-clause-after
 returns-in-Closing-clause-after c =
     let m = c.args.self.now in
-    c.fire_request-in-Closing.ensures.after ∙ ap (with_channels m) (closing_by (slice_get m.channels.held c.args.at) c.endpoint-own.result m.settings.tries c.in-Closing.field-0 c.in-Closing.request m.channels c.endpoint-own.ensures.own c.in-Closing.ensures)
+    c.fire_request-in-Closing.ensures.after ∙ ap (with_channels m) (closing_by (slice_get m.channels.held c.args.at) c.endpoint-own.result m.settings.tries c.in-Closing.field-0 c.in-Closing.request c.in-Closing.field-2 m.channels c.endpoint-own.ensures.own c.in-Closing.ensures)
 
 pub returns-in-Crossed-clause-after : goal.returns-in-Crossed-clause-after
 returns-in-Crossed-clause-after c =

@@ -12,20 +12,20 @@ pub move_all_into-requires-clause-heard : goal.move_all_into-requires-clause-hea
 move_all_into-requires-clause-heard g c =
     let host = g.H.Host in
     let content = g.T.Sink.content in
-    heard_then host.machine c.args.side host.answers c.move_out.new.self c.give_back.new.self (host.station c.move_out.new.host c.args.port.now) (host.station c.move_out.new.host c.args.port.now) c.args.port.now c.args.port.now
+    heard_then host.machine c.args.side host.answers c.move_out.new.self c.give_back.new.self (host.station c.move_out.new.host c.move_out.new.port) (host.station c.move_out.new.host c.move_out.new.port) c.move_out.new.port c.move_out.new.port
     (content c.move_out.new.trace) (content c.move_out.new.trace)
-    (goes_back host.machine c.args.side host.answers c.move_out.new.self c.give_back.new.self (host.station c.move_out.new.host c.args.port.now) c.args.port.now (content c.move_out.new.trace) g.met.H.Host.joins c.in_ok-give_back.ensures)
-    (heard_then host.machine c.args.side host.answers c.args.self.now c.move_out.new.self (host.station c.args.host.now c.args.port.now) (host.station c.move_out.new.host c.args.port.now) c.args.port.now c.args.port.now
+    (goes_back host.machine c.args.side host.answers c.move_out.new.self c.give_back.new.self (host.station c.move_out.new.host c.move_out.new.port) c.move_out.new.port (content c.move_out.new.trace) g.met.H.Host.joins c.in_ok-give_back.ensures)
+    (heard_then host.machine c.args.side host.answers c.args.self.now c.move_out.new.self (host.station c.args.host.now c.args.port.now) (host.station c.move_out.new.host c.move_out.new.port) c.args.port.now c.move_out.new.port
     (content c.args.trace.now) (content c.move_out.new.trace) c.in_ok-left.ensures.goes c.requires.heard)
 
 pub returns-clause-goes : goal.returns-clause-goes
 returns-clause-goes g c =
     let host = g.H.Host in
-    let back = goes_back host.machine c.args.side host.answers c.move_out.new.self c.give_back.new.self (host.station c.move_out.new.host c.args.port.now) c.args.port.now (g.T.Sink.content c.move_out.new.trace) g.met.H.Host.joins c.in_ok-give_back.ensures in
-    let given = goes_then host.machine c.args.side host.answers c.args.self.now c.move_out.new.self c.give_back.new.self (host.station c.args.host.now c.args.port.now) (host.station c.move_out.new.host c.args.port.now) (host.station c.move_out.new.host c.args.port.now)
-    c.args.port.now c.args.port.now c.args.port.now (g.T.Sink.content c.args.trace.now) (g.T.Sink.content c.move_out.new.trace) (g.T.Sink.content c.move_out.new.trace) g.met.H.Host.joins c.in_ok-left.ensures.goes back in
-    goes_then host.machine c.args.side host.answers c.args.self.now c.give_back.new.self c.move_all_into.new.self (host.station c.args.host.now c.args.port.now) (host.station c.move_out.new.host c.args.port.now) (host.station c.move_all_into.new.host c.move_all_into.new.port)
-    c.args.port.now c.args.port.now c.move_all_into.new.port (g.T.Sink.content c.args.trace.now) (g.T.Sink.content c.move_out.new.trace) (g.T.Sink.content c.move_all_into.new.trace) g.met.H.Host.joins given c.in_ok-came.ensures.goes
+    let back = goes_back host.machine c.args.side host.answers c.move_out.new.self c.give_back.new.self (host.station c.move_out.new.host c.move_out.new.port) c.move_out.new.port (g.T.Sink.content c.move_out.new.trace) g.met.H.Host.joins c.in_ok-give_back.ensures in
+    let given = goes_then host.machine c.args.side host.answers c.args.self.now c.move_out.new.self c.give_back.new.self (host.station c.args.host.now c.args.port.now) (host.station c.move_out.new.host c.move_out.new.port) (host.station c.move_out.new.host c.move_out.new.port)
+    c.args.port.now c.move_out.new.port c.move_out.new.port (g.T.Sink.content c.args.trace.now) (g.T.Sink.content c.move_out.new.trace) (g.T.Sink.content c.move_out.new.trace) g.met.H.Host.joins c.in_ok-left.ensures.goes back in
+    goes_then host.machine c.args.side host.answers c.args.self.now c.give_back.new.self c.move_all_into.new.self (host.station c.args.host.now c.args.port.now) (host.station c.move_out.new.host c.move_out.new.port) (host.station c.move_all_into.new.host c.move_all_into.new.port)
+    c.args.port.now c.move_out.new.port c.move_all_into.new.port (g.T.Sink.content c.args.trace.now) (g.T.Sink.content c.move_out.new.trace) (g.T.Sink.content c.move_all_into.new.trace) g.met.H.Host.joins given c.in_ok-came.ensures.goes
 
 neither : {E : Type 0} (x y : Bool) (r : Result Bool E) → r ≡ Ok (x || y) → r ≡ Ok false → (x ≡ false) × (y ≡ false)
 neither false false r one other = (refl, refl)

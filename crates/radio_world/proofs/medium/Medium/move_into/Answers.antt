@@ -48,6 +48,15 @@ unreachable-requires g c =
     reads_whole c.args.side c.self.inside.radio c.in-Some.n c.hand.new.into (take c.in-Some.n c.hand.new.into) c.first.result
     (handed_first c.args.side medium c.hand.result c.in-Some.n _ c.hand.new.into c.hand.ensures.handed c.in-Some.is) refl c.first.ensures c.in_default-first.not-Whole
 
+pub hand_over-requires-clause-comes : goal.hand_over-requires-clause-comes
+hand_over-requires-clause-comes g c =
+    let host = g.H.Host in
+    let medium = mk c.self.inside.radio c.self.inside.peak_a c.self.inside.peak_b in
+    let handed : IsHanded c.args.side c.self.inside.radio c.in-Some.n c.hand.new.into = handed_first c.args.side medium c.hand.result c.in-Some.n _ c.hand.new.into c.hand.ensures.handed c.in-Some.is in
+    let comes : ComesFirst c.args.side handed.coming c.args.self.now.radio = subst (λ (m : Medium). ComesFirst c.args.side handed.coming m.radio) c.self.view_is handed.comes in
+    let heard = at_side host.side c.args.side handed.coming (take c.in-Some.n c.hand.new.into) c.requires.side handed.is handed.front in
+    record { coming = handed.coming; may = may_next host.machine c.args.side c.args.self.now (host.station c.args.host.now c.args.port.now) c.requires.heard handed.coming comes; is = heard.0; spelled = heard.1 }
+
 pub returns-clause-goes : goal.returns-clause-goes
 returns-clause-goes g c =
     let host = g.H.Host in
@@ -94,3 +103,11 @@ returns-in_err-hand_over-clause-said g c =
     let comes : ComesFirst c.args.side handed.coming c.args.self.now.radio = subst (λ (m : Medium). ComesFirst c.args.side handed.coming m.radio) c.self.view_is handed.comes in
     any_err c.from_residual-in_err-hand_over.result
     (inr (handed.coming, comes, c.in_ok-record.ensures.ok ∙ ap (λ p. gained (g.T.Sink.content c.args.trace.now) (entry_octets (Moved c.args.side Into p))) read))
+
+pub returns-clause-sound : goal.returns-clause-sound
+returns-clause-sound g c =
+    let medium = mk c.self.inside.radio c.self.inside.peak_a c.self.inside.peak_b in
+    let handed : IsHanded c.args.side c.self.inside.radio c.in-Some.n c.hand.new.into = handed_first c.args.side medium c.hand.result c.in-Some.n _ c.hand.new.into c.hand.ensures.handed c.in-Some.is in
+    let comes : ComesFirst c.args.side handed.coming c.args.self.now.radio = subst (λ (m : Medium). ComesFirst c.args.side handed.coming m.radio) c.self.view_is handed.comes in
+    let heard = at_side g.H.Host.side c.args.side handed.coming (take c.in-Some.n c.hand.new.into) c.requires.side handed.is handed.front in
+    (c.in_ok-hand_over.ensures.hears handed.coming (may_next g.H.Host.machine c.args.side c.args.self.now (g.H.Host.station c.args.host.now c.args.port.now) c.requires.heard handed.coming comes) heard.0 heard.1).2

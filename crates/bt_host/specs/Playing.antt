@@ -1,0 +1,39 @@
+-- A host as a world plays it (this project's own).
+use Rattle.std.specs.Prelude.{◌≡◌, Bool, List, Option, None}
+use Rattle.bt_base.specs.Objects.{Contents}
+use Rattle.push_terms.specs.declared.word.Side.{Side}
+use Rattle.push_terms.specs.declared.word.Side.TheVariants.{A, B}
+use Rattle.radio_air.specs.Controllers.{address}
+use Rattle.bt_base.specs.declared.settings.Settings.{Settings}
+use Rattle.host_model.specs.Circumstances.{Circumstance}
+use Rattle.host_model.specs.Profiles.{Profile}
+use Rattle.host_model.specs.Clients.{ClientProfile, client_profile}
+use Rattle.host_model.specs.Settings.{SetHost, set_to}
+use Rattle.radio_world.specs.Hosts.{Asking}
+use Rattle.line_laws.specs.Seeing.{seen, IsSeen}
+use Rattle.bt_host.specs.Uppers.{asking}
+use Rattle.bt_host.specs.Stacks.{Stacked, IsResting}
+use Rattle.bt_host.specs.Shells.{Shelled}
+use Rattle.bt_host.specs.Pushing.{pushed_by, Pushes}
+use Rattle.bt_host.specs.Serving.{Served, profile_of, served_by, Works}
+
+-- what stands above its line, with its settings, for all that its port may answer from now on
+abbrev pub set_host : {E S P : Type 0} → (E → P → List Circumstance → S) → P → Stacked E → List Circumstance → SetHost S
+set_host pushing port stack rest = set_to stack.upper.machine.settings (asking pushing port stack.upper rest)
+
+-- its line as its octets tell of it, and that machine above it
+abbrev pub playing : {E S P : Type 0} → (E → P → List Circumstance → S) → P → Stacked E → Asking (SetHost S) Circumstance
+playing pushing port stack = seen (set_host pushing port stack) stack.line
+
+-- Its octets are those of its orders, and it has done all that it can by itself.
+pub record IsPlayed {E S P : Type 0} (profile : Settings → Profile S) (side : Side) (pushing : E → P → List Circumstance → S) (stack : Stacked E) (port : P) : Type 0 where
+  pub is_seen : (rest : List Circumstance) → IsSeen side (set_host pushing port stack rest) stack.line
+  pub rests : IsResting (profile stack.upper.machine.settings) pushing (record { stack = stack; port = port })
+
+-- A client refused nothing, needs no more of its shelf, pages device b, and is played; a server refused nothing, its inbox has an object
+-- pending exactly where one is under way, and it is played.
+abbrev pub PushesSoundly : {P : Type 0} → Shelled ClientProfile → P → Type 0
+PushesSoundly host shelf = (host.refusal ≡ None) × (Pushes host.stack.upper.end × (host.stack.paged ≡ address B)) × IsPlayed client_profile A pushed_by host.stack shelf
+
+abbrev pub ServesSoundly : {P : Type 0} → (P → Option Contents) → (P → Bool) → Shelled Served → P → Type 0
+ServesSoundly content pending host inbox = (host.refusal ≡ None) × Works host.stack.upper.end (pending inbox) × IsPlayed profile_of B (served_by content) host.stack inbox

@@ -1,0 +1,93 @@
+//! The host that pushes objects, as a world plays it.
+
+use crate::client_host::ClientHost;
+use crate::fed::want;
+use crate::shell::feed_stack;
+use bt_base::{NoMemory, Shelf};
+use push_terms::Outcome;
+use radio_world::{Client, Host};
+
+impl<F: Shelf> Host<F> for ClientHost {
+    ghost use Rattle.push_terms.specs.declared.word.Side.TheVariants.{A};
+    ghost use Rattle.host_model.specs.Circumstances.{Circumstance};
+    ghost use Rattle.host_model.specs.Clients.{ClientProfile, client_profile};
+    ghost use Rattle.host_model.specs.Settings.{SetHost, client_machine};
+    ghost use Rattle.bt_host.specs.Pushing.{pushed_by, Lacks};
+    ghost use Rattle.bt_host.specs.PushingLaws as laws;
+    ghost use Rattle.bt_host.specs.PushingLaws.{Answers};
+    ghost use Rattle.bt_host.specs.Playing.{playing, PushesSoundly};
+    ghost use Rattle.bt_host.specs.PlayingLaws.{joined, stops};
+
+    ghost State = { SetHost ClientProfile };
+
+    ghost Answer = { Circumstance };
+
+    ghost machine = { client_machine };
+
+    ghost side = { A };
+
+    ghost station = { λ host shelf. playing pushed_by shelf host.stack };
+
+    ghost held = { λ host. host.framing.held };
+
+    ghost is_sound = { PushesSoundly };
+
+    ghost answers = { Answers F.content F.faults F.shortages };
+
+    ghost lacked = { Lacks F.shortages };
+
+    fn out(&self) -> &[u8] {
+        ClientHost::out(self)
+    }
+
+    fn taken(&mut self, n: usize, port: &mut F) -> Result<(), NoMemory> {
+        ClientHost::taken(self, n);
+        self.put_out(port)
+    }
+
+    fn feed(&mut self, octets: &[u8], port: &mut F) -> Result<(), NoMemory> {
+        let fed = feed_stack(&mut self.framer, &mut self.stack, octets, port);
+        self.refusal = fed.err();
+        want(fed)
+    }
+
+    fn armed(&self) -> bool {
+        ClientHost::armed(self)
+    }
+
+    fn on_timer(&mut self, port: &mut F) -> Result<(), NoMemory> {
+        ClientHost::on_timer(self, port)
+    }
+
+    fn has_fcs(&self, channel: u16) -> bool {
+        ClientHost::has_fcs(self, channel)
+    }
+
+    ghost lacks = { laws.lacks F.content F.faults F.shortages };
+
+    ghost joins = { joined (Answers F.content F.faults F.shortages) (laws.joins F.content F.faults F.shortages) };
+
+    ghost stops = { λ host shelf is. stops client_profile A pushed_by host.stack shelf is.2 };
+}
+
+impl<F: Shelf> Client<F> for ClientHost {
+    fn idle(&self) -> bool {
+        ClientHost::idle(self)
+    }
+
+    fn outcome(&self) -> Option<Outcome> {
+        ClientHost::outcome(self)
+    }
+
+    fn may_cancel(&self) -> bool {
+        ClientHost::may_cancel(self)
+    }
+
+    fn push(&mut self, name: &str, port: &mut F) -> Result<(), NoMemory> {
+        ClientHost::push(self, name, port)
+    }
+
+    fn cancel(&mut self, port: &mut F) -> Result<(), NoMemory> {
+        ClientHost::cancel(self, port)
+    }
+}

@@ -1,0 +1,69 @@
+//! The host that receives objects, as a world plays it.
+
+use crate::fed::want;
+use crate::server_host::ServerHost;
+use crate::shell::feed_stack;
+use bt_base::{Inbox, NoMemory};
+use radio_world::Host;
+
+impl<I: Inbox> Host<I> for ServerHost {
+    ghost use Rattle.push_terms.specs.declared.word.Side.TheVariants.{B};
+    ghost use Rattle.host_model.specs.Circumstances.{Circumstance};
+    ghost use Rattle.host_model.specs.Servers.{ServerProfile};
+    ghost use Rattle.host_model.specs.Settings.{SetHost, server_machine};
+    ghost use Rattle.bt_host.specs.Serving.{profile_of, served_by, Asks, Lacks};
+    ghost use Rattle.bt_host.specs.ServingLaws as laws;
+    ghost use Rattle.bt_host.specs.Playing.{playing, ServesSoundly};
+    ghost use Rattle.bt_host.specs.PlayingLaws.{joined, stops};
+
+    ghost State = { SetHost ServerProfile };
+
+    ghost Answer = { Circumstance };
+
+    ghost machine = { server_machine };
+
+    ghost side = { B };
+
+    ghost station = { λ host inbox. playing (served_by I.content) inbox host.stack };
+
+    ghost held = { λ host. host.framing.held };
+
+    ghost is_sound = { ServesSoundly I.content I.is_pending };
+
+    ghost answers = { Asks I.shortages };
+
+    ghost lacked = { Lacks I.shortages };
+
+    fn out(&self) -> &[u8] {
+        ServerHost::out(self)
+    }
+
+    fn taken(&mut self, n: usize, port: &mut I) -> Result<(), NoMemory> {
+        ServerHost::taken(self, n);
+        self.put_out(port)
+    }
+
+    fn feed(&mut self, octets: &[u8], port: &mut I) -> Result<(), NoMemory> {
+        let fed = feed_stack(&mut self.framer, &mut self.stack, octets, port);
+        self.refusal = fed.err();
+        want(fed)
+    }
+
+    fn armed(&self) -> bool {
+        ServerHost::armed(self)
+    }
+
+    fn on_timer(&mut self, port: &mut I) -> Result<(), NoMemory> {
+        ServerHost::on_timer(self, port)
+    }
+
+    fn has_fcs(&self, channel: u16) -> bool {
+        ServerHost::has_fcs(self, channel)
+    }
+
+    ghost lacks = { laws.lacks I.shortages };
+
+    ghost joins = { joined (Asks I.shortages) (laws.joins I.shortages) };
+
+    ghost stops = { λ host inbox is. stops profile_of B (served_by I.content) host.stack inbox is.2 };
+}

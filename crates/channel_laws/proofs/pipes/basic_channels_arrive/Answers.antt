@@ -1,0 +1,5 @@
+use Rattle.channel_laws.proofs.Ferried.{basic-arrive}
+use Rattle.channel_laws.proofs.pipes.basic_channels_arrive.Goals as goal
+
+pub returns : goal.returns
+returns c = basic-arrive

@@ -1,0 +1,33 @@
+-- What comes over a basic channel, whatever a link loses and repeats (Core 5.1, Volume 3 Part A, 3.1).
+use Rattle.std.specs.Prelude.{ℕ, ◌≡◌, List, [], ◌∷◌, ◌++◌, replicate}
+use Rattle.capture.specs.declared.flow.Flow.TheVariants.{Out}
+use Rattle.l2cap_config.specs.declared.wish.Mode.TheVariants.{Basic}
+use Rattle.link_talk.specs.declared.channel.Channel.{Channel}
+use Rattle.link_talk.specs.declared.party.Party.{Party}
+use Rattle.link_talk.specs.Sayings.{Saying}
+use Rattle.link_talk.specs.Carriages.{mode_of}
+use Rattle.link_talk.specs.Sdus.{sdus}
+use Rattle.channel_model.specs.Policies.{Policy}
+use Rattle.channel_model.specs.Carrying.{Up}
+use Rattle.channel_laws.specs.Runs.{sdus_up}
+use Rattle.channel_laws.specs.Pairs.{Turn, pair_of}
+use Rattle.channel_laws.specs.Ends.{AreFair}
+use Rattle.channel_laws.specs.Belonging.{AreRead}
+use Rattle.channel_laws.specs.Common.{mirrored}
+use Rattle.channel_laws.specs.Modes.{OneWishes}
+use Rattle.channel_laws.specs.Pipes.{AreCarried, HaveChannel}
+
+-- Of what was sent, in its order, some is left out and some comes two or more times running.
+abbrev pub Arrives : {X : Type 0} → (came sent : List X) → Type 0
+Arrives came [] = came ≡ []
+Arrives {X} came (x ∷ sent) = (times : ℕ) × (rest : List X) × (came ≡ replicate times x ++ rest) × Arrives rest sent
+
+-- so does what one host handed up of its endpoint, of what the other's talk says that went out
+abbrev pub IsFerry : (sent : Channel) → List Saying → (own : ℕ) → List Up → Type 0
+IsFerry sent said own ups = (party : Party) → mode_of sent said ≡ Basic → Arrives (sdus_up own ups) (sdus party sent Out said)
+
+-- Whatever the link loses, repeats and damages: over a channel that two hosts have in common, and of which one of them wishes basic
+-- mode, there come the SDUs that were sent, in their order, some left out and some two or more times running.
+abbrev pub BasicChannelsArrive : Type 0
+BasicChannelsArrive = (near far : Policy) (turns : List Turn) (channel : Channel) → AreFair near far turns → AreRead near far turns → AreCarried near far turns → HaveChannel near far turns channel → OneWishes near far channel.psm Basic
+    → IsFerry (mirrored channel) (pair_of near far turns).far.run.said channel.own (pair_of near far turns).near.run.up × IsFerry channel (pair_of near far turns).near.run.said channel.peer (pair_of near far turns).far.run.up

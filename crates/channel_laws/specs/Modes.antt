@@ -1,0 +1,29 @@
+-- In what mode the two ends of a link have a channel (Core 5.1, Volume 3 Part A, 5.4 and 7.1).
+use Rattle.std.specs.Prelude.{ℕ, ◌≡◌, List, Some, ◌⊎◌}
+use Rattle.l2cap_config.specs.declared.wish.Mode.{Mode}
+use Rattle.link_talk.specs.declared.life.Life.TheVariants.{Alive}
+use Rattle.link_talk.specs.Channels.{Entry, reading}
+use Rattle.channel_model.specs.Policies.{Policy}
+use Rattle.channel_laws.specs.Views.{read_at}
+use Rattle.channel_laws.specs.Pairs.{Side, Near, Far, turned, Turn, pair_of}
+use Rattle.channel_laws.specs.Belonging.{AreRead, said_at}
+
+-- that of the host at one end, of the two hosts
+abbrev pub policy_of : Side → (near far : Policy) → Policy
+policy_of Near near far = near
+policy_of Far near far = far
+
+-- a host wishes this mode of the channels of the PSM, the one or the other
+abbrev pub OneWishes : (near far : Policy) (psm : ℕ) → Mode → Type 0
+OneWishes near far psm mode = ((near.wish psm).mode ≡ mode) ⊎ ((far.wish psm).mode ≡ mode)
+
+-- Whatever the link loses, repeats and damages: the mode that one end accepted of a channel is the one that the other wishes of it.
+abbrev pub ModesAreWished : Type 0
+ModesAreWished = (near far : Policy) (turns : List Turn) → AreRead near far turns → (side : Side) (own : ℕ) (entry : Entry) (mode : Mode) → read_at own (reading (said_at side (pair_of near far turns))).entries ≡ Some entry → entry.setup.accepted ≡ Some mode
+    → ((policy_of side far near).wish entry.channel.psm).mode ≡ mode
+
+-- So where both accepted options of a channel that they have in common, both did so in the same mode. One of them has it still, and has
+-- not asked for its end.
+abbrev pub ModesAreCommon : Type 0
+ModesAreCommon = (near far : Policy) (turns : List Turn) → AreRead near far turns → (side : Side) (own : ℕ) (one other : Entry) (mode again : Mode) → read_at own (reading (said_at side (pair_of near far turns))).entries ≡ Some one
+    → read_at one.channel.peer (reading (said_at side (turned (pair_of near far turns)))).entries ≡ Some other → one.life ≡ Alive → one.setup.accepted ≡ Some mode → other.setup.accepted ≡ Some again → mode ≡ again

@@ -1,0 +1,138 @@
+-- Enhanced channels are pipes of SDUs, whatever a link loses, repeats and damages (Core 5.1, Volume 3 Part A, 8.6).
+use Rattle.std.specs.Prelude.{ℕ, ◌≡◌, ◌≤◌, ◌<◌, ◌^◌, List, [], ◌∷◌, ◌++◌, length, Option, Some, None, Ok, Err, ◌⊎◌}
+use Rattle.acl_fragments.specs.Pieces.{channel_of}
+use Rattle.capture.specs.Histories.{EachAfter, AtEach}
+use Rattle.capture.specs.declared.flow.Flow.TheVariants.{Out, Into}
+use Rattle.l2cap_signal.specs.Commands.{configuration_request}
+use Rattle.l2cap_config.specs.declared.options.Options.{Options}
+use Rattle.l2cap_config.specs.declared.agreement.ConfigAnswer.TheVariants.{Accept}
+use Rattle.l2cap_config.specs.declared.wish.Wish.{Wish}
+use Rattle.l2cap_config.specs.Reading.{options_read}
+use Rattle.l2cap_config.specs.Agreement.{answered, agreed_on}
+use Rattle.l2cap_config.specs.declared.wish.Agreed.{Agreed}
+use Rattle.l2cap_config.specs.declared.wish.Mode.TheVariants.{Enhanced}
+use Rattle.ertm_frames.specs.declared.refusal.FrameRefusal.TheVariants.{Short, BadFcs}
+use Rattle.ertm_frames.specs.Reading.{answer_in}
+use Rattle.ertm_model.specs.Value.{Ertm}
+use Rattle.ertm_model.specs.Pair.{Meets}
+use Rattle.link_talk.specs.declared.channel.Channel.{Channel}
+use Rattle.link_talk.specs.declared.party.Party.{Party}
+use Rattle.link_talk.specs.Sayings.{Saying}
+use Rattle.link_talk.specs.Sayings as sayings
+use Rattle.link_talk.specs.Channels.{reading}
+use Rattle.link_talk.specs.Carriages.{mode_of}
+use Rattle.link_talk.specs.Sdus.{sdus}
+use Rattle.channel_model.specs.Value.{Retransmitting, Channels}
+use Rattle.channel_model.specs.Policies.{Policy}
+use Rattle.channel_model.specs.Configuring.{bounded_agreement}
+use Rattle.channel_model.specs.Carrying.{Up}
+use Rattle.channel_model.specs.Giving.{Given, Signal, Whole, Framed, next_given}
+use Rattle.channel_model.specs.Calls.{carrier_at, peer_mtu}
+use Rattle.channel_laws.specs.Runs.{Run, Occurrence, Comes, Connects, AsksFeatures, Disconnects, Sends, Gives, Fires, Tells, sdus_up}
+use Rattle.channel_laws.specs.Views.{read_at}
+use Rattle.channel_laws.specs.OwnTalk.{command_with}
+use Rattle.channel_laws.specs.Signals.{StandsIn}
+use Rattle.channel_laws.specs.Endpoints.{IsOf}
+use Rattle.channel_laws.specs.Belonging.{AreRead}
+use Rattle.channel_laws.specs.Common.{mirrored}
+use Rattle.channel_laws.specs.Pairs.{End, Happening, Acts, Puts, Takes, Repeats, Loses, Damages, Turn, pair_of}
+use Rattle.channel_laws.specs.Ends.{end_at, AreFair}
+
+-- ---- what is given, and what is damaged
+
+-- an SDU that a host has for an open channel is one that its peer takes
+abbrev pub IsTakeable : Occurrence → Channels → Type 0
+IsTakeable (Comes pdu) v = Unit {0}
+IsTakeable (Connects psm) v = Unit {0}
+IsTakeable AsksFeatures v = Unit {0}
+IsTakeable (Disconnects own) v = Unit {0}
+IsTakeable (Sends own sdu) v = (most : ℕ) → peer_mtu own v ≡ Some most → length sdu ≤ most
+IsTakeable (Gives pdu) v = Unit {0}
+IsTakeable Fires v = Unit {0}
+IsTakeable Tells v = Unit {0}
+
+-- an SDU is given for the peer's endpoint
+abbrev pub IsAddressed : Option Given → List ℕ → Type 0
+IsAddressed None pdu = Unit {0}
+IsAddressed (Some (Signal command)) pdu = Unit {0}
+IsAddressed (Some (Whole peer sdu)) pdu = channel_of pdu ≡ peer
+IsAddressed (Some (Framed peer frame)) pdu = Unit {0}
+
+-- Damage leaves the endpoint of a PDU, and is seen: what comes in is not whole, or its check word does not hold.
+abbrev pub IsSeen : List (List ℕ) → List ℕ → Type 0
+IsSeen [] other = Unit {0}
+IsSeen (pdu ∷ coming) other = (channel_of other ≡ channel_of pdu) × ((most : ℕ) → (answer_in most other ≡ Err Short) ⊎ (answer_in most other ≡ Err BadFcs))
+
+abbrev pub IsCarried : Happening → End → Type 0
+IsCarried (Acts occurrence) end' = IsTakeable occurrence end'.run.value
+IsCarried (Puts pdu) end' = IsAddressed (next_given end'.run.value) pdu
+IsCarried Takes end' = Unit {0}
+IsCarried Repeats end' = Unit {0}
+IsCarried Loses end' = Unit {0}
+IsCarried (Damages pdu) end' = IsSeen end'.coming pdu
+
+-- each time
+abbrev pub AreCarried : (near far : Policy) → List Turn → Type 0
+AreCarried near far turns = EachAfter (λ past turn. IsCarried turn.happening (end_at turn.side (pair_of near far past))) [] turns
+
+-- ---- a channel that two hosts have in common
+
+-- both talks have it
+pub record HaveChannel (near far : Policy) (turns : List Turn) (channel : Channel) : Type 0 where
+  pub near_has : IsOf channel (read_at channel.own (reading (pair_of near far turns).near.run.said).entries)
+  pub far_has : IsOf (mirrored channel) (read_at channel.peer (reading (pair_of near far turns).far.run.said).entries)
+
+-- what one side sends by is what the other receives by
+pub record Suits (mine other : Agreed) : Type 0 where
+  pub meets : Meets mine other
+  pub some : 1 ≤ mine.send_mps
+  pub within : mine.send_mps ≤ other.receive_mps
+
+-- numbers that options can state, a window that frames can have, and frames of one octet at least
+pub record CanState (wish : Wish) : Type 0 where
+  pub mtu : wish.mtu < 2 ^ 16
+  pub mps : wish.mps < 2 ^ 16
+  pub least : 1 ≤ wish.mps
+  pub tries : wish.tries < 256
+  pub some : 1 ≤ wish.window
+  pub most : wish.window ≤ 63
+
+-- it is what a host agrees on where it finds options acceptable, in enhanced mode, of a request that it heard of the channel
+pub record IsOnHeard (policy : Policy) (psm own : ℕ) (said : List Saying) (agreed : Agreed) : Type 0 where
+  pub identifier : ℕ
+  pub flags : ℕ
+  pub octets : List ℕ
+  pub options : Options
+  pub given : Options
+  pub heard : StandsIn (sayings.Command Into (Ok (command_with identifier (configuration_request own flags octets)))) said
+  pub read_is : options_read octets ≡ Ok options
+  pub enhanced : (policy.wish psm).mode ≡ Enhanced
+  pub accepts : answered (policy.wish psm) options ≡ Accept given
+  pub agreed_is : agreed ≡ bounded_agreement (agreed_on (policy.wish psm) options)
+
+-- while the channel is open its host has it so
+abbrev pub AgreesOnHeard : Policy → (psm own : ℕ) → Run → Type 0
+AgreesOnHeard policy psm own run = (machine : Ertm) → carrier_at own run.value ≡ Some (Retransmitting machine) → IsOnHeard policy psm own run.said machine.agreed
+
+-- at each moment, at both ends
+pub record AreAgreed (near far : Policy) (turns : List Turn) (channel : Channel) : Type 0 where
+  pub near_can : CanState (near.wish channel.psm)
+  pub far_can : CanState (far.wish channel.psm)
+  pub near_agreed : AtEach (λ past. AgreesOnHeard near channel.psm channel.own (pair_of near far past).near.run) turns
+  pub far_agreed : AtEach (λ past. AgreesOnHeard far channel.psm channel.peer (pair_of near far past).far.run) turns
+
+-- ---- the law
+
+-- it is a front of the other list
+abbrev pub IsFront : {X : Type 0} → List X → List X → Type 0
+IsFront {X} front all = (behind : List X) × (all ≡ front ++ behind)
+
+-- what one host handed up of its endpoint is a front of what the other's talk says that went out
+abbrev pub IsPipe : (sent : Channel) → List Saying → (own : ℕ) → List Up → Type 0
+IsPipe sent said own ups = (party : Party) → mode_of sent said ≡ Enhanced → IsFront (sdus_up own ups) (sdus party sent Out said)
+
+-- Whatever the link loses, repeats and damages: an enhanced channel that two hosts have in common, each by its agreement on
+-- options that it heard, is a pipe of SDUs both ways.
+abbrev pub EnhancedChannelsArePipes : Type 0
+EnhancedChannelsArePipes = (near far : Policy) (turns : List Turn) (channel : Channel) → AreFair near far turns → AreRead near far turns → AreCarried near far turns → HaveChannel near far turns channel → AreAgreed near far turns channel
+    → IsPipe (mirrored channel) (pair_of near far turns).far.run.said channel.own (pair_of near far turns).near.run.up × IsPipe channel (pair_of near far turns).near.run.said channel.peer (pair_of near far turns).far.run.up

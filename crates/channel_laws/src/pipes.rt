@@ -1,0 +1,59 @@
+//! Laws of two hosts that have a channel in common, on a link that loses, repeats and damages.
+
+ghost use Rattle.channel_laws.specs.Arrivals.{BasicChannelsArrive};
+ghost use Rattle.channel_laws.specs.Common.{ChannelsAreCommon};
+ghost use Rattle.channel_laws.specs.Granted.{EndpointsAreGrantedOnce, EndpointsAskForOnePsm};
+ghost use Rattle.channel_laws.specs.Modes.{ModesAreCommon, ModesAreWished};
+ghost use Rattle.channel_laws.specs.Pipes.{EnhancedChannelsArePipes};
+ghost use Rattle.channel_laws.specs.Suiting.{AgreementsStay, OptionsSuit};
+
+/// An endpoint that a host granted is that of a channel, for the one endpoint of its peer that it was granted to, and the host never
+/// asks for a channel with it.
+pub fn endpoints_are_granted_once()
+    ensures { EndpointsAreGrantedOnce }
+{}
+
+/// An endpoint that a host asks for a channel with is that of one PSM, however often it asks.
+pub fn endpoints_ask_for_one_psm()
+    ensures { EndpointsAskForOnePsm }
+{}
+
+/// Whatever a link loses, repeats and damages: a channel for which one end accepted options is one of the other end as well, with the
+/// same PSM and each with the other's endpoint.
+pub fn channels_are_common()
+    ensures { ChannelsAreCommon }
+{}
+
+/// Whatever a link loses, repeats and damages: the mode that one end accepted of a channel is the one that the other wishes of it.
+pub fn modes_are_wished()
+    ensures { ModesAreWished }
+{}
+
+/// Where both ends accepted options of a channel that they have in common, and one of them has it still and has not asked for its end,
+/// both did so in the same mode.
+pub fn modes_are_common()
+    ensures { ModesAreCommon }
+{}
+
+/// Whatever happens to a host: while an enhanced channel of it is open its agreement stays the one by which it opened.
+pub fn agreements_stay()
+    ensures { AgreementsStay }
+{}
+
+/// Whatever a link loses, repeats and damages: where the options of a request that one end heard of a channel are acceptable to it, in
+/// enhanced mode, its agreement on them suits every agreement that the other end may have of the PSM.
+pub fn options_suit()
+    ensures { OptionsSuit }
+{}
+
+/// Whatever a link loses, repeats and damages: an enhanced channel that two hosts have in common is a pipe of SDUs both ways.
+/// What one host handed up of it is a front of what the other's own talk says that went out.
+pub fn enhanced_channels_are_pipes()
+    ensures { EnhancedChannelsArePipes }
+{}
+
+/// Whatever a link loses, repeats and damages: over a channel that two hosts have in common, and of which one of them wishes basic mode,
+/// there come the SDUs that were sent, in their order, some left out and some two or more times running.
+pub fn basic_channels_arrive()
+    ensures { BasicChannelsArrive }
+{}

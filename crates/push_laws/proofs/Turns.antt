@@ -1,0 +1,420 @@
+-- Where requests come in turn none is ignored.
+use Rattle.std.proofs.Common.{inl, inr, zero, suc, Bool, true, false, cond, ◌||◌, ◌&&◌, ◌≡◌, ◌≤◌, ℕ, List, [], ◌∷◌, ◌++◌, length, drop, Option, Some, None, Ok, arith, refl, sym, ap, subst, ◌∙◌}
+use Rattle.std.specs.Prelude.{not, nat_lt}
+use Rattle.std.specs.List.{filter_map, AllByRecursion}
+use Rattle.std.proofs.lemmas.Bool.{cond_both, cond-false, cases_Bool}
+use Rattle.bt_base.specs.declared.settings.Settings.{Settings}
+use Rattle.bt_base.specs.declared.settings.Transport.{Transport}
+use Rattle.bt_base.specs.declared.settings.Transport.TheVariants.{L2cap, Rfcomm}
+use Rattle.bt_base.specs.Objects.{Object}
+use Rattle.obex_headers.specs.declared.packet.Phase.TheVariants.{Request}
+use Rattle.obex_headers.specs.Reading.{packet_in}
+use Rattle.obex_headers.specs.Runs.{names}
+use Rattle.obex_session.specs.Calls.{session_behind}
+use Rattle.obex_session.specs.InboxCalls.{InboxCall, Answer, come_of}
+use Rattle.obex_session.specs.InboxCalls.{left_by as calls_left}
+use Rattle.obex_session.specs.Laws.{without_fault}
+use Rattle.obex_session.specs.Past.{Serving, open_headers}
+use Rattle.obex_session.specs.Rules.{aborts, progress_in}
+use Rattle.obex_session.specs.Serving.{kind_heard, verdict_or, ruling_on, heard_with}
+use Rattle.obex_session.specs.Turns.{course_after}
+use Rattle.obex_session.specs.Views.{rested, octets_said, is_silent}
+use Rattle.obex_session.proofs.GrantedLaws.{silence_is_none, said_alike, no_aborts}
+use Rattle.rfcomm_frames.specs.declared.connection.Role.TheVariants.{Initiator, Responder}
+use Rattle.rfcomm_frames.specs.FrameReading.{is_empty}
+use Rattle.rfcomm_frames.specs.Frames.{PlainFrame}
+use Rattle.rfcomm_frames.specs.ObexPackets.{obex_packets}
+use Rattle.rfcomm_frames.specs.UserChannel.{user_octets}
+use Rattle.rfcomm_model.specs.Machine.{Mux, new_mux, reset, is_ready}
+use Rattle.rfcomm_model.specs.ClosedSides.{IsOrderly}
+use Rattle.rfcomm_model.specs.Saying.{Said, next}
+use Rattle.link_talk.specs.Gains.{beyond}
+use Rattle.push_model.specs.declared.outlet.Outlet.{Outlet}
+use Rattle.push_model.specs.declared.outlet.Outlet.TheVariants.{Records, Direct, Muxed}
+use Rattle.push_model.specs.Client.{own_maximum}
+use Rattle.push_model.specs.Listening.{Listener, has_bad_length}
+use Rattle.push_model.specs.Service.{Service, Served, response_over, after_heard, is_ignored, hears_packet}
+use Rattle.push_model.specs.Sessions as model
+use Rattle.push_model.specs.Sessions.{Sessions, Gift, session_of, has_object, lets_go, answers_to, is_naming, hears}
+use Rattle.push_model.specs.Server.{Server, Reacted, Lent, hears_on, leaves_with, framed_by, framed, outlet_of, lends_by, frame_lent, lent_by, taken_by, closed_on, lets_go_on, remuxed, unreplied, unanswered, object_psm, rfcomm_psm}
+use Rattle.push_laws.specs.Calls.{new_session}
+use Rattle.push_laws.specs.Laws.{new_over}
+use Rattle.push_laws.specs.Occurrences.{Occurrence, Came, Went, Closed, LinkDown, Asked, Answering, done}
+use Rattle.push_laws.specs.Premises.{IsHeard, AllGranted, MayCome, AllMayCome, new_packets}
+use Rattle.push_laws.specs.Readings.{closes, since, came_on, passed_by, packets_over, user_dlci}
+use Rattle.push_laws.specs.Turns.{serving, in_silence, due_behind, InTurn, TakesTurn, AllTakeTurns, NoRequestIsIgnored}
+use Rattle.push_laws.proofs.Answering.{come_granted, response_behind}
+use Rattle.push_laws.proofs.Codes.{said_to}
+use Rattle.push_laws.proofs.Gaining.{unfailed, taken_all, Clear, clear_more, first_holds, clean}
+use Rattle.push_laws.proofs.Readings.{read_more, read_same, read_closed, drop_front, drop_same}
+use Rattle.push_laws.proofs.Servers.{by_psm}
+use Rattle.push_laws.proofs.Streams.{no_packets}
+
+-- ---- the session is the one that the packets leave
+
+rest_behind : (packets : List (List ℕ)) (session : Serving) → rested (session_behind session packets) ≡ rested session
+rest_behind [] session = refl
+rest_behind (packet ∷ packets) session = rest_behind packets (heard_with session packet []).session
+
+behind_more : (packets : List (List ℕ)) (packet : List ℕ) (session : Serving) → session_behind session (packets ++ packet ∷ []) ≡ (heard_with (session_behind session packets) packet []).session
+behind_more [] packet session = refl
+behind_more (first ∷ packets) packet session = behind_more packets packet (heard_with session first []).session
+
+turn_alike : (session : Serving) (packet : List ℕ) (answers : List Answer) → come_of (ruling_on session packet).calls answers ≡ Ok tt → (heard_with session packet answers).session ≡ (heard_with session packet []).session
+turn_alike session packet answers e =
+    ap (λ (come : Answer). (let s : Serving = record session { course = course_after session.offered session.course (kind_heard session packet) (verdict_or (ruling_on session packet).verdict come) } in s))
+    (e ∙ sym (come_granted (ruling_on session packet).calls [] refl))
+
+heard_direct : (packet : List ℕ) (sessions : Sessions) (gift : Gift) → (is_naming L2cap packet sessions ≡ true → has_object sessions.carried ≡ false)
+    → (hears L2cap packet sessions gift).sessions.direct ≡ (heard_with sessions.direct packet gift.answers).session
+heard_direct packet sessions gift alone =
+    cond_both (is_naming L2cap packet sessions) _ _ (λ (h : model.Heard). h.sessions.direct ≡ (heard_with sessions.direct packet gift.answers).session)
+    (λ named.
+    let calls : List InboxCall = aborts (progress_in sessions.carried.course) in
+    let none : calls ≡ [] = no_aborts (progress_in sessions.carried.course) (alone named) in
+    let parted = lets_go Rfcomm sessions gift in
+    let calm : parted.short ≡ false = ap (λ (cs : List InboxCall). model.is_short (come_of cs gift.answers)) none in
+    ap (λ (h : model.Heard). h.sessions.direct) (cond-false parted.short _ (answers_to L2cap packet parted.sessions parted.gift) calm)
+    ∙ ap (λ (cs : List InboxCall). (heard_with sessions.direct packet (calls_left cs gift.answers)).session) none)
+    (λ unnamed. refl)
+
+over_sessions : (response : List ℕ) (service : Service) → (response_over L2cap response service).sessions ≡ service.sessions
+over_sessions [] service = refl
+over_sessions (octet ∷ octets) service = refl
+
+over_answer : (response : List ℕ) (service : Service) → (response_over L2cap response service).answer ≡ service.answer
+over_answer [] service = refl
+over_answer (octet ∷ octets) service = refl
+
+answer_stays : (packet : List ℕ) (service : Service) (gift : Gift) → (hears_packet L2cap packet service gift).service.answer ≡ service.answer
+answer_stays packet service gift =
+    cond_both (is_ignored L2cap packet service) _ _ (λ (s : Served). s.service.answer ≡ service.answer)
+    (λ ignored. refl)
+    (λ taken. let h = hears L2cap packet service.sessions gift in over_answer h.response (record service { sessions = h.sessions; failed = service.failed || h.short }))
+
+-- ---- nothing passed over the multiplexer
+
+record Fresh (m : Mux) : Type 0 where
+  pub dlci : ℕ
+  pub largest : ℕ
+  pub own : ℕ
+  pub cap : ℕ
+  pub is : m ≡ new_mux Responder dlci largest own cap
+
+reset_fresh : (m : Mux) → Fresh m → Fresh (reset m.largest m)
+reset_fresh m f = record { dlci = f.dlci; largest = f.largest; own = m.largest; cap = f.cap; is = ap (reset m.largest) f.is }
+
+says_nothing : (m : Mux) → Fresh m → next m ≡ None
+says_nothing m f = ap next f.is
+
+is_orderly : (m : Mux) → Fresh m → IsOrderly m.closed
+is_orderly m f = subst (λ (n : Mux). IsOrderly n.closed) (sym f.is) tt
+
+-- ---- what stands behind a list of occurrences
+
+record Still (settings : Settings) (past : List Occurrence) (due : Bool) (listener : Listener) (mux : Mux) (frame : Option PlainFrame) : Type 0 where
+  pub answer : listener.service.answer ≡ []
+  pub unbroken : listener.breaks ≡ false
+  pub no_frame : frame ≡ None
+  pub fresh : Fresh mux
+  pub free : due ≡ false → listener.service.response ≡ []
+  pub session : listener.service.sessions.direct ≡ serving settings past
+  pub quiet : filter_map passed_by (since rfcomm_psm past) ≡ []
+
+abbrev Stands : Settings → List Occurrence → Bool → Server → Type 0
+Stands settings past due server = Still settings past due server.listener server.mux server.frame
+
+or_false : (a : Bool) → (a || false) ≡ a
+or_false true = refl
+or_false false = refl
+
+and_false : (a : Bool) → (a && false) ≡ false
+and_false true = refl
+and_false false = refl
+
+neither : (a b : Bool) → (a || b) ≡ false → (a ≡ false) × (b ≡ false)
+neither true b e = absurd (let f : true ≡ false = e in cc)
+neither false b e = (refl, e)
+
+silent_of : (b : Bool) → not b ≡ false → b ≡ true
+silent_of true e = refl
+silent_of false e = absurd (let f : true ≡ false = e in cc)
+
+-- no response waits, or the packet has none
+taken_in_turn : (due silent : Bool) (response answer : List ℕ) → (due ≡ false → response ≡ []) → answer ≡ [] → (due && not silent) ≡ false → ((not (is_empty response) || not (is_empty answer)) && not silent) ≡ false
+taken_in_turn false silent response answer free none turn =
+    ap (λ (r : List ℕ). (not (is_empty r) || not (is_empty answer)) && not silent) (free refl) ∙ ap (λ (a : List ℕ). not (is_empty a) && not silent) none
+taken_in_turn true silent response answer free none turn = ap (λ (b : Bool). (not (is_empty response) || not (is_empty answer)) && b) turn ∙ and_false (not (is_empty response) || not (is_empty answer))
+
+drop_none : (n : ℕ) (xs : List (List ℕ)) → xs ≡ [] → drop n xs ≡ []
+drop_none zero xs e = e
+drop_none (suc n) xs e = ap (drop (suc n)) e
+
+module _ (settings : Settings) (before : List Object) (past : List Occurrence) where
+  silent_stream : (os : List Occurrence) → filter_map passed_by (since rfcomm_psm os) ≡ [] → packets_over Rfcomm os ≡ []
+  silent_stream os quiet = ap (λ xs. obex_packets (user_octets user_dlci Responder Initiator xs)) quiet ∙ no_packets
+
+  quiet_more : (one : Occurrence) → passed_by one ≡ None → filter_map passed_by (since rfcomm_psm past) ≡ [] → filter_map passed_by (since rfcomm_psm (past ++ one ∷ [])) ≡ []
+  quiet_more one none quiet =
+      elim (cases_Bool (closes rfcomm_psm one)) [ inl e ↦ read_closed passed_by rfcomm_psm past one e | inr e ↦ read_same passed_by rfcomm_psm past one e none ∙ quiet ]
+
+  same_session : (one : Occurrence) → closes object_psm one ≡ false → came_on object_psm one ≡ None → serving settings past ≡ serving settings (past ++ one ∷ [])
+  same_session one on none = ap (session_behind (new_session (own_maximum L2cap settings) settings.srm)) (sym (read_same (came_on object_psm) object_psm past one on none))
+
+  -- an occurrence that is none of the session's
+  same_still : (one : Occurrence) (due due' : Bool) (listener : Listener) (mux : Mux) (frame : Option PlainFrame) → closes object_psm one ≡ false → came_on object_psm one ≡ None → passed_by one ≡ None → due' ≡ due
+      → Still settings past due listener mux frame → Still settings (past ++ one ∷ []) due' listener mux frame
+  same_still one due due' listener mux frame on none away same s = record {
+    answer = s.answer;
+    unbroken = s.unbroken;
+    no_frame = s.no_frame;
+    fresh = s.fresh;
+    free = λ e. s.free (sym same ∙ e);
+    session = s.session ∙ same_session one on none;
+    quiet = quiet_more one away s.quiet;
+  }
+
+  rested_now : (one : Occurrence) (session : Serving) → closes object_psm one ≡ true → session ≡ serving settings past → rested session ≡ serving settings (past ++ one ∷ [])
+  rested_now one session closing is =
+      ap rested is ∙ rest_behind (packets_over L2cap past) (new_session (own_maximum L2cap settings) settings.srm)
+      ∙ ap (session_behind (new_session (own_maximum L2cap settings) settings.srm)) (sym (read_closed (came_on object_psm) object_psm past one closing))
+
+  -- ---- a request comes in turn
+
+  request_taken : (due : Bool) (sdu : List ℕ) (at : Reacted) → Stands settings past due at.server → (due && not (in_silence settings past sdu)) ≡ false → is_ignored L2cap sdu at.server.listener.service ≡ false
+  request_taken due sdu at s turn =
+      taken_in_turn due (is_silent at.server.listener.service.sessions.direct sdu) at.server.listener.service.response at.server.listener.service.answer s.free s.answer
+      (ap (λ (x : Serving). due && not (is_silent x sdu)) s.session ∙ turn)
+
+  heard_now : (due : Bool) (sdu : List ℕ) (at : Reacted) → Stands settings past due at.server → is_ignored L2cap sdu at.server.listener.service ≡ false → IsHeard settings past at.server.listener.service L2cap sdu
+  heard_now due sdu at s taken = record {
+    taken = taken;
+    alone = λ named. ap (λ (ps : List (List ℕ)). nat_lt 0 (length (names (open_headers (own_maximum Rfcomm settings) (without_fault ps))))) (silent_stream past s.quiet);
+  }
+
+  request_still : (due : Bool) (sdu : List ℕ) (at : Reacted) → Clear settings before past at → Stands settings past due at.server → (due && not (in_silence settings past sdu)) ≡ false
+      → Stands settings (past ++ Came 0x1001 sdu ∷ []) (due || not (in_silence settings past sdu)) (hears_on 0x1001 sdu at.server at.gift).server
+  request_still due sdu at c s turn =
+      let service : Service = at.server.listener.service in
+      let session : Serving = service.sessions.direct in
+      let ignored = request_taken due sdu at s turn in
+      let is = (taken_all settings before past at c.holds L2cap (sdu ∷ []) (heard_now due sdu at s ignored, tt)).0 in
+      let h = hears L2cap sdu service.sessions at.gift in
+      let come = come_granted (ruling_on session sdu).calls at.gift.answers c.spared in
+      let now = response_behind sdu service at.gift is.taken is.alone in
+      record {
+        answer = answer_stays sdu service at.gift ∙ s.answer;
+        unbroken = s.unbroken;
+        no_frame = s.no_frame;
+        fresh = s.fresh;
+        free = λ e.
+            let both = neither due (not (in_silence settings past sdu)) e in
+            let silent : is_silent session sdu ≡ true = ap (λ (x : Serving). is_silent x sdu) s.session ∙ silent_of (in_silence settings past sdu) both.1 in
+            let none : said_to session sdu at.gift.answers ≡ [] =
+            ap (λ x. octets_said sdu session.maximum x) (said_alike session sdu at.gift.answers come) ∙ silence_is_none sdu session.maximum (heard_with session sdu []).saying silent in
+            now ∙ ap (λ (x : List ℕ). cond (is_empty x) service.response x) none ∙ s.free both.0;
+        session = ap (λ (x : Served). x.service.sessions.direct) (cond-false _ _ (after_heard L2cap service h) is.taken)
+            ∙ ap (λ (x : Sessions). x.direct) (over_sessions h.response (record service { sessions = h.sessions; failed = service.failed || h.short }))
+            ∙ heard_direct sdu service.sessions at.gift is.alone ∙ turn_alike session sdu at.gift.answers come
+            ∙ ap (λ (x : Serving). (heard_with x sdu []).session) s.session
+            ∙ sym (behind_more (packets_over L2cap past) sdu (new_session (own_maximum L2cap settings) settings.srm))
+            ∙ ap (session_behind (new_session (own_maximum L2cap settings) settings.srm)) (sym (read_more (came_on object_psm) object_psm past (Came 0x1001 sdu) refl));
+        quiet = quiet_more (Came 0x1001 sdu) refl s.quiet;
+      }
+
+  came_still : (due : Bool) (sdu : List ℕ) (at : Reacted) → Clear settings before past at → Stands settings past due at.server → (psm : ℕ) → InTurn settings past due (Came psm sdu)
+      → Stands settings (past ++ Came psm sdu ∷ []) (due_behind settings past due (Came psm sdu)) (hears_on psm sdu at.server at.gift).server
+  came_still due sdu at c s psm =
+      by_psm (λ p. InTurn settings past due (Came p sdu) → Stands settings (past ++ Came p sdu ∷ []) (due_behind settings past due (Came p sdu)) (hears_on p sdu at.server at.gift).server)
+      (λ turn.
+      cond_both (is_empty at.server.reply) _ _ (λ (x : Server). Stands settings (past ++ Came 0x0001 sdu ∷ []) (due || false) x)
+      (λ e. same_still (Came 0x0001 sdu) due (due || false) at.server.listener at.server.mux at.server.frame refl refl refl (or_false due) s)
+      (λ e. same_still (Came 0x0001 sdu) due (due || false) at.server.listener at.server.mux at.server.frame refl refl refl (or_false due) s))
+      (λ turn. absurd (turn.0 refl))
+      (λ turn. request_still due sdu at c s (turn.1 refl))
+      (λ p x y z turn.
+      subst (λ (r : Reacted). Stands settings (past ++ Came p sdu ∷ []) (due_behind settings past due (Came p sdu)) r.server)
+      (sym (cond-false _ _ _ x ∙ (cond-false _ _ _ y ∙ cond-false _ _ (let r : Reacted = record { server = at.server; gift = at.gift } in r) z)))
+      (same_still (Came p sdu) due (due_behind settings past due (Came p sdu)) at.server.listener at.server.mux at.server.frame refl (cond-false _ _ _ z) (cond-false _ _ _ y) (ap (λ (b : Bool). due || (b && not (in_silence settings past sdu))) z ∙ or_false due) s))
+      psm
+
+  -- ---- an SDU goes
+
+  same_lent : (a b : Lent) → Some a ≡ Some b → a ≡ b
+  same_lent a b e = cc
+
+  no_lent : (lent : Lent) → None ≡ Some lent → ⊥
+  no_lent lent e = cc
+
+  went_still : (due : Bool) (o : Option Outlet) (psm : ℕ) (sdu : List ℕ) (server : Server) (lent : Lent) → lent_by o server ≡ Some lent → lent.psm ≡ psm → Stands settings past due server
+      → Stands settings (past ++ Went psm sdu ∷ []) (due_behind settings past due (Went psm sdu)) (taken_by o server)
+  went_still due None psm sdu server lent e p s = absurd (no_lent lent e)
+  went_still due (Some Records) psm sdu server lent e p s =
+      subst (λ (n : ℕ). Stands settings (past ++ Went n sdu ∷ []) (due_behind settings past due (Went n sdu)) (taken_by (Some Records) server)) (ap (λ (l : Lent). l.psm) (same_lent _ lent e) ∙ p)
+      (same_still (Went 0x0001 sdu) due due server.listener server.mux server.frame refl refl refl refl s)
+  went_still due (Some Muxed) psm sdu server lent e p s = absurd (no_lent lent (sym (ap frame_lent s.no_frame) ∙ e))
+  went_still due (Some Direct) psm sdu server lent e p s =
+      subst (λ (n : ℕ). Stands settings (past ++ Went n sdu ∷ []) (due_behind settings past due (Went n sdu)) (taken_by (Some Direct) server)) (ap (λ (l : Lent). l.psm) (same_lent _ lent e) ∙ p)
+      (record {
+        answer = s.answer;
+        unbroken = s.unbroken;
+        no_frame = s.no_frame;
+        fresh = s.fresh;
+        free = λ e. refl;
+        session = s.session ∙ same_session (Went 0x1001 sdu) refl refl;
+        quiet = quiet_more (Went 0x1001 sdu) refl s.quiet;
+      })
+
+  -- ---- a channel is closed
+
+  closed_still : (due : Bool) (at : Reacted) → Stands settings past due at.server → (psm : ℕ) → Stands settings (past ++ Closed psm ∷ []) (due_behind settings past due (Closed psm)) (closed_on psm at.server at.gift).server
+  closed_still due at s psm =
+      by_psm (λ p. Stands settings (past ++ Closed p ∷ []) (due_behind settings past due (Closed p)) (closed_on p at.server at.gift).server)
+      (same_still (Closed 0x0001) due due at.server.listener at.server.mux at.server.frame refl refl refl refl s)
+      (record {
+        answer = refl;
+        unbroken = refl;
+        no_frame = refl;
+        fresh = reset_fresh at.server.mux s.fresh;
+        free = s.free;
+        session = s.session ∙ same_session (Closed 0x0003) refl refl;
+        quiet = quiet_more (Closed 0x0003) refl s.quiet;
+      })
+      (record {
+        answer = s.answer;
+        unbroken = s.unbroken;
+        no_frame = s.no_frame;
+        fresh = s.fresh;
+        free = λ e. refl;
+        session = rested_now (Closed 0x1001) at.server.listener.service.sessions.direct refl s.session;
+        quiet = quiet_more (Closed 0x1001) refl s.quiet;
+      })
+      (λ p x y z.
+      subst (λ (r : Reacted). Stands settings (past ++ Closed p ∷ []) (due_behind settings past due (Closed p)) r.server)
+      (sym (cond-false _ _ _ x ∙ (cond-false _ _ _ y ∙ cond-false _ _ (let r : Reacted = record { server = at.server; gift = at.gift } in r) z)))
+      (same_still (Closed p) due (due_behind settings past due (Closed p)) at.server.listener at.server.mux at.server.frame z refl refl (cond-false _ _ _ z) s))
+      psm
+
+  down_still : (due : Bool) (at : Reacted) → Stands settings past due at.server → (let first : Reacted = lets_go_on L2cap (unanswered at.server) at.gift in
+      Stands settings (past ++ LinkDown ∷ []) false (cond first.server.listener.service.failed first (lets_go_on Rfcomm (remuxed (unreplied first.server)) first.gift)).server)
+  down_still due at s =
+      let first : Reacted = lets_go_on L2cap (unanswered at.server) at.gift in
+      let session = rested_now LinkDown at.server.listener.service.sessions.direct refl s.session in
+      cond_both first.server.listener.service.failed first (lets_go_on Rfcomm (remuxed (unreplied first.server)) first.gift) (λ (r : Reacted). Stands settings (past ++ LinkDown ∷ []) false r.server)
+      (λ e. record { answer = s.answer; unbroken = s.unbroken; no_frame = s.no_frame; fresh = s.fresh; free = λ f. refl; session = session; quiet = quiet_more LinkDown refl s.quiet })
+      (λ e. record { answer = refl; unbroken = refl; no_frame = refl; fresh = reset_fresh at.server.mux s.fresh; free = λ f. refl; session = session; quiet = quiet_more LinkDown refl s.quiet })
+
+  -- ---- it is asked for an SDU: nothing goes by the multiplexer
+
+  framed_still : (due : Bool) (server : Server) → Stands settings past due server → framed server ≡ record server { frame = None }
+  framed_still due server s =
+      ap (λ (o : Option PlainFrame). framed_by o server) s.no_frame
+      ∙ ap (λ (x : Server). leaves_with (next x.mux) x) (cond-false _ _ server (ap (λ (a : List ℕ). is_ready server.mux && not (is_empty a)) s.answer ∙ and_false (is_ready server.mux)))
+      ∙ ap (λ (o : Option Said). leaves_with o server) (says_nothing server.mux s.fresh)
+      ∙ cond-false _ _ (record server { frame = None }) (ap (λ (b : Bool). b && is_empty server.listener.service.answer) s.unbroken)
+
+  lends_still : (due : Bool) (o : Option Outlet) (server : Server) → Stands settings past due server → Stands settings (past ++ Asked ∷ []) due (lends_by o server)
+  lends_still due None server s =
+      let full : Server = framed server in
+      let kept = same_still Asked due due server.listener server.mux server.frame refl refl refl refl s in
+      cond_both (is_empty server.reply && is_empty server.listener.service.response) (record full { lent = outlet_of full }) (record server { lent = outlet_of server }) (λ (x : Server). Stands settings (past ++ Asked ∷ []) due x)
+      (λ e. subst (λ (x : Server). Still settings (past ++ Asked ∷ []) due x.listener x.mux x.frame) (sym (framed_still due server s))
+      (record { answer = kept.answer; unbroken = kept.unbroken; no_frame = refl; fresh = kept.fresh; free = kept.free; session = kept.session; quiet = kept.quiet }))
+      (λ e. kept)
+  lends_still due (Some outlet) server s = same_still Asked due due server.listener server.mux server.frame refl refl refl refl s
+
+  -- ---- any occurrence
+
+  still_more : (one : Occurrence) (due : Bool) (at : Reacted) → Clear settings before past at → TakesTurn settings past due at one → Stands settings past due at.server
+      → Stands settings (past ++ one ∷ []) (due_behind settings past due one) (done one at).server
+  still_more (Came psm sdu) due at c t s =
+      subst (λ (r : Reacted). Stands settings (past ++ Came psm sdu ∷ []) (due_behind settings past due (Came psm sdu)) r.server) (sym (unfailed settings before (clean settings before past) at _ c.holds)) (came_still due sdu at c s psm t.turn)
+  still_more (Went psm sdu) due at c t s = went_still due at.server.lent psm sdu at.server t.own.0 t.own.1 t.own.2 s
+  still_more (Closed psm) due at c t s =
+      subst (λ (r : Reacted). Stands settings (past ++ Closed psm ∷ []) (due_behind settings past due (Closed psm)) r.server) (sym (unfailed settings before (clean settings before past) at _ c.holds)) (closed_still due at s psm)
+  still_more LinkDown due at c t s = subst (λ (r : Reacted). Stands settings (past ++ LinkDown ∷ []) false r.server) (sym (unfailed settings before (clean settings before past) at _ c.holds)) (down_still due at s)
+  still_more Asked due at c t s = lends_still due at.server.lent at.server s
+  still_more (Answering answers) due at c t s = same_still (Answering answers) due due at.server.listener at.server.mux at.server.frame refl refl refl refl s
+
+  -- ---- which packets are new
+
+  none_new : (one : Occurrence) → came_on object_psm one ≡ None → new_packets L2cap past one ≡ []
+  none_new one none =
+      elim (cases_Bool (closes object_psm one)) [
+        | inl e ↦ drop_none (length (packets_over L2cap past)) (packets_over L2cap (past ++ one ∷ [])) (read_closed (came_on object_psm) object_psm past one e)
+        | inr e ↦ ap (beyond (packets_over L2cap past)) (read_same (came_on object_psm) object_psm past one e none) ∙ drop_same (packets_over L2cap past)
+      ]
+
+  AreHeard : Reacted → Occurrence → Type 0
+  AreHeard at one = AllByRecursion (IsHeard settings past at.server.listener.service L2cap) (new_packets L2cap past one)
+
+  none_heard : (at : Reacted) (one : Occurrence) → came_on object_psm one ≡ None → AreHeard at one
+  unfolding AreHeard
+  none_heard at one none = subst (AllByRecursion (IsHeard settings past at.server.listener.service L2cap)) (sym (none_new one none)) tt
+
+  came_heard : (due : Bool) (sdu : List ℕ) (at : Reacted) → Stands settings past due at.server → (psm : ℕ) → InTurn settings past due (Came psm sdu) → AreHeard at (Came psm sdu)
+  unfolding AreHeard
+  came_heard due sdu at s psm =
+      by_psm (λ p. InTurn settings past due (Came p sdu) → AreHeard at (Came p sdu))
+      (λ turn. none_heard at (Came 0x0001 sdu) refl)
+      (λ turn. none_heard at (Came 0x0003 sdu) refl)
+      (λ turn.
+      let new : new_packets L2cap past (Came 0x1001 sdu) ≡ sdu ∷ [] = ap (beyond (packets_over L2cap past)) (read_more (came_on object_psm) object_psm past (Came 0x1001 sdu) refl) ∙ drop_front (packets_over L2cap past) (sdu ∷ []) in
+      subst (AllByRecursion (IsHeard settings past at.server.listener.service L2cap)) (sym new) (heard_now due sdu at s (request_taken due sdu at s (turn.1 refl)), tt))
+      (λ p x y z turn. none_heard at (Came p sdu) (cond-false _ _ _ z))
+      psm
+
+  are_heard : (one : Occurrence) (due : Bool) (at : Reacted) → InTurn settings past due one → Stands settings past due at.server → AreHeard at one
+  are_heard (Came psm sdu) due at turn s = came_heard due sdu at s psm turn
+  are_heard (Went psm sdu) due at turn s = none_heard at (Went psm sdu) refl
+  are_heard (Closed psm) due at turn s = none_heard at (Closed psm) refl
+  are_heard LinkDown due at turn s = none_heard at LinkDown refl
+  are_heard Asked due at turn s = none_heard at Asked refl
+  are_heard (Answering answers) due at turn s = none_heard at (Answering answers) refl
+
+  no_frame_comes : (one : Occurrence) (due : Bool) (sdu : List ℕ) → InTurn settings past due one → one ≡ Came rfcomm_psm sdu → ⊥
+  no_frame_comes one due sdu turn is = (subst (InTurn settings past due) is turn).0 refl
+
+  may_come : (one : Occurrence) (due : Bool) (at : Reacted) → Clear settings before past at → TakesTurn settings past due at one → Stands settings past due at.server → Stands settings (past ++ one ∷ []) (due_behind settings past due one) (done one at).server
+      → MayCome AllGranted (IsHeard settings past at.server.listener.service) settings past at one
+  unfolding AreHeard
+  may_come one due at c t s later =
+      let new : new_packets Rfcomm past one ≡ [] = drop_none (length (packets_over Rfcomm past)) (packets_over Rfcomm (past ++ one ∷ [])) (silent_stream (past ++ one ∷ []) later.quiet) in
+      record {
+        own = t.own;
+        answers = t.granted;
+        requests = record {
+          single = subst (λ (ps : List (List ℕ)). length ps ≤ 1) (sym new) (omega arith);
+          heard = λ transport. heard_over new transport;
+          lengths = subst (AllByRecursion (λ packet. has_bad_length (packet_in Request (own_maximum Rfcomm settings) packet) ≡ false)) (sym new) tt;
+        };
+        frame = λ sdu is. absurd (no_frame_comes one due sdu t.turn is);
+        orderly = is_orderly (done one at).server.mux later.fresh;
+      }
+    where
+      heard_over : new_packets Rfcomm past one ≡ [] → (transport : Transport) → AllByRecursion (IsHeard settings past at.server.listener.service transport) (new_packets transport past one)
+      heard_over new L2cap = are_heard one due at t.turn s
+      heard_over new Rfcomm = subst (AllByRecursion (IsHeard settings past at.server.listener.service Rfcomm)) (sym new) tt
+
+-- ---- all of them
+
+all_may_come : (settings : Settings) (before : List Object) (occurrences past : List Occurrence) (due : Bool) (at : Reacted) → Clear settings before past at → AllTakeTurns settings past due at occurrences → Stands settings past due at.server
+    → AllMayCome settings past at occurrences
+all_may_come settings before [] past due at c all s = tt
+all_may_come settings before (one ∷ rest) past due at c all s =
+    let later = still_more settings before past one due at c all.0 s in
+    let may = may_come settings before past one due at c all.0 s later in
+    (may, all_may_come settings before rest (past ++ one ∷ []) (due_behind settings past due one) (done one at) (clear_more settings before past one at c may) all.1 later)
+
+pub no-request_is_ignored : NoRequestIsIgnored
+no-request_is_ignored settings before occurrences all =
+    all_may_come settings before occurrences [] false (new_over settings before) (record { holds = first_holds settings before; spared = refl; same = refl }) all
+    (record {
+      answer = refl;
+      unbroken = refl;
+      no_frame = refl;
+      fresh = record { dlci = 18; largest = _; own = _; cap = _; is = refl };
+      free = λ e. refl;
+      session = refl;
+      quiet = refl;
+    })

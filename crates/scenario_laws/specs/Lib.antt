@@ -1,0 +1,11 @@
+pub mod Captures
+pub mod Coming
+pub mod Parties
+pub mod Plain
+pub mod Accounts
+pub mod Air
+pub mod Early
+pub mod Gains
+pub mod Played
+pub mod Outcomes
+pub mod Clauses

@@ -1,0 +1,54 @@
+-- What is asked of a host in a run, so that what moved on its link is all that it said and heard there. Each of these is a premise of laws
+-- on talk; that hosts are so is no matter of the laws here (this project's own).
+use Rattle.std.specs.Prelude.{ℕ, ◌≡◌, List, Option, Some, None}
+use Rattle.bt_base.specs.Objects.{Contents}
+use Rattle.push_script.specs.declared.scenario.Scenario.{Scenario}
+use Rattle.push_terms.specs.declared.word.Side.TheVariants as sides
+use Rattle.capture.specs.Links.{Link, link_up}
+use Rattle.capture.specs.Pdus.{Pdu, pdus}
+use Rattle.link_talk.specs.declared.party.Party.{Party}
+use Rattle.link_talk.specs.Sayings.{Saying}
+use Rattle.link_talk.specs.Waits.{waits, has_check_word}
+use Rattle.channel_laws.specs.Frames.{AreUttered}
+use Rattle.channel_laws.specs.Runs.{run_of}
+use Rattle.world_model.specs.Worlds.{Happening, IsAtRest, all_entries}
+use Rattle.turn_laws.specs.Laws.{IsFront}
+use Rattle.host_model.specs.Hosts.{Host}
+use Rattle.host_model.specs.Profiles.{Profile}
+use Rattle.host_model.specs.Clients.{client_profile}
+use Rattle.host_model.specs.Servers.{server_profile}
+use Rattle.host_model.specs.Machines.{upper}
+use Rattle.host_laws.specs.Armed.{AwaitsServices}
+use Rattle.host_laws.specs.Calls.{Asks, HostsAsk}
+use Rattle.host_laws.specs.Calm.{TalksSo}
+use Rattle.host_laws.specs.Seen.{spoken_of}
+use Rattle.scenario_laws.specs.Captures.{client_of, server_of, BothHosts, Happened}
+use Rattle.scenario_laws.specs.Coming.{CameUp}
+use Rattle.scenario_laws.specs.Parties.{party_of}
+
+-- A host waits for its timer, and looks for check words, where this talk says so.
+pub record TellsOf {P : Type 0} (A : Profile P) (party : Party) (said : List Saying) (host : Host P) : Type 0 where
+  pub armed_is : (upper A).armed host ≡ waits party said
+  pub checks_are : (own : ℕ) → (upper A).has_check host own ≡ has_check_word said own
+
+-- It came by a talk to what moved on its link, and lived so through it that what its channels said and heard there is what moved, it gave up
+-- no request, and what it says goes out as its octets; and where its channels wait for nothing, its profile waits for services as its own
+-- talk says. A host that is gentle on its link lives through such a talk.
+pub record IsPlain {P : Type 0} (A : Profile P) (asks : Asks A) (party : Party) (moved : List Pdu) (now : Host P) : Type 0 where
+  pub came : CameUp A moved now
+  pub so : TalksSo A asks came.talk now came.on
+  pub keeps_on : spoken_of (run_of A.policy so.lives.now).said ≡ (run_of A.policy so.lives.now).said
+  pub uttered : AreUttered A.policy so.lives.now
+  pub awaits : AwaitsServices A party now so.lives.now
+
+-- So it is on the link that a capture has up, if there is one.
+abbrev pub IsPlainAt : {P : Type 0} (A : Profile P) → Asks A → Party → Option Link → Host P → Type 0
+IsPlainAt A asks party None now = Unit {0}
+IsPlainAt A asks party (Some link) now = IsPlain A asks party (pdus link) now
+
+-- Both hosts are plain wherever a run is at rest on its way: words act there alone.
+pub record ArePlain (asks : HostsAsk) (scenario : Scenario) (content : Option Contents) (happenings : List Happening) : Type 0 where
+  pub a : (front : List Happening) (world : BothHosts) → IsFront front happenings → Happened scenario content front world → IsAtRest (client_of scenario) (server_of scenario content) world
+      → IsPlainAt (client_profile scenario.settings) (asks.clients scenario.settings) (party_of scenario.settings sides.A) (link_up sides.A (all_entries front)) world.a.upper
+  pub b : (front : List Happening) (world : BothHosts) → IsFront front happenings → Happened scenario content front world → IsAtRest (client_of scenario) (server_of scenario content) world
+      → IsPlainAt (server_profile scenario.settings content) (asks.servers scenario.settings content) (party_of scenario.settings sides.B) (link_up sides.B (all_entries front)) world.b.upper

@@ -1,0 +1,125 @@
+//! Laws of a run of the world of both hosts of a scenario, over its capture alone, whatever shelf and inbox answer and
+//! whatever the script says.
+#![tactic(auto)]
+
+ghost use Rattle.scenario_laws.specs.Accounts.{BuffersAreKept, ControllersAreHonest, PushesAreInTurn, WindowsAreKept};
+ghost use Rattle.scenario_laws.specs.Air.{AirIsKept, AirIsObeyed};
+ghost use Rattle.scenario_laws.specs.Captures.{FrontsRan};
+ghost use Rattle.scenario_laws.specs.Clauses.{ScenariosEnd};
+ghost use Rattle.scenario_laws.specs.Coming.{RestsHaveTalks, RunsHaveTalks};
+ghost use Rattle.scenario_laws.specs.Early.{BrokenGoesOn, EarlyEndsGain, FrontsSpellFronts};
+ghost use Rattle.scenario_laws.specs.Gains.{FirstServersAreOrderly, GainsExactly, GainsOverEither};
+ghost use Rattle.scenario_laws.specs.Outcomes.{OutcomesAreStated};
+ghost use Rattle.scenario_laws.specs.Played.{CallsArePlayed, PlaysAreFinished, SetHostsAreHosts};
+ghost use Rattle.host_model.specs.Circumstances.{Circumstance};
+ghost use Rattle.world_model.specs.Machines.{Upper};
+
+/// Each front of a capture is the capture of a run. So what is so of captures of runs is so at each moment of them.
+pub fn fronts_are_of_runs()
+    ensures { FrontsRan }
+{}
+
+/// At each moment a host has no more packets outstanding than its controller takes, and no more than 64.
+pub fn buffers_are_kept()
+    ensures { BuffersAreKept }
+{}
+
+/// Wherever all is at rest, a host has no more I-frames unacknowledged on a channel that it has not closed than the window that both
+/// hosts state, where both hosts are plain.
+pub fn windows_are_kept()
+    ensures { WindowsAreKept }
+{}
+
+/// A controller says of no handle that more packets were completed than went out on it, and each packet out of a host has
+/// the handle of the last link that it was told of.
+pub fn controllers_are_honest()
+    ensures { ControllersAreHonest }
+{}
+
+/// Pushes are in turn, and the links of each lie within it.
+pub fn pushes_are_in_turn()
+    ensures { PushesAreInTurn }
+{}
+
+/// The air obeyed the script where the scenario ran to its end: what came into the hosts is what the words handed over, and
+/// words without an entry found nothing. Timers and check words are read off the capture, where both hosts are plain.
+pub fn air_is_obeyed()
+    ensures { AirIsObeyed }
+{}
+
+/// And wherever the run broke off, each entry keeps to the words that were turned.
+pub fn air_is_kept()
+    ensures { AirIsKept }
+{}
+
+/// What a front of a capture spells are the first objects that all of it spells: so what was stored where a run broke off
+/// are the first of these.
+pub fn fronts_spell_fronts()
+    ensures { FrontsSpellFronts }
+{}
+
+/// Where a run broke off with an entry written, the capture with it is that of a run that goes on from both hosts as they
+/// were.
+pub fn broken_runs_go_on()
+    ensures { BrokenGoesOn }
+{}
+
+/// At each moment of a run both hosts came to what the capture has of their links by what they were told and said, and by
+/// PDUs that they said and that did not move.
+pub fn runs_have_talks()
+    ensures { RunsHaveTalks }
+{}
+
+/// And wherever it is at rest, to what moved on the link that is up.
+pub fn rests_have_talks()
+    ensures { RestsHaveTalks }
+{}
+
+/// A server to which nothing happened yet serves in order.
+pub fn first_servers_are_orderly()
+    ensures { FirstServersAreOrderly }
+{}
+
+/// At each moment of a run, wherever it broke off, the inbox has gained exactly the objects that the packets spell which
+/// host b heard, in the order of their last packets, over L2CAP, where host b serves in order.
+pub fn gains_exactly()
+    ensures { GainsExactly }
+{}
+
+/// And so it has over either transport, where on each link what happened to its server is read off what moved.
+pub fn gains_over_either()
+    ensures { GainsOverEither }
+{}
+
+/// The machines of both hosts in code are those of every scenario with their settings, whatever the inbox holds at first.
+pub fn set_hosts_are_hosts()
+    ensures { SetHostsAreHosts }
+{}
+
+/// What a world in code says of its calls is a run of both hosts of the scenario, where its machines are theirs.
+pub fn calls_are_played<S, T>()
+    ensures { (U : Upper S Circumstance) (V : Upper T Circumstance) → CallsArePlayed U V }
+{}
+
+/// Where such a world stands, all words of the script were turned and its end is written behind, the scenario ran to its end.
+pub fn plays_are_finished<S, T>()
+    ensures { (U : Upper S Circumstance) (V : Upper T Circumstance) → PlaysAreFinished U V }
+{}
+
+/// The capture states with which outcome each push ended, in their order, and how many were begun: and where its end is
+/// written, all outcomes are those that it states, and the script's end for what was not begun.
+pub fn outcomes_are_stated()
+    ensures { OutcomesAreStated }
+{}
+
+/// Where a run broke off with an entry written, the inbox had gained all that was spelled before: the first objects that the
+/// capture spells with that entry.
+pub fn early_ends_gain()
+    ensures { EarlyEndsGain }
+{}
+
+/// What is so of every scenario over L2CAP that ran to its end, over its capture alone: what the inbox gained, the accounts of both
+/// hosts, the pushes and how they ended, and that the air obeyed the script; where both hosts are orderly.
+pub fn scenarios_end()
+    ensures { ScenariosEnd }
+{}

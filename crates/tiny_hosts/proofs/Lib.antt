@@ -1,0 +1,6 @@
+mod Lines
+mod Going
+mod Listening
+mod Framing
+mod Course
+mod Orderly

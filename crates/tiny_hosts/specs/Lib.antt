@@ -1,0 +1,10 @@
+pub mod Minds
+pub mod Talking
+pub mod TalkLaws
+pub mod Echoing
+pub mod EchoLaws
+pub mod Counting
+pub mod CounterLaws
+pub mod Hosting
+pub mod HostLaws
+pub mod Playing
