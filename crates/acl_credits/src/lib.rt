@@ -5,6 +5,3 @@
 mod ledger;
 
 pub use ledger::{Ledger, LedgerRefusal};
-
-#[cfg(test)]
-mod tests;

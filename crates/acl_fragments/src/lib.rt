@@ -11,5 +11,3 @@ pub use joined::{DropReason, Got, Joined};
 pub use joiner::Joiner;
 
 pub mod laws;
-#[cfg(test)]
-mod tests;

@@ -31,6 +31,3 @@ pub use octets::{read_be16, read_be32, read_le16};
 pub use ports::{Inbox, PortFault, Shelf, Sink, Source};
 pub use settings::{Serves, Settings, Transport};
 pub use std_streams::{StdSink, StdSource};
-
-#[cfg(test)]
-mod tests;

@@ -20,6 +20,3 @@ mod upper;
 pub use client_host::ClientHost;
 pub use feed_refusal::FeedRefusal;
 pub use server_host::ServerHost;
-
-#[cfg(test)]
-mod tests;

@@ -1,13 +1,1 @@
-pub mod Kept
-pub mod Taking
-pub mod Played
-pub mod Blaming
-pub mod Gained
-pub mod Ordered
-pub mod Fronts
-pub mod Short
-pub mod Conversed
-pub mod Resulted
-pub mod Fronted
-pub mod Untouched
 pub mod Asked

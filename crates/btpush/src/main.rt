@@ -10,27 +10,13 @@
 //! each packet on the line to the standard error.
 #![tactic(auto)]
 
-mod carrying;
-mod gathering;
-mod playing;
-#[cfg(test)]
-mod push_tests;
-mod pushing;
 mod run;
-mod snooping;
-mod status;
 #[cfg(test)]
 mod tests;
-mod usage;
-mod viewing;
-#[cfg(test)]
-mod viewing_tests;
-#[cfg(test)]
-mod wire_tests;
 
 use bt_base::{FileInbox, FileShelf, StdSink, StdSource};
+use btpush_forms::Status;
 use run::run;
-use status::Status;
 use std::env;
 use std::process::ExitCode;
 

@@ -2,86 +2,22 @@
 
 ghost use Rattle.std.specs.Prelude.{◌≡◌, ◌≤◌, ℕ, Option, false, [], map, string_bytes, IfSome, None};
 ghost use Rattle.bt_base.specs.Counts.{HasRisen};
-ghost use Rattle.btpush.specs.Run.{Decodes, RefusesWords, HasCauses, HasEnded};
-ghost use Rattle.btpush.specs.Plays.{stocked};
-ghost use Rattle.btpush.specs.Pushing.{Pushes};
-ghost use Rattle.btpush.specs.Words.{AskForNone, AskForTrace, IsBuilt, WritesTrace};
-ghost use Rattle.btpush.specs.Snooping.{Snoops};
-ghost use Rattle.btpush.specs.Carrying.{Wires, IsWell};
+ghost use Rattle.btpush_forms.specs.Run.{Decodes, RefusesWords, HasCauses, HasEnded};
+ghost use Rattle.small_push.specs.Plays.{stocked};
+ghost use Rattle.small_push.specs.Pushing.{Pushes};
+ghost use Rattle.btpush_forms.specs.Words.{AskForNone, AskForTrace};
+ghost use Rattle.btpush_forms.specs.Snooping.{Snoops};
+ghost use Rattle.btpush_forms.specs.Carrying.{Wires, IsWell};
 ghost use Rattle.command_words.specs.Forms.{AsksFor};
 ghost use Rattle.three_wire.specs.Carrying.{AnyRose, WriteRose, IsWholeInput};
 ghost use Rattle.h4_view.specs.View.{IsAnswered};
 
-use crate::carrying::wire;
-use crate::pushing::push;
-use crate::snooping::snoop;
-use crate::status::Status;
-use crate::usage::USAGE;
-use crate::viewing::{Viewing, decode};
-use bt_base::{Inbox, PortFault, Shelf, Sink, Source};
-use command_words::{Form, form_of};
+use bt_base::{Inbox, Shelf, Sink, Source};
+use btpush_forms::{Status, Viewing, run_alone};
+use command_words::Form;
 use push_terms::Side;
+use small_push::push;
 use std::alloc::Global;
-
-/// Writes how the program is used.
-fn refuse_words<K: Sink>(sink: &mut K) -> Status
-    ensures words { RefusesWords (K.content sink.old) (K.content sink.new) result }
-    ensures causes { HasCauses 0 0 (K.faults sink.old) (K.faults sink.new) 0 0 result }
-    ensures sink_short { IsAnswered (K.shortages sink.old) (K.shortages sink.new) (result ≡ Status.NoMemory) }
-{
-    match sink.put(USAGE.as_bytes()) {
-        Ok(()) => Status::BadWords,
-        Err(PortFault::Failed) => Status::WriteFault,
-        Err(PortFault::NoMemory) => Status::NoMemory,
-    }
-}
-
-/// Does what a form asks for.
-fn run_form<S: Source, K: Sink, T: Sink, F: Shelf, B: Inbox>(
-    alloc: Global,
-    form: Form,
-    source: &mut S,
-    sink: &mut K,
-    trace: &mut T,
-    shelf: &mut F,
-    inbox: &mut B,
-) -> Status
-    requires { B.is_pending inbox.old ≡ false }
-    ensures decode { form ≡ Form.Decode → IfSome (S.content source.old) (λ input. Decodes Viewing.Raw input (S.content source.new) (K.content sink.old) (K.content sink.new) result) }
-    ensures decode_tagged { form ≡ Form.DecodeTagged → IfSome (S.content source.old) (λ input. Decodes Viewing.Tagged input (S.content source.new) (K.content sink.old) (K.content sink.new) result) }
-    ensures decode_snoop { form ≡ Form.DecodeSnoop → IfSome (S.content source.old) (λ input. Decodes Viewing.Snoop input (S.content source.new) (K.content sink.old) (K.content sink.new) result) }
-    ensures push { form ≡ Form.Push → IfSome (S.content source.old) (λ input. Pushes input (stocked (F.content shelf.old) (F.faults shelf.old) (F.absences shelf.old) (B.content inbox.old) (B.faults inbox.old) (B.shortages inbox.old)) (stocked (F.content shelf.new) (F.faults shelf.new) (F.absences shelf.new) (B.content inbox.new) (B.faults inbox.new) (B.shortages inbox.new)) (S.content source.new) (K.content sink.old) (K.content sink.new) (T.content trace.old) (T.content trace.new) (HasRisen (T.faults trace.old) (T.faults trace.new)) ((trace.new ≡ trace.old) × (shelf.new ≡ shelf.old) × (inbox.new ≡ inbox.old)) result) }
-    ensures snoop { (side : Side) → form ≡ Form.Snoop side → IfSome (S.content source.old) (λ input. Snoops side input (S.content source.new) (K.content sink.old) (K.content sink.new) (T.content trace.old) (T.content trace.new) result) }
-    ensures wire { (number : Option ℕ) → form ≡ Form.Wire number → Wires number (S.content source.old) (K.content sink.old) (K.content sink.new) (T.content trace.old) (T.content trace.new) (AnyRose (K.faults sink.old) (K.faults sink.new) (K.shortages sink.old) (K.shortages sink.new) (T.faults trace.old) (T.faults trace.new) (T.shortages trace.old) (T.shortages trace.new)) result }
-    ensures wire_clean { form ≡ Form.Wire None → IsWholeInput (S.content source.old) → (HasRisen (S.faults source.old) (S.faults source.new) → ⊥) → (WriteRose (K.faults sink.old) (K.faults sink.new) (T.faults trace.old) (T.faults trace.new) → ⊥) → IsWell result }
-    ensures words { (IsBuilt form → ⊥) → RefusesWords (K.content sink.old) (K.content sink.new) result }
-    ensures bad_words { result ≡ Status.BadWords → IsBuilt form → ⊥ }
-    ensures finish { result ≡ Status.Ok → IfSome (S.content source.new) (λ left. left ≡ []) }
-    ensures finish_push { form ≡ Form.Push → HasEnded result → IfSome (S.content source.new) (λ left. left ≡ []) }
-    ensures causes { HasCauses (S.faults source.old) (S.faults source.new) (K.faults sink.old) (K.faults sink.new) (T.faults trace.old) (T.faults trace.new) result }
-    ensures source_short { IsAnswered (S.shortages source.old) (S.shortages source.new) (result ≡ Status.NoMemory) }
-    ensures sink_short { IsAnswered (K.shortages sink.old) (K.shortages sink.new) (result ≡ Status.NoMemory) }
-    ensures trace_short { IsAnswered (T.shortages trace.old) (T.shortages trace.new) (result ≡ Status.NoMemory) }
-    ensures shelf_short { IsAnswered (F.shortages shelf.old) (F.shortages shelf.new) (result ≡ Status.NoMemory) }
-    ensures inbox_short { IsAnswered (B.shortages inbox.old) (B.shortages inbox.new) (result ≡ Status.NoMemory) }
-    ensures shelf_content { F.content shelf.new ≡ F.content shelf.old }
-    ensures shelf_faults { F.faults shelf.old ≤ F.faults shelf.new }
-    ensures inbox_faults { B.faults inbox.old ≤ B.faults inbox.new }
-    ensures trace { (WritesTrace form → ⊥) → trace.new ≡ trace.old }
-    ensures shelf { (form ≡ Form.Push → ⊥) → shelf.new ≡ shelf.old }
-    ensures inbox { (form ≡ Form.Push → ⊥) → inbox.new ≡ inbox.old }
-{
-    match form {
-        Form::Decode => decode(alloc, Viewing::Raw, source, sink),
-        Form::DecodeTagged => decode(alloc, Viewing::Tagged, source, sink),
-        Form::DecodeSnoop => decode(alloc, Viewing::Snoop, source, sink),
-        Form::Push => push(alloc, source, sink, trace, shelf, inbox),
-        Form::Snoop(side) => snoop(alloc, side, source, sink, trace),
-        Form::Wire(number) => wire(alloc, number, source, sink, trace),
-        // The other forms are not built yet.
-        Form::Receive | Form::Make(_) => refuse_words(sink),
-    }
-}
 
 /// Runs the program on these words, over these ports. The first word is the program's name and is
 /// not looked at.
@@ -141,9 +77,9 @@ pub fn run<S: Source, K: Sink, T: Sink, F: Shelf, B: Inbox>(
     ensures shelf { (AsksFor (map string_bytes words.now.items) Form.Push → ⊥) → shelf.new ≡ shelf.old }
     ensures inbox { (AsksFor (map string_bytes words.now.items) Form.Push → ⊥) → inbox.new ≡ inbox.old }
 {
-    match form_of(alloc, words) {
-        Ok(Some(form)) => run_form(alloc, form, source, sink, trace, shelf, inbox),
-        Ok(None) => refuse_words(sink),
-        Err(_) => Status::NoMemory,
+    match run_alone(alloc, words, source, sink, trace) {
+        Some(status) => status,
+        // Only a push needs hosts.
+        None => push(alloc, source, sink, trace, shelf, inbox),
     }
 }

@@ -1,299 +1,390 @@
-ghost use Rattle.std.specs.Prelude.{◌≤◌};
+ghost use Rattle.std.specs.Prelude.{◌≡◌, ◌≤◌, false, is_some};
 
 use crate::run::run;
-use crate::status::Status;
-use bt_base::{MemInbox, MemShelf, MemSink, MemSource, PortFault, Source};
+use bt_base::{MemInbox, MemShelf, MemSink, MemSource};
+use btpush_forms::Status;
 use std::test::Fail;
 
-const TWO_PACKETS: [u8; 11] = [1, 3, 12, 0, 4, 14, 4, 1, 3, 12, 0];
+/// What comes of a push.
+#[derive(Clone, Copy)]
+struct End {
+    status: Status,
+    /// How the text in the sink begins, and how it ends; it is all of it where no end is given.
+    begins: &'static str,
+    ends: &'static str,
+    /// How many objects the inbox has then.
+    kept: usize,
+    /// What stands in the trace. Nothing at all does where none is given.
+    packets: Option<&'static [&'static [u8]]>,
+}
 
-/// What a run on `words` leaves in its sink, over this source. The calls of the sink whose numbers
-/// are listed fail.
-fn run_over<S: Source>(
-    rt: &HostRuntime,
-    words: Vec<String>,
-    source: &mut S,
-    failing: &[u32],
-) -> Result<(Status, MemSink), Fail> {
-    let mut sink = MemSink::new(rt.alloc(), failing)?;
-    let mut trace = MemSink::new(rt.alloc(), &[])?;
+/// The end of a push that did not begin: this was said, and nothing else moved.
+fn unbegun(status: Status, said: &'static str) -> End {
+    End {
+        status,
+        begins: said,
+        ends: "",
+        kept: 0,
+        packets: None,
+    }
+}
+
+/// The packets of a push of two octets: the first one, the object and its answer.
+const PACKETS: [&[u8]; 3] = [
+    &[0x80, 0x00, 0x07, 0x10, 0x00, 0x04, 0x00],
+    &[
+        0x82, 0x00, 0x14, 0x01, 0x00, 0x07, 0x00, 0x61, 0x00, 0x00, 0xC3, 0x00, 0x00, 0x00, 0x02,
+        0x49, 0x00, 0x05, 0x68, 0x69,
+    ],
+    &[0xA0, 0x00, 0x03],
+];
+
+/// The packet with an empty object.
+const EMPTY: [u8; 18] = [
+    0x82, 0x00, 0x12, 0x01, 0x00, 0x07, 0x00, 0x61, 0x00, 0x00, 0xC3, 0x00, 0x00, 0x00, 0x00, 0x49,
+    0x00, 0x03,
+];
+
+/// The ports of a push but its inbox.
+#[derive(Drop)]
+struct Ports {
+    source: MemSource,
+    sink: MemSink,
+    trace: MemSink,
+    shelf: MemShelf,
+}
+
+/// A shelf with that object under the name `a`.
+fn shelf_with(rt: &HostRuntime, object: &[u8]) -> Result<MemShelf, Fail> {
+    if object.len() > 1000 {
+        return Err(Fail::from("an object of a test is longer than this"));
+    }
     let mut shelf = MemShelf::new(rt.alloc(), &[])?;
-    let mut inbox = MemInbox::new(rt.alloc(), &[])?;
-    let status = run(
-        rt.alloc(),
-        &words,
-        source,
-        &mut sink,
-        &mut trace,
-        &mut shelf,
-        &mut inbox,
-    );
-    Ok((status, sink))
-}
-
-/// What a run on `words` leaves in its sink, over a source of these octets that hands out `step` at
-/// a time. The calls of source and sink whose numbers are listed fail.
-fn run_of(
-    rt: &HostRuntime,
-    words: Vec<String>,
-    octets: &[u8],
-    step: usize,
-    failing: (&[u32], &[u32]),
-) -> Result<(Status, MemSink), Fail>
-    requires { 1 ≤ step }
-{
-    let mut source = MemSource::new(rt.alloc(), octets, step, failing.0)?;
-    run_over(rt, words, &mut source, failing.1)
-}
-
-/// The words of a line, apart by blanks, with the program's name ahead of them.
-pub(crate) fn words_of(rt: &HostRuntime, line: &str) -> Result<Vec<String>, Fail> {
-    let mut words = Vec::new(rt.alloc());
-    words.push(String::from_str(rt.alloc(), "btpush")?)?;
-    for word in line.split(' ') {
-        if !word.is_empty() {
-            words.push(String::from_str(rt.alloc(), word)?)?;
+    match shelf.add("a", object) {
+        Ok(()) => Ok(shelf),
+        Err(why) => {
+            drop(shelf);
+            Err(Fail::from(why))
         }
     }
+}
+
+/// A source of that text, handed out by so many octets at a time, whose reads of these numbers fail;
+/// sinks without anything, and a shelf with that object.
+fn ports_of(
+    rt: &HostRuntime,
+    text: &[u8],
+    step: usize,
+    failing: &[u32],
+    object: &[u8],
+) -> Result<Ports, Fail>
+    requires { 1 ≤ step }
+{
+    Ok(Ports {
+        source: MemSource::new(rt.alloc(), text, step, failing)?,
+        sink: MemSink::new(rt.alloc(), &[])?,
+        trace: MemSink::new(rt.alloc(), &[])?,
+        shelf: shelf_with(rt, object)?,
+    })
+}
+
+/// The words that ask for a push.
+fn words_of_push(rt: &HostRuntime) -> Result<Vec<String>, Fail> {
+    let mut words = Vec::new(rt.alloc());
+    words.push(String::from_str(rt.alloc(), "btpush")?)?;
+    words.push(String::from_str(rt.alloc(), "push")?)?;
     Ok(words)
 }
 
-#[test]
-fn packets_are_shown_in_any_pieces(rt: HostRuntime) -> Result<(), Fail> {
-    for step in [1usize, 2, 5, 11] {
-        let words = words_of(&rt, "decode")?;
-        let (status, sink) = run_of(&rt, words, &TWO_PACKETS, step, (&[], &[]))?;
-        assert_eq!(rt; status, Status::Ok);
-        assert_eq!(rt;
-            sink.octets(),
-            b"0 cmd 0C03 Reset -\n4 evt 0E CommandComplete 01030C00\n".as_slice()
-        );
-    }
-    Ok(())
-}
-
-/// Whether `decode` of these octets ends so, with this text.
-fn decodes(rt: &HostRuntime, octets: &[u8], status: Status, text: &str) -> Result<bool, Fail> {
-    let (found, sink) = run_of(rt, words_of(rt, "decode")?, octets, 3, (&[], &[]))?;
-    Ok(found == status && sink.octets() == text.as_bytes())
-}
-
-#[test]
-fn refusals_stand_at_their_places(rt: HostRuntime) -> Result<(), Fail> {
-    assert!(rt; decodes(&rt, &[], Status::Ok, "")?);
-    assert!(rt;
-        decodes(
-            &rt,
-            &[5],
-            Status::InputRefused,
-            "refused offset 0 BadIndicator\n"
-        )?
+/// Runs a push over these ports.
+fn pushed(rt: &HostRuntime, ports: &mut Ports, inbox: &mut MemInbox) -> Result<Status, Fail>
+    requires { is_some inbox.old.contents.pending ≡ false }
+{
+    let words = words_of_push(rt)?;
+    let status = run(
+        rt.alloc(),
+        &words,
+        &mut ports.source,
+        &mut ports.sink,
+        &mut ports.trace,
+        &mut ports.shelf,
+        inbox,
     );
-    let acl = [2, 1, 0x20, 2, 0, 9, 9, 3, 5, 0, 1, 7];
-    assert!(rt;
-        decodes(
-            &rt,
-            &acl,
-            Status::Ok,
-            "0 acl 2001 2\n  drop ShortStart\n7 sync 0005 1\n"
-        )?
-    );
-    assert!(rt;
-        decodes(
-            &rt,
-            &acl[..6],
-            Status::InputRefused,
-            "refused offset 0 Truncated\n"
-        )?
-    );
-    assert!(rt;
-        decodes(
-            &rt,
-            &acl[..9],
-            Status::InputRefused,
-            "0 acl 2001 2\n  drop ShortStart\nrefused offset 7 Truncated\n"
-        )?
-    );
-    Ok(())
+    drop(words);
+    Ok(status)
 }
 
-/// A PDU in one piece, one in two with a piece of another link between them, which has an octet too
-/// many, and one with a command of identifier 0.
-const JOINED: [u8; 62] = [
-    2, 1, 0x20, 12, 0, 8, 0, 1, 0, 2, 1, 4, 0, 1, 0, 0x40, 0, //
-    2, 1, 0x20, 6, 0, 8, 0, 1, 0, 2, 1, //
-    2, 2, 0x20, 4, 0, 0, 0, 0x40, 0, //
-    2, 1, 0x10, 7, 0, 4, 0, 1, 0, 0x40, 0, 9, //
-    2, 1, 0x20, 8, 0, 4, 0, 1, 0, 2, 0, 0, 0, //
-];
-
-/// A group that a start leaves unfinished, one that the end of its link forgets, and a broadcast.
-const BROKEN: [u8; 46] = [
-    2, 1, 0x20, 4, 0, 1, 0, 1, 0, //
-    2, 1, 0x20, 4, 0, 1, 0, 1, 0, //
-    4, 5, 4, 0, 1, 0, 0x13, //
-    2, 1, 0x10, 1, 0, 7, //
-    2, 1, 0x60, 1, 0, 7, //
-    4, 5, 1, 0, //
-    1, 6, 4, 1, 0, //
-];
-
-#[test]
-fn pieces_and_parameters_are_judged(rt: HostRuntime) -> Result<(), Fail> {
-    assert!(rt;
-        decodes(
-            &rt,
-            &JOINED,
-            Status::Ok,
-            "0 acl 2001 12\n  pdu 0001 8\n  sig 02 01 ConnectionRequest 01004000\n17 acl 2001 6\n28 acl 2002 4\n  pdu 0040 0\n  data 0\n37 acl 1001 7\n  drop Overrun\n49 acl 2001 8\n  pdu 0001 4\n  sig bad ZeroIdentifier\n"
-        )?
-    );
-    assert!(rt;
-        decodes(
-            &rt,
-            &BROKEN,
-            Status::Ok,
-            "0 acl 2001 4\n9 acl 2001 4\n  unfinished\n18 evt 05 DisconnectionComplete 00010013\n25 acl 1001 1\n  drop StrayContinuation\n31 acl 6001 1\n  drop BadWord\n37 evt 05 DisconnectionComplete 00\n  bad ShortParams\n41 cmd 0406 Disconnect 00\n  bad ShortParams\n"
-        )?
-    );
-    Ok(())
-}
-
-#[test]
-fn faults_of_ports_have_their_status(rt: HostRuntime) -> Result<(), Fail> {
-    let (status, sink) = run_of(&rt, words_of(&rt, "decode")?, &TWO_PACKETS, 4, (&[2], &[]))?;
-    assert_eq!(rt; status, Status::ReadFault);
-    assert_eq!(rt; sink.octets(), b"0 cmd 0C03 Reset -\n".as_slice());
-    let (status, _) = run_of(&rt, words_of(&rt, "decode")?, &TWO_PACKETS, 4, (&[], &[2]))?;
-    assert_eq!(rt; status, Status::WriteFault);
-    Ok(())
-}
-
-/// Lines that are no form of the program, or one that is not built.
-const BAD_LINES: [&str; 10] = [
-    "",
-    "decoder",
-    "push --tagged",
-    "push --number 1",
-    "decode --tagged --snoop",
-    "snoop",
-    "make --number 1",
-    "receive",
-    "wire --tagged",
-    "wire --number 01",
-];
-
-/// Whether the words of a line are refused with the line on the usage.
-fn refuses_words(rt: &HostRuntime, line: &str) -> Result<bool, Fail> {
-    let (status, sink) = run_of(rt, words_of(rt, line)?, &TWO_PACKETS, 4, (&[], &[]))?;
-    Ok(
-        status == Status::BadWords
-            && sink.octets()
-                == b"usage: btpush decode|push|receive|make [--tagged] [--number N]\n".as_slice(),
-    )
-}
-
-#[test]
-fn other_words_are_refused(rt: HostRuntime) -> Result<(), Fail> {
-    for line in BAD_LINES.iter() {
-        assert!(rt; refuses_words(&rt, line)?);
-    }
-    Ok(())
-}
-
-/// Packets of data up to four octets before the greatest length of an input, and `last` behind
-/// them. Each read of 65,536 octets gives one packet: its head is written, and its data are what
-/// stands in the slice. So a test of inputs of that length takes neither memory nor time.
-#[derive(Drop)]
-struct LongSource<'a> {
-    packets: u32,
-    last: &'a [u8],
-}
-
-impl<'a> Source for LongSource<'a> {
-    ghost use Rattle.std.specs.Prelude.{None};
-
-    ghost content = { λ _. None };
-
-    ghost faults = { λ _. 0 };
-
-    ghost shortages = { λ _. 0 };
-
-    fn read(&mut self, into: &mut [u8]) -> Result<usize, PortFault> {
-        if into.len() < 65_536 {
-            let n = into.len().min(self.last.len());
-            into[..n].copy_from_slice(&self.last[..n]);
-            self.last = &self.last[n..];
-            return Ok(n);
+/// Whether the part stands somewhere in the octets.
+fn contains(octets: &[u8], part: &[u8]) -> bool {
+    for at in 0..octets.len() {
+        if octets[at..].starts_with(part) {
+            return true;
         }
-        self.packets = self.packets.saturating_add(1);
-        if self.packets < 1024 {
-            into[..5].copy_from_slice(&[2, 1, 0x10, 0xFB, 0xFF]);
-            return Ok(65_536);
-        }
-        into[..5].copy_from_slice(&[2, 1, 0x10, 0xF7, 0xFF]);
-        Ok(65_532)
+    }
+    false
+}
+
+/// Whether the octets begin and end so.
+fn is_text(octets: &[u8], begins: &str, ends: &str) -> bool {
+    if ends.is_empty() {
+        octets == begins.as_bytes()
+    } else {
+        octets.starts_with(begins.as_bytes()) && octets.ends_with(ends.as_bytes())
     }
 }
 
-/// What stands four octets before the greatest length, and how the view of the whole input ends.
-const LAST_PACKETS: [(&[u8], Status, &str); 10] = [
-    (&[1, 3, 12, 0], Status::Ok, "67108860 cmd 0C03 Reset -\n"),
+/// Whether so many objects are stored, and the first is this one under the name `a`.
+fn is_stored(inbox: &MemInbox, kept: usize, object: &[u8]) -> bool {
+    match (inbox.name_at(0), inbox.octets_at(0)) {
+        (Some(name), Some(octets)) => {
+            inbox.len() == kept && name == [0x61u16].as_slice() && octets == object
+        }
+        _ => kept == 0,
+    }
+}
+
+/// Whether these packets stand in the trace.
+fn is_traced(trace: &[u8], packets: Option<&[&[u8]]>) -> bool {
+    let Some(packets) = packets else {
+        return trace.is_empty();
+    };
+    for packet in packets.iter() {
+        if !contains(trace, packet) {
+            return false;
+        }
+    }
+    !trace.is_empty()
+}
+
+/// Whether a push of that object under the name `a`, asked for by that text, comes to this end.
+fn comes_to(
+    rt: &HostRuntime,
+    text: &[u8],
+    step: usize,
+    failing: &[u32],
+    object: &[u8],
+    end: End,
+) -> Result<bool, Fail>
+    requires { 1 ≤ step }
+{
+    let mut inbox = MemInbox::new(rt.alloc(), &[])?;
+    let mut ports = ports_of(rt, text, step, failing, object)?;
+    let status = pushed(rt, &mut ports, &mut inbox);
+    let holds = is_text(ports.sink.octets(), end.begins, end.ends)
+        && is_stored(&inbox, end.kept, object)
+        && is_traced(ports.trace.octets(), end.packets);
+    drop(ports);
+    drop(inbox);
+    Ok(status? == end.status && holds)
+}
+
+/// Texts that are no scenario, or none yet, and what is said of them.
+const REFUSED: [(&str, &str); 9] = [
+    ("", "refused line 1 NoTransport\n"),
     (
+        "transport l2cap\ncolor red\n",
+        "refused line 2 UnknownKey\n",
+    ),
+    (
+        "transport l2cap\nwindow 64\n",
+        "refused line 2 OutOfRange\n",
+    ),
+    ("transport l2cap\nradio\n", "refused line 2 NoObject\n"),
+    (
+        "transport l2cap\n# twice\ntransport l2cap",
+        "refused line 3 Repeated\n",
+    ),
+    (
+        "transport l2cap\nobject\nobject a\n",
+        "refused line 2 BadLine\n",
+    ),
+    (
+        "transport l2cap\nobject a\nradio\n1 lose ab\n",
+        "refused line 4 NotBuilt\n",
+    ),
+    (
+        "transport l2cap\nobject a\nobject b\n",
+        "refused line 3 NotBuilt\n",
+    ),
+    ("transport rfcomm\n", "refused line 1 NotBuilt\n"),
+];
+
+/// Scenarios of one object over L2CAP, with the words that the radio obeys, the object, and what comes
+/// of it.
+const PLAYED: [(&str, &[u8], End); 8] = [
+    (
+        "transport l2cap\nobject a\nradio\n1216 pass\n",
+        b"hi",
+        End {
+            status: Status::Ok,
+            begins: "1 done a\nkept 1\n",
+            ends: "window 0 0\ncredits 0 0\n",
+            kept: 1,
+            packets: Some(&PACKETS),
+        },
+    ),
+    (
+        "transport l2cap\nobject a\nradio\n10 pass\n",
+        b"hi",
+        End {
+            status: Status::Ok,
+            begins: "1 done a\nkept 1\n",
+            ends: "window 0 0\ncredits 0 0\n",
+            kept: 1,
+            packets: Some(&PACKETS),
+        },
+    ),
+    (
+        "transport l2cap\nobject a\nradio\n9 pass\n",
+        b"hi",
+        End {
+            status: Status::SomeFailed,
+            begins: "1 script-ended a\nkept 1\n",
+            ends: "window 0 0\ncredits 0 0\n",
+            kept: 1,
+            packets: Some(&PACKETS),
+        },
+    ),
+    (
+        "transport l2cap\nobject a\nradio\n8 pass\n",
+        b"hi",
+        End {
+            status: Status::SomeFailed,
+            begins: "1 script-ended a\nkept 0\n",
+            ends: "window 0 0\ncredits 0 0\n",
+            kept: 0,
+            packets: Some(&[]),
+        },
+    ),
+    (
+        "transport l2cap\nobject a\nradio\n1200 pass\n",
+        b"",
+        End {
+            status: Status::Ok,
+            begins: "1 done a\nkept 1\n",
+            ends: "window 0 0\ncredits 0 0\n",
+            kept: 1,
+            packets: Some(&[&EMPTY]),
+        },
+    ),
+    (
+        "transport l2cap\nobject a\nradio\n1 drop\n1216 pass\n",
+        b"hi",
+        End {
+            status: Status::SomeFailed,
+            begins: "1 link-lost a\nkept 0\nbuffers 1 0\nwindow 0 0\ncredits 0 0\n",
+            ends: "window 0 0\ncredits 0 0\n",
+            kept: 0,
+            packets: Some(&[]),
+        },
+    ),
+    (
+        "transport l2cap\nacl 27 1\nobject a\nradio\n2100 pass\n",
+        b"an object of four lines, which no packet\nof 27 octets holds alone, so that its PDU\nis cut into pieces, one after the other,\neach behind the one before\n",
+        End {
+            status: Status::Ok,
+            begins: "1 done a\nkept 1\nbuffers 1 1\nwindow 0 0\ncredits 0 0\n",
+            ends: "window 0 0\ncredits 0 0\n",
+            kept: 1,
+            packets: Some(&[]),
+        },
+    ),
+    (
+        "transport l2cap\nchunk 1\nobject a\nradio\n1216 pass\n",
+        b"hi",
+        End {
+            status: Status::Ok,
+            begins: "1 done a\nkept 1\n",
+            ends: "window 0 0\ncredits 0 0\n",
+            kept: 1,
+            packets: Some(&PACKETS),
+        },
+    ),
+];
+
+#[test]
+fn scenarios_come_to_their_ends(rt: HostRuntime) -> Result<(), Fail> {
+    for (scenario, said) in REFUSED.iter() {
+        let end = unbegun(Status::InputRefused, *said);
+        assert!(rt; comes_to(&rt, scenario.as_bytes(), 7, &[], b"hi", end)?);
+    }
+    for (scenario, object, end) in PLAYED.iter() {
+        assert!(rt; comes_to(&rt, scenario.as_bytes(), 7, &[], *object, *end)?);
+    }
+    Ok(())
+}
+
+/// Lengths of an object, and what comes of it: the longest that is carried, and one more.
+const LENGTHS: [(usize, End); 2] = [
+    (
+        200,
+        End {
+            status: Status::Ok,
+            begins: "1 done a\nkept 1\n",
+            ends: "window 0 0\ncredits 0 0\n",
+            kept: 1,
+            packets: Some(&[]),
+        },
+    ),
+    (
+        201,
+        End {
+            status: Status::InputRefused,
+            begins: "refused line 3 NotBuilt\n",
+            ends: "",
+            kept: 0,
+            packets: Some(&[]),
+        },
+    ),
+];
+
+/// Whether an object of that length comes to this end.
+fn length_comes_to(rt: &HostRuntime, length: usize, end: End) -> Result<bool, Fail> {
+    let scenario = b"# long\ntransport l2cap\nobject a\nradio\n3000 pass\n";
+    let object = vec![in rt.alloc(); b'x'; length]?;
+    let holds = comes_to(rt, scenario, 7, &[], &object, end);
+    drop(object);
+    holds
+}
+
+/// Comments of a length, read in pieces of 65,536 octets, the reads that fail, and what comes of it. A
+/// fault behind the octets that are kept is a fault of reading still.
+const COMMENTS: [(usize, &[u32], Status, &str); 3] = [
+    (
+        1_048_576,
         &[],
-        Status::Ok,
-        "67043328 acl 1001 65527\n  drop StrayContinuation\n",
+        Status::InputRefused,
+        "refused line 2 NoTransport\n",
     ),
     (
-        &[1, 3, 12],
+        1_048_577,
+        &[],
         Status::InputRefused,
-        "refused offset 67108860 Truncated\n",
+        "refused line 0 TooLong\n",
     ),
-    (
-        &[4, 14, 1],
-        Status::InputRefused,
-        "refused offset 67108860 Truncated\n",
-    ),
-    (
-        &[4, 14, 2],
-        Status::InputRefused,
-        "refused offset 67108864 TooLong\n",
-    ),
-    (
-        &[2],
-        Status::InputRefused,
-        "refused offset 67108864 TooLong\n",
-    ),
-    (
-        &[1, 3, 12, 1],
-        Status::InputRefused,
-        "refused offset 67108864 TooLong\n",
-    ),
-    (
-        &[1, 3, 12, 1, 0],
-        Status::InputRefused,
-        "refused offset 67108864 TooLong\n",
-    ),
-    (
-        &[1, 3, 12, 0, 5],
-        Status::InputRefused,
-        "refused offset 67108864 TooLong\n",
-    ),
-    (
-        &[5],
-        Status::InputRefused,
-        "refused offset 67108860 BadIndicator\n",
-    ),
+    (1_300_000, &[19], Status::ReadFault, ""),
 ];
 
+/// Whether a comment of that length comes to this end.
+fn comment_comes_to(
+    rt: &HostRuntime,
+    length: usize,
+    failing: &[u32],
+    end: End,
+) -> Result<bool, Fail> {
+    let text = vec![in rt.alloc(); b'#'; length]?;
+    let holds = comes_to(rt, &text, 65_536, failing, b"hi", end);
+    drop(text);
+    holds
+}
+
 #[test]
-fn packets_end_within_the_greatest_length(rt: HostRuntime) -> Result<(), Fail> {
-    for (last, status, text) in LAST_PACKETS.iter() {
-        let mut source = LongSource { packets: 0, last };
-        let words = words_of(&rt, "decode")?;
-        let (found, sink) = run_over(&rt, words, &mut source, &[])?;
-        assert_eq!(rt; found, *status);
-        assert!(rt; sink.octets().ends_with(text.as_bytes()));
+fn lengths_have_their_limits(rt: HostRuntime) -> Result<(), Fail> {
+    for (length, end) in LENGTHS.iter() {
+        assert!(rt; length_comes_to(&rt, *length, *end)?);
+    }
+    for (length, failing, status, said) in COMMENTS.iter() {
+        assert!(rt; comment_comes_to(&rt, *length, *failing, unbegun(*status, *said))?);
     }
     Ok(())
 }

@@ -2,8 +2,6 @@
 #![tactic(auto)]
 
 mod converting;
-#[cfg(test)]
-mod converting_tests;
 mod fault;
 mod fields;
 mod front;
@@ -12,8 +10,6 @@ pub mod laws;
 mod reader;
 mod record;
 mod refusal;
-#[cfg(test)]
-mod tests;
 mod writing;
 
 pub use converting::convert;

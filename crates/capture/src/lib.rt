@@ -19,6 +19,3 @@ pub use entry_refusal::{CaptureFault, EntryRefusal};
 pub use flow::Flow;
 pub use reading::entry_of;
 pub use writing::put_entry;
-
-#[cfg(test)]
-mod tests;

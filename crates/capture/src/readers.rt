@@ -9,11 +9,7 @@ mod moding;
 mod moving;
 mod opening;
 mod packets;
-#[cfg(test)]
-mod samples;
 mod telling;
-#[cfg(test)]
-mod tests;
 
 use crate::channel::Channel;
 use crate::flow::Flow;

@@ -39,7 +39,8 @@ use Rattle.channel_laws.proofs.Saying.{stands-left, stands-right, stands-either}
 use Rattle.channel_laws.proofs.Words.{Words, words-asked, words-again, words-left, words-firing}
 use Rattle.channel_laws.proofs.Replying.{is_response, IsReply}
 use Rattle.channel_laws.proofs.Protocols.{KeepsPsm, follows-psm, hears-psm, takes-psm, times-psm, ends-psm, features-psm, single-psm, IsCalled, Asks, asks-first, asks-step}
-use Rattle.channel_laws.proofs.Conversing.{is_single, IsMade, IsLast, Grants, ConversesKnowing, conversed-knowing, reading-on}
+use Rattle.channel_laws.proofs.Converses.{is_single, IsMade, IsLast, Grants, ConversesKnowing}
+use Rattle.channel_laws.proofs.Conversing.{conversed-knowing, reading-on}
 
 -- ---- what was asked was called
 
@@ -152,11 +153,11 @@ plain_heard w one = plain_other w (sayings.Command Into one) (λ identifier psm 
 
 -- ---- what holds
 
-record Bestows (past : List Saying) (v : Channels) : Type 0 where
-  asks : Asks past v
-  granted : (identifier status own peer : ℕ) → HasGranted identifier status own peer past → (channel : Channel) × (channel.peer ≡ peer) × IsOf channel (read_at own (reading past).entries)
-  apart : (identifier status own peer : ℕ) → HasGranted identifier status own peer past → (other psm : ℕ) → ¬ HasAsked other psm own past
-  last : (it : Remembered) (own peer status : ℕ) → v.memory.connection ≡ Some it → it.response ≡ Some (connection_response own peer 0 status) → HasGranted it.identifier status own peer past
+pub record Bestows (past : List Saying) (v : Channels) : Type 0 where
+  pub asks : Asks past v
+  pub granted : (identifier status own peer : ℕ) → HasGranted identifier status own peer past → (channel : Channel) × (channel.peer ≡ peer) × IsOf channel (read_at own (reading past).entries)
+  pub apart : (identifier status own peer : ℕ) → HasGranted identifier status own peer past → (other psm : ℕ) → ¬ HasAsked other psm own past
+  pub last : (it : Remembered) (own peer status : ℕ) → v.memory.connection ≡ Some it → it.response ≡ Some (connection_response own peer 0 status) → HasGranted it.identifier status own peer past
 
 -- what is waited for has no channel yet
 asked_unread : (policy : Policy) (past : List Saying) (w : Channels) (own : ℕ) (held : Held) (request : Request) (channel : Channel) → Sound policy (reading past) w → held_at own w ≡ Some held → held.stage ≡ Requested request → IsOf channel (read_at own (reading past).entries) → ⊥
@@ -164,7 +165,7 @@ asked_unread policy past w own held request channel sound at is of =
     let none : read_at own (reading past).entries ≡ None = requested-unread policy held request (read_at own (reading past).entries) is (subst (λ h. Reads policy h (read_at own (reading past).entries)) at (sound.core.reads own)) in
     subst (IsOf channel) none of
 
-still_of : (past said : List Saying) (own : ℕ) (channel : Channel) → IsOf channel (read_at own (reading past).entries) → IsOf channel (read_at own (reading (past ++ said)).entries)
+pub still_of : (past said : List Saying) (own : ℕ) (channel : Channel) → IsOf channel (read_at own (reading past).entries) → IsOf channel (read_at own (reading (past ++ said)).entries)
 still_of past said own channel is = subst (λ (r : Reading). IsOf channel (read_at own r.entries)) (sym (reading-on past said)) (said-of channel own said (reading past) is)
 
 plain_step : (policy : Policy) (past said : List Saying) (v w : Channels) → Plainly w said → KeepsPsm v w → w.memory ≡ v.memory → Bestows past v → Sound policy (reading (past ++ said)) w → Bestows (past ++ said) w
@@ -190,12 +191,12 @@ plain_step policy past said v w plain keeps same holds sound = record { asks = a
 
 -- ---- a request of the peer is answered
 
-response_in : (identifier : ℕ) (response : Option Content) → option_map (λ (c : Command). c.content) (command_if identifier response) ≡ response
+pub response_in : (identifier : ℕ) (response : Option Content) → option_map (λ (c : Command). c.content) (command_if identifier response) ≡ response
 response_in identifier None = refl
 response_in identifier (Some content) = refl
 
 -- what is granted in the answer
-grant_in : (one : Read) (identifier : ℕ) (response : Option Content) (v : Channels) (other status own peer : ℕ) → HasGranted other status own peer (exchanged one (command_if identifier response) v)
+pub grant_in : (one : Read) (identifier : ℕ) (response : Option Content) (v : Channels) (other status own peer : ℕ) → HasGranted other status own peer (exchanged one (command_if identifier response) v)
     → (can_say response v ≡ true) × (response ≡ Some (connection_response own peer 0 status)) × (identifier ≡ other)
 grant_in one identifier response v other status own peer stands = by (can_say (option_map (λ (c : Command). c.content) (command_if identifier response)) v) refl response refl stands
   where
@@ -236,7 +237,7 @@ made_of policy past v w own peer sound made = by (read_at own (reading past).ent
     by None reads = elim reads [ ]
     by (Some entry) (there, agrees) = (entry.channel, ap (λ (c : Channel). c.peer) there.channel_is, refl)
 
-asked_step : (policy : Policy) (past : List Saying) (v w : Channels) (one : Read) (identifier : ℕ) (response : Option Content) → IsReply response → KeepsPsm v w → Grants v w identifier response → Sound policy (reading past) v → Bestows past v
+asked_step : (policy : Policy) (past : List Saying) (v w : Channels) (one : Read) (identifier : ℕ) (response : Option Content) → IsReply response → KeepsPsm v w → Grants v w one identifier response → Sound policy (reading past) v → Bestows past v
     → (let said : List Saying = exchanged one (command_if identifier response) v ++ asked_between v w in Sound policy (reading (past ++ said)) w → Bestows (past ++ said) w)
 asked_step policy past v w one identifier response reply keeps grants before holds sound = record { asks = asks-step past said v w called sound.core.held_below keeps holds.asks; granted = granted; apart = apart; last = last }
   where
@@ -348,7 +349,7 @@ plain_single policy v (Gives pdu) is = plain_given (value_after policy (Gives pd
 plain_single policy v Fires is = cc
 plain_single policy v Tells is = plain_none (value_after policy Tells v)
 
-converses : (policy : Policy) → ConversesKnowing policy (λ v. Unit {0}) Bestows
+pub converses : (policy : Policy) → ConversesKnowing policy (λ v. Unit {0}) Bestows
 converses policy = record {
   first = tt;
   kept = λ v more lone known. tt;
@@ -363,12 +364,15 @@ converses policy = record {
   loses = λ past v tries same sound holds after.
       let w : Channels = times_features v.features tries v in
       plain_step policy past (said_by_features tries v) v w (plain_both w (said_again errands.Features v w) (features_given_up v.features w.features) (words-again w (Plainly w) (plain_words w) errands.Features v) (plain_features w v.features w.features)) (features-psm policy tries v) same holds after;
-  single = λ past v more is known same sound holds after. plain_step policy past (said_in policy more v) v (value_after policy more v) (plain_single policy v more is) (single-psm policy v more is sound.core.lone) same holds after;
+  single = λ past v more is any known same sound holds after. plain_step policy past (said_in policy more v) v (value_after policy more v) (plain_single policy v more is) (single-psm policy v more is sound.core.lone) same holds after;
 }
+
+pub first-bestows : Bestows [] no_channels
+first-bestows = record { asks = asks-first no_channels; granted = λ i s o p is. elim is [ ]; apart = λ i s o p is. elim is [ ]; last = λ it o p s at is. cc }
 
 bestowed : (policy : Policy) (list : List Occurrence) → Bestows (run_of policy list).said (run_of policy list).value
 bestowed policy list =
-    conversed-knowing policy (λ v. Unit {0}) Bestows (converses policy) (record { asks = asks-first no_channels; granted = λ i s o p is. elim is [ ]; apart = λ i s o p is. elim is [ ]; last = λ it o p s at is. cc }) list
+    conversed-knowing policy (λ v. Unit {0}) Bestows (converses policy) first-bestows list
 
 -- no endpoint is asked for with two PSMs
 pub endpoints-ask_for_one_psm : EndpointsAskForOnePsm

@@ -29,7 +29,7 @@ use Rattle.channel_laws.specs.Views.{read_at}
 use Rattle.channel_laws.proofs.Sound.{Sound}
 use Rattle.channel_laws.proofs.Asking.{next-apart}
 use Rattle.channel_laws.proofs.Replying.{is_response, IsReply}
-use Rattle.channel_laws.proofs.Conversing.{IsAlike, is_asking}
+use Rattle.channel_laws.proofs.Converses.{IsAlike, is_asking}
 use Rattle.channel_laws.proofs.Demanding.{asked_on, Stays, Rests}
 use Rattle.channel_laws.proofs.Anew.{IsAnew, GoesAt, follows-goes}
 use Rattle.channel_laws.proofs.Wishing.{waiting, silent, AreNamed, sound-named, Mild, mild-asked, new-waits}

@@ -32,7 +32,8 @@ use Rattle.channel_laws.proofs.Asking.{asked-one, newest-asks}
 use Rattle.channel_laws.proofs.Lasting.{asked_by, follows-lasts, grant-lasts, response-lasts, end-lasts, takes-lasts, connects-lasts, disconnects-last, sends-last, gives-last, times-last, ends-last}
 use Rattle.channel_laws.proofs.Words.{Words, words-asked, words-again, words-left, words-firing}
 use Rattle.channel_laws.proofs.Replying.{is_response, IsReply}
-use Rattle.channel_laws.proofs.Conversing.{is_asking, is_single, Converses, conversed}
+use Rattle.channel_laws.proofs.Converses.{is_asking, is_single, Converses}
+use Rattle.channel_laws.proofs.Conversing.{conversed}
 
 -- ---- what is noticed
 

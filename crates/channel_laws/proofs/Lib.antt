@@ -51,6 +51,7 @@ pub mod Lasting
 pub mod Replying
 pub mod Words
 pub mod Agreed
+pub mod Converses
 pub mod Conversing
 pub mod Informing
 pub mod Saying
@@ -89,3 +90,13 @@ pub mod Mating
 pub mod Delivering
 pub mod Ferrying
 pub mod Ferried
+pub mod Singling
+pub mod Placing
+pub mod Due
+pub mod OneByOne
+pub mod Pending
+pub mod Shutting
+pub mod Fitting
+pub mod Modest
+pub mod Fitted
+pub mod Numbering

@@ -25,7 +25,8 @@ use Rattle.channel_laws.specs.Tries.{own_request}
 use Rattle.channel_laws.proofs.Sound.{Sound}
 use Rattle.channel_laws.proofs.Lasting.{asked_by}
 use Rattle.channel_laws.proofs.Agreed.{AllStated, Stated, none-stated, keeps-stated, carries-stated}
-use Rattle.channel_laws.proofs.Conversing.{is_single, Converses, conversed}
+use Rattle.channel_laws.proofs.Converses.{is_single, Converses}
+use Rattle.channel_laws.proofs.Conversing.{conversed}
 use Rattle.channel_laws.proofs.Demanding.{asked_on, Rests, same-rests, times-rest, ends-rest, connects-rest, asks-rest, disconnects-rests, sends-rest, gives-rest}
 use Rattle.channel_laws.proofs.Wishing.{waiting, Mild, mild-none, mild-both, mild-one, mild-asked, own-words}
 use Rattle.channel_laws.proofs.Keeping.{keeps-all}

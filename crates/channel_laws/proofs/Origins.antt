@@ -172,9 +172,9 @@ Granted flow identifier status destination source said = StandsIn (Command flow 
 abbrev pub Origin : List Saying → Channel → Type 0
 Origin said channel = (identifier : ℕ) × (status : ℕ) × ((Granted Out identifier status channel.own channel.peer said × Asked Into identifier channel.psm channel.peer said) ⊎ (Granted Into identifier status channel.peer channel.own said × Asked Out identifier channel.psm channel.own said))
 
-older_origin : (past : List Saying) (more : Saying) (channel : Channel) → Origin past channel → Origin (past ++ more ∷ []) channel
-older_origin past more channel (identifier, status, inl (granted, asked)) = (identifier, status, inl (stands-left _ past (more ∷ []) granted, stands-left _ past (more ∷ []) asked))
-older_origin past more channel (identifier, status, inr (granted, asked)) = (identifier, status, inr (stands-left _ past (more ∷ []) granted, stands-left _ past (more ∷ []) asked))
+pub older-origin : (past : List Saying) (more : Saying) (channel : Channel) → Origin past channel → Origin (past ++ more ∷ []) channel
+older-origin past more channel (identifier, status, inl (granted, asked)) = (identifier, status, inl (stands-left _ past (more ∷ []) granted, stands-left _ past (more ∷ []) asked))
+older-origin past more channel (identifier, status, inr (granted, asked)) = (identifier, status, inr (stands-left _ past (more ∷ []) granted, stands-left _ past (more ∷ []) asked))
 
 -- what a response grants
 granted_by : (past : List Saying) (own peer : ℕ) (wanted : Option Wanted) (channel : Channel) → made_by (granted own peer wanted) ≡ Some channel → (w : Wanted) × (wanted ≡ Some w) × (let new : Channel = record { psm = w.psm; own = own; peer = peer } in channel ≡ new)
@@ -218,8 +218,8 @@ never_if : (b : Bool) (identifier own : ℕ) (channel : Channel) → made_by (co
 never_if true identifier own channel is = cc
 never_if false identifier own channel is = cc
 
-made_from : (past : List Saying) (s : Saying) (channel : Channel) → made_by (meant (reading past).requests (sense s)) ≡ Some channel → Origin (past ++ s ∷ []) channel
-made_from past (Command flow (Ok command)) channel is = subst (λ c. Origin (past ++ Command flow (Ok c) ∷ []) channel) (whole command) (by command.content flow is)
+pub made-from : (past : List Saying) (s : Saying) (channel : Channel) → made_by (meant (reading past).requests (sense s)) ≡ Some channel → Origin (past ++ s ∷ []) channel
+made-from past (Command flow (Ok command)) channel is = subst (λ c. Origin (past ++ Command flow (Ok c) ∷ []) channel) (whole command) (by command.content flow is)
   where
     whole : (c : _) → command_with c.identifier c.content ≡ c
     whole c = refl
@@ -241,20 +241,20 @@ made_from past (Command flow (Ok command)) channel is = subst (λ c. Origin (pas
     by (echo_response octets) flow made_it = cc
     by (information_request kind) flow made_it = cc
     by (information_response kind answer rest) flow made_it = cc
-made_from past (Command flow (Err (ZeroIdentifier code identifier))) channel is = cc
-made_from past (Command flow (Err (BadLength code None))) channel is = cc
-made_from past (Command flow (Err (BadLength code (Some identifier)))) channel is = absurd (by flow (eqb identifier 0) is)
+made-from past (Command flow (Err (ZeroIdentifier code identifier))) channel is = cc
+made-from past (Command flow (Err (BadLength code None))) channel is = cc
+made-from past (Command flow (Err (BadLength code (Some identifier)))) channel is = absurd (by flow (eqb identifier 0) is)
   where
     by : (flow : Flow) (none : Bool) → made_by (meant (reading past).requests (cond none Quiet (Asks flow identifier (Unread code)))) ≡ Some channel → ⊥
     by flow true made_it = cc
     by Out false made_it = cc
     by Into false made_it = cc
-made_from past (Command flow (Err (UnknownCode code identifier))) channel is = cc
-made_from past (Command flow (Err (AboveMtu code identifier))) channel is = cc
-made_from past (Carried flow pdu) channel is = cc
-made_from past (GaveUp (Connection identifier own)) channel is = cc
-made_from past (GaveUp (Disconnection own peer)) channel is = cc
-made_from past (GaveUp (Information identifier)) channel is = cc
+made-from past (Command flow (Err (UnknownCode code identifier))) channel is = cc
+made-from past (Command flow (Err (AboveMtu code identifier))) channel is = cc
+made-from past (Carried flow pdu) channel is = cc
+made-from past (GaveUp (Connection identifier own)) channel is = cc
+made-from past (GaveUp (Disconnection own peer)) channel is = cc
+made-from past (GaveUp (Information identifier)) channel is = cc
 
 -- ---- all channels
 
@@ -280,18 +280,18 @@ one_from past s before own entry found = by (made_by m) refl (sym (ap (λ (r : R
 
     -- a new one, or one that was there
     fresh_or : (channel : Channel) → made_by m ≡ Some channel → (old : Option Entry) → read_at own entries ≡ old → (same : Bool) → eqb channel.own own ≡ same → option_or old (cond same (Some (fresh channel)) None) ≡ Some entry → Origin (past ++ s ∷ []) entry.channel
-    fresh_or channel makes (Some x) at same is one = let it : x ≡ entry = cc in older_origin past s entry.channel (before own entry (at ∙ ap Some it))
-    fresh_or channel makes None at true is one = let it : fresh channel ≡ entry = cc in subst (λ (e : Entry). Origin (past ++ s ∷ []) e.channel) it (made_from past s channel makes)
+    fresh_or channel makes (Some x) at same is one = let it : x ≡ entry = cc in older-origin past s entry.channel (before own entry (at ∙ ap Some it))
+    fresh_or channel makes None at true is one = let it : fresh channel ≡ entry = cc in subst (λ (e : Entry). Origin (past ++ s ∷ []) e.channel) it (made-from past s channel makes)
     fresh_or channel makes None at false is one = cc
 
     owned : (channel : Channel) → made_by m ≡ Some channel → (taken : Bool) → read_at own (cond taken entries (entries ++ fresh channel ∷ [])) ≡ Some entry → Origin (past ++ s ∷ []) entry.channel
-    owned channel makes true at = older_origin past s entry.channel (before own entry at)
+    owned channel makes true at = older-origin past s entry.channel (before own entry at)
     owned channel makes false at = fresh_or channel makes (read_at own entries) refl (eqb channel.own own) refl (sym (read-append own entries channel) ∙ at)
 
     by : (found : Option Channel) → made_by m ≡ found → read_at own (entries_after entries m) ≡ Some entry → Origin (past ++ s ∷ []) entry.channel
     by None none at =
         let (x, there, is) = some-of_map (entry_after m) (read_at own entries) entry (sym (read-after m entries own none) ∙ at) in
-        subst (λ (e : Entry). Origin (past ++ s ∷ []) e.channel) is (older_origin past s x.channel (before own x there))
+        subst (λ (e : Entry). Origin (past ++ s ∷ []) e.channel) is (older-origin past s x.channel (before own x there))
     by (Some channel) makes at =
         owned channel makes (list_any (is_owner channel) entries) (sym (ap (read_at own) (ap (entries_after entries) (makes-it m channel makes) ∙ makes-fresh channel entries)) ∙ at)
 

@@ -21,7 +21,7 @@ use Rattle.channel_laws.specs.Runs.{Occurrence, Comes, Connects, AsksFeatures, D
 use Rattle.channel_laws.specs.Belonging.{HasAsked}
 use Rattle.channel_laws.proofs.Inviting.{held_others}
 use Rattle.channel_laws.proofs.Saying.{stands-either}
-use Rattle.channel_laws.proofs.Conversing.{is_single, IsAlike}
+use Rattle.channel_laws.proofs.Converses.{is_single, IsAlike}
 
 -- ---- a channel keeps its PSM
 

@@ -25,7 +25,8 @@ use Rattle.channel_laws.specs.Runs.{Occurrence, Comes, Connects, AsksFeatures, D
 use Rattle.channel_laws.specs.Signals.{StandsIn, AnswersAreSaid}
 use Rattle.channel_laws.proofs.Lasting.{answers_of, answers-asked, follows-lasts, grant-lasts, response-lasts, end-lasts, takes-lasts, connects-lasts, disconnects-last, sends-last, times-last, ends-last, asked-with, forgotten}
 use Rattle.channel_laws.proofs.Replying.{is_response, IsReply}
-use Rattle.channel_laws.proofs.Conversing.{WaitsSo, is_single, Converses, conversed}
+use Rattle.channel_laws.proofs.Converses.{WaitsSo, is_single, Converses}
+use Rattle.channel_laws.proofs.Conversing.{conversed}
 
 -- ---- members of lists
 

@@ -114,21 +114,21 @@ moves_told policy C v w held after more moves earlier told =
     record {
       at = at_each (λ n. HeldTold (find (has_own n) v.held) (is_told_closed n (earlier ++ v.events))) (λ n. HeldTold (find (has_own n) w.held) (is_told_closed n (earlier ++ w.events))) held.own
           (λ n apart was. subst (λ h. HeldTold h (is_told_closed n (earlier ++ w.events))) (sym (moves.others n apart))
-          (subst (HeldTold (find (has_own n) v.held)) (sym (none_more n earlier v.events more w.events moves.events_are (moves.only n apart))) was))
+          (subst (HeldTold (find (has_own n) v.held)) (sym (none_more n earlier v.events more w.events moves.events_are (moves.told.only n apart))) was))
           (subst (λ h. HeldTold h (is_told_closed held.own (earlier ++ w.events))) (sym moves.becomes)
           (subst (HeldTold (option_map (staged held) after)) (sym (told-more held.own earlier v.events more w.events moves.events_are))
           (goes_told (policy.wish held.psm) C held.stage after held (is_told_closed held.own (earlier ++ v.events)) (is_told_closed held.own more) here moves.goes)))
           told.at;
       ended = at_each (λ n. 0x0040 ≤ n → n < v.next → IsEndTold (find (has_own n) v.held) (is_told_closed n (earlier ++ v.events))) (λ n. 0x0040 ≤ n → n < w.next → IsEndTold (find (has_own n) w.held) (is_told_closed n (earlier ++ w.events))) held.own
           (λ n apart was low high. subst (λ h. IsEndTold h (is_told_closed n (earlier ++ w.events))) (sym (moves.others n apart))
-          (subst (IsEndTold (find (has_own n) v.held)) (sym (none_more n earlier v.events more w.events moves.events_are (moves.only n apart))) (was low (omega (arith, moves.next_is, high)))))
+          (subst (IsEndTold (find (has_own n) v.held)) (sym (none_more n earlier v.events more w.events moves.events_are (moves.told.only n apart))) (was low (omega (arith, moves.next_is, high)))))
           (λ low high. subst (λ h. IsEndTold h (is_told_closed held.own (earlier ++ w.events))) (sym moves.becomes)
           (subst (IsEndTold (option_map (staged held) after)) (sym (told-more held.own earlier v.events more w.events moves.events_are))
           (ends_told (policy.wish held.psm) C held.stage after held (is_told_closed held.own (earlier ++ v.events)) (is_told_closed held.own more) here moves.goes)))
           told.ended;
       fresh = λ own above.
           let apart : eqb held.own own ≡ false = less-apart held.own own (under v held w.next own moves.next_is told.below moves.found above) in
-          none_more own earlier v.events more w.events moves.events_are (moves.only own apart) ∙ told.fresh own (omega (arith, moves.next_is, above));
+          none_more own earlier v.events more w.events moves.events_are (moves.told.only own apart) ∙ told.fresh own (omega (arith, moves.next_is, above));
       below = λ own above. moves.others own (less-apart held.own own (under v held w.next own moves.next_is told.below moves.found above)) ∙ told.below own (omega (arith, moves.next_is, above));
     }
 

@@ -23,3 +23,7 @@ pub mod Granted
 pub mod Common
 pub mod Modes
 pub mod Arrivals
+pub mod Singly
+pub mod Pending
+pub mod Closings
+pub mod Fit

@@ -7,6 +7,7 @@ ghost use Rattle.channel_laws.specs.CheckWords.{CheckWordsAreRead};
 ghost use Rattle.channel_laws.specs.Endpoints.{EndpointsNameOneChannel};
 ghost use Rattle.channel_laws.specs.Endings.{EndsAreTold};
 ghost use Rattle.channel_laws.specs.Ends.{EachEndUtters};
+ghost use Rattle.channel_laws.specs.Fit.{GivenIsFit};
 ghost use Rattle.channel_laws.specs.Frames.{FramesAreHeld};
 ghost use Rattle.channel_laws.specs.Laws.{ChannelsAreRead, EndpointsAreNew};
 ghost use Rattle.channel_laws.specs.Pairs.{EachEndRuns};
@@ -119,6 +120,11 @@ pub fn answers_are_said()
 /// The octets of what is given are read as what it is, where it is fit for a link.
 pub fn uttered_is_read()
     ensures { UtteredIsRead }
+{}
+
+/// Whatever commands come in, a host gives what is fit for a link: so it is read as what it is.
+pub fn given_is_fit()
+    ensures { GivenIsFit }
 {}
 
 /// Whatever a link loses, repeats and damages: each response, and each request for a channel, that one end heard the other said.

@@ -1,16 +1,40 @@
 //! Laws of two hosts that have a channel in common, on a link that loses, repeats and damages.
 
 ghost use Rattle.channel_laws.specs.Arrivals.{BasicChannelsArrive};
+ghost use Rattle.channel_laws.specs.Closings.{ClosingsAreRead};
 ghost use Rattle.channel_laws.specs.Common.{ChannelsAreCommon};
 ghost use Rattle.channel_laws.specs.Granted.{EndpointsAreGrantedOnce, EndpointsAskForOnePsm};
 ghost use Rattle.channel_laws.specs.Modes.{ModesAreCommon, ModesAreWished};
 ghost use Rattle.channel_laws.specs.Pipes.{EnhancedChannelsArePipes};
+ghost use Rattle.channel_laws.specs.Pending.{NoneComesDue, OneOpens};
+ghost use Rattle.channel_laws.specs.Singly.{CallsAreOneByOne, GrantsAreSingle, NoneIsCalled};
 ghost use Rattle.channel_laws.specs.Suiting.{AgreementsStay, OptionsSuit};
 
 /// An endpoint that a host granted is that of a channel, for the one endpoint of its peer that it was granted to, and the host never
 /// asks for a channel with it.
 pub fn endpoints_are_granted_once()
     ensures { EndpointsAreGrantedOnce }
+{}
+
+/// Where the peer asks for one channel after the other, a host grants one endpoint alone to each endpoint of the peer.
+pub fn grants_are_single()
+    ensures { GrantsAreSingle }
+{}
+
+/// A host that asks for its next channel when no other one is only asked for asks for one channel after the other, however often its
+/// timer repeats a request.
+pub fn calls_are_one_by_one()
+    ensures { CallsAreOneByOne }
+{}
+
+/// A host that asks for no channel has no request for one in its talk.
+pub fn none_is_called()
+    ensures { NoneIsCalled }
+{}
+
+/// Of a host that asks for no channel, each channel whose closing it was told is read, with the PSM that it was told.
+pub fn closings_are_read()
+    ensures { ClosingsAreRead }
 {}
 
 /// An endpoint that a host asks for a channel with is that of one PSM, however often it asks.
@@ -44,6 +68,16 @@ pub fn agreements_stay()
 /// enhanced mode, its agreement on them suits every agreement that the other end may have of the PSM.
 pub fn options_suit()
     ensures { OptionsSuit }
+{}
+
+/// Of a host that offers nothing, no channel comes to be only asked for while none is asked for.
+pub fn none_comes_due()
+    ensures { NoneComesDue }
+{}
+
+/// Where such a host asked for one channel, and one is open, none is only asked for.
+pub fn one_opens()
+    ensures { OneOpens }
 {}
 
 /// Whatever a link loses, repeats and damages: an enhanced channel that two hosts have in common is a pipe of SDUs both ways.

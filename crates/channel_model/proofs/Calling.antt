@@ -64,7 +64,7 @@ left_goes policy C R walks v held (Connected peer setup) is found =
     let stage : Stage = Leaving peer setup (new_request v) in
     let w : Channels = asks (errands.Disconnection held.own) (to_stage held stage v) in
     walks.moves v w held (Some stage) []
-    (placed policy C v w held stage [] found refl refl (append_none v.events) (only-none held.own)
+    (placed policy C v w held stage [] found refl refl (append_none v.events) (only-none held)
     (subst (λ s. StageGoes (policy.wish held.psm) C s (Some stage) false) (sym is) (refl, refl, refl)))
 left_goes policy C R walks v held (Leaving peer setup request) is found = stays policy C R walks v
 left_goes policy C R walks v held (Closing peer request checked) is found = stays policy C R walks v
@@ -281,7 +281,7 @@ stage_counted : (policy : Policy) (C : Carrier → Carrier → Type 0) (R : Chan
 stage_counted policy C R walks f own None v counts is = stays policy C R walks v
 stage_counted policy C R walks f own (Some held) v counts is =
     let w : Channels = to_stage held (f held.stage) v in
-    walks.moves v w held (Some (f held.stage)) [] (placed policy C v w held (f held.stage) [] (found-own own v held is) refl refl (append_none v.events) (only-none held.own) (counts (policy.wish held.psm) held.stage))
+    walks.moves v w held (Some (f held.stage)) [] (placed policy C v w held (f held.stage) [] (found-own own v held is) refl refl (append_none v.events) (only-none held) (counts (policy.wish held.psm) held.stage))
 
 counted_goes : (policy : Policy) (C : Carrier → Carrier → Type 0) (R : Channels → Channels → Type 0) (walks : Walks policy C R) (errand : Errand) (v : Channels) → R v (counted errand v)
 counted_goes policy C R walks (errands.Connection own) v = stage_counted policy C R walks connection_given own (held_at own v) v (λ wish. connection_counts wish C walks.same) refl

@@ -1,12 +1,13 @@
 -- What one step does to one channel, and what it tells: all that laws of single channels have to look at.
 use Rattle.std.proofs.Common.{◌≡◌, ℕ, ◌+◌, List, [], ◌∷◌, ◌++◌, Bool, true, false, ◌&&◌, ◌||◌, eqb, not, Option, Some, None, refl, sym, ap, subst, ◌∙◌, ◌⊎◌}
 use Rattle.std.specs.Prelude.{find, filter, map, option_map, is_some}
+use Rattle.std.specs.List.{AllByRecursion}
 use Rattle.l2cap_config.specs.declared.options.Options.{Options}
 use Rattle.l2cap_config.specs.declared.agreement.ConfigAnswer.TheVariants.{Accept}
 use Rattle.l2cap_config.specs.declared.wish.Wish.{Wish}
 use Rattle.l2cap_config.specs.Agreement.{answered, agreed_on}
 use Rattle.channel_model.specs.declared.event.ChannelEvent.{ChannelEvent}
-use Rattle.channel_model.specs.declared.event.ChannelEvent.TheVariants.{Closed}
+use Rattle.channel_model.specs.declared.event.ChannelEvent.TheVariants.{Opened, Closed, Features, FeaturesLost, DisconnectLost}
 use Rattle.channel_model.specs.declared.event.CloseReason.{CloseReason}
 use Rattle.channel_model.specs.Value.{Own, Unasked, Asking, Granted, Carrier, Setup, no_setup, Stage, Requested, Connected, Leaving, Closing, Crossed, Held, Channels}
 use Rattle.channel_model.specs.Policies.{Policy}
@@ -95,6 +96,19 @@ staged held stage = record held { stage = stage }
 abbrev pub Only : (own : ℕ) → List ChannelEvent → Type 0
 Only own events = (other : ℕ) → eqb own other ≡ false → is_told_closed other events ≡ false
 
+-- a closing that is told is that of the channel
+abbrev pub IsClosingOf : Held → ChannelEvent → Type 0
+IsClosingOf held (Opened own psm) = Unit {0}
+IsClosingOf held (Closed own psm reason) = (own ≡ held.own) × (psm ≡ held.psm)
+IsClosingOf held (Features features) = Unit {0}
+IsClosingOf held FeaturesLost = Unit {0}
+IsClosingOf held (DisconnectLost own) = Unit {0}
+
+-- all that is told with a step of it
+pub record IsToldOf (held : Held) (more : List ChannelEvent) : Type 0 where
+  pub only : Only held.own more
+  pub named : AllByRecursion (IsClosingOf held) more
+
 pub record Moves (policy : Policy) (C : Carrier → Carrier → Type 0) (v w : Channels) (held : Held) (after : Option Stage) (more : List ChannelEvent) : Type 0 where
   pub found : find (has_own held.own) v.held ≡ Some held
   pub becomes : find (has_own held.own) w.held ≡ option_map (staged held) after
@@ -102,7 +116,7 @@ pub record Moves (policy : Policy) (C : Carrier → Carrier → Type 0) (v w : C
   pub lone : Distinct own_of v.held → Distinct own_of w.held
   pub next_is : w.next ≡ v.next
   pub events_are : w.events ≡ v.events ++ more
-  pub only : Only held.own more
+  pub told : IsToldOf held more
   pub goes : StageGoes (policy.wish held.psm) C held.stage after (is_told_closed held.own more)
 
 -- what a channel is at first
@@ -131,27 +145,27 @@ pub record Walks (policy : Policy) (C : Carrier → Carrier → Type 0) (R : Cha
 
 -- ---- how they come about
 
-pub only-none : (own : ℕ) → Only own []
-only-none own other apart = refl
+pub only-none : (held : Held) → IsToldOf held []
+only-none held = record { only = λ other apart. refl; named = tt }
 
-pub only-closed : (own psm : ℕ) (reason : CloseReason) → Only own (Closed own psm reason ∷ [])
-only-closed own psm reason other apart = ap (λ t. (t && true) || false) apart
+pub only-closed : (held : Held) (reason : CloseReason) → IsToldOf held (Closed held.own held.psm reason ∷ [])
+only-closed held reason = record { only = λ other apart. ap (λ t. (t && true) || false) apart; named = ((refl, refl), tt) }
 
 pub closed-told : (own psm : ℕ) (reason : CloseReason) → is_told_closed own (Closed own psm reason ∷ []) ≡ true
 closed-told own psm reason = ap (λ t. (t && true) || false) (eqb-same own)
 
 -- a channel goes on to a stage
 pub placed : (policy : Policy) (C : Carrier → Carrier → Type 0) (v w : Channels) (held : Held) (stage : Stage) (more : List ChannelEvent) → find (has_own held.own) v.held ≡ Some held
-    → w.held ≡ map (in_place_of (staged held stage)) v.held → w.next ≡ v.next → w.events ≡ v.events ++ more → Only held.own more
+    → w.held ≡ map (in_place_of (staged held stage)) v.held → w.next ≡ v.next → w.events ≡ v.events ++ more → IsToldOf held more
     → StageGoes (policy.wish held.psm) C held.stage (Some stage) (is_told_closed held.own more) → Moves policy C v w held (Some stage) more
-placed policy C v w held stage more found held_is next_is events_are only goes = record {
+placed policy C v w held stage more found held_is next_is events_are told goes = record {
   found = found;
   becomes = ap (find (has_own held.own)) held_is ∙ found-placed (staged held stage) held v.held found;
   others = λ own apart. ap (find (has_own own)) held_is ∙ find-placed (staged held stage) v.held own apart;
   lone = λ distinct. subst (Distinct own_of) (sym held_is) (placed-distinct (staged held stage) v.held distinct);
   next_is = next_is;
   events_are = events_are;
-  only = only;
+  told = told;
   goes = goes;
 }
 
@@ -164,15 +178,15 @@ ends-told wish C (Closing peer request checked) closed told = tt
 ends-told wish C (Crossed peer request) closed told = tt
 
 pub dropped : (policy : Policy) (C : Carrier → Carrier → Type 0) (v w : Channels) (held : Held) (more : List ChannelEvent) → find (has_own held.own) v.held ≡ Some held
-    → w.held ≡ filter (λ other. not (eqb other.own held.own)) v.held → w.next ≡ v.next → w.events ≡ v.events ++ more → Only held.own more
+    → w.held ≡ filter (λ other. not (eqb other.own held.own)) v.held → w.next ≡ v.next → w.events ≡ v.events ++ more → IsToldOf held more
     → StageGoes (policy.wish held.psm) C held.stage None (is_told_closed held.own more) → Moves policy C v w held None more
-dropped policy C v w held more found held_is next_is events_are only goes = record {
+dropped policy C v w held more found held_is next_is events_are told goes = record {
   found = found;
   becomes = ap (find (has_own held.own)) held_is ∙ find-gone own_of held.own v.held;
   others = λ own apart. ap (find (has_own own)) held_is ∙ find-others own_of held.own own v.held apart;
   lone = λ distinct. subst (Distinct own_of) (sym held_is) (distinct-filter own_of (λ other. not (eqb other.own held.own)) v.held distinct);
   next_is = next_is;
   events_are = events_are;
-  only = only;
+  told = told;
   goes = goes;
 }

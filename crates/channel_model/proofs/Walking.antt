@@ -87,7 +87,7 @@ pub to-setup : (policy : Policy) (C : Carrier → Carrier → Type 0) (R : Chann
     → setup_of held.stage ≡ Some before → SetupGoes (policy.wish held.psm) C before after → w.held ≡ (to_setup held after v).held → w.next ≡ v.next → w.events ≡ v.events → R v w
 to-setup policy C R walks v w held before after found is goes held_is next_is events_are =
     walks.moves v w held (Some (stage_with after held.stage)) []
-    (placed policy C v w held (stage_with after held.stage) [] found held_is next_is (events_are ∙ append_none v.events) (only-none held.own) (staged_goes (policy.wish held.psm) C held.stage before after is goes))
+    (placed policy C v w held (stage_with after held.stage) [] found held_is next_is (events_are ∙ append_none v.events) (only-none held) (staged_goes (policy.wish held.psm) C held.stage before after is goes))
 
 -- the same setup in another place
 pub with-found : (v : Channels) (held : Held) (after : Setup) → find (has_own held.own) v.held ≡ Some held → find (has_own held.own) (to_setup held after v).held ≡ Some (with_setup held after)
@@ -106,19 +106,19 @@ pub closes-goes : (policy : Policy) (C : Carrier → Carrier → Type 0) (R : Ch
     → find (has_own held.own) v.held ≡ Some held → R v (closes_at stage reason held v)
 closes-goes policy C R walks v held reason (Requested request) is found =
     walks.moves v (closes_at (Requested request) reason held v) held None (Closed held.own held.psm reason ∷ [])
-    (dropped policy C v (closes_at (Requested request) reason held v) held (Closed held.own held.psm reason ∷ []) found refl refl refl (only-closed held.own held.psm reason)
+    (dropped policy C v (closes_at (Requested request) reason held v) held (Closed held.own held.psm reason ∷ []) found refl refl refl (only-closed held reason)
     (ends-told (policy.wish held.psm) C held.stage (is_told_closed held.own (Closed held.own held.psm reason ∷ [])) (closed-told held.own held.psm reason)))
 closes-goes policy C R walks v held reason (Connected peer setup) is found =
     let w : Channels = closes_at (Connected peer setup) reason held v in
     let more : List ChannelEvent = Closed held.own held.psm reason ∷ [] in
     walks.moves v w held (Some (Closing peer (new_request v) (has_fcs_by setup))) more
-    (placed policy C v w held (Closing peer (new_request v) (has_fcs_by setup)) more found refl refl refl (only-closed held.own held.psm reason)
+    (placed policy C v w held (Closing peer (new_request v) (has_fcs_by setup)) more found refl refl refl (only-closed held reason)
     (subst (λ s. StageGoes (policy.wish held.psm) C s (Some (Closing peer (new_request v) (has_fcs_by setup))) (is_told_closed held.own more)) (sym is) (refl, closed-told held.own held.psm reason)))
 closes-goes policy C R walks v held reason (Leaving peer setup request) is found =
     let w : Channels = closes_at (Leaving peer setup request) reason held v in
     let more : List ChannelEvent = Closed held.own held.psm reason ∷ [] in
     walks.moves v w held (Some (Closing peer request (has_fcs_by setup))) more
-    (placed policy C v w held (Closing peer request (has_fcs_by setup)) more found refl refl refl (only-closed held.own held.psm reason)
+    (placed policy C v w held (Closing peer request (has_fcs_by setup)) more found refl refl refl (only-closed held reason)
     (subst (λ s. StageGoes (policy.wish held.psm) C s (Some (Closing peer request (has_fcs_by setup))) (is_told_closed held.own more)) (sym is) (refl, closed-told held.own held.psm reason)))
 closes-goes policy C R walks v held reason (Closing peer request checked) is found = stays policy C R walks v
 closes-goes policy C R walks v held reason (Crossed peer request) is found = stays policy C R walks v
@@ -128,18 +128,18 @@ pub peer-closes-goes : (policy : Policy) (C : Carrier → Carrier → Type 0) (R
 peer-closes-goes policy C R walks v held (Requested request) is found = stays policy C R walks v
 peer-closes-goes policy C R walks v held (Connected peer setup) is found =
     walks.moves v (peer_closes_at (Connected peer setup) held v) held None (Closed held.own held.psm PeerClosed ∷ [])
-    (dropped policy C v (peer_closes_at (Connected peer setup) held v) held (Closed held.own held.psm PeerClosed ∷ []) found refl refl refl (only-closed held.own held.psm PeerClosed)
+    (dropped policy C v (peer_closes_at (Connected peer setup) held v) held (Closed held.own held.psm PeerClosed ∷ []) found refl refl refl (only-closed held PeerClosed)
     (ends-told (policy.wish held.psm) C held.stage (is_told_closed held.own (Closed held.own held.psm PeerClosed ∷ [])) (closed-told held.own held.psm PeerClosed)))
 peer-closes-goes policy C R walks v held (Leaving peer setup request) is found =
     let w : Channels = peer_closes_at (Leaving peer setup request) held v in
     let more : List ChannelEvent = Closed held.own held.psm PeerClosed ∷ [] in
     walks.moves v w held (Some (Crossed peer request)) more
-    (placed policy C v w held (Crossed peer request) more found refl refl refl (only-closed held.own held.psm PeerClosed)
+    (placed policy C v w held (Crossed peer request) more found refl refl refl (only-closed held PeerClosed)
     (subst (λ s. StageGoes (policy.wish held.psm) C s (Some (Crossed peer request)) (is_told_closed held.own more)) (sym is) (refl, closed-told held.own held.psm PeerClosed)))
 peer-closes-goes policy C R walks v held (Closing peer request checked) is found =
     let w : Channels = to_stage held (Crossed peer request) v in
     walks.moves v w held (Some (Crossed peer request)) []
-    (placed policy C v w held (Crossed peer request) [] found refl refl (append_none v.events) (only-none held.own)
+    (placed policy C v w held (Crossed peer request) [] found refl refl (append_none v.events) (only-none held)
     (subst (λ s. StageGoes (policy.wish held.psm) C s (Some (Crossed peer request)) false) (sym is) refl))
 peer-closes-goes policy C R walks v held (Crossed peer request) is found = stays policy C R walks v
 
@@ -150,13 +150,13 @@ ends-goes policy C R walks v held reason (Connected peer setup) is found = stays
 ends-goes policy C R walks v held reason (Leaving peer setup request) is found =
     let w : Channels = ends_at (Leaving peer setup request) reason held v in
     walks.moves v w held None (Closed held.own held.psm reason ∷ [])
-    (dropped policy C v w held (Closed held.own held.psm reason ∷ []) found refl refl refl (only-closed held.own held.psm reason)
+    (dropped policy C v w held (Closed held.own held.psm reason ∷ []) found refl refl refl (only-closed held reason)
     (ends-told (policy.wish held.psm) C held.stage (is_told_closed held.own (Closed held.own held.psm reason ∷ [])) (closed-told held.own held.psm reason)))
 ends-goes policy C R walks v held reason (Closing peer request checked) is found =
-    walks.moves v (ends_at (Closing peer request checked) reason held v) held None [] (dropped policy C v (ends_at (Closing peer request checked) reason held v) held [] found refl refl (append_none v.events) (only-none held.own)
+    walks.moves v (ends_at (Closing peer request checked) reason held v) held None [] (dropped policy C v (ends_at (Closing peer request checked) reason held v) held [] found refl refl (append_none v.events) (only-none held)
     (subst (λ s. StageGoes (policy.wish held.psm) C s None false) (sym is) tt))
 ends-goes policy C R walks v held reason (Crossed peer request) is found =
-    walks.moves v (ends_at (Crossed peer request) reason held v) held None [] (dropped policy C v (ends_at (Crossed peer request) reason held v) held [] found refl refl (append_none v.events) (only-none held.own)
+    walks.moves v (ends_at (Crossed peer request) reason held v) held None [] (dropped policy C v (ends_at (Crossed peer request) reason held v) held [] found refl refl (append_none v.events) (only-none held)
     (subst (λ s. StageGoes (policy.wish held.psm) C s None false) (sym is) tt))
 
 -- ---- options of the peer
@@ -366,7 +366,7 @@ connects-goes policy C R walks v held request peer is found =
     let asked : Setup = record no_setup { own = Asking (new_request v) (first_options wish) } in
     let w : Channels = connects wish peer held v in
     walks.moves v w held (Some (Connected peer asked)) []
-    (placed policy C v w held (Connected peer asked) [] found refl refl (append_none v.events) (only-none held.own)
+    (placed policy C v w held (Connected peer asked) [] found refl refl (append_none v.events) (only-none held)
     (subst (λ s. StageGoes wish C s (Some (Connected peer asked)) false) (sym is) (refl, refl)))
 
 granted-goes : (policy : Policy) (C : Carrier → Carrier → Type 0) (R : Channels → Channels → Type 0) (walks : Walks policy C R) (v : Channels) (held : Held) (request : Request) (endpoint result : ℕ) → held.stage ≡ Requested request

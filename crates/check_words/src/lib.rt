@@ -9,6 +9,3 @@ mod table;
 
 pub use fcs::fcs16;
 pub use rfcomm::fcs8;
-
-#[cfg(test)]
-mod tests;

@@ -4,8 +4,6 @@
 mod command;
 mod form;
 mod reading;
-#[cfg(test)]
-mod tests;
 
 pub use form::Form;
 pub use reading::{NoMemory, form_of};

@@ -44,6 +44,3 @@ impl Draws {
         (self.state / 65536) as u16
     }
 }
-
-#[cfg(test)]
-mod tests;

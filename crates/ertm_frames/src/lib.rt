@@ -13,6 +13,3 @@ pub use frame::{Frame, SKind};
 pub use reading::frame_of;
 pub use refusal::FrameRefusal;
 pub use writing::put_frame;
-
-#[cfg(test)]
-mod tests;

@@ -15,6 +15,3 @@ mod writing;
 pub use answers::{Heard, Submit};
 pub use ertm_model::ErtmReason;
 pub use machine::Ertm;
-
-#[cfg(test)]
-mod tests;

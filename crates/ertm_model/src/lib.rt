@@ -6,6 +6,3 @@ pub mod laws;
 mod reason;
 
 pub use reason::ErtmReason;
-
-#[cfg(test)]
-mod tests;

@@ -16,6 +16,3 @@ pub use leading::{Leading, first};
 pub use refusal::H4Refusal;
 pub use unit::Unit;
 pub use writing::write_unit;
-
-#[cfg(test)]
-mod tests;

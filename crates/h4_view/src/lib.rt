@@ -14,16 +14,9 @@ mod raw;
 mod refusal;
 mod signals;
 mod snoop;
-#[cfg(test)]
-mod snoop_tests;
 mod tagged;
-#[cfg(test)]
-mod tagged_tests;
 
 pub use raw::view_raw;
 pub use refusal::{ViewFault, ViewRefusal};
 pub use snoop::view_snoop;
 pub use tagged::view_tagged;
-
-#[cfg(test)]
-mod tests;

@@ -26,5 +26,3 @@ pub use writing_commands::put_command;
 pub use writing_events::put_event;
 
 pub mod laws;
-#[cfg(test)]
-mod tests;

@@ -19,20 +19,20 @@ use Rattle.host_laws.specs.Calls.{Call, Connect, Disconnect, Send, Asks, HostsAs
 use Rattle.host_laws.specs.Calls as calls
 
 -- an SDU is sent where its channel takes one
-abbrev send_if : Bool → (own : ℕ) → Payload → Option Call
+abbrev pub send_if : Bool → (own : ℕ) → Payload → Option Call
 send_if taken own payload = if taken then Some (Send own (sdu_of payload)) else None
 
-abbrev sends_on : Channels → Payload → Option ℕ → Option Call
+abbrev pub sends_on : Channels → Payload → Option ℕ → Option Call
 sends_on v payload None = None
 sends_on v payload (Some own) = send_if (takes_sdu own (sdu_of payload) v) own payload
 
 -- ---- a client
 
-abbrev closes_on : Option ℕ → Option Call
+abbrev pub closes_on : Option ℕ → Option Call
 closes_on None = None
 closes_on (Some own) = Some (Disconnect own)
 
-abbrev asked : Step → Channels → ClientProfile → Option Call
+abbrev pub asked : Step → Channels → ClientProfile → Option Call
 asked Wait v after = None
 asked MakeLink v after = None
 asked AskFeatures v after = Some calls.AskFeatures
@@ -73,9 +73,14 @@ clients_ask settings = record {
   steps_are = λ v pushing. let one = steps pushing.client pushing.parts in taken (client_profile settings).policy one.step v (record pushing { client = one.client; parts = one.left }) pushing;
 }
 
+-- what a client asks is what its step says
+pub clients-call : (settings : Settings) (v : Channels) (pushing : ClientProfile) → (let one = steps pushing.client pushing.parts in (clients_ask settings).call v pushing ≡ asked one.step v (record pushing { client = one.client; parts = one.left }))
+unfolding clients_ask
+clients-call settings v pushing = refl
+
 -- ---- a server
 
-abbrev lent_call : Option Lent → Channels → ServerProfile → Option Call
+abbrev pub lent_call : Option Lent → Channels → ServerProfile → Option Call
 lent_call None v serving = None
 lent_call (Some lent) v serving = sends_on v lent.payload (endpoint_of lent.psm serving.endpoints)
 
@@ -101,3 +106,9 @@ servers_ask settings content = record {
 
 pub hosts_ask : HostsAsk
 hosts_ask = record { clients = clients_ask; servers = servers_ask }
+
+-- ---- what they ask
+
+pub servers-call : (settings : Settings) (content : Option Contents) (v : Channels) (serving : ServerProfile) → (hosts_ask.servers settings content).call v serving ≡ lent_call (lent_sdu (lends serving.server)) v serving
+unfolding hosts_ask servers_ask
+servers-call settings content v serving = refl

@@ -1,6 +1,6 @@
 -- A host tells its profile all that its channels tell, one thing after the other.
 use Rattle.std.proofs.Common.{◌≡◌, List, [], ◌∷◌, map, refl, sym, ap, ◌∙◌}
-use Rattle.std.specs.List.{filter_map}
+use Rattle.std.specs.List.{AllByRecursion, filter_map}
 use Rattle.channel_model.specs.declared.event.ChannelEvent.{ChannelEvent}
 use Rattle.channel_model.specs.Value.{Channels}
 use Rattle.channel_model.specs.Policies.{Policy}
@@ -11,6 +11,7 @@ use Rattle.host_model.specs.Hosts.{Host, tells_each, tells_events}
 use Rattle.host_laws.specs.Calls.{Asks, values_after, asked, outer}
 use Rattle.host_laws.specs.Feeds.{Feed, Happens, all_fed, asked_from, Tiding, Tells, tidings_of, tidings_from}
 use Rattle.host_laws.specs.Seen.{IsCalm}
+use Rattle.host_laws.specs.Woven.{Strand, IsOnLink, Telling, woven_list, woven_profile}
 use Rattle.host_laws.proofs.Steps.{Grows}
 
 -- one occurrence for each event
@@ -54,6 +55,21 @@ calm_tellings : (policy : Policy) (v : Channels) (events : List ChannelEvent) �
 calm_tellings policy v [] = tt
 calm_tellings policy v (event ∷ events) = (tt, calm_tellings policy (value_after policy channels.Tells v) events)
 
+abbrev told_strands : List ChannelEvent → List Strand
+told_strands events = map (λ event. Telling) events
+
+drained_list : {P : Type 0} (A : Profile P) (asks : Asks A) (v : Channels) (events : List ChannelEvent) (p : P) → (let w : Channels = record v { events = events } in tellings events ≡ woven_list A asks (told_strands events) w p)
+drained_list A asks v [] p = refl
+drained_list A asks v (event ∷ events) p = let now : Channels = record v { events = events } in ap (λ (l : List Occurrence). channels.Tells ∷ l) (drained_list A asks now events (A.happened event now p))
+
+drained_profile : {P : Type 0} (A : Profile P) (asks : Asks A) (v : Channels) (events : List ChannelEvent) (p : P) → (let w : Channels = record v { events = events } in tells_each A events v p ≡ woven_profile A asks (told_strands events) w p)
+drained_profile A asks v [] p = refl
+drained_profile A asks v (event ∷ events) p = let now : Channels = record v { events = events } in drained_profile A asks now events (A.happened event now p)
+
+told_on_link : (events : List ChannelEvent) → AllByRecursion IsOnLink (told_strands events)
+told_on_link [] = tt
+told_on_link (event ∷ events) = (tt, told_on_link events)
+
 pub tells_grow : {P : Type 0} (A : Profile P) (asks : Asks A) (C : Type 0) (host : Host P) → Grows A asks C [] host (tells_events A host)
 tells_grow A asks C host =
     let v = host.channels in
@@ -66,4 +82,8 @@ tells_grow A asks C host =
       asked_is = none_asked v.events ∙ sym (each_asked A asks v v.events host.profile);
       acted_is = none_outer v.events;
       calm = λ c. calm_tellings A.policy v v.events;
+      weave = told_strands v.events;
+      woven_is = drained_list A asks v v.events host.profile;
+      last_is = drained_profile A asks v v.events host.profile;
+      on_link = told_on_link v.events;
     }

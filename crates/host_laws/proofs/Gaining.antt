@@ -169,7 +169,7 @@ told_gain most channel (Turns event ∷ rest) packets fits ends = absurd fits.0
 
 -- ---- what is told on a link fits it
 
-found_in : (n : ℕ) (P : Entry → Type 0) (entries : List Entry) (found : Entry) → AllByRecursion P entries → find (is_own n) entries ≡ Some found → P found
+pub found_in : (n : ℕ) (P : Entry → Type 0) (entries : List Entry) (found : Entry) → AllByRecursion P entries → find (is_own n) entries ≡ Some found → P found
 found_in n P [] found all is = cc
 found_in n P (entry ∷ entries) found all is = by (is_own n entry) is (λ some. found_in n P entries found all.1 some)
   where
@@ -268,7 +268,7 @@ module _ (policy : Policy) (party : Party) (states_frame : StatesFrame policy pa
       by : IsHandedUp (is_told_broken one.channel.own (events_told (told_on policy list))) (sdus_told one.channel.own (told_on policy list)) (sdus party one.channel Into (run_of policy list).said)
           → sdus party one.channel Into (run_of policy list).said ≡ sdus_told one.channel.own (told_on policy list)
       by (inl same) = same
-      by (inr more) = let never : true ≡ false = sym more.0 ∙ one.unbroken in absurd cc
+      by (inr more) = one.whole more.0 party states_frame
 
   pub link_gain : (list : List Occurrence) (one : OneObjectChannel policy list) → (run_of policy list).value.events ≡ [] → gain party.packet [] (all_served (told_on policy list)) ≡ spelled_on list
   link_gain list one none =

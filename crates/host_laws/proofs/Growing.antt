@@ -1,6 +1,6 @@
 -- What a host does, one thing after the other.
 use Rattle.std.proofs.Common.{◌≡◌, ℕ, zero, suc, Bool, true, false, List, [], ◌∷◌, ◌++◌, Option, Some, None, is_some, refl, sym, ap, ap₂, subst, ◌∙◌, append_assoc, append-nil, if◌then◌else◌}
-use Rattle.std.specs.List.{filter_map}
+use Rattle.std.specs.List.{AllByRecursion, filter_map}
 use Rattle.std.proofs.lemmas.List.Concat.{flat_map-append}
 use Rattle.std.proofs.lemmas.List.Elements.{filter_map-append}
 use Rattle.std.proofs.lemmas.List.Sums.{fold-append}
@@ -24,6 +24,7 @@ use Rattle.host_laws.specs.Feeds.{Feed, Gifts, Learns, Receives, fed, all_fed, a
 use Rattle.host_laws.specs.Feeds as feeds
 use Rattle.host_laws.specs.Seen.{IsQuiet, IsGiven, IsCalmAt, IsCalm}
 use Rattle.host_laws.specs.Calm.{IsCalmNews, IsReadFrom, IsCalmAct}
+use Rattle.host_laws.specs.Woven.{Strand, IsOnLink, Hearing, Giving, Firing, Gifting, Learning, Checking, Stepping, strand_list, strand_profile, woven_list, woven_profile}
 use Rattle.host_laws.proofs.Steps.{Grows}
 use Rattle.host_laws.proofs.Draining.{tells_grow}
 
@@ -43,13 +44,39 @@ pub calm-both : (policy : Policy) (v : Channels) (xs ys : List Occurrence) → I
 calm-both policy v [] ys one two = two
 calm-both policy v (x ∷ xs) ys one two = (one.0, calm-both policy (value_after policy x v) xs ys one.1 two)
 
+pub both-on_link : (one two : List Strand) → AllByRecursion IsOnLink one → AllByRecursion IsOnLink two → AllByRecursion IsOnLink (one ++ two)
+both-on_link [] two first second = second
+both-on_link (strand ∷ one) two first second = (first.0, both-on_link one two first.1 second)
+
+pub woven-both : {P : Type 0} (A : Profile P) (asks : Asks A) (one two : List Strand) (v : Channels) (p : P)
+    → woven_list A asks (one ++ two) v p ≡ woven_list A asks one v p ++ woven_list A asks two (values_after A.policy v (woven_list A asks one v p)) (woven_profile A asks one v p)
+woven-both A asks [] two v p = refl
+woven-both A asks (strand ∷ one) two v p =
+    let here = strand_list A asks strand v p in
+    let w = values_after A.policy v here in
+    let q = strand_profile A strand v p in
+    let more = woven_list A asks one w q in
+    ap (λ (l : List Occurrence). here ++ l) (woven-both A asks one two w q)
+    ∙ (ap (λ (u : Channels). here ++ (more ++ woven_list A asks two u (woven_profile A asks one w q))) (sym (fold-append (λ u next. value_after A.policy next u) v here more))
+    ∙ sym (append_assoc here more (woven_list A asks two (values_after A.policy v (here ++ more)) (woven_profile A asks one w q))))
+
+pub woven-last : {P : Type 0} (A : Profile P) (asks : Asks A) (one two : List Strand) (v : Channels) (p : P)
+    → woven_profile A asks (one ++ two) v p ≡ woven_profile A asks two (values_after A.policy v (woven_list A asks one v p)) (woven_profile A asks one v p)
+woven-last A asks [] two v p = refl
+woven-last A asks (strand ∷ one) two v p =
+    let here = strand_list A asks strand v p in
+    let w = values_after A.policy v here in
+    let q = strand_profile A strand v p in
+    woven-last A asks one two w q
+    ∙ ap (λ (u : Channels). woven_profile A asks two u (woven_profile A asks one w q)) (sym (fold-append (λ u next. value_after A.policy next u) v here (woven_list A asks one w q)))
+
 pub none-some : {X : Type 0} (found : Option X) → is_some found ≡ false → found ≡ None
 none-some None is = refl
 none-some (Some x) is = cc
 
 module _ {P : Type 0} (A : Profile P) (asks : Asks A) (C : Type 0) where
   pub grows_none : (host : Host P) → Grows A asks C [] host host
-  grows_none host = record { list = []; feeds = []; channels_are = refl; profile_is = refl; tidings_are = refl; asked_is = refl; acted_is = refl; calm = λ c. tt }
+  grows_none host = record { list = []; feeds = []; channels_are = refl; profile_is = refl; tidings_are = refl; asked_is = refl; acted_is = refl; calm = λ c. tt; weave = []; woven_is = refl; last_is = refl; on_link = tt }
 
   pub grows_then : (xs ys : List Occurrence) (old mid new : Host P) → Grows A asks C xs old mid → Grows A asks C ys mid new → Grows A asks C (xs ++ ys) old new
   grows_then xs ys old mid new one two = record {
@@ -66,11 +93,19 @@ module _ {P : Type 0} (A : Profile P) (asks : Asks A) (C : Type 0) where
         ∙ sym (asked-append A asks old.profile one.feeds two.feeds));
     acted_is = filter_map-append outer one.list two.list ∙ ap₂ (λ (a b : List Occurrence). a ++ b) one.acted_is two.acted_is;
     calm = λ c. calm-both A.policy old.channels one.list two.list (one.calm c) (subst (λ (v : Channels). IsCalm A.policy v two.list) one.channels_are (two.calm c));
+    weave = one.weave ++ two.weave;
+    woven_is = ap₂ (λ (a b : List Occurrence). a ++ b) one.woven_is
+        (two.woven_is ∙ ap₂ (λ (v : Channels) (p : P). woven_list A asks two.weave v p) (one.channels_are ∙ ap (values_after A.policy old.channels) one.woven_is) one.last_is)
+        ∙ sym (woven-both A asks one.weave two.weave old.channels old.profile);
+    last_is = two.last_is
+        ∙ (ap₂ (λ (v : Channels) (p : P). woven_profile A asks two.weave v p) (one.channels_are ∙ ap (values_after A.policy old.channels) one.woven_is) one.last_is
+        ∙ sym (woven-last A asks one.weave two.weave old.channels old.profile));
+    on_link = both-on_link one.weave two.weave one.on_link two.on_link;
   }
 
   -- the profile alone goes on
-  pub feeds_grow : (host : Host P) (feed : Feed) (count : ℕ) → tidings_in feed ≡ [] → asked_with A asks host.profile feed ≡ [] → (let after : Host P = record host { profile = fed A host.profile feed; may_say = count } in Grows A asks C [] host after)
-  feeds_grow host feed count none nothing = record {
+  pub feeds_grow : (host : Host P) (feed : Feed) (strand : Strand) (count : ℕ) → IsOnLink strand → strand_list A asks strand host.channels host.profile ≡ [] → fed A host.profile feed ≡ strand_profile A strand host.channels host.profile → tidings_in feed ≡ [] → asked_with A asks host.profile feed ≡ [] → (let after : Host P = record host { profile = fed A host.profile feed; may_say = count } in Grows A asks C [] host after)
+  feeds_grow host feed strand count on silent goes none nothing = record {
     list = [];
     feeds = feed ∷ [];
     channels_are = refl;
@@ -79,10 +114,14 @@ module _ {P : Type 0} (A : Profile P) (asks : Asks A) (C : Type 0) where
     asked_is = sym (ap (λ (l : List Occurrence). l ++ []) nothing);
     acted_is = refl;
     calm = λ c. tt;
+    weave = strand ∷ [];
+    woven_is = sym (ap (λ (l : List Occurrence). l ++ []) silent);
+    last_is = goes;
+    on_link = (on, tt);
   }
 
   pub settles_grow : (host : Host P) → Grows A asks C [] host (settles A host)
-  settles_grow host = feeds_grow host (feeds.Sent host.channels) host.may_say refl refl
+  settles_grow host = feeds_grow host (feeds.Sent host.channels) Checking host.may_say tt refl refl refl refl
 
   -- ---- a PDU comes in
 
@@ -106,18 +145,18 @@ module _ {P : Type 0} (A : Profile P) (asks : Asks A) (C : Type 0) where
       → (let after : Host P = record host { channels = channels.hears A.policy (channel_of pdu) pdu host.channels; profile = handed A (channels.up (channel_of pdu) pdu host.channels) host.profile } in Grows A asks C (Comes pdu ∷ []) host after)
   comes_grow pdu host calm =
       let up = channels.up (channel_of pdu) pdu host.channels in
-      record { list = Comes pdu ∷ []; feeds = feeds_up up; channels_are = refl; profile_is = fed_up up host.profile; tidings_are = told_up up; asked_is = sym (asked_up up host.profile); acted_is = refl; calm = λ c. (calm c, tt) }
+      record { list = Comes pdu ∷ []; feeds = feeds_up up; channels_are = refl; profile_is = fed_up up host.profile; tidings_are = told_up up; asked_is = sym (asked_up up host.profile); acted_is = refl; calm = λ c. (calm c, tt); weave = Hearing pdu ∷ []; woven_is = refl; last_is = refl; on_link = (tt, tt) }
 
   -- ---- the timer fires, a PDU is given
 
   fires_grow : (host : Host P) → (C → IsCalmAt A.policy Fires host.channels) → Grows A asks C (Fires ∷ []) host (with_channels (timed_out A.policy host.channels) host)
-  fires_grow host calm = record { list = Fires ∷ []; feeds = []; channels_are = refl; profile_is = refl; tidings_are = refl; asked_is = refl; acted_is = refl; calm = λ c. (calm c, tt) }
+  fires_grow host calm = record { list = Fires ∷ []; feeds = []; channels_are = refl; profile_is = refl; tidings_are = refl; asked_is = refl; acted_is = refl; calm = λ c. (calm c, tt); weave = Firing ∷ []; woven_is = refl; last_is = refl; on_link = (tt, tt) }
 
   gives_grow : (pdu : List ℕ) (host : Host P) → (C → IsGiven host.channels pdu) → Grows A asks C (Gives pdu ∷ []) host (with_channels (after_given host.channels) host)
-  gives_grow pdu host calm = record { list = Gives pdu ∷ []; feeds = []; channels_are = refl; profile_is = refl; tidings_are = refl; asked_is = refl; acted_is = refl; calm = λ c. (calm c, tt) }
+  gives_grow pdu host calm = record { list = Gives pdu ∷ []; feeds = []; channels_are = refl; profile_is = refl; tidings_are = refl; asked_is = refl; acted_is = refl; calm = λ c. (calm c, tt); weave = Giving pdu ∷ []; woven_is = refl; last_is = refl; on_link = (tt, tt) }
 
   learns_grow : (circumstances : List Circumstance) (news : News) (host : Host P) → tidings_by news ≡ [] → Grows A asks C [] host (told A circumstances news host)
-  learns_grow circumstances news host none = feeds_grow host (Learns circumstances news) host.may_say none refl
+  learns_grow circumstances news host none = feeds_grow host (Learns circumstances news) (Learning circumstances news) host.may_say none refl refl none refl
 
   -- ---- a step of its profile
 
@@ -163,6 +202,10 @@ module _ {P : Type 0} (A : Profile P) (asks : Asks A) (C : Type 0) where
         asked_is = call_asked call;
         acted_is = none_acted call;
         calm = λ c. call_calm call host.channels quiet;
+        weave = Stepping ∷ [];
+        on_link = (tt, tt);
+        woven_is = sym (append-nil (from_call call));
+        last_is = refl;
       } in
       grows_then [] [] host mid (strides A stride host) steps (tells_grow A asks C mid)
 
@@ -202,10 +245,14 @@ module _ {P : Type 0} (A : Profile P) (asks : Asks A) (C : Type 0) where
     asked_is = grows.asked_is;
     acted_is = grows.acted_is;
     calm = grows.calm;
+    weave = grows.weave;
+    woven_is = grows.woven_is;
+    last_is = grows.last_is;
+    on_link = grows.on_link;
   }
 
   pub readies : (circumstances : List Circumstance) (host : Host P) → Grows A asks C [] host (ready A circumstances host)
-  readies circumstances host = feeds_grow host (Gifts circumstances) (ready A circumstances host).may_say refl refl
+  readies circumstances host = feeds_grow host (Gifts circumstances) (Gifting circumstances) (ready A circumstances host).may_say tt refl refl refl refl
 
   -- ---- acts
 
@@ -244,7 +291,7 @@ module _ {P : Type 0} (A : Profile P) (asks : Asks A) (C : Type 0) where
       let pdu = pdu_of given in
       let gave = with_channels (after_given old.channels) old in
       frames_grow old (is_frame pdu) pdu (after_said A count old)
-      (λ calm. may_grow (Gives pdu ∷ []) old (driven A gave) count (then_driven (Gives pdu ∷ []) old gave (gives_grow pdu old (λ c. record { given = given; is = is; read = calm c given is }))))
+      (λ calm. may_grow (Gives pdu ∷ []) old (driven A gave) count (then_driven (Gives pdu ∷ []) old gave (gives_grow pdu old (λ c. record { given = given; is = is; said_as = calm c given is }))))
 
   pub act_grows : (act : Act Circumstance) (old new : Host P) → StaysOnLink act → (C → IsCalmAct A act old) → Does (upper A) act old new → Grows A asks C (from_act act) old new
   act_grows (Hears circumstances news) old new stays calm does = subst (λ (host : Host P). Grows A asks C (from_news news) old host) (sym does) (hears_grow circumstances news old stays calm)
@@ -261,4 +308,8 @@ without_calm A asks acted old new grows = record {
   asked_is = grows.asked_is;
   acted_is = grows.acted_is;
   calm = λ never. absurd never;
+  weave = grows.weave;
+  woven_is = grows.woven_is;
+  last_is = grows.last_is;
+  on_link = grows.on_link;
 }

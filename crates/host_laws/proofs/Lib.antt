@@ -11,7 +11,9 @@ pub mod Adding
 pub mod Replying
 pub mod Sending
 pub mod Moving
+pub mod Calling
 pub mod Calming
+pub mod Uttering
 pub mod Talking
 pub mod OverLinks
 pub mod Spoken
@@ -19,6 +21,7 @@ pub mod Firing
 pub mod Clearing
 pub mod Steadying
 pub mod Serving
+pub mod Pushing
 pub mod OneWay
 pub mod OneCarrier
 pub mod Gains
@@ -29,3 +32,8 @@ pub mod Telling
 pub mod Silence
 pub mod Profiles
 pub mod Arming
+pub mod Seeking
+pub mod InOrder
+pub mod Reaching
+pub mod Fitting
+pub mod ReadSo

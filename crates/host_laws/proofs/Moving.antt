@@ -325,7 +325,7 @@ gives_on policy seen said v pdu (Framed peer frame) [] queue_is is distinct afte
 gives_so : (policy : Policy) (seen said : List Saying) (v : Channels) (pdu : List ℕ) → IsGiven v pdu → Distinct own_of v.held → Distinct own_of (after_given v).held → Seen seen said v
     → Seen (seen ++ moved (Gives pdu ∷ [])) (said ++ said_as (next_given v) pdu) (after_given v)
 gives_so policy seen said v pdu given distinct after so =
-    subst (λ (here : List Saying). Seen (seen ++ here) (said ++ said_as (next_given v) pdu) (after_given v)) (sym given.read ∙ sym (append-nil _))
+    subst (λ (here : List Saying). Seen (seen ++ here) (said ++ said_as (next_given v) pdu) (after_given v)) (sym given.said_as.read ∙ sym (append-nil _))
     (subst (λ (g : Option Given). Seen (seen ++ saying_of given.given pdu ∷ []) (said ++ said_as g pdu) (after_given v)) (sym given.is)
     (gives_on policy seen said v pdu given.given v.queue refl given.is distinct after so))
 
@@ -405,7 +405,7 @@ one_more : (policy : Policy) (one : Occurrence) (seen said : List Saying) (v : C
     → Seen (seen ++ moved (one ∷ [])) (said ++ said_in policy one v) (value_after policy one v)
 one_more policy (Comes pdu) seen said v so calm distinct fresh after =
     subst (λ (here : List Saying). Seen (seen ++ here) (said ++ said_in policy (Comes pdu) v) (value_after policy (Comes pdu) v)) (sym (append-nil (said_by (let came : Pdu = record { flow = Into; octets = pdu } in came))))
-    (comes_so policy seen said v pdu (eqb (channel_of pdu) 0x0001) refl so calm.0 calm.1 after)
+    (comes_so policy seen said v pdu (eqb (channel_of pdu) 0x0001) refl so calm.0 (λ is. (calm.1 is).1) after)
 one_more policy (Connects psm) seen said v so calm distinct fresh after =
     let still = quiet_so seen said v so calm in
     plain_behind seen said v (connected psm v) so calm after (connected-goes policy StaysSent GoesPlain (walks-plain policy) psm v still.plain) (connected-adds v (none-replies v.queue still.queue_is) psm fresh)

@@ -26,7 +26,8 @@ use Rattle.host_laws.specs.Seen.{pdu_of, waiting_in, IsCalm}
 use Rattle.host_laws.specs.Turning.{Deed, Learned, Spoke, deed_of, deeds_in}
 use Rattle.host_laws.proofs.Steps.{Grows}
 use Rattle.host_laws.proofs.Plain.{whole_said}
-use Rattle.host_laws.proofs.Growing.{calm-both, drives_grow, readies, act_grows, without_calm}
+use Rattle.host_laws.specs.Woven.{woven_list, woven_profile, Woven, turned, AreWoven, HostsTalkWoven}
+use Rattle.host_laws.proofs.Growing.{calm-both, both-on_link, woven-both, woven-last, drives_grow, readies, act_grows, without_calm}
 use Rattle.host_laws.proofs.Links.{value_run, drives_told, act_told}
 use Rattle.host_laws.proofs.Living.{first_lives, goes-on, turns-on}
 use Rattle.host_laws.proofs.Moving.{pending, talk-waits}
@@ -71,10 +72,41 @@ module _ {P : Type 0} (A : Profile P) (asks : Asks A) where
     lives : Lives A asks marks host
     now_calm : IsCalm A.policy no_channels lives.now
     spans_calm : AllByRecursion IsCalmSpan lives.spans
+    woven : AreWoven A asks lives.spans lives.now A.first host.profile
+
+  woven_none : (p : P) → Woven A asks [] p p
+  woven_none p = record { weave = []; list_is = refl; last_is = refl; on_link = tt }
+
+  -- something more happens on the link that there is
+  woven_on : (spans : List Span) (now acted : List Occurrence) (old new : Host P) (first : P) → old.channels ≡ values_after A.policy no_channels now → (grows : Grows A asks (Unit {0}) acted old new) → AreWoven A asks spans now first old.profile
+      → AreWoven A asks spans (now ++ grows.list) first new.profile
+  woven_on [] now acted old new first value grows woven =
+      let v_is : old.channels ≡ values_after A.policy no_channels (woven_list A asks woven.weave no_channels first) = value ∙ ap (values_after A.policy no_channels) woven.list_is in
+      record {
+        weave = woven.weave ++ grows.weave;
+        list_is = ap₂ (λ (a b : List Occurrence). a ++ b) woven.list_is (grows.woven_is ∙ ap₂ (λ (v : Channels) (p : P). woven_list A asks grows.weave v p) v_is woven.last_is) ∙ sym (woven-both A asks woven.weave grows.weave no_channels first);
+        last_is = grows.last_is ∙ (ap₂ (λ (v : Channels) (p : P). woven_profile A asks grows.weave v p) v_is woven.last_is ∙ sym (woven-last A asks woven.weave grows.weave no_channels first));
+        on_link = both-on_link woven.weave grows.weave woven.on_link grows.on_link;
+      }
+  woven_on (span ∷ spans) now acted old new first value grows (mid, circumstances, here, rest) =
+      (mid, circumstances, here, woven_on spans now acted old new (turned A circumstances span.event (values_after A.policy no_channels span.list) mid) value grows rest)
+
+  -- the profile hears of its link
+  hears_turned : (event : LinkEvent) (circumstances : List Circumstance) (host : Host P) → (hears_news A circumstances (Linked event) host).profile ≡ turned A circumstances event host.channels host.profile
+  hears_turned Up circumstances host = refl
+  hears_turned (Down reason) circumstances host = refl
+
+  woven_turned : (spans : List Span) (now : List Occurrence) (event : LinkEvent) (circumstances : List Circumstance) (host : Host P) (first : P) → host.channels ≡ values_after A.policy no_channels now → AreWoven A asks spans now first host.profile
+      → (let span : Span = record { list = now; event = event } in AreWoven A asks (spans ++ span ∷ []) [] first (hears_news A circumstances (Linked event) host).profile)
+  woven_turned [] now event circumstances host first value woven =
+      let after = turned A circumstances event (values_after A.policy no_channels now) host.profile in
+      (host.profile, circumstances, woven, subst (λ (p : P). Woven A asks [] after p) (ap (λ (v : Channels). turned A circumstances event v host.profile) (sym value) ∙ sym (hears_turned event circumstances host)) (woven_none after))
+  woven_turned (span ∷ spans) now event circumstances host first value (mid, others, here, rest) =
+      (mid, others, here, woven_turned spans now event circumstances host (turned A others span.event (values_after A.policy no_channels span.list) mid) value rest)
 
   first_calmly : Calmly [] (first_host A)
   unfolding first_lives
-  first_calmly = record { lives = first_lives A asks; now_calm = tt; spans_calm = tt }
+  first_calmly = record { lives = first_lives A asks; now_calm = tt; spans_calm = tt; woven = woven_none A.first }
 
   goes_calmly : (marks : List Mark) (acted : List Occurrence) (old new : Host P) → Calmly marks old → Grows A asks (Unit {0}) acted old new → new.channels.events ≡ [] → Calmly (marks ++ map Occurred acted) new
   unfolding goes-on
@@ -84,6 +116,7 @@ module _ {P : Type 0} (A : Profile P) (asks : Asks A) where
         lives = goes-on A asks marks acted old new so.lives (without_calm A asks acted old new grows) told;
         now_calm = calm-both A.policy no_channels so.lives.now grows.list so.now_calm (subst (λ (v : Channels). IsCalm A.policy v grows.list) value (grows.calm tt));
         spans_calm = so.spans_calm;
+        woven = woven_on so.lives.spans so.lives.now acted old new A.first value grows so.woven;
       }
 
   still_calmly : (marks : List Mark) (old new : Host P) → Calmly marks old → Grows A asks (Unit {0}) [] old new → new.channels.events ≡ [] → Calmly marks new
@@ -93,7 +126,7 @@ module _ {P : Type 0} (A : Profile P) (asks : Asks A) where
   unfolding turns-on
   turns_calmly marks event circumstances host so =
       let span : Span = record { list = so.lives.now; event = event } in
-      record { lives = turns-on A asks marks event circumstances host so.lives; now_calm = tt; spans_calm = all_with IsCalmSpan so.lives.spans span so.spans_calm so.now_calm }
+      record { lives = turns-on A asks marks event circumstances host so.lives; now_calm = tt; spans_calm = all_with IsCalmSpan so.lives.spans span so.spans_calm so.now_calm; woven = woven_turned so.lives.spans so.lives.now event circumstances host A.first (so.lives.channels_run ∙ value_run A.policy so.lives.now new_link) so.woven }
 
   -- ---- one act
 
@@ -256,14 +289,20 @@ all_spans : (policy : Policy) (spans : List Span) (now : List Occurrence) → Al
 all_spans policy [] now calm last = (last, tt)
 all_spans policy (span ∷ spans) now calm last = (calm.0, all_spans policy spans now calm.1 last)
 
-pub hosts_talk_over_links : {P : Type 0} (A : Profile P) → HostsTalkOverLinks A
-hosts_talk_over_links {P} A asks talk now over gentle =
+pub hosts_talk_woven : {P : Type 0} (A : Profile P) → HostsTalkWoven A
+hosts_talk_woven {P} A asks talk now over gentle =
     let marks_are : flat_map act_marks over.acts ≡ flat_map talk_marks talk = acts_marks over.acts ∙ (ap (flat_map deed_marks) over.deeds_are ∙ talks_marks talk) in
     let calmly = all_calmly A asks [] over.acts (first_host A) now (first_calmly A asks) (calm_up A asks false over.acts (first_host A) over.in_turn gentle) over.acting in
     let so = subst (λ (m : List Mark). Calmly A asks m now) marks_are calmly in
     record {
-      lives = so.lives;
-      timely = subst (λ (m : List Mark). AreTimely false m) marks_are (acts_timely (upper A) false over.acts (first_host A) now over.in_turn over.acting);
-      talks_are = all_talks A.policy (on_links A asks (flat_map talk_marks talk) now so.lives) (parts talk) (all_spans A.policy so.lives.spans so.lives.now so.spans_calm so.now_calm)
-          (sym (cut_spans so.lives.spans so.lives.now) ∙ (ap (cut []) so.lives.marks_are ∙ cut_talk [] talk));
+      so = record {
+        lives = so.lives;
+        timely = subst (λ (m : List Mark). AreTimely false m) marks_are (acts_timely (upper A) false over.acts (first_host A) now over.in_turn over.acting);
+        talks_are = all_talks A.policy (on_links A asks (flat_map talk_marks talk) now so.lives) (parts talk) (all_spans A.policy so.lives.spans so.lives.now so.spans_calm so.now_calm)
+            (sym (cut_spans so.lives.spans so.lives.now) ∙ (ap (cut []) so.lives.marks_are ∙ cut_talk [] talk));
+      };
+      woven = so.woven;
     }
+
+pub hosts_talk_over_links : {P : Type 0} (A : Profile P) → HostsTalkOverLinks A
+hosts_talk_over_links {P} A asks talk now over gentle = (hosts_talk_woven A asks talk now over gentle).so

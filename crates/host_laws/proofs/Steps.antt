@@ -1,12 +1,13 @@
 -- What happens to a host from one moment to a later one.
 use Rattle.std.proofs.Common.{◌≡◌, List}
-use Rattle.std.specs.List.{filter_map}
+use Rattle.std.specs.List.{AllByRecursion, filter_map}
 use Rattle.channel_laws.specs.Runs.{Occurrence}
 use Rattle.host_model.specs.Profiles.{Profile}
 use Rattle.host_model.specs.Hosts.{Host}
 use Rattle.host_laws.specs.Calls.{Asks, values_after, asked, outer}
 use Rattle.host_laws.specs.Seen.{IsCalm}
 use Rattle.host_laws.specs.Feeds.{Feed, all_fed, asked_from, tidings_of, tidings_from}
+use Rattle.host_laws.specs.Woven.{Strand, IsOnLink, woven_list, woven_profile}
 
 -- What happened to the channels of a host from one moment to a later one, and what its profile went through; where `C` holds, the host was
 -- calm.
@@ -21,3 +22,8 @@ pub record Grows {P : Type 0} (A : Profile P) (asks : Asks A) (C : Type 0) (acte
   pub asked_is : filter_map asked list ≡ asked_from A asks old.profile feeds
   pub acted_is : filter_map outer list ≡ acted
   pub calm : C → IsCalm A.policy old.channels list
+  -- both in one order
+  pub weave : List Strand
+  pub woven_is : list ≡ woven_list A asks weave old.channels old.profile
+  pub last_is : new.profile ≡ woven_profile A asks weave old.channels old.profile
+  pub on_link : AllByRecursion IsOnLink weave

@@ -6,6 +6,7 @@ use Rattle.std.proofs.lemmas.List.Elements.{filter_map-append}
 use Rattle.capture.specs.Pdus.{Pdu}
 use Rattle.link_talk.specs.Sayings.{said_by}
 use Rattle.channel_model.specs.Value.{Channels, no_channels}
+use Rattle.channel_laws.specs.Frames.{AreUttered}
 use Rattle.channel_laws.specs.Runs.{Occurrence, new_link, run_of}
 use Rattle.world_model.specs.Machines.{Up, News, Linked, Failed, Heard, TimerFired, Cancelled, Opening}
 use Rattle.world_model.specs.Talks.{Talk, Told, Said, Unsent, Met, Done}
@@ -24,6 +25,7 @@ use Rattle.host_laws.proofs.Links.{value_run, drives_told, act_told, linked_new}
 use Rattle.host_laws.proofs.Living.{still, lives_from, since-up, now-is}
 use Rattle.host_laws.proofs.Moving.{own_talk_moves}
 use Rattle.host_laws.proofs.Calming.{outer-pdus, acts-grow}
+use Rattle.host_laws.proofs.Uttering.{calm-utters}
 
 module _ {P : Type 0} (A : Profile P) where
   pub act_calm : (act : Act Circumstance) (host : Host P) → (let U = upper A in AreInQuiet U (act ∷ []) host) → IsGentleAct A act host → IsCalmAct A act host
@@ -103,4 +105,6 @@ hosts_talk_in_turns {P} A asks talk now on gentle none back =
       talk_is = ap (λ (list : List Occurrence). spoken_of (run_of A.policy list).said) (now-is A asks before on.gifts on.old now (from_acts on.acts) ready_lives plain told)
           ∙ (own_talk_moves A.policy grows.list (subst (λ (v : Channels). IsCalm A.policy v grows.list) fresh (grows.calm tt)) (subst IsQuiet value (back none))
           ∙ (ap (flat_map said_by) (sym (outer-pdus grows.list) ∙ (ap (filter_map pdu_of) grows.acted_is ∙ (acts_pdus on.acts ∙ (ap (flat_map deed_pdus) on.deeds_are ∙ talks_pdus on.since))))));
+      uttered = subst (AreUttered A.policy) (sym (now-is A asks before on.gifts on.old now (from_acts on.acts) ready_lives plain told))
+          (calm-utters A.policy grows.list (subst (λ (v : Channels). IsCalm A.policy v grows.list) fresh (grows.calm tt)));
     }

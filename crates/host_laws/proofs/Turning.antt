@@ -59,11 +59,11 @@ stay_both [] ys one two = two
 stay_both (x ∷ xs) ys one two = (one.0, stay_both xs ys one.1 two)
 
 -- an act leads to one state
-does_one : {S G : Type 0} (U : Upper S G) (act : Act G) (old one two : S) → Does U act old one → Does U act old two → one ≡ two
+pub does_one : {S G : Type 0} (U : Upper S G) (act : Act G) (old one two : S) → Does U act old one → Does U act old two → one ≡ two
 does_one U (Hears gifts news) old one two this that = this ∙ sym that
 does_one {S} U (Says pdu) old one two this that = ap (λ (o : Option (List ℕ × S)). (unwrap_or o (pdu, one)).1) (sym this ∙ that)
 
-acting_one : {S G : Type 0} (U : Upper S G) (acts : List (Act G)) (old one two : S) → Acting U acts old one → Acting U acts old two → one ≡ two
+pub acting_one : {S G : Type 0} (U : Upper S G) (acts : List (Act G)) (old one two : S) → Acting U acts old one → Acting U acts old two → one ≡ two
 acting_one U [] old one two this that = this ∙ sym that
 acting_one {S} U (act ∷ acts) old one two (mid, does, rest) (other, also, more) =
     let same : other ≡ mid = does_one U act old other mid also does in

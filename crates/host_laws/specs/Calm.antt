@@ -1,15 +1,14 @@
 -- A host that is calm on its link: nothing waits in it where it hears something, a PDU has one command, and what it says is read as it
 -- was meant (Core 5.1, Volume 3 Part A, 3.1 and 4).
-use Rattle.std.specs.Prelude.{ℕ, ◌≡◌, ◌≤◌, List, [], ◌∷◌, length, drop, Some, None, map, ◌++◌}
+use Rattle.std.specs.Prelude.{ℕ, ◌≡◌, List, [], ◌∷◌, Some, None, map, ◌++◌}
 use Rattle.std.specs.List.{AllByRecursion, filter_map, flat_map}
-use Rattle.acl_fragments.specs.Pieces.{channel_of}
 use Rattle.capture.specs.declared.flow.Flow.TheVariants.{Out, Into}
 use Rattle.capture.specs.Pdus.{Pdu}
-use Rattle.l2cap_signal.specs.Reading.{answers}
 use Rattle.link_talk.specs.Sayings.{said_by}
 use Rattle.channel_model.specs.Value.{Channels, no_channels}
 use Rattle.channel_model.specs.Policies.{Policy}
 use Rattle.channel_model.specs.Giving.{Given, next_given}
+use Rattle.channel_laws.specs.Frames.{AreUttered}
 use Rattle.channel_laws.specs.Runs.{Occurrence, run_of}
 use Rattle.world_model.specs.Machines.{Up, News, Linked, Failed, Heard, TimerFired, Cancelled, Opening}
 use Rattle.world_model.specs.Talks.{Talk, Told, Said, Unsent, Met, Done}
@@ -21,19 +20,19 @@ use Rattle.host_laws.specs.Acts.{Act, Hears, Says, Does, Acting, StaysOnLink, fr
 use Rattle.host_laws.specs.Turning.{OnLink}
 use Rattle.host_laws.specs.Lives.{Occurred, Turned, act_marks, Lives}
 use Rattle.host_laws.specs.Calls.{Asks, outer}
-use Rattle.host_laws.specs.Seen.{spoken_of, moved, IsQuiet, saying_of, FiresPlainly}
+use Rattle.host_laws.specs.Seen.{spoken_of, moved, IsQuiet, IsSaidAs, IsOneCommand, FiresPlainly}
 
 abbrev pub IsCalmNews : Policy → News → Channels → Type 0
 IsCalmNews policy (Linked event) v = Unit {0}
 IsCalmNews policy (Failed status) v = Unit {0}
-IsCalmNews policy (Heard pdu) v = IsQuiet v × (channel_of pdu ≡ 0x0001 → length (answers (drop 4 pdu)) ≤ 1)
+IsCalmNews policy (Heard pdu) v = IsQuiet v × IsOneCommand pdu
 IsCalmNews policy TimerFired v = IsQuiet v × FiresPlainly policy v
 IsCalmNews policy Cancelled v = Unit {0}
 IsCalmNews policy (Opening name) v = Unit {0}
 
--- what the host gives is read so
+-- what the host gives has these octets, and is read so
 abbrev pub IsReadFrom : {P : Type 0} → List ℕ → Host P → Type 0
-IsReadFrom pdu host = (given : Given) → next_given host.channels ≡ Some given → said_by (let gave : Pdu = record { flow = Out; octets = pdu } in gave) ≡ saying_of given pdu ∷ []
+IsReadFrom pdu host = (given : Given) → next_given host.channels ≡ Some given → IsSaidAs given pdu
 
 abbrev pub IsCalmAct : {P : Type 0} → Profile P → Act Circumstance → Host P → Type 0
 IsCalmAct A (Hears circumstances news) host = IsCalmNews A.policy news host.channels
@@ -66,7 +65,7 @@ HoldsNothingBack A host = next A host ≡ None → next_given host.channels ≡ 
 abbrev pub IsGentleNews : {P : Type 0} → Profile P → News → Host P → Type 0
 IsGentleNews A (Linked event) host = Unit {0}
 IsGentleNews A (Failed status) host = Unit {0}
-IsGentleNews A (Heard pdu) host = HoldsNothingBack A host × (channel_of pdu ≡ 0x0001 → length (answers (drop 4 pdu)) ≤ 1)
+IsGentleNews A (Heard pdu) host = HoldsNothingBack A host × IsOneCommand pdu
 IsGentleNews A TimerFired host = HoldsNothingBack A host × FiresPlainly A.policy host.channels
 IsGentleNews A Cancelled host = Unit {0}
 IsGentleNews A (Opening name) host = Unit {0}
@@ -97,6 +96,8 @@ pdus_in (Done outcome) = []
 pub record TalksSo {P : Type 0} (A : Profile P) (asks : Asks A) (talk : List Talk) (now : Host P) (on : OnLink (upper A) talk now) : Type 0 where
   pub lives : Lives A asks ((flat_map act_marks on.before ++ Turned Up ∷ []) ++ map Occurred (from_acts on.acts)) now
   pub talk_is : spoken_of (run_of A.policy lives.now).said ≡ flat_map said_by (flat_map pdus_in on.since)
+  -- and what it says goes out as its octets
+  pub uttered : AreUttered A.policy lives.now
 
 -- So it is of a host on a link of a run of turns, where it has said all. All that is told of how hosts live holds of it with this talk.
 abbrev pub HostsTalkInTurns : {P : Type 0} → Profile P → Type 0

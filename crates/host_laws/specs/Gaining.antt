@@ -1,6 +1,6 @@
 -- What the inbox of a server gains, read off its host's own talk: one object channel over L2CAP on each link (Object Push Profile 1.2, 4.3;
 -- IrOBEX 1.5, 3.4.3).
-use Rattle.std.specs.Prelude.{◌≡◌, true, false, List, [], ◌++◌, Option, Some, None}
+use Rattle.std.specs.Prelude.{◌≡◌, true, List, [], ◌++◌, Option, Some, None}
 use Rattle.std.specs.List.{AllByRecursion, flat_map}
 use Rattle.bt_base.specs.declared.settings.Settings.{Settings}
 use Rattle.bt_base.specs.declared.settings.Transport.TheVariants.{L2cap}
@@ -8,6 +8,8 @@ use Rattle.bt_base.specs.Objects.{Object, Contents}
 use Rattle.link_talk.specs.declared.channel.Channel.{Channel}
 use Rattle.link_talk.specs.declared.party.Party.{Party}
 use Rattle.link_talk.specs.ObjectsHeard.{objects}
+use Rattle.link_talk.specs.Sdus.{sdus}
+use Rattle.capture.specs.declared.flow.Flow.TheVariants.{Into}
 use Rattle.channel_model.specs.declared.event.ChannelEvent.{ChannelEvent}
 use Rattle.channel_model.specs.declared.event.ChannelEvent.TheVariants as events
 use Rattle.channel_model.specs.Policies.{Policy, policy}
@@ -26,7 +28,7 @@ use Rattle.host_laws.specs.Feeds.{Tiding, Brings, Tells, Turns}
 use Rattle.host_laws.specs.Lives.{Mark, Span, Lives, on_links}
 use Rattle.host_laws.specs.OneCarrier.{CarriesAlone}
 use Rattle.host_laws.specs.Serving.{served}
-use Rattle.host_laws.specs.Told.{events_told, told_on}
+use Rattle.host_laws.specs.Told.{events_told, sdus_told, told_on}
 
 -- nothing comes or goes over RFCOMM
 abbrev pub IsDirect : push.Occurrence → Type 0
@@ -45,12 +47,16 @@ ClosesItself channel (events.Features features) = Unit {0}
 ClosesItself channel events.FeaturesLost = Unit {0}
 ClosesItself channel (events.DisconnectLost own) = Unit {0}
 
--- on a link one channel alone carries packets, over L2CAP, and its machine does not close it
+-- all SDUs that its talk brings of a channel are handed up, also where its machine closed it: the PDU for which it did so brings none
+abbrev pub HandsAllUp : Policy → List Occurrence → Channel → Type 0
+HandsAllUp policy list channel = is_told_broken channel.own (events_told (told_on policy list)) ≡ true → (party : Party) → StatesFrame policy party → sdus party channel Into (run_of policy list).said ≡ sdus_told channel.own (told_on policy list)
+
+-- on a link one channel alone carries packets, over L2CAP, and all that comes on it is handed up
 pub record OneObjectChannel (policy : Policy) (list : List Occurrence) : Type 0 where
   pub channel : Channel
   pub psm_is : channel.psm ≡ 0x1001
   pub alone : CarriesAlone channel (run_of policy list).said
-  pub unbroken : is_told_broken channel.own (events_told (told_on policy list)) ≡ false
+  pub whole : HandsAllUp policy list channel
   pub closings : AllByRecursion (ClosesItself channel) (events_told (told_on policy list))
 
 abbrev pub IsNoSdu : Tiding → Type 0

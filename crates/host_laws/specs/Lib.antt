@@ -8,10 +8,14 @@ pub mod Armed
 pub mod Seen
 pub mod Steady
 pub mod Calm
+pub mod Read
 pub mod OverLinks
+pub mod Woven
 pub mod Spoken
 pub mod Serving
+pub mod Pushing
 pub mod OneCarrier
 pub mod Gaining
 pub mod GainingOver
 pub mod Carriers
+pub mod InOrder

@@ -3,6 +3,7 @@
 use Rattle.std.specs.Prelude.{ℕ, ◌≡◌, ◌≤◌, Bool, true, false, List, [], ◌∷◌, ◌++◌, length, drop, filter, is_some, Option, Some, None}
 use Rattle.std.specs.List.{AllByRecursion, filter_map, flat_map}
 use Rattle.acl_fragments.specs.Pieces.{channel_of}
+use Rattle.bt_base.specs.Octets.{IsOctets}
 use Rattle.capture.specs.declared.flow.Flow.TheVariants.{Out, Into}
 use Rattle.capture.specs.Pdus.{Pdu}
 use Rattle.l2cap_signal.specs.Reading.{answers}
@@ -10,7 +11,7 @@ use Rattle.link_talk.specs.Sayings.{Saying, Command, Carried, GaveUp, said_by}
 use Rattle.channel_model.specs.Value.{Queued, Answer, Ask, Channels, no_channels}
 use Rattle.channel_model.specs.Timing.{timed_out}
 use Rattle.channel_model.specs.Policies.{Policy}
-use Rattle.channel_model.specs.Giving.{Given, Signal, Whole, Framed, next_given, command_of, headed}
+use Rattle.channel_model.specs.Giving.{Given, Signal, Whole, Framed, IsPdu, next_given, command_of, headed}
 use Rattle.channel_laws.specs.OwnTalk.{spoken, said_of}
 use Rattle.channel_laws.specs.Runs.{Occurrence, Comes, Connects, AsksFeatures, Disconnects, Sends, Gives, Fires, Tells, said_in, value_after, run_of}
 
@@ -51,11 +52,21 @@ saying_of (Signal command) pdu = spoken command
 saying_of (Whole peer sdu) pdu = Carried Out (headed peer sdu)
 saying_of (Framed peer frame) pdu = Carried Out pdu
 
--- the next PDU is given, and is read so
+-- these are the octets of what is given, and are read so
+pub record IsSaidAs (given : Given) (pdu : List ℕ) : Type 0 where
+  pub read : said_by (let gave : Pdu = record { flow = Out; octets = pdu } in gave) ≡ saying_of given pdu ∷ []
+  pub spelled : IsPdu given pdu
+  pub octets : IsOctets pdu
+
+-- the next PDU is given, with these octets
 pub record IsGiven (v : Channels) (pdu : List ℕ) : Type 0 where
   pub given : Given
   pub is : next_given v ≡ Some given
-  pub read : said_by (let gave : Pdu = record { flow = Out; octets = pdu } in gave) ≡ saying_of given pdu ∷ []
+  pub said_as : IsSaidAs given pdu
+
+-- a PDU on the signalling channel has one command at most, in octets
+abbrev pub IsOneCommand : List ℕ → Type 0
+IsOneCommand pdu = channel_of pdu ≡ 0x0001 → IsOctets pdu × (length (answers (drop 4 pdu)) ≤ 1)
 
 -- what waits on the signalling channel, as it is said
 abbrev pub queued_said : Queued → Channels → List Saying
@@ -81,7 +92,7 @@ pub record FiresPlainly (policy : Policy) (v : Channels) : Type 0 where
   pub due : AllDue (timed_out policy v).queue (timed_out policy v)
 
 abbrev pub IsCalmAt : Policy → Occurrence → Channels → Type 0
-IsCalmAt policy (Comes pdu) v = IsQuiet v × (channel_of pdu ≡ 0x0001 → length (answers (drop 4 pdu)) ≤ 1)
+IsCalmAt policy (Comes pdu) v = IsQuiet v × IsOneCommand pdu
 IsCalmAt policy (Connects psm) v = IsQuiet v
 IsCalmAt policy AsksFeatures v = IsQuiet v
 IsCalmAt policy (Disconnects own) v = IsQuiet v

@@ -6,15 +6,19 @@ ghost use Rattle.host_laws.specs.Carriers.{HostsGainByCarriers};
 ghost use Rattle.host_laws.specs.Calm.{CalmHostsMove, HostsTalkInTurns};
 ghost use Rattle.host_laws.specs.Gaining.{HostsGainTalk};
 ghost use Rattle.host_laws.specs.GainingOver.{HostsGainOverLinks};
+ghost use Rattle.host_laws.specs.InOrder.{ClientsCallInOrder, ServersAreServedInOrder, ServersAskNothing};
 ghost use Rattle.host_laws.specs.Lives.{HostsRun};
 ghost use Rattle.host_laws.specs.OneCarrier.{OneCarrierGains};
+ghost use Rattle.host_laws.specs.Pushing.{ClientsArePushed, ClientsOpen};
 ghost use Rattle.host_laws.specs.OverLinks.{AllLinksAreActs, HostsTalkOverLinks};
+ghost use Rattle.host_laws.specs.Read.{SaidIsRead};
 ghost use Rattle.host_laws.specs.Seen.{OwnTalkMoves};
 ghost use Rattle.host_laws.specs.Serving.{HostsGain, ServersAreServed};
 ghost use Rattle.host_laws.specs.Spoken.{ObjectsMove};
 ghost use Rattle.host_laws.specs.Steady.{SteadyFirePlainly};
 ghost use Rattle.host_laws.specs.Told.{AllEndsAreTold, AllSdusAreTold, ChecksAreRead, ProfilesAreTold};
 ghost use Rattle.host_laws.specs.Turning.{LinksAreActs, TurnsAreActs};
+ghost use Rattle.host_laws.specs.Woven.{HostsTalkWoven};
 ghost use Rattle.host_model.specs.Profiles.{Profile};
 ghost use Rattle.world_model.specs.Machines.{Upper};
 
@@ -93,6 +97,11 @@ pub fn calm_hosts_move<P>()
     ensures { (A : Profile P) → CalmHostsMove A }
 {}
 
+/// Each PDU that a client or a server says is read as what its channels gave, whatever it heard of octets and whatever its ports answered.
+pub fn said_is_read()
+    ensures { SaidIsRead }
+{}
+
 /// On a link of a run of turns, with one command in each PDU, the own talk of a host is what it was told and said since the
 /// link came up, but for what it gave up, wherever it has said all.
 pub fn hosts_talk_in_turns<P>()
@@ -103,6 +112,18 @@ pub fn hosts_talk_in_turns<P>()
 /// and what of its SDUs went out.
 pub fn servers_are_served()
     ensures { ServersAreServed }
+{}
+
+/// The client of a host is what it is of what happened to it over all links: pushes that begin, what its profile was told, what it
+/// was asked for, and what of its SDUs went.
+pub fn clients_are_pushed()
+    ensures { ClientsArePushed }
+{}
+
+/// The channels that the profile of a client asks for over all its links are those that its client opens, in their order; and in
+/// each push over L2CAP these are two at most: that to the service records and then another, which is not RFCOMM's.
+pub fn clients_open()
+    ensures { ClientsOpen }
 {}
 
 /// The inbox of a host gains exactly the objects that the packets spell which its server was told, in the order of their last
@@ -135,6 +156,11 @@ pub fn hosts_talk_over_links<P>()
     ensures { (A : Profile P) → HostsTalkOverLinks A }
 {}
 
+/// And so that what happened on its links, what its profile asked for and what that was told are in one order.
+pub fn hosts_talk_woven<P>()
+    ensures { (A : Profile P) → HostsTalkWoven A }
+{}
+
 /// The objects of a host's own talk are those of what moved, whatever the host gave up and let wait at the end, where it asks for no
 /// channel and its peer gives each of its endpoints to one channel.
 pub fn objects_move()
@@ -151,4 +177,21 @@ pub fn hosts_gain_over_links()
 /// on each: where one channel alone carries packets there, and the SDUs that its server was told and that went are those of the talk.
 pub fn hosts_gain_by_carriers()
     ensures { HostsGainByCarriers }
+{}
+
+/// A server asks for no channel.
+pub fn servers_ask_nothing()
+    ensures { ServersAskNothing }
+{}
+
+/// A server whose client asks for one channel of objects on each link, and not for RFCOMM's, asks for none itself, has an endpoint of its own
+/// for each of its client's, and on each link one channel carries packets, over L2CAP.
+pub fn servers_are_served_in_order()
+    ensures { ServersAreServedInOrder }
+{}
+
+/// Of a client that asks for its next channel when no other one is only asked for, and for one besides that of service discovery, one request
+/// after the other moves on each link.
+pub fn clients_call_in_order()
+    ensures { ClientsCallInOrder }
 {}

@@ -20,6 +20,3 @@ pub use host_link::HostLink;
 pub use news::{ControllerFault, News};
 pub use opcode::Opcode;
 pub use role::Role;
-
-#[cfg(test)]
-mod tests;

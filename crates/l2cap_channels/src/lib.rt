@@ -33,6 +33,3 @@ mod writing;
 pub use answers::SendAnswer;
 pub use channels::Channels;
 pub use up::Up;
-
-#[cfg(test)]
-mod tests;

@@ -17,6 +17,3 @@ pub use reading::options_of;
 pub use unknown::UnknownTypes;
 pub use wish::{Agreed, Mode, Wish};
 pub use writing::put_options;
-
-#[cfg(test)]
-mod tests;

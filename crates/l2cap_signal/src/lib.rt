@@ -13,6 +13,3 @@ pub use refusal::SignalRefusal;
 pub use signal::{Signal, SignalKind};
 pub use signals::{Signals, signals_of};
 pub use writing::put_signal;
-
-#[cfg(test)]
-mod tests;

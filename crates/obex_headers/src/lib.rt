@@ -19,6 +19,3 @@ pub use packet::{Packet, Phase, packet_of};
 pub use text::name_units;
 pub use walk::{Headers, headers_of};
 pub use writing::{add_header, add_placed, start_packet};
-
-#[cfg(test)]
-mod tests;

@@ -22,3 +22,4 @@ pub mod NameLaws
 pub mod WritingLaws
 pub mod LookingLaws
 pub mod ViewLaws
+pub mod ModeLaws

@@ -19,6 +19,3 @@ mod server;
 pub use client::{Answered, ClientSession, PutNext};
 pub use codes::Code;
 pub use server::{Reply, ServerSession};
-
-#[cfg(test)]
-mod tests;

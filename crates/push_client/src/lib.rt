@@ -17,6 +17,3 @@ pub use event::ProfileEvent;
 pub use push_model::CloseCause;
 pub use push_terms::Outcome;
 pub use step::Step;
-
-#[cfg(test)]
-mod tests;

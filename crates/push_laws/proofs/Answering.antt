@@ -109,7 +109,7 @@ framed_keeps : (o : Option PlainFrame) (server : Server) → response_of (framed
 framed_keeps None server = leaves_keep (next (filled server).mux) (filled server) ∙ filled_keeps server
 framed_keeps (Some frame) server = refl
 
-lends_keep : (o : Option Outlet) (server : Server) → response_of (lends_by o server) ≡ response_of server
+pub lends_keep : (o : Option Outlet) (server : Server) → response_of (lends_by o server) ≡ response_of server
 lends_keep None server =
     let full : Server = framed server in
     cond_both (is_empty server.reply && is_empty server.listener.service.response) (record full { lent = outlet_of full }) (record server { lent = outlet_of server }) (λ (s : Server). response_of s ≡ response_of server)

@@ -48,19 +48,19 @@ closes Met (Some o) (Some place) e = inl refl
 closes Left cause place e = inr refl
 closes Closing cause place e = inr refl
 
-not_met : (contact : Contact) → contact ≡ Unmet → contact ≡ Met → ⊥
+pub not_met : (contact : Contact) → contact ≡ Unmet → contact ≡ Met → ⊥
 not_met contact a b = let f : Unmet ≡ Met = sym a ∙ b in cc
 
-not_gone : (contact : Contact) → is_gone contact ≡ true → contact ≡ Met → ⊥
+pub not_gone : (contact : Contact) → is_gone contact ≡ true → contact ≡ Met → ⊥
 not_gone contact a b = let f : false ≡ true = sym (ap is_gone b) ∙ a in cc
 
-not_caused : (cause : Option Outcome) → is_some cause ≡ true → cause ≡ None → ⊥
+pub not_caused : (cause : Option Outcome) → is_some cause ≡ true → cause ≡ None → ⊥
 not_caused cause a b = let f : false ≡ true = sym (ap is_some b) ∙ a in cc
 
 no_place : (place : Option ℕ) → is_some place ≡ true → place ≡ None → ⊥
 no_place place a b = let f : false ≡ true = sym (ap is_some b) ∙ a in cc
 
-no_wait : (x : Bool) → x ≡ false → x ≡ true → ⊥
+pub no_wait : (x : Bool) → x ≡ false → x ≡ true → ⊥
 no_wait x a b = let f : false ≡ true = sym a ∙ b in cc
 
 more : (sent before packets : List (List ℕ)) → sent ≡ before → sent ++ packets ≡ before ++ packets

@@ -1,24 +1,14 @@
 -- A client sends nothing while a response is due.
-use Rattle.std.proofs.Common.{◌≡◌, ℕ, ◌&&◌, ◌||◌, ◌==◌, not, nat_lt, min, Bool, true, false, List, [], ◌∷◌, Option, Some, None, is_some, refl, sym, ap, subst, ◌∙◌, if◌then◌else◌}
+use Rattle.std.proofs.Common.{◌≡◌, ℕ, ◌&&◌, ◌||◌, not, Bool, true, false, List, [], ◌∷◌, Option, Some, None, refl, sym, ap, subst, ◌∙◌, if◌then◌else◌}
 use Rattle.std.proofs.lemmas.Bool.{cond-false}
 use Rattle.bt_base.specs.declared.settings.Transport.{Transport}
 use Rattle.bt_base.specs.declared.settings.Transport.TheVariants.{L2cap, Rfcomm}
 use Rattle.push_terms.specs.declared.outcome.Outcome.{Outcome}
 use Rattle.push_terms.specs.declared.outcome.Outcome.TheVariants as outcomes
 use Rattle.rfcomm_model.specs.Saying.{Said, next}
-use Rattle.sdp_elements.specs.declared.target.Target.{Target}
-use Rattle.sdp_elements.specs.Targets.{is_service_psm, is_server_channel}
-use Rattle.sdp_client.specs.declared.reason.Found.{Found}
-use Rattle.sdp_client.specs.declared.reason.Found.TheVariants.{More, Service, NoService, Refused}
-use Rattle.sdp_client.specs.Asking.{is_due, after_resend}
-use Rattle.sdp_client.specs.Hearing.{found_at, after_reply}
 use Rattle.obex_session.specs.NextPut.{is_waiting}
-use Rattle.push_model.specs.declared.closing.CloseCause.{CloseCause}
-use Rattle.push_model.specs.declared.course.Point.TheVariants.{Due, Asked}
 use Rattle.push_model.specs.declared.course.Stage.{Stage}
-use Rattle.push_model.specs.declared.course.Stage.TheVariants.{Rest, Link, SearchChannel, Search, SearchEnd, Features, ObjectChannel, Object, ObjectEnd, LinkEnd, Over}
-use Rattle.push_model.specs.Causes.{cause_of_link, cause_of_page, cause_of_close, cause_of_query, small_channel, unawaited_response}
-use Rattle.push_model.specs.Client.{Client, ends, ends_by, ends_if, may_cancel, with_object}
+use Rattle.push_model.specs.Client.{Client, ends, ends_by, may_cancel, with_object}
 use Rattle.push_model.specs.Events as events
 use Rattle.push_model.specs.Events.{search_psm}
 use Rattle.push_model.specs.Laws.{Deed, Hears, Asks, Finishes, Cancels, done}
@@ -28,149 +18,35 @@ use Rattle.push_model.specs.Steps.{Part, Stepped, may_ask, next_ask, takes_some,
 use Rattle.push_laws.specs.Exchanges.{is_response, due_with, due_after, SendInTurn, SendsBehindResponses}
 use Rattle.push_laws.specs.Sending.{sdus_of, packets_behind, packets_muxed, packets_through, packets_by, packet_asked}
 use Rattle.push_laws.proofs.Finals.{waits_talk}
-use Rattle.push_laws.proofs.Sending.{filled_talk, object_of}
+use Rattle.push_laws.proofs.Sending.{filled_talk}
+use Rattle.push_laws.proofs.Talks.{Talk, object_of, Unheard, news_quiet}
 
 -- ---- news but a response leave the request that waits
+
+abbrev IsWaiting : Talk → Type 0
+IsWaiting t = is_waiting t.session.awaited ≡ true
 
 abbrev Waits : Client → Type 0
 Waits client = is_waiting client.session.awaited ≡ true
 
+unheard_waits : Unheard IsWaiting
+unheard_waits = record { ends = λ outcome t free none w. w; opens = λ limit t least most w. w }
+
+-- news, and whether a response is due behind them
+news_by : (response due : Bool) (news : events.News) (client : Client) → is_response news client ≡ response → (due ≡ true → Waits client) → (if response then false else due) ≡ true → Waits (events.hears_news news client)
+news_by true due news client is w e = absurd (let f : false ≡ true = e in cc)
+news_by false due news client is w e = news_quiet IsWaiting unheard_waits news client is (w e)
+
+news_wait : (news : events.News) (due : Bool) (client : Client) → (due ≡ true → Waits client) → (if is_response news client then false else due) ≡ true → Waits (events.hears_news news client)
+news_wait news due client w e = news_by (is_response news client) due news client refl w e
+
+ends_waits : (cause : Option Outcome) (o : Outcome) (client : Client) → Waits client → Waits (ends_by cause o client)
+ends_waits None o client w = w
+ends_waits (Some earlier) o client w = w
+
 either : (test : Bool) (a b : Client) → Waits a → Waits b → Waits (if test then a else b)
 either true a b x y = x
 either false a b x y = y
-
-ends_by_waits : (cause : Option Outcome) (o : Outcome) (client : Client) → Waits client → Waits (ends_by cause o client)
-ends_by_waits None o client w = w
-ends_by_waits (Some earlier) o client w = w
-
-ends_waits : (o : Outcome) (client : Client) → Waits client → Waits (ends o client)
-ends_waits o client w = ends_by_waits client.cause o client w
-
-ends_if_waits : (found : Option Outcome) (client : Client) → Waits client → Waits (ends_if found client)
-ends_if_waits None client w = w
-ends_if_waits (Some o) client w = ends_waits o client w
-
-over_waits : (cause : Option Outcome) (o : Outcome) (client : Client) → Waits client → Waits (events.over_by cause o client)
-over_waits None o client w = w
-over_waits (Some earlier) o client w = w
-
-linked_waits : (stage : Stage) (client : Client) → Waits client → Waits (events.linked_at stage client)
-linked_waits (Link Asked) client w = either (is_some client.cause) (record client { stage = LinkEnd Due }) (record client { stage = SearchChannel Due }) w w
-linked_waits (Link Due) client w = w
-linked_waits Rest client w = w
-linked_waits (SearchChannel point) client w = w
-linked_waits Search client w = w
-linked_waits (SearchEnd point) client w = w
-linked_waits (Features point) client w = w
-linked_waits (ObjectChannel point) client w = w
-linked_waits Object client w = w
-linked_waits (ObjectEnd point) client w = w
-linked_waits (LinkEnd point) client w = w
-linked_waits Over client w = w
-
-object_waits : (t : Transport) (mtu : ℕ) (client : Client) → Waits client → Waits (events.object_opened t mtu client)
-object_waits L2cap mtu client w = either (nat_lt mtu 255) (ends small_channel client) (record client { stage = Object; limit = min mtu 32767 }) (ends_waits small_channel client w) w
-object_waits Rfcomm mtu client w = w
-
-opened_waits : (stage : Stage) (psm mtu : ℕ) (client : Client) → Waits client → Waits (events.opened_at stage psm mtu client)
-opened_waits (SearchChannel Asked) psm mtu client w = either (psm == search_psm) (record client { stage = Search }) client w w
-opened_waits (ObjectChannel Asked) psm mtu client w = either (psm == client.psm) (events.object_opened client.transport mtu client) client (object_waits client.transport mtu client w) w
-opened_waits Rest psm mtu client w = w
-opened_waits (Link point) psm mtu client w = w
-opened_waits (SearchChannel Due) psm mtu client w = w
-opened_waits Search psm mtu client w = w
-opened_waits (SearchEnd point) psm mtu client w = w
-opened_waits (Features point) psm mtu client w = w
-opened_waits (ObjectChannel Due) psm mtu client w = w
-opened_waits Object psm mtu client w = w
-opened_waits (ObjectEnd point) psm mtu client w = w
-opened_waits (LinkEnd point) psm mtu client w = w
-opened_waits Over psm mtu client w = w
-
-left_waits : (cause : Option Outcome) (client : Client) → Waits client → Waits (events.search_left cause client)
-left_waits None client w = w
-left_waits (Some cause) client w = w
-
-search_waits : (found : Option Outcome) (client : Client) → Waits client → Waits (events.search_closed found client)
-search_waits None client w = left_waits client.cause client w
-search_waits (Some o) client w = ends_waits o client w
-
-closes : (psm own : ℕ) (cause : CloseCause) (client : Client) → Waits client → Waits (if psm == own then ends_if (cause_of_close cause) client else client)
-closes psm own cause client w = either (psm == own) (ends_if (cause_of_close cause) client) client (ends_if_waits (cause_of_close cause) client w) w
-
-closed_waits : (stage : Stage) (psm : ℕ) (cause : CloseCause) (client : Client) → Waits client → Waits (events.closed_at stage psm cause client)
-closed_waits (SearchChannel Asked) psm cause client w = closes psm search_psm cause client w
-closed_waits Search psm cause client w = closes psm search_psm cause client w
-closed_waits (SearchEnd point) psm cause client w = either (psm == search_psm) (events.search_closed (cause_of_close cause) client) client (search_waits (cause_of_close cause) client w) w
-closed_waits (ObjectChannel Asked) psm cause client w = closes psm client.psm cause client w
-closed_waits Object psm cause client w = closes psm client.psm cause client w
-closed_waits (ObjectEnd point) psm cause client w = either (psm == client.psm) (record client { stage = LinkEnd Due }) client w w
-closed_waits Rest psm cause client w = w
-closed_waits (Link point) psm cause client w = w
-closed_waits (SearchChannel Due) psm cause client w = w
-closed_waits (Features point) psm cause client w = w
-closed_waits (ObjectChannel Due) psm cause client w = w
-closed_waits (LinkEnd point) psm cause client w = w
-closed_waits Over psm cause client w = w
-
-psm_waits : (found : Option ℕ) (client : Client) → Waits client → Waits (events.found_psm found client)
-psm_waits None client w = ends_waits outcomes.NoService client w
-psm_waits (Some psm) client w = w
-
-channel_waits : (found : Option ℕ) (client : Client) → Waits client → Waits (events.found_channel found client)
-channel_waits None client w = ends_waits outcomes.NoService client w
-channel_waits (Some channel) client w = w
-
-way_waits : (t : Transport) (target : Target) (client : Client) → Waits client → Waits (events.found_way t target client)
-way_waits L2cap target client w = psm_waits (events.kept_of is_service_psm target.l2cap) client w
-way_waits Rfcomm target client w = channel_waits (events.kept_of is_server_channel target.rfcomm) client w
-
-finds_waits : (found : Found) (client : Client) → Waits client → Waits (events.finds found client)
-finds_waits More client w = w
-finds_waits (Service target) client w = way_waits client.transport target client w
-finds_waits NoService client w = ends_waits outcomes.NoService client w
-finds_waits (Refused reason) client w = ends_if_waits (cause_of_query reason) client w
-
-outside_waits : (t : Transport) (client : Client) → Waits client → Waits (events.hears_outside t client)
-outside_waits L2cap client w = ends_waits unawaited_response client w
-outside_waits Rfcomm client w = w
-
--- an SDU that is no response, and whether a response is due behind it
-here_due : (here due : Bool) (heard client : Client) → (due ≡ true → Waits client) → (if here then false else due) ≡ true → Waits (if here then heard else client)
-here_due true due heard client w e = absurd (let f : false ≡ true = e in cc)
-here_due false due heard client w e = w e
-
-sdu_waits : (stage : Stage) (psm : ℕ) (sdu : List ℕ) (due : Bool) (client : Client) → (due ≡ true → Waits client) → (if is_object stage && (psm == client.psm) then false else due) ≡ true → Waits (events.sdu_at stage psm sdu client)
-sdu_waits Object psm sdu due client w e = here_due (psm == client.psm) due (events.hears_object client.transport sdu client) client w e
-sdu_waits Search psm sdu due client w e =
-    let asked : Client = record client { query = after_reply client.query sdu } in
-    either (psm == search_psm) (events.finds (found_at client.query sdu) asked) client (finds_waits (found_at client.query sdu) asked (w e)) (w e)
-sdu_waits (ObjectChannel point) psm sdu due client w e = either (psm == client.psm) (events.hears_outside client.transport client) client (outside_waits client.transport client (w e)) (w e)
-sdu_waits (ObjectEnd point) psm sdu due client w e = either (psm == client.psm) (events.hears_outside client.transport client) client (outside_waits client.transport client (w e)) (w e)
-sdu_waits Rest psm sdu due client w e = w e
-sdu_waits (Link point) psm sdu due client w e = w e
-sdu_waits (SearchChannel point) psm sdu due client w e = w e
-sdu_waits (SearchEnd point) psm sdu due client w e = w e
-sdu_waits (Features point) psm sdu due client w e = w e
-sdu_waits (LinkEnd point) psm sdu due client w e = w e
-sdu_waits Over psm sdu due client w e = w e
-
-fires_waits : (client : Client) → Waits client → Waits (events.fires client)
-fires_waits client w =
-    let fired : Client = record client { query = after_resend client.query } in
-    either (events.armed client && not (client.given || is_due client.query)) (if client.left == 0 then ends outcomes.RetryLimit client else fired) client
-    (either (client.left == 0) (ends outcomes.RetryLimit client) fired (ends_waits outcomes.RetryLimit client w) w) w
-
-news_wait : (news : events.News) (due : Bool) (client : Client) → (due ≡ true → Waits client) → (if is_response news client then false else due) ≡ true → Waits (events.hears_news news client)
-news_wait events.LinkUp due client w e = linked_waits client.stage client (w e)
-news_wait (events.LinkDown reason) due client w e = either (events.is_linked client.stage) (events.over (cause_of_link reason) client) client (over_waits client.cause (cause_of_link reason) client (w e)) (w e)
-news_wait (events.LinkFailed status) due client w e = either (events.is_paging client.stage) (events.over (cause_of_page status) client) client (over_waits client.cause (cause_of_page status) client (w e)) (w e)
-news_wait (events.ChannelOpen psm mtu) due client w e = opened_waits client.stage psm mtu client (w e)
-news_wait (events.ChannelClosed psm cause) due client w e = closed_waits client.stage psm cause client (w e)
-news_wait (events.Sdu psm octets) due client w e = sdu_waits client.stage psm octets due client w e
-news_wait events.FeaturesTold due client w e = either (events.is_asking_features client.stage) (record client { stage = ObjectChannel Due }) client (w e) (w e)
-news_wait events.FeaturesLost due client w e = either (events.is_asking_features client.stage) (ends outcomes.RetryLimit client) client (ends_waits outcomes.RetryLimit client (w e)) (w e)
-news_wait events.Timer due client w e = fires_waits client (w e)
 
 -- ---- nothing is sent while it waits
 
@@ -237,7 +113,7 @@ deed_waits (Hears news) due client w e = news_wait news due client w e
 deed_waits (Asks parts) due client w e =
     due_waits (packets_by (Asks parts) client) due (done (Asks parts) client) (λ still. waits_talk (λ t. is_waiting t.session.awaited ≡ true) client parts (w still) (w still)) e
 deed_waits Finishes due client w e = w e
-deed_waits Cancels due client w e = either (may_cancel client) (ends outcomes.Cancelled client) client (ends_waits outcomes.Cancelled client (w e)) (w e)
+deed_waits Cancels due client w e = either (may_cancel client) (ends outcomes.Cancelled client) client (ends_waits client.cause outcomes.Cancelled client (w e)) (w e)
 
 all_in_turn : (deeds : List Deed) (due : Bool) (client : Client) → (due ≡ true → Waits client) → SendInTurn deeds client due
 all_in_turn [] due client w = tt

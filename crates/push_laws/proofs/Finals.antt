@@ -19,9 +19,9 @@ use Rattle.push_model.specs.Steps.{Part, Stepped, may_ask, next_ask, asks_direct
 use Rattle.push_model.proofs.CauseLaws.{first_causes_stay}
 use Rattle.push_laws.specs.Sending.{NothingIsCancelledLate}
 use Rattle.push_laws.proofs.Answered.{final_ends}
-use Rattle.push_laws.proofs.Talks.{Talk, talk_of, is_reserved, Kept, news_keeps}
+use Rattle.push_laws.proofs.Talks.{Talk, talk_of, is_reserved, object_of, Kept, news_keeps}
 use Rattle.push_laws.proofs.Pushing.{NotCancelled, suits_any}
-use Rattle.push_laws.proofs.Sending.{talk_either, filled_talk, at_talk, still_of, object_of}
+use Rattle.push_laws.proofs.Sending.{talk_either, filled_talk, at_talk, still_of}
 
 -- its response is awaited, or the push has a cause that is no cancel
 abbrev Late : Talk → Type 0
@@ -63,9 +63,8 @@ answer_late (Some answered) packet client is late =
 
 late_kept : Kept Late
 late_kept = record {
-  ends = λ outcome t free none late. inr (outcome, refl, free_late outcome t free);
+  unheard = record { ends = λ outcome t free none late. inr (outcome, refl, free_late outcome t free); opens = λ limit t least most late. late };
   hears = λ packet client late. answer_late (answer_at client.session.awaited client.session packet) packet client refl late;
-  opens = λ limit t least most late. late;
 }
 
 -- ---- no step is taken while a response is awaited

@@ -1,41 +1,32 @@
 -- The channels that a client opens: where a push stands on its way.
-use Rattle.std.proofs.Common.{◌≡◌, ℕ, zero, suc, ◌≤◌, ◌-◌, ◌++◌, ◌==◌, ◌&&◌, ◌||◌, not, nat_lt, min, length, drop, Bool, true, false, List, [], ◌∷◌, Option, Some, None, is_some, Result, Ok, Err, refl, sym, ap, subst, ◌∙◌, arith, append-nil, append_assoc, if◌then◌else◌}
+use Rattle.std.proofs.Common.{◌≡◌, ℕ, ◌≤◌, ◌*◌, ◌-◌, ◌++◌, ◌==◌, ◌&&◌, ◌||◌, not, nat_lt, min, length, Bool, true, false, List, [], ◌∷◌, Option, Some, None, is_some, refl, sym, ap, subst, ◌∙◌, arith, append-nil, append_assoc, if◌then◌else◌}
 use Rattle.std.specs.List.{filter_map, flat_map, cons_option}
-use Rattle.bt_base.specs.declared.ports.PortFault.{PortFault}
-use Rattle.bt_base.specs.declared.ports.PortFault.TheVariants as fault
 use Rattle.bt_base.specs.declared.settings.Transport.{Transport}
 use Rattle.bt_base.specs.declared.settings.Transport.TheVariants.{L2cap, Rfcomm}
 use Rattle.push_terms.specs.declared.outcome.Outcome.{Outcome}
 use Rattle.push_terms.specs.declared.outcome.Outcome.TheVariants as outcomes
-use Rattle.rfcomm_frames.specs.FrameReading.{is_empty}
-use Rattle.rfcomm_model.specs.Hearing.{Up, nothing, opened, bytes, closed, up, hears}
-use Rattle.rfcomm_model.specs.Machine.{leaves, is_ready, sends, taken_count}
-use Rattle.rfcomm_model.specs.Saying.{Said, next}
 use Rattle.sdp_elements.specs.declared.target.Target.{Target}
 use Rattle.sdp_client.specs.declared.reason.Found.{Found}
 use Rattle.sdp_client.specs.declared.reason.Found.TheVariants.{More, Service, NoService, Refused}
 use Rattle.sdp_client.specs.Asking.{is_due, after_resend, after_request, request_octets}
 use Rattle.sdp_client.specs.Hearing.{found_at, after_reply}
-use Rattle.obex_session.specs.declared.client.Answered.{Answered}
-use Rattle.obex_session.specs.declared.client.Answered.TheVariants as answer
-use Rattle.obex_session.specs.Views.{answer_at, after_at}
 use Rattle.push_model.specs.declared.closing.CloseCause.{CloseCause}
-use Rattle.push_model.specs.declared.course.Contact.TheVariants.{Closing}
 use Rattle.push_model.specs.declared.course.Point.TheVariants.{Due, Asked}
 use Rattle.push_model.specs.declared.course.Stage.{Stage}
 use Rattle.push_model.specs.declared.course.Stage.TheVariants.{Rest, Link, SearchChannel, Search, SearchEnd, Features, ObjectChannel, Object, ObjectEnd, LinkEnd, Over}
-use Rattle.push_model.specs.Causes.{Ending, InOrder, AtOnce, ending_of, cause_of_link, cause_of_page, cause_of_close, cause_of_query, cause_of_mux, cause_of_obex, small_channel, unawaited_response, unknown_parameters}
+use Rattle.push_model.specs.Causes.{Ending, InOrder, AtOnce, ending_of, cause_of_link, cause_of_page, cause_of_close, cause_of_query, small_channel, unawaited_response}
 use Rattle.push_model.specs.Client.{Client, ends, ends_by, ends_if, may_cancel, in_order, at_once, stage_after, with_object}
-use Rattle.push_model.specs.Streams.{Front, Whole, Partial, Broken, front_of}
-use Rattle.push_model.specs.Responding.{takes, hears_answer, hears_response, is_object, hears_front, hears_stream, hears_up, is_left, is_success, is_early}
 use Rattle.push_model.specs.Events as events
 use Rattle.push_model.specs.Events.{is_search, search_psm, rfcomm_psm}
-use Rattle.push_model.specs.Laws.{Deed, Hears, Asks, Finishes, Cancels, done}
+use Rattle.push_model.specs.Laws.{Deed, Hears, Asks, Finishes, Cancels, done, all_done}
+use Rattle.push_model.specs.Responding.{is_object}
 use Rattle.push_model.specs.Payloads.{Octets}
 use Rattle.push_model.specs.Shown.{way_of}
 use Rattle.push_model.specs.Steps as steps
 use Rattle.push_model.specs.Steps.{Part, Step, AskFeatures, OpenChannel, NoMemory, Stepped, Made, Ask, Connect, Put, Abort, Disconnect, Close, Nothing, put_count, puts_part, puts_from, puts, leaves_by, failing, puts_or_leaves, requests, sends_direct, asks_direct, filled, said_by, says, sends_muxed, takes_some, asks_through, asks_muxed, goes_muxed, steps_object, steps_search, tells_end, steps_at, sends_sdu, rests, may_ask, next_ask}
-use Rattle.push_laws.specs.Opening.{way_in, way_by, way_taken, found_in, targets_told, targets_by, targets_heard, way_to, whole_way, TakesTheWay, OpensTheTarget}
+use Rattle.push_laws.specs.Opening.{way_in, way_by, way_taken, found_in, targets_told, targets_by, targets_heard, way_to, whole_way, TakesTheWay, OpensTheTarget, OpensTheServerChannel}
+use Rattle.push_laws.proofs.Talks.{object_of}
+use Rattle.push_laws.proofs.Late.{Anchor, anchor_of, IsLate, either, object_late, object_quiet}
 
 -- ---- where a push stands on its way
 
@@ -45,12 +36,11 @@ record Walk : Type 0 where
   pub taken : List Step
 
 record Course : Type 0 where
-  pub transport : Transport
   pub cause : Option Outcome
-  pub psm : ℕ
+  pub anchor : Anchor
 
 abbrev course_of : Client → Course
-course_of client = record { transport = client.transport; cause = client.cause; psm = client.psm }
+course_of client = record { cause = client.cause; anchor = anchor_of client }
 
 abbrev first : List Step
 first = OpenChannel search_psm ∷ []
@@ -60,35 +50,47 @@ psm_over L2cap psm = psm
 psm_over Rfcomm channel = rfcomm_psm
 
 record Begins (w : Walk) (taken : List Step) (c : Course) : Type 0 where
-  pub same : c.transport ≡ w.transport
+  pub same : c.anchor.transport ≡ w.transport
   pub none : w.targets ≡ []
   pub is : w.taken ≡ taken
 
 -- the target that was heard names the channel
-record Names (w : Walk) (c : Course) : Type 0 where
-  pub same : c.transport ≡ w.transport
+record Names (w : Walk) (anchor : Anchor) : Type 0 where
+  pub same : anchor.transport ≡ w.transport
   pub target : Target
   pub number : ℕ
   pub only : w.targets ≡ target ∷ []
   pub named : way_of w.transport target ≡ Some number
-  pub psm_is : c.psm ≡ psm_over w.transport number
+  pub psm_is : anchor.psm ≡ psm_over w.transport number
+  pub channel_is : w.transport ≡ Rfcomm → anchor.channel ≡ number
 
 record Searched (w : Walk) (c : Course) : Type 0 where
   pub one : length w.targets ≤ 1
   pub is : w.taken ≡ first
-  pub names : c.cause ≡ None → Names w c
+  pub names : c.cause ≡ None → Names w c.anchor
 
 record AsksPeer (w : Walk) (taken : List Step) (c : Course) : Type 0 where
-  pub names : Names w c
+  pub names : Names w c.anchor
   pub is : w.taken ≡ taken
   pub direct : w.transport ≡ L2cap
 
 record Opens (w : Walk) (c : Course) : Type 0 where
-  pub one : length w.targets ≤ 1
-  pub way : whole_way w.transport w.targets ≡ w.taken ++ OpenChannel c.psm ∷ []
+  pub names : Names w c.anchor
+  pub way : whole_way w.transport w.targets ≡ w.taken ++ OpenChannel c.anchor.psm ∷ []
 
 abbrev OnTheWay : Walk → Type 0
 OnTheWay w = TakesTheWay w.transport w.targets w.taken
+
+-- the channel of the object was asked for
+record AsksChannel (w : Walk) (c : Course) : Type 0 where
+  pub names : Names w c.anchor
+  pub way : OnTheWay w
+
+-- it is open, and over RFCOMM the multiplexer is for the server channel
+record HasChannel (w : Walk) (c : Course) : Type 0 where
+  pub names : Names w c.anchor
+  pub way : OnTheWay w
+  pub dlci : w.transport ≡ Rfcomm → c.anchor.dlci ≡ 2 * c.anchor.channel
 
 abbrev At : Walk → Stage → Course → Type 0
 At w (Link point) c = Begins w [] c
@@ -99,8 +101,8 @@ At w (SearchEnd point) c = Searched w c
 At w (Features Due) c = AsksPeer w first c
 At w (Features Asked) c = AsksPeer w (OpenChannel search_psm ∷ AskFeatures ∷ []) c
 At w (ObjectChannel Due) c = Opens w c
-At w (ObjectChannel Asked) c = OnTheWay w
-At w Object c = OnTheWay w
+At w (ObjectChannel Asked) c = AsksChannel w c
+At w Object c = HasChannel w c
 At w (ObjectEnd point) c = OnTheWay w
 At w (LinkEnd point) c = OnTheWay w
 At w Over c = OnTheWay w
@@ -123,15 +125,15 @@ few_one xs x e = subst (λ (ys : List Target). length ys ≤ 1) (sym e) (omega a
 searched : (w : Walk) → length w.targets ≤ 1 → w.taken ≡ first → OnTheWay w
 searched w one is = on_way w first (flat_map (way_to w.transport) (filter_map (way_of w.transport) w.targets)) one is refl
 
-named_way : (w : Walk) (c : Course) (n : Names w c) → whole_way w.transport w.targets ≡ OpenChannel search_psm ∷ (way_to w.transport n.number ++ [])
+named_way : (w : Walk) (c : Course) (n : Names w c.anchor) → whole_way w.transport w.targets ≡ OpenChannel search_psm ∷ (way_to w.transport n.number ++ [])
 named_way w c n = ap (whole_way w.transport) n.only ∙ ap (λ (o : Option ℕ). OpenChannel search_psm ∷ flat_map (way_to w.transport) (cons_option o [])) n.named
 
-direct_way : (w : Walk) (c : Course) (n : Names w c) → w.transport ≡ L2cap → whole_way w.transport w.targets ≡ OpenChannel search_psm ∷ AskFeatures ∷ OpenChannel c.psm ∷ []
+direct_way : (w : Walk) (c : Course) (n : Names w c.anchor) → w.transport ≡ L2cap → whole_way w.transport w.targets ≡ OpenChannel search_psm ∷ AskFeatures ∷ OpenChannel c.anchor.psm ∷ []
 direct_way w c n direct =
     named_way w c n ∙ ap (λ (t : Transport). OpenChannel search_psm ∷ (way_to t n.number ++ [])) direct
     ∙ ap (λ (psm : ℕ). OpenChannel search_psm ∷ AskFeatures ∷ OpenChannel psm ∷ []) (sym (n.psm_is ∙ ap (λ (t : Transport). psm_over t n.number) direct))
 
-muxed_way : (w : Walk) (c : Course) (n : Names w c) → w.transport ≡ Rfcomm → whole_way w.transport w.targets ≡ OpenChannel search_psm ∷ OpenChannel c.psm ∷ []
+muxed_way : (w : Walk) (c : Course) (n : Names w c.anchor) → w.transport ≡ Rfcomm → whole_way w.transport w.targets ≡ OpenChannel search_psm ∷ OpenChannel c.anchor.psm ∷ []
 muxed_way w c n muxed =
     named_way w c n ∙ ap (λ (t : Transport). OpenChannel search_psm ∷ (way_to t n.number ++ [])) muxed
     ∙ ap (λ (psm : ℕ). OpenChannel search_psm ∷ OpenChannel psm ∷ []) (sym (n.psm_is ∙ ap (λ (t : Transport). psm_over t n.number) muxed))
@@ -144,10 +146,10 @@ on_way_at w Search c s = searched w (few_none w.targets s.none) s.is
 on_way_at w (SearchEnd point) c s = searched w s.one s.is
 on_way_at w (Features Due) c s = searched w (few_one w.targets s.names.target s.names.only) s.is
 on_way_at w (Features Asked) c s =
-    on_way w (OpenChannel search_psm ∷ AskFeatures ∷ []) (OpenChannel c.psm ∷ []) (few_one w.targets s.names.target s.names.only) s.is (direct_way w c s.names s.direct)
-on_way_at w (ObjectChannel Due) c s = record { one = s.one; behind = OpenChannel c.psm ∷ []; way = s.way }
-on_way_at w (ObjectChannel Asked) c s = s
-on_way_at w Object c s = s
+    on_way w (OpenChannel search_psm ∷ AskFeatures ∷ []) (OpenChannel c.anchor.psm ∷ []) (few_one w.targets s.names.target s.names.only) s.is (direct_way w c s.names s.direct)
+on_way_at w (ObjectChannel Due) c s = record { one = few_one w.targets s.names.target s.names.only; behind = OpenChannel c.anchor.psm ∷ []; way = s.way }
+on_way_at w (ObjectChannel Asked) c s = s.way
+on_way_at w Object c s = s.way
 on_way_at w (ObjectEnd point) c s = s
 on_way_at w (LinkEnd point) c s = s
 on_way_at w Over c s = s
@@ -159,7 +161,7 @@ some_cause : (o : Outcome) (A : Type 0) → Some o ≡ None → A
 some_cause o A e = absurd cc
 
 ends_search : (w : Walk) (o : Outcome) (point : Stage) (c : Course) → length w.targets ≤ 1 → w.taken ≡ first → At w (SearchEnd Due) (record c { cause = Some o })
-ends_search w o point c one is = record { one = one; is = is; names = λ e. some_cause o (Names w (record c { cause = Some o })) e }
+ends_search w o point c one is = record { one = one; is = is; names = λ e. some_cause o (Names w c.anchor) e }
 
 ends_in_order : (w : Walk) (o : Outcome) (stage : Stage) (c : Course) → At w stage c → At w (in_order stage) (record c { cause = Some o })
 ends_in_order w o Rest c s = s
@@ -172,8 +174,8 @@ ends_in_order w o (SearchEnd point) c s = ends_search w o Search c s.one s.is
 ends_in_order w o (Features Due) c s = on_way_at w (Features Due) c s
 ends_in_order w o (Features Asked) c s = on_way_at w (Features Asked) c s
 ends_in_order w o (ObjectChannel Due) c s = on_way_at w (ObjectChannel Due) c s
-ends_in_order w o (ObjectChannel Asked) c s = s
-ends_in_order w o Object c s = s
+ends_in_order w o (ObjectChannel Asked) c s = s.way
+ends_in_order w o Object c s = record { names = s.names; way = s.way; dlci = s.dlci }
 ends_in_order w o (ObjectEnd point) c s = s
 ends_in_order w o (LinkEnd point) c s = s
 ends_in_order w o Over c s = s
@@ -189,8 +191,8 @@ ends_at_once w cause (SearchEnd point) c s = on_way_at w (SearchEnd point) c s
 ends_at_once w cause (Features Due) c s = on_way_at w (Features Due) c s
 ends_at_once w cause (Features Asked) c s = on_way_at w (Features Asked) c s
 ends_at_once w cause (ObjectChannel Due) c s = on_way_at w (ObjectChannel Due) c s
-ends_at_once w cause (ObjectChannel Asked) c s = s
-ends_at_once w cause Object c s = s
+ends_at_once w cause (ObjectChannel Asked) c s = s.way
+ends_at_once w cause Object c s = s.way
 ends_at_once w cause (ObjectEnd point) c s = s
 ends_at_once w cause (LinkEnd point) c s = s
 ends_at_once w cause Over c s = s
@@ -212,208 +214,22 @@ ends_if_stands w (Some o) client s = ends_stands w o client s
 
 -- ---- from the channel of the object on nothing more is opened
 
-either : (P : Client → Type 0) (test : Bool) (a b : Client) → P a → P b → P (if test then a else b)
-either P true a b x y = x
-either P false a b x y = y
-
-abbrev IsLate : Stage → Type 0
-IsLate Object = Unit {0}
-IsLate (ObjectEnd point) = Unit {0}
-IsLate (LinkEnd point) = Unit {0}
-IsLate Over = Unit {0}
-IsLate Rest = Unit {0}
-IsLate (Link point) = ⊥
-IsLate (SearchChannel point) = ⊥
-IsLate Search = ⊥
-IsLate (SearchEnd point) = ⊥
-IsLate (Features point) = ⊥
-IsLate (ObjectChannel point) = ⊥
-
-abbrev Late : Client → Type 0
-Late client = IsLate client.stage
-
-late_at : (w : Walk) (stage : Stage) (c : Course) → IsLate stage → OnTheWay w → At w stage c
-late_at w Object c late s = s
-late_at w (ObjectEnd point) c late s = s
-late_at w (LinkEnd point) c late s = s
-late_at w Over c late s = s
-late_at w Rest c late s = s
-late_at w (Link point) c late s = absurd late
-late_at w (SearchChannel point) c late s = absurd late
-late_at w Search c late s = absurd late
-late_at w (SearchEnd point) c late s = absurd late
-late_at w (Features point) c late s = absurd late
-late_at w (ObjectChannel point) c late s = absurd late
-
-late_in_order : (stage : Stage) → IsLate stage → IsLate (in_order stage)
-late_in_order Object late = tt
-late_in_order (ObjectEnd point) late = tt
-late_in_order (LinkEnd point) late = tt
-late_in_order Over late = tt
-late_in_order Rest late = tt
-late_in_order (Link point) late = absurd late
-late_in_order (SearchChannel point) late = absurd late
-late_in_order Search late = absurd late
-late_in_order (SearchEnd point) late = absurd late
-late_in_order (Features point) late = absurd late
-late_in_order (ObjectChannel point) late = absurd late
-
-late_at_once : (stage : Stage) → IsLate stage → IsLate (at_once stage)
-late_at_once Object late = tt
-late_at_once (ObjectEnd point) late = tt
-late_at_once (LinkEnd point) late = tt
-late_at_once Over late = tt
-late_at_once Rest late = tt
-late_at_once (Link point) late = absurd late
-late_at_once (SearchChannel point) late = absurd late
-late_at_once Search late = absurd late
-late_at_once (SearchEnd point) late = absurd late
-late_at_once (Features point) late = absurd late
-late_at_once (ObjectChannel point) late = absurd late
-
-late_after : (ending : Ending) (stage : Stage) → IsLate stage → IsLate (stage_after ending stage)
-late_after InOrder stage late = late_in_order stage late
-late_after AtOnce stage late = late_at_once stage late
-
-late_by : (cause : Option Outcome) (o : Outcome) (client : Client) → Late client → Late (ends_by cause o client)
-late_by None o client late = late_after (ending_of o) client.stage late
-late_by (Some earlier) o client late = late_at_once client.stage late
-
-late_ends : (o : Outcome) (client : Client) → Late client → Late (ends o client)
-late_ends o client late = late_by client.cause o client late
-
-takes_late : (answered : Answered) (client : Client) → Late client → Late (takes answered client)
-takes_late answer.Go client late = late
-takes_late answer.Done client late = late_ends outcomes.Done client late
-takes_late (answer.Refused code) client late = late_ends (outcomes.Refused code) client late
-takes_late (answer.Bad refusal) client late = late_ends (cause_of_obex refusal) client late
-takes_late answer.Srmp client late = late_ends unknown_parameters client late
-
-answer_late : (answered : Option Answered) (packet : List ℕ) (client : Client) → Late client → Late (hears_answer answered packet client)
-answer_late None packet client late = late_ends unawaited_response client late
-answer_late (Some answered) packet client late =
-    let heard : Client = record client { session = after_at client.session.awaited client.session packet } in
-    either Late (is_success answered && is_early client) (ends unawaited_response heard) (takes answered heard) (late_ends unawaited_response heard late) (takes_late answered heard late)
-
-response_late : (packet : List ℕ) (client : Client) → Late client → Late (hears_response packet client)
-response_late packet client late = answer_late (answer_at client.session.awaited client.session packet) packet client late
-
-front_late : (more : List ℕ → Client → Client) → ((rest : List ℕ) (client : Client) → Late client → Late (more rest client)) → (stream : List ℕ) (front : Front) (client : Client) → Late client → Late (hears_front more stream front client)
-front_late more keeps stream (Whole packet rest) client late =
-    let heard = hears_response packet (record client { held = [] }) in
-    let kept : Late heard = response_late packet (record client { held = [] }) late in
-    either Late (is_object heard.stage) (more rest heard) heard (keeps rest heard kept) kept
-front_late more keeps stream Partial client late = late
-front_late more keeps stream (Broken refusal) client late = late_ends (cause_of_obex refusal) (record client { held = [] }) late
-
-stream_late : (count : ℕ) (stream : List ℕ) (client : Client) → Late client → Late (hears_stream count stream client)
-unfolding hears_stream
-stream_late zero stream client late = late
-stream_late (suc count) stream client late = front_late (λ rest next. hears_stream count rest next) (λ rest next. stream_late count rest next) stream (front_of client.session.maximum stream) client late
-
-up_late : (news : Up) (client : Client) → Late client → Late (hears_up news client)
-up_late nothing client late = late
-up_late opened client late = late
-up_late (bytes octets) client late = stream_late (length (client.held ++ octets)) (client.held ++ octets) client late
-up_late (closed reason) client late = either Late (is_left client.contact reason) (record client { stage = ObjectEnd Due }) (ends (cause_of_mux reason) client) tt (late_ends (cause_of_mux reason) client late)
-
-object_late : (t : Transport) (sdu : List ℕ) (client : Client) → Late client → Late (events.hears_object t sdu client)
-object_late L2cap sdu client late = response_late sdu client late
-object_late Rfcomm sdu client late = up_late (up sdu client.mux) (record client { mux = hears sdu client.mux }) late
-
--- ---- nor by a step on the channel of the object
-
-abbrev Quiet : Stepped → Type 0
-Quiet s = Late s.client × (way_in s.step ≡ [])
-
-quiet_either : (test : Bool) (a b : Stepped) → Quiet a → Quiet b → Quiet (if test then a else b)
-quiet_either true a b x y = x
-quiet_either false a b x y = y
-
-made_either : (test : Bool) (a b : Made) → Late a.client → Late b.client → Late (if test then a else b).client
-made_either true a b x y = x
-made_either false a b x y = y
-
-part_late : (part : Part) (client : Client) (parts : List Part) → Late client → Late (puts_part part client parts).client
-part_late (Ok part) client parts late = late
-part_late (Err fault) client parts late = late
-
-from_late : (parts : List Part) (client : Client) → Late client → Late (puts_from parts client).client
-from_late [] client late = late
-from_late (part ∷ parts) client late = part_late part client parts late
-
-puts_late : (client : Client) (parts : List Part) → Late client → Late (puts client parts).client
-puts_late client parts late = made_either (put_count client == 0) (puts_part (Ok []) client parts) (puts_from parts client) (part_late (Ok []) client parts late) (from_late parts client late)
-
-leaves_late : (ask : Ask) (client : Client) (parts : List Part) → Late client → Late (leaves_by ask client parts).client
-leaves_late Connect client parts late = late
-leaves_late Put client parts late = late
-leaves_late Abort client parts late = late
-leaves_late Disconnect client parts late = late
-leaves_late Close client parts late = late
-leaves_late Nothing client parts late = late
-
-or_leaves_late : (outcome : Result (Unit {0}) PortFault) (put : Made) → Late put.client → Late (puts_or_leaves outcome put).client
-or_leaves_late (Ok done) put late = late
-or_leaves_late (Err fault.Failed) put late = let ended = ends outcomes.ShelfFault put.client in leaves_late (next_ask ended) ended put.left (late_ends outcomes.ShelfFault put.client late)
-or_leaves_late (Err fault.NoMemory) put late = late
-
-requests_late : (ask : Ask) (client : Client) (parts : List Part) → Late client → Late (requests ask client parts).client
-requests_late Connect client parts late = late
-requests_late Put client parts late = or_leaves_late (puts client parts).outcome (puts client parts) (puts_late client parts late)
-requests_late Abort client parts late = late
-requests_late Disconnect client parts late = late
-requests_late Close client parts late = late
-requests_late Nothing client parts late = late
-
-sends_quiet : (outcome : Result (Unit {0}) PortFault) (request : Made) → Late request.client → Quiet (sends_direct outcome request)
-sends_quiet (Ok done) request late = (late, refl)
-sends_quiet (Err fault) request late = (late, refl)
-
-direct_quiet : (ask : Ask) (client : Client) (parts : List Part) → Late client → Quiet (asks_direct ask client parts)
-direct_quiet Close client parts late = (tt, refl)
-direct_quiet Nothing client parts late = (late, refl)
-direct_quiet Connect client parts late = sends_quiet (requests Connect client parts).outcome (requests Connect client parts) (requests_late Connect client parts late)
-direct_quiet Put client parts late = sends_quiet (requests Put client parts).outcome (requests Put client parts) (requests_late Put client parts late)
-direct_quiet Abort client parts late = sends_quiet (requests Abort client parts).outcome (requests Abort client parts) (requests_late Abort client parts late)
-direct_quiet Disconnect client parts late = sends_quiet (requests Disconnect client parts).outcome (requests Disconnect client parts) (requests_late Disconnect client parts late)
-
-filled_late : (client : Client) → Late client → Late (filled client)
-filled_late client late =
-    either Late (is_ready client.mux && not (is_empty client.rest)) (record client { mux = sends client.rest client.mux; rest = drop (taken_count (length client.rest) client.mux) client.rest }) client late late
-
-said_quiet : (said : Option Said) (client : Client) (parts : List Part) → Late client → Quiet (said_by said client parts)
-said_quiet None client parts late = (late, refl)
-said_quiet (Some said) client parts late = (late, refl)
-
-says_quiet : (client : Client) (parts : List Part) → Late client → Quiet (says client parts)
-says_quiet client parts late = let full = filled client in said_quiet (next full.mux) full parts (filled_late client late)
-
-sent_quiet : (outcome : Result (Unit {0}) PortFault) (request : Made) → Late request.client → Quiet (sends_muxed outcome request)
-sent_quiet (Ok done) request late = says_quiet request.client request.left late
-sent_quiet (Err fault) request late = (late, refl)
-
-through_quiet : (ask : Ask) (client : Client) (parts : List Part) → Late client → Quiet (asks_through ask client parts)
-through_quiet ask client parts late =
-    let request = requests ask (record client { rest = [] }) parts in
-    quiet_either (takes_some client.mux) (sends_muxed request.outcome request) (rests client parts) (sent_quiet request.outcome request (requests_late ask (record client { rest = [] }) parts late)) (late, refl)
-
-muxed_quiet : (ask : Ask) (client : Client) (parts : List Part) → Late client → Quiet (asks_muxed ask client parts)
-muxed_quiet Close client parts late = says_quiet (record client { mux = leaves client.mux; contact = Closing }) parts late
-muxed_quiet Nothing client parts late = (late, refl)
-muxed_quiet Connect client parts late = through_quiet Connect client parts late
-muxed_quiet Put client parts late = through_quiet Put client parts late
-muxed_quiet Abort client parts late = through_quiet Abort client parts late
-muxed_quiet Disconnect client parts late = through_quiet Disconnect client parts late
-
-goes_quiet : (said : Option Said) (client : Client) (parts : List Part) → Late client → Quiet (goes_muxed said client parts)
-goes_quiet None client parts late =
-    let quiet : Client = record client { frame = None } in quiet_either (may_ask quiet) (asks_muxed (next_ask quiet) quiet parts) (rests quiet parts) (muxed_quiet (next_ask quiet) quiet parts late) (late, refl)
-goes_quiet (Some said) client parts late = said_quiet (Some said) client parts late
-
-object_quiet : (t : Transport) (client : Client) (parts : List Part) → Late client → Quiet (steps_object t client parts)
-object_quiet L2cap client parts late = quiet_either (may_ask client) (asks_direct (next_ask client) (record client { rest = [] }) parts) (rests client parts) (direct_quiet (next_ask client) (record client { rest = [] }) parts late) (late, refl)
-object_quiet Rfcomm client parts late = let full = filled client in goes_quiet (next full.mux) full parts (filled_late client late)
+late_at : (w : Walk) (stage : Stage) (c c' : Course) → IsLate stage → c'.anchor ≡ c.anchor → HasChannel w c → At w stage c'
+late_at w Object c c' late same s = record {
+  names = subst (Names w) (sym same) s.names;
+  way = s.way;
+  dlci = λ muxed. subst (λ (a : Anchor). a.dlci ≡ 2 * a.channel) (sym same) (s.dlci muxed);
+}
+late_at w (ObjectEnd point) c c' late same s = s.way
+late_at w (LinkEnd point) c c' late same s = s.way
+late_at w Over c c' late same s = s.way
+late_at w Rest c c' late same s = s.way
+late_at w (Link point) c c' late same s = absurd late
+late_at w (SearchChannel point) c c' late same s = absurd late
+late_at w Search c c' late same s = absurd late
+late_at w (SearchEnd point) c c' late same s = absurd late
+late_at w (Features point) c c' late same s = absurd late
+late_at w (ObjectChannel point) c c' late same s = absurd late
 
 -- ---- links and channels
 
@@ -436,13 +252,20 @@ linked_stands w (ObjectEnd point) client s c = c
 linked_stands w (LinkEnd point) client s c = c
 linked_stands w Over client s c = c
 
-object_opens : (w : Walk) (t : Transport) (mtu : ℕ) (client : Client) → OnTheWay w → Stands w client → Stands w (events.object_opened t mtu client)
-object_opens w L2cap mtu client s c = either (Stands w) (nat_lt mtu 255) (ends small_channel client) (record client { stage = Object; limit = min mtu 32767 }) (ends_stands w small_channel client c) s
-object_opens w Rfcomm mtu client s c = s
+not_muxed : L2cap ≡ Rfcomm → ⊥
+not_muxed e = cc
+
+object_opens : (w : Walk) (t : Transport) (mtu : ℕ) (client : Client) → t ≡ client.transport → AsksChannel w (course_of client) → Stands w client → Stands w (events.object_opened t mtu client)
+object_opens w L2cap mtu client t s c =
+    either (Stands w) (nat_lt mtu 255) (ends small_channel client) (record client { stage = Object; limit = min mtu 32767 }) (ends_stands w small_channel client c)
+    (record { names = s.names; way = s.way; dlci = λ muxed. absurd (not_muxed (t ∙ s.names.same ∙ muxed)) })
+object_opens w Rfcomm mtu client t s c =
+    let n = s.names in
+    record { names = record { same = n.same; target = n.target; number = n.number; only = n.only; named = n.named; psm_is = n.psm_is; channel_is = n.channel_is }; way = s.way; dlci = λ muxed. refl }
 
 opened_stands : (w : Walk) (stage : Stage) (psm mtu : ℕ) (client : Client) → At w stage (course_of client) → Stands w client → Stands w (events.opened_at stage psm mtu client)
 opened_stands w (SearchChannel Asked) psm mtu client s c = either (Stands w) (psm == search_psm) (record client { stage = Search }) client s c
-opened_stands w (ObjectChannel Asked) psm mtu client s c = either (Stands w) (psm == client.psm) (events.object_opened client.transport mtu client) client (object_opens w client.transport mtu client s c) c
+opened_stands w (ObjectChannel Asked) psm mtu client s c = either (Stands w) (psm == client.psm) (events.object_opened client.transport mtu client) client (object_opens w client.transport mtu client refl s c) c
 opened_stands w Rest psm mtu client s c = c
 opened_stands w (Link point) psm mtu client s c = c
 opened_stands w (SearchChannel Due) psm mtu client s c = c
@@ -455,9 +278,9 @@ opened_stands w (ObjectEnd point) psm mtu client s c = c
 opened_stands w (LinkEnd point) psm mtu client s c = c
 opened_stands w Over psm mtu client s c = c
 
-behind_stands : (w : Walk) (t : Transport) (client : Client) → w.transport ≡ t → Searched w (course_of client) → Names w (course_of client) → At w (events.stage_behind t) (course_of client)
+behind_stands : (w : Walk) (t : Transport) (client : Client) → w.transport ≡ t → Searched w (course_of client) → Names w (anchor_of client) → At w (events.stage_behind t) (course_of client)
 behind_stands w L2cap client is s n = record { names = n; is = s.is; direct = is }
-behind_stands w Rfcomm client is s n = record { one = s.one; way = muxed_way w (course_of client) n is ∙ ap (λ (xs : List Step). xs ++ OpenChannel client.psm ∷ []) (sym s.is) }
+behind_stands w Rfcomm client is s n = record { names = n; way = muxed_way w (course_of client) n is ∙ ap (λ (xs : List Step). xs ++ OpenChannel client.psm ∷ []) (sym s.is) }
 
 left_stands : (w : Walk) (cause : Option Outcome) (client : Client) → client.cause ≡ cause → Searched w (course_of client) → Stands w (events.search_left cause client)
 left_stands w None client is s = let n = s.names is in behind_stands w client.transport client (sym n.same) s n
@@ -484,7 +307,7 @@ closed_stands w Over psm cause client s c = c
 
 told_stands : (w : Walk) (stage : Stage) (client : Client) → At w stage (course_of client) → Stands w client → Stands w (if events.is_asking_features stage then record client { stage = ObjectChannel Due } else client)
 told_stands w (Features Asked) client s c =
-    record { one = few_one w.targets s.names.target s.names.only; way = direct_way w (course_of client) s.names s.direct ∙ ap (λ (xs : List Step). xs ++ OpenChannel client.psm ∷ []) (sym s.is) }
+    record { names = s.names; way = direct_way w (course_of client) s.names s.direct ∙ ap (λ (xs : List Step). xs ++ OpenChannel client.psm ∷ []) (sym s.is) }
 told_stands w (Features Due) client s c = c
 told_stands w Rest client s c = c
 told_stands w (Link point) client s c = c
@@ -530,7 +353,7 @@ psm_found w target (Some psm) client is t named s =
     record {
       one = few_one (w.targets ++ target ∷ []) target only;
       is = s.is;
-      names = λ e. record { same = s.same; target = target; number = psm; only = only; named = ap (λ (u : Transport). way_of u target) t ∙ named; psm_is = sym (ap (λ (u : Transport). psm_over u psm) t) };
+      names = λ e. record { same = s.same; target = target; number = psm; only = only; named = ap (λ (u : Transport). way_of u target) t ∙ named; psm_is = sym (ap (λ (u : Transport). psm_over u psm) t); channel_is = λ muxed. absurd (not_muxed (sym t ∙ muxed)) };
     }
 
 channel_found : (w : Walk) (target : Target) (found : Option ℕ) (client : Client) → client.stage ≡ Search → w.transport ≡ Rfcomm → way_of Rfcomm target ≡ found → Begins w first (course_of client)
@@ -541,7 +364,7 @@ channel_found w target (Some channel) client is t named s =
     record {
       one = few_one (w.targets ++ target ∷ []) target only;
       is = s.is;
-      names = λ e. record { same = s.same; target = target; number = channel; only = only; named = ap (λ (u : Transport). way_of u target) t ∙ named; psm_is = sym (ap (λ (u : Transport). psm_over u channel) t) };
+      names = λ e. record { same = s.same; target = target; number = channel; only = only; named = ap (λ (u : Transport). way_of u target) t ∙ named; psm_is = sym (ap (λ (u : Transport). psm_over u channel) t); channel_is = λ muxed. refl };
     }
 
 way_found : (w : Walk) (target : Target) (t : Transport) (client : Client) → client.stage ≡ Search → w.transport ≡ t → Begins w first (course_of client) → Stands (hearing w (target ∷ [])) (events.found_way t target client)
@@ -563,10 +386,11 @@ outside_stands : (w : Walk) (t : Transport) (client : Client) → Stands w clien
 outside_stands w L2cap client c = ends_stands w unawaited_response client c
 outside_stands w Rfcomm client c = c
 
-objects_stand : (w : Walk) (sdu : List ℕ) (client : Client) → Object ≡ client.stage → Stands w client → Stands w (events.hears_object client.transport sdu client)
-objects_stand w sdu client is c =
+objects_stand : (w : Walk) (sdu : List ℕ) (client : Client) → Object ≡ client.stage → HasChannel w (course_of client) → Stands w (events.hears_object client.transport sdu client)
+objects_stand w sdu client is s =
     let after = events.hears_object client.transport sdu client in
-    late_at w after.stage (course_of after) (object_late client.transport sdu client (subst IsLate is tt)) (on_way_at w client.stage (course_of client) c)
+    let late = object_late (anchor_of client) client.transport sdu client (subst IsLate is tt, refl) in
+    late_at w after.stage (course_of client) (course_of after) late.0 late.1 s
 
 sdu_stands : (w : Walk) (stage : Stage) (psm : ℕ) (sdu : List ℕ) (client : Client) → stage ≡ client.stage → At w stage (course_of client) → Stands w client
     → Stands (hearing w (if is_search stage && (psm == search_psm) then found_in (found_at client.query sdu) else [])) (events.sdu_at stage psm sdu client)
@@ -576,7 +400,7 @@ sdu_stands w (ObjectChannel point) psm sdu client is s c =
     none_heard w after (either (Stands w) (psm == client.psm) (events.hears_outside client.transport client) client (outside_stands w client.transport client c) c)
 sdu_stands w Object psm sdu client is s c =
     let after = if psm == client.psm then events.hears_object client.transport sdu client else client in
-    none_heard w after (either (Stands w) (psm == client.psm) (events.hears_object client.transport sdu client) client (objects_stand w sdu client is c) c)
+    none_heard w after (either (Stands w) (psm == client.psm) (events.hears_object client.transport sdu client) client (objects_stand w sdu client is s) c)
 sdu_stands w (ObjectEnd point) psm sdu client is s c =
     let after = if psm == client.psm then events.hears_outside client.transport client else client in
     none_heard w after (either (Stands w) (psm == client.psm) (events.hears_outside client.transport client) client (outside_stands w client.transport client c) c)
@@ -625,11 +449,11 @@ step_either : (w : Walk) (test : Bool) (a b : Stepped) → Steps w a → Steps w
 step_either w true a b x y = x
 step_either w false a b x y = y
 
-object_steps : (w : Walk) (client : Client) (parts : List Part) → Object ≡ client.stage → Stands w client → Steps w (steps_object client.transport client parts)
-object_steps w client parts is c =
+object_steps : (w : Walk) (client : Client) (parts : List Part) → Object ≡ client.stage → HasChannel w (course_of client) → Steps w (steps_object client.transport client parts)
+object_steps w client parts is s =
     let after = steps_object client.transport client parts in
-    let quiet = object_quiet client.transport client parts (subst IsLate is tt) in
-    subst (λ (xs : List Step). Stands (taking w xs) after.client) (sym quiet.1) (none_taken w after.client (late_at w after.client.stage (course_of after.client) quiet.0 (on_way_at w client.stage (course_of client) c)))
+    let quiet = object_quiet (anchor_of client) client.transport client parts (subst IsLate is tt, refl) in
+    subst (λ (xs : List Step). Stands (taking w xs) after.client) (sym quiet.1) (none_taken w after.client (late_at w after.client.stage (course_of client) (course_of after.client) quiet.0.0 quiet.0.1 s))
 
 tells_steps : (w : Walk) (cause : Option Outcome) (client : Client) (parts : List Part) → Stands w client → Steps w (tells_end cause client parts)
 tells_steps w None client parts c = none_taken w client c
@@ -650,11 +474,15 @@ at_steps w Search client parts is s c =
 at_steps w (SearchEnd Due) client parts is s c = given_at w (SearchEnd Asked) client s
 at_steps w (SearchEnd Asked) client parts is s c = none_taken w client c
 at_steps w (Features Due) client parts is s c =
-    let n = s.names in record { names = record { same = n.same; target = n.target; number = n.number; only = n.only; named = n.named; psm_is = n.psm_is }; is = ap (λ (xs : List Step). xs ++ AskFeatures ∷ []) s.is; direct = s.direct }
+    let n = s.names in record { names = record { same = n.same; target = n.target; number = n.number; only = n.only; named = n.named; psm_is = n.psm_is; channel_is = n.channel_is }; is = ap (λ (xs : List Step). xs ++ AskFeatures ∷ []) s.is; direct = s.direct }
 at_steps w (Features Asked) client parts is s c = none_taken w client c
-at_steps w (ObjectChannel Due) client parts is s c = record { one = s.one; behind = []; way = s.way ∙ sym (append-nil (w.taken ++ OpenChannel client.psm ∷ [])) }
+at_steps w (ObjectChannel Due) client parts is s c =
+    let n = s.names in record {
+      names = record { same = n.same; target = n.target; number = n.number; only = n.only; named = n.named; psm_is = n.psm_is; channel_is = n.channel_is };
+      way = record { one = few_one w.targets n.target n.only; behind = []; way = s.way ∙ sym (append-nil (w.taken ++ OpenChannel client.psm ∷ [])) };
+    }
 at_steps w (ObjectChannel Asked) client parts is s c = none_taken w client c
-at_steps w Object client parts is s c = object_steps w client parts is c
+at_steps w Object client parts is s c = object_steps w client parts is s
 at_steps w (ObjectEnd Due) client parts is s c = given_at w (ObjectEnd Asked) client s
 at_steps w (ObjectEnd Asked) client parts is s c = none_taken w client c
 at_steps w (LinkEnd Due) client parts is s c = given_at w (LinkEnd Asked) client s
@@ -683,15 +511,43 @@ deed_stands w (Asks parts) client c = unheard w (way_in (steps.steps client part
 deed_stands w Finishes client c = neither w (done Finishes client) c
 deed_stands w Cancels client c = neither w (done Cancels client) (either (Stands w) (may_cancel client) (ends outcomes.Cancelled client) client (ends_stands w outcomes.Cancelled client c) c)
 
-all_on_way : (w : Walk) (deeds : List Deed) (client : Client) → Stands w client → TakesTheWay w.transport (w.targets ++ targets_heard deeds client) (w.taken ++ way_taken deeds client)
-all_on_way w [] client c =
-    subst (λ (ts : List Target). TakesTheWay w.transport ts (w.taken ++ [])) (sym (append-nil w.targets)) (subst (TakesTheWay w.transport w.targets) (sym (append-nil w.taken)) (on_way_at w client.stage (course_of client) c))
-all_on_way w (deed ∷ deeds) client c =
+all_stand : (w : Walk) (deeds : List Deed) (client : Client) → Stands w client → Stands (record { transport = w.transport; targets = w.targets ++ targets_heard deeds client; taken = w.taken ++ way_taken deeds client }) (all_done deeds client)
+all_stand w [] client c =
+    subst (λ (ts : List Target). Stands (record { transport = w.transport; targets = ts; taken = w.taken ++ [] }) client) (sym (append-nil w.targets))
+    (subst (λ (xs : List Step). Stands (record { transport = w.transport; targets = w.targets; taken = xs }) client) (sym (append-nil w.taken)) c)
+all_stand w (deed ∷ deeds) client c =
     let w' = behind_deed w deed client in
-    let later = all_on_way w' deeds (done deed client) (deed_stands w deed client c) in
-    subst (λ (ts : List Target). TakesTheWay w.transport ts (w.taken ++ way_taken (deed ∷ deeds) client)) (append_assoc w.targets (targets_by deed client) (targets_heard deeds (done deed client)))
-    (subst (TakesTheWay w.transport (w'.targets ++ targets_heard deeds (done deed client))) (append_assoc w.taken (way_by deed client) (way_taken deeds (done deed client))) later)
+    let after = all_done deeds (done deed client) in
+    let later = all_stand w' deeds (done deed client) (deed_stands w deed client c) in
+    subst (λ (ts : List Target). Stands (record { transport = w.transport; targets = ts; taken = w.taken ++ way_taken (deed ∷ deeds) client }) after) (append_assoc w.targets (targets_by deed client) (targets_heard deeds (done deed client)))
+    (subst (λ (xs : List Step). Stands (record { transport = w.transport; targets = w'.targets ++ targets_heard deeds (done deed client); taken = xs }) after) (append_assoc w.taken (way_by deed client) (way_taken deeds (done deed client))) later)
+
+begun_stands : (client : Client) (name : List ℕ) (size : ℕ) (deeds : List Deed)
+    → (let begun : Client = with_object name size client in Stands (record { transport = client.transport; targets = targets_heard deeds begun; taken = way_taken deeds begun }) (all_done deeds begun))
+begun_stands client name size deeds = all_stand (record { transport = client.transport; targets = []; taken = [] }) deeds (with_object name size client) (record { same = refl; none = refl; is = refl })
 
 pub opens-the_target : OpensTheTarget
 opens-the_target client name size deeds =
-    all_on_way (record { transport = client.transport; targets = []; taken = [] }) deeds (with_object name size client) (record { same = refl; none = refl; is = refl })
+    let begun : Client = with_object name size client in
+    let after = all_done deeds begun in
+    on_way_at (record { transport = client.transport; targets = targets_heard deeds begun; taken = way_taken deeds begun }) after.stage (course_of after) (begun_stands client name size deeds)
+
+-- ---- the server channel
+
+opened_at : (w : Walk) (stage : Stage) (c : Course) → is_object stage ≡ true → At w stage c → HasChannel w c
+opened_at w stage c works s = subst (λ (x : Stage). At w x c) (object_of stage works) s
+
+pub opens-the_server_channel : OpensTheServerChannel
+opens-the_server_channel client name size deeds muxed works =
+    let begun : Client = with_object name size client in
+    let after = all_done deeds begun in
+    let w : Walk = record { transport = client.transport; targets = targets_heard deeds begun; taken = way_taken deeds begun } in
+    let has = opened_at w after.stage (course_of after) works (begun_stands client name size deeds) in
+    let n = has.names in
+    record {
+      target = n.target;
+      number = n.number;
+      heard = n.only;
+      named = ap (λ (t : Transport). way_of t n.target) (sym muxed) ∙ n.named;
+      dlci = has.dlci muxed ∙ ap (λ (k : ℕ). 2 * k) (n.channel_is muxed);
+    }

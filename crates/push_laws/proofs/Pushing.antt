@@ -266,7 +266,9 @@ hears_stands w sent packet client s = response_at w sent (answer_at client.sessi
 
 pub kept : (w : Task) (sent : List (List ℕ)) → Kept (Stands w sent)
 kept w sent = record {
-  ends = λ outcome t free none s. (s.0, ends_state w sent outcome t.contact t.session t.session t.name t.size (suits_any outcome t.session free) (λ e. e) (λ e. e) (subst (λ (c : Option Outcome). State w sent c t.contact t.session t.name t.size) none s.1));
+  unheard = record {
+    ends = λ outcome t free none s. (s.0, ends_state w sent outcome t.contact t.session t.session t.name t.size (suits_any outcome t.session free) (λ e. e) (λ e. e) (subst (λ (c : Option Outcome). State w sent c t.contact t.session t.name t.size) none s.1));
+    opens = λ limit t least most s. (record { maximum = s.0.maximum; wanted = s.0.wanted; name_is = s.0.name_is; size_is = s.0.size_is; short = s.0.short; small = s.0.small; least = least; most = most }, s.1);
+  };
   hears = λ packet client s. hears_stands w sent packet client s;
-  opens = λ limit t least most s. (record { maximum = s.0.maximum; wanted = s.0.wanted; name_is = s.0.name_is; size_is = s.0.size_is; short = s.0.short; small = s.0.small; least = least; most = most }, s.1);
 }

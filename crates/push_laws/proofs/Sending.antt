@@ -27,7 +27,7 @@ use Rattle.push_model.specs.Responding.{is_object}
 use Rattle.push_model.specs.Steps as steps
 use Rattle.push_model.specs.Steps.{Part, Stepped, Made, Ask, Connect, Put, Abort, Disconnect, Close, Nothing, next_ask, may_ask, put_count, puts_part, puts_from, puts, leaves_by, failing, puts_or_leaves, requests, sends_direct, asks_direct, steps_direct, filled, said_by, says, sends_muxed, takes_some, asks_muxed, goes_muxed, steps_muxed, steps_object, tells_end, steps_at, rests, sends_sdu}
 use Rattle.push_laws.specs.Sending.{packet_of, packet_asked, packets_behind, packets_muxed, packets_through, packets_by, packets_sent, sdus_of, Answers, AnswersTo, AllAnswer, SendsOnePush}
-use Rattle.push_laws.proofs.Talks.{Talk, talk_of, news_keeps}
+use Rattle.push_laws.proofs.Talks.{Talk, talk_of, object_of, news_keeps}
 use Rattle.push_laws.proofs.Pushing.{Task, HasSent, Fixed, Fresh, Gone, Stands, Suits, suits_any, is_gone, sent_of, ends_stands, kept}
 use Rattle.push_laws.proofs.Asking.{Told, whence, closes, connects, aborts, leaves, puts_stand, left_caused}
 
@@ -265,19 +265,6 @@ over_both w sent Rfcomm client parts is free works t answers s =
     (cond-true (is_object client.stage) (packets_through client.transport client parts) [] works ∙ ap (λ (x : Transport). packets_through x client parts) (sym t) ∙ cond-false (client.failed || client.given) [] (packets_muxed client parts) free)
     (over_rfcomm w sent client parts answers s)
 
-pub object_of : (stage : Stage) → is_object stage ≡ true → stage ≡ Object
-object_of Object e = refl
-object_of Rest e = absurd (let f : false ≡ true = e in cc)
-object_of (Link point) e = absurd (let f : false ≡ true = e in cc)
-object_of (SearchChannel point) e = absurd (let f : false ≡ true = e in cc)
-object_of Search e = absurd (let f : false ≡ true = e in cc)
-object_of (SearchEnd point) e = absurd (let f : false ≡ true = e in cc)
-object_of (Features point) e = absurd (let f : false ≡ true = e in cc)
-object_of (ObjectChannel point) e = absurd (let f : false ≡ true = e in cc)
-object_of (ObjectEnd point) e = absurd (let f : false ≡ true = e in cc)
-object_of (LinkEnd point) e = absurd (let f : false ≡ true = e in cc)
-object_of Over e = absurd (let f : false ≡ true = e in cc)
-
 freely : (client : Client) (parts : List Part) → client.failed ≡ false → client.given ≡ false → steps.steps client parts ≡ steps_at client.stage client parts
 freely client parts f g =
     let lacking : Stepped = record { client = client; step = steps.NoMemory; left = parts } in
@@ -322,14 +309,14 @@ cancels : (w : Task) (sent : List (List ℕ)) (may : Bool) (client : Client) →
 cancels w sent true client is s = ends_stands w sent outcomes.Cancelled client (λ e. cancel_suits client (sym is)) s
 cancels w sent false client is s = s
 
-deed_stands : (w : Task) (sent : List (List ℕ)) (deed : Deed) (client : Client) → AnswersTo w.content deed client → Stands w sent (talk_of client) → Stands w (sent ++ packets_by deed client) (talk_of (done deed client))
+pub deed_stands : (w : Task) (sent : List (List ℕ)) (deed : Deed) (client : Client) → AnswersTo w.content deed client → Stands w sent (talk_of client) → Stands w (sent ++ packets_by deed client) (talk_of (done deed client))
 unfolding Steps
 deed_stands w sent (Hears news) client answers s = nothing_more w sent (talk_of (done (Hears news) client)) (news_keeps (Stands w sent) (kept w sent) news client s)
 deed_stands w sent (Asks parts) client answers s = steps_by w sent client.failed client.given (is_object client.stage) client parts refl refl refl answers s
 deed_stands w sent Finishes client answers s = nothing_more w sent (talk_of client) s
 deed_stands w sent Cancels client answers s = nothing_more w sent (talk_of (done Cancels client)) (cancels w sent (may_cancel client) client refl s)
 
-all_stand : (w : Task) (sent : List (List ℕ)) (deeds : List Deed) (client : Client) → AllAnswer w.content deeds client → Stands w sent (talk_of client) → Stands w (sent ++ packets_sent deeds client) (talk_of (all_done deeds client))
+pub all_stand : (w : Task) (sent : List (List ℕ)) (deeds : List Deed) (client : Client) → AllAnswer w.content deeds client → Stands w sent (talk_of client) → Stands w (sent ++ packets_sent deeds client) (talk_of (all_done deeds client))
 all_stand w sent [] client answers s = nothing_more w sent (talk_of client) s
 all_stand w sent (deed ∷ deeds) client answers s =
     subst (λ (xs : List (List ℕ)). Stands w xs (talk_of (all_done deeds (done deed client)))) (append_assoc sent (packets_by deed client) (packets_sent deeds (done deed client)))

@@ -1,8 +1,8 @@
 -- Where requests come in turn none is ignored.
-use Rattle.std.proofs.Common.{inl, inr, zero, suc, Bool, true, false, cond, ◌||◌, ◌&&◌, ◌≡◌, ◌≤◌, ℕ, List, [], ◌∷◌, ◌++◌, length, drop, Option, Some, None, Ok, arith, refl, sym, ap, subst, ◌∙◌}
+use Rattle.std.proofs.Common.{Bool, true, false, cond, ◌||◌, ◌&&◌, ◌≡◌, ◌≤◌, ℕ, List, [], ◌∷◌, ◌++◌, length, Option, Some, None, Ok, arith, refl, sym, ap, subst, ◌∙◌}
 use Rattle.std.specs.Prelude.{not, nat_lt}
-use Rattle.std.specs.List.{filter_map, AllByRecursion}
-use Rattle.std.proofs.lemmas.Bool.{cond_both, cond-false, cases_Bool}
+use Rattle.std.specs.List.{AllByRecursion}
+use Rattle.std.proofs.lemmas.Bool.{cond_both, cond-false}
 use Rattle.bt_base.specs.declared.settings.Settings.{Settings}
 use Rattle.bt_base.specs.declared.settings.Transport.{Transport}
 use Rattle.bt_base.specs.declared.settings.Transport.TheVariants.{L2cap, Rfcomm}
@@ -20,35 +20,29 @@ use Rattle.obex_session.specs.Serving.{kind_heard, verdict_or, ruling_on, heard_
 use Rattle.obex_session.specs.Turns.{course_after}
 use Rattle.obex_session.specs.Views.{rested, octets_said, is_silent}
 use Rattle.obex_session.proofs.GrantedLaws.{silence_is_none, said_alike, no_aborts}
-use Rattle.rfcomm_frames.specs.declared.connection.Role.TheVariants.{Initiator, Responder}
 use Rattle.rfcomm_frames.specs.FrameReading.{is_empty}
 use Rattle.rfcomm_frames.specs.Frames.{PlainFrame}
-use Rattle.rfcomm_frames.specs.ObexPackets.{obex_packets}
-use Rattle.rfcomm_frames.specs.UserChannel.{user_octets}
-use Rattle.rfcomm_model.specs.Machine.{Mux, new_mux, reset, is_ready}
-use Rattle.rfcomm_model.specs.ClosedSides.{IsOrderly}
-use Rattle.rfcomm_model.specs.Saying.{Said, next}
-use Rattle.link_talk.specs.Gains.{beyond}
+use Rattle.rfcomm_model.specs.Machine.{Mux}
 use Rattle.push_model.specs.declared.outlet.Outlet.{Outlet}
 use Rattle.push_model.specs.declared.outlet.Outlet.TheVariants.{Records, Direct, Muxed}
 use Rattle.push_model.specs.Client.{own_maximum}
 use Rattle.push_model.specs.Listening.{Listener, has_bad_length}
-use Rattle.push_model.specs.Service.{Service, Served, response_over, after_heard, is_ignored, hears_packet}
+use Rattle.push_model.specs.Service.{Service, Served, response_over, after_heard, is_ignored}
 use Rattle.push_model.specs.Sessions as model
 use Rattle.push_model.specs.Sessions.{Sessions, Gift, session_of, has_object, lets_go, answers_to, is_naming, hears}
-use Rattle.push_model.specs.Server.{Server, Reacted, Lent, hears_on, leaves_with, framed_by, framed, outlet_of, lends_by, frame_lent, lent_by, taken_by, closed_on, lets_go_on, remuxed, unreplied, unanswered, object_psm, rfcomm_psm}
+use Rattle.push_model.specs.Server.{Server, Reacted, Lent, hears_search, hears_on, lends_by, frame_lent, lent_by, taken_by, closed_on, lets_go_on, remuxed, unreplied, unanswered, object_psm, rfcomm_psm}
 use Rattle.push_laws.specs.Calls.{new_session}
 use Rattle.push_laws.specs.Laws.{new_over}
 use Rattle.push_laws.specs.Occurrences.{Occurrence, Came, Went, Closed, LinkDown, Asked, Answering, done}
 use Rattle.push_laws.specs.Premises.{IsHeard, AllGranted, MayCome, AllMayCome, new_packets}
-use Rattle.push_laws.specs.Readings.{closes, since, came_on, passed_by, packets_over, user_dlci}
+use Rattle.push_laws.specs.Readings.{closes, came_on, packets_over}
 use Rattle.push_laws.specs.Turns.{serving, in_silence, due_behind, InTurn, TakesTurn, AllTakeTurns, NoRequestIsIgnored}
 use Rattle.push_laws.proofs.Answering.{come_granted, response_behind}
+use Rattle.push_laws.proofs.Calm.{Calm, IsCalm, first_calm, calm_same, came_calm, went_calm, closed_calm, down_calm, lends_calm, is_orderly, silent_stream, none_direct, one_direct, none_muxed}
 use Rattle.push_laws.proofs.Codes.{said_to}
 use Rattle.push_laws.proofs.Gaining.{unfailed, taken_all, Clear, clear_more, first_holds, clean}
-use Rattle.push_laws.proofs.Readings.{read_more, read_same, read_closed, drop_front, drop_same}
+use Rattle.push_laws.proofs.Readings.{read_more, read_same, read_closed}
 use Rattle.push_laws.proofs.Servers.{by_psm}
-use Rattle.push_laws.proofs.Streams.{no_packets}
 
 -- ---- the session is the one that the packets leave
 
@@ -56,7 +50,7 @@ rest_behind : (packets : List (List ℕ)) (session : Serving) → rested (sessio
 rest_behind [] session = refl
 rest_behind (packet ∷ packets) session = rest_behind packets (heard_with session packet []).session
 
-behind_more : (packets : List (List ℕ)) (packet : List ℕ) (session : Serving) → session_behind session (packets ++ packet ∷ []) ≡ (heard_with (session_behind session packets) packet []).session
+pub behind_more : (packets : List (List ℕ)) (packet : List ℕ) (session : Serving) → session_behind session (packets ++ packet ∷ []) ≡ (heard_with (session_behind session packets) packet []).session
 behind_more [] packet session = refl
 behind_more (first ∷ packets) packet session = behind_more packets packet (heard_with session first []).session
 
@@ -82,46 +76,14 @@ over_sessions : (response : List ℕ) (service : Service) → (response_over L2c
 over_sessions [] service = refl
 over_sessions (octet ∷ octets) service = refl
 
-over_answer : (response : List ℕ) (service : Service) → (response_over L2cap response service).answer ≡ service.answer
-over_answer [] service = refl
-over_answer (octet ∷ octets) service = refl
-
-answer_stays : (packet : List ℕ) (service : Service) (gift : Gift) → (hears_packet L2cap packet service gift).service.answer ≡ service.answer
-answer_stays packet service gift =
-    cond_both (is_ignored L2cap packet service) _ _ (λ (s : Served). s.service.answer ≡ service.answer)
-    (λ ignored. refl)
-    (λ taken. let h = hears L2cap packet service.sessions gift in over_answer h.response (record service { sessions = h.sessions; failed = service.failed || h.short }))
-
--- ---- nothing passed over the multiplexer
-
-record Fresh (m : Mux) : Type 0 where
-  pub dlci : ℕ
-  pub largest : ℕ
-  pub own : ℕ
-  pub cap : ℕ
-  pub is : m ≡ new_mux Responder dlci largest own cap
-
-reset_fresh : (m : Mux) → Fresh m → Fresh (reset m.largest m)
-reset_fresh m f = record { dlci = f.dlci; largest = f.largest; own = m.largest; cap = f.cap; is = ap (reset m.largest) f.is }
-
-says_nothing : (m : Mux) → Fresh m → next m ≡ None
-says_nothing m f = ap next f.is
-
-is_orderly : (m : Mux) → Fresh m → IsOrderly m.closed
-is_orderly m f = subst (λ (n : Mux). IsOrderly n.closed) (sym f.is) tt
-
 -- ---- what stands behind a list of occurrences
 
-record Still (settings : Settings) (past : List Occurrence) (due : Bool) (listener : Listener) (mux : Mux) (frame : Option PlainFrame) : Type 0 where
-  pub answer : listener.service.answer ≡ []
-  pub unbroken : listener.breaks ≡ false
-  pub no_frame : frame ≡ None
-  pub fresh : Fresh mux
+pub record Still (settings : Settings) (past : List Occurrence) (due : Bool) (listener : Listener) (mux : Mux) (frame : Option PlainFrame) : Type 0 where
+  pub calm : Calm past listener mux frame
   pub free : due ≡ false → listener.service.response ≡ []
   pub session : listener.service.sessions.direct ≡ serving settings past
-  pub quiet : filter_map passed_by (since rfcomm_psm past) ≡ []
 
-abbrev Stands : Settings → List Occurrence → Bool → Server → Type 0
+abbrev pub Stands : Settings → List Occurrence → Bool → Server → Type 0
 Stands settings past due server = Still settings past due server.listener server.mux server.frame
 
 or_false : (a : Bool) → (a || false) ≡ a
@@ -146,33 +108,14 @@ taken_in_turn false silent response answer free none turn =
     ap (λ (r : List ℕ). (not (is_empty r) || not (is_empty answer)) && not silent) (free refl) ∙ ap (λ (a : List ℕ). not (is_empty a) && not silent) none
 taken_in_turn true silent response answer free none turn = ap (λ (b : Bool). (not (is_empty response) || not (is_empty answer)) && b) turn ∙ and_false (not (is_empty response) || not (is_empty answer))
 
-drop_none : (n : ℕ) (xs : List (List ℕ)) → xs ≡ [] → drop n xs ≡ []
-drop_none zero xs e = e
-drop_none (suc n) xs e = ap (drop (suc n)) e
-
 module _ (settings : Settings) (before : List Object) (past : List Occurrence) where
-  silent_stream : (os : List Occurrence) → filter_map passed_by (since rfcomm_psm os) ≡ [] → packets_over Rfcomm os ≡ []
-  silent_stream os quiet = ap (λ xs. obex_packets (user_octets user_dlci Responder Initiator xs)) quiet ∙ no_packets
-
-  quiet_more : (one : Occurrence) → passed_by one ≡ None → filter_map passed_by (since rfcomm_psm past) ≡ [] → filter_map passed_by (since rfcomm_psm (past ++ one ∷ [])) ≡ []
-  quiet_more one none quiet =
-      elim (cases_Bool (closes rfcomm_psm one)) [ inl e ↦ read_closed passed_by rfcomm_psm past one e | inr e ↦ read_same passed_by rfcomm_psm past one e none ∙ quiet ]
-
-  same_session : (one : Occurrence) → closes object_psm one ≡ false → came_on object_psm one ≡ None → serving settings past ≡ serving settings (past ++ one ∷ [])
+  pub same_session : (one : Occurrence) → closes object_psm one ≡ false → came_on object_psm one ≡ None → serving settings past ≡ serving settings (past ++ one ∷ [])
   same_session one on none = ap (session_behind (new_session (own_maximum L2cap settings) settings.srm)) (sym (read_same (came_on object_psm) object_psm past one on none))
 
   -- an occurrence that is none of the session's
-  same_still : (one : Occurrence) (due due' : Bool) (listener : Listener) (mux : Mux) (frame : Option PlainFrame) → closes object_psm one ≡ false → came_on object_psm one ≡ None → passed_by one ≡ None → due' ≡ due
-      → Still settings past due listener mux frame → Still settings (past ++ one ∷ []) due' listener mux frame
-  same_still one due due' listener mux frame on none away same s = record {
-    answer = s.answer;
-    unbroken = s.unbroken;
-    no_frame = s.no_frame;
-    fresh = s.fresh;
-    free = λ e. s.free (sym same ∙ e);
-    session = s.session ∙ same_session one on none;
-    quiet = quiet_more one away s.quiet;
-  }
+  same_still : (one : Occurrence) (due due' : Bool) (server new : Server) → closes object_psm one ≡ false → came_on object_psm one ≡ None → due' ≡ due → new.listener.service.response ≡ server.listener.service.response
+      → new.listener.service.sessions.direct ≡ server.listener.service.sessions.direct → IsCalm (past ++ one ∷ []) new → Stands settings past due server → Stands settings (past ++ one ∷ []) due' new
+  same_still one due due' server new on none same response session calm s = record { calm = calm; free = λ e. response ∙ s.free (sym same ∙ e); session = session ∙ s.session ∙ same_session one on none }
 
   rested_now : (one : Occurrence) (session : Serving) → closes object_psm one ≡ true → session ≡ serving settings past → rested session ≡ serving settings (past ++ one ∷ [])
   rested_now one session closing is =
@@ -183,13 +126,13 @@ module _ (settings : Settings) (before : List Object) (past : List Occurrence) w
 
   request_taken : (due : Bool) (sdu : List ℕ) (at : Reacted) → Stands settings past due at.server → (due && not (in_silence settings past sdu)) ≡ false → is_ignored L2cap sdu at.server.listener.service ≡ false
   request_taken due sdu at s turn =
-      taken_in_turn due (is_silent at.server.listener.service.sessions.direct sdu) at.server.listener.service.response at.server.listener.service.answer s.free s.answer
+      taken_in_turn due (is_silent at.server.listener.service.sessions.direct sdu) at.server.listener.service.response at.server.listener.service.answer s.free s.calm.answer
       (ap (λ (x : Serving). due && not (is_silent x sdu)) s.session ∙ turn)
 
   heard_now : (due : Bool) (sdu : List ℕ) (at : Reacted) → Stands settings past due at.server → is_ignored L2cap sdu at.server.listener.service ≡ false → IsHeard settings past at.server.listener.service L2cap sdu
   heard_now due sdu at s taken = record {
     taken = taken;
-    alone = λ named. ap (λ (ps : List (List ℕ)). nat_lt 0 (length (names (open_headers (own_maximum Rfcomm settings) (without_fault ps))))) (silent_stream past s.quiet);
+    alone = λ named. ap (λ (ps : List (List ℕ)). nat_lt 0 (length (names (open_headers (own_maximum Rfcomm settings) (without_fault ps))))) (silent_stream past s.calm.quiet);
   }
 
   request_still : (due : Bool) (sdu : List ℕ) (at : Reacted) → Clear settings before past at → Stands settings past due at.server → (due && not (in_silence settings past sdu)) ≡ false
@@ -203,10 +146,7 @@ module _ (settings : Settings) (before : List Object) (past : List Occurrence) w
       let come = come_granted (ruling_on session sdu).calls at.gift.answers c.spared in
       let now = response_behind sdu service at.gift is.taken is.alone in
       record {
-        answer = answer_stays sdu service at.gift ∙ s.answer;
-        unbroken = s.unbroken;
-        no_frame = s.no_frame;
-        fresh = s.fresh;
+        calm = came_calm past sdu at s.calm 0x1001 (λ e. no_both e);
         free = λ e.
             let both = neither due (not (in_silence settings past sdu)) e in
             let silent : is_silent session sdu ≡ true = ap (λ (x : Serving). is_silent x sdu) s.session ∙ silent_of (in_silence settings past sdu) both.1 in
@@ -219,24 +159,46 @@ module _ (settings : Settings) (before : List Object) (past : List Occurrence) w
             ∙ ap (λ (x : Serving). (heard_with x sdu []).session) s.session
             ∙ sym (behind_more (packets_over L2cap past) sdu (new_session (own_maximum L2cap settings) settings.srm))
             ∙ ap (session_behind (new_session (own_maximum L2cap settings) settings.srm)) (sym (read_more (came_on object_psm) object_psm past (Came 0x1001 sdu) refl));
-        quiet = quiet_more (Came 0x1001 sdu) refl s.quiet;
       }
+    where
+      no_both : 0x1001 ≡ rfcomm_psm → ⊥
+      no_both e = cc
+
+  -- what the session is behind it
+  pub serving_more : (sdu : List ℕ) → serving settings (past ++ Came 0x1001 sdu ∷ []) ≡ (heard_with (serving settings past) sdu []).session
+  serving_more sdu =
+      ap (session_behind (new_session (own_maximum L2cap settings) settings.srm)) (read_more (came_on object_psm) object_psm past (Came 0x1001 sdu) refl)
+      ∙ behind_more (packets_over L2cap past) sdu (new_session (own_maximum L2cap settings) settings.srm)
+
+  -- and the response that waits
+  pub response_now : (due : Bool) (sdu : List ℕ) (at : Reacted) → Clear settings before past at → Stands settings past due at.server → (due && not (in_silence settings past sdu)) ≡ false
+      → (let r : List ℕ = octets_said sdu (serving settings past).maximum (heard_with (serving settings past) sdu []).saying in
+      (hears_on 0x1001 sdu at.server at.gift).server.listener.service.response ≡ cond (is_empty r) at.server.listener.service.response r)
+  response_now due sdu at c s turn =
+      let service : Service = at.server.listener.service in
+      let is = (taken_all settings before past at c.holds L2cap (sdu ∷ []) (heard_now due sdu at s (request_taken due sdu at s turn), tt)).0 in
+      response_behind sdu service at.gift is.taken is.alone
+      ∙ ap (λ (r : List ℕ). cond (is_empty r) service.response r)
+      (ap (λ x. octets_said sdu service.sessions.direct.maximum x) (said_alike service.sessions.direct sdu at.gift.answers (come_granted (ruling_on service.sessions.direct sdu).calls at.gift.answers c.spared))
+      ∙ ap (λ (x : Serving). octets_said sdu x.maximum (heard_with x sdu []).saying) s.session)
 
   came_still : (due : Bool) (sdu : List ℕ) (at : Reacted) → Clear settings before past at → Stands settings past due at.server → (psm : ℕ) → InTurn settings past due (Came psm sdu)
       → Stands settings (past ++ Came psm sdu ∷ []) (due_behind settings past due (Came psm sdu)) (hears_on psm sdu at.server at.gift).server
   came_still due sdu at c s psm =
       by_psm (λ p. InTurn settings past due (Came p sdu) → Stands settings (past ++ Came p sdu ∷ []) (due_behind settings past due (Came p sdu)) (hears_on p sdu at.server at.gift).server)
-      (λ turn.
-      cond_both (is_empty at.server.reply) _ _ (λ (x : Server). Stands settings (past ++ Came 0x0001 sdu ∷ []) (due || false) x)
-      (λ e. same_still (Came 0x0001 sdu) due (due || false) at.server.listener at.server.mux at.server.frame refl refl refl (or_false due) s)
-      (λ e. same_still (Came 0x0001 sdu) due (due || false) at.server.listener at.server.mux at.server.frame refl refl refl (or_false due) s))
+      (λ turn. same_still (Came 0x0001 sdu) due (due || false) at.server (hears_search sdu at.server) refl refl (or_false due) (search_same sdu at.server).0 (search_same sdu at.server).1 (came_calm past sdu at s.calm 0x0001 turn.0) s)
       (λ turn. absurd (turn.0 refl))
       (λ turn. request_still due sdu at c s (turn.1 refl))
       (λ p x y z turn.
       subst (λ (r : Reacted). Stands settings (past ++ Came p sdu ∷ []) (due_behind settings past due (Came p sdu)) r.server)
       (sym (cond-false _ _ _ x ∙ (cond-false _ _ _ y ∙ cond-false _ _ (let r : Reacted = record { server = at.server; gift = at.gift } in r) z)))
-      (same_still (Came p sdu) due (due_behind settings past due (Came p sdu)) at.server.listener at.server.mux at.server.frame refl (cond-false _ _ _ z) (cond-false _ _ _ y) (ap (λ (b : Bool). due || (b && not (in_silence settings past sdu))) z ∙ or_false due) s))
+      (same_still (Came p sdu) due (due_behind settings past due (Came p sdu)) at.server at.server refl (cond-false _ _ _ z) (ap (λ (b : Bool). due || (b && not (in_silence settings past sdu))) z ∙ or_false due) refl refl
+      (calm_same past (Came p sdu) at.server.listener at.server.mux at.server.frame (cond-false _ _ _ y) s.calm) s))
       psm
+    where
+      search_same : (sdu : List ℕ) (server : Server) → ((hears_search sdu server).listener.service.response ≡ server.listener.service.response) × ((hears_search sdu server).listener.service.sessions.direct ≡ server.listener.service.sessions.direct)
+      search_same sdu server =
+          cond_both (is_empty server.reply) _ _ (λ (x : Server). (x.listener.service.response ≡ server.listener.service.response) × (x.listener.service.sessions.direct ≡ server.listener.service.sessions.direct)) (λ e. (refl, refl)) (λ e. (refl, refl))
 
   -- ---- an SDU goes
 
@@ -249,20 +211,16 @@ module _ (settings : Settings) (before : List Object) (past : List Occurrence) w
   went_still : (due : Bool) (o : Option Outlet) (psm : ℕ) (sdu : List ℕ) (server : Server) (lent : Lent) → lent_by o server ≡ Some lent → lent.psm ≡ psm → Stands settings past due server
       → Stands settings (past ++ Went psm sdu ∷ []) (due_behind settings past due (Went psm sdu)) (taken_by o server)
   went_still due None psm sdu server lent e p s = absurd (no_lent lent e)
+  went_still due (Some Muxed) psm sdu server lent e p s = absurd (no_lent lent (sym (ap frame_lent s.calm.no_frame) ∙ e))
   went_still due (Some Records) psm sdu server lent e p s =
       subst (λ (n : ℕ). Stands settings (past ++ Went n sdu ∷ []) (due_behind settings past due (Went n sdu)) (taken_by (Some Records) server)) (ap (λ (l : Lent). l.psm) (same_lent _ lent e) ∙ p)
-      (same_still (Went 0x0001 sdu) due due server.listener server.mux server.frame refl refl refl refl s)
-  went_still due (Some Muxed) psm sdu server lent e p s = absurd (no_lent lent (sym (ap frame_lent s.no_frame) ∙ e))
+      (same_still (Went 0x0001 sdu) due due server (taken_by (Some Records) server) refl refl refl refl refl (went_calm past (Some Records) 0x0001 sdu server lent e (sym (ap (λ (l : Lent). l.psm) (same_lent _ lent e))) s.calm) s)
   went_still due (Some Direct) psm sdu server lent e p s =
       subst (λ (n : ℕ). Stands settings (past ++ Went n sdu ∷ []) (due_behind settings past due (Went n sdu)) (taken_by (Some Direct) server)) (ap (λ (l : Lent). l.psm) (same_lent _ lent e) ∙ p)
       (record {
-        answer = s.answer;
-        unbroken = s.unbroken;
-        no_frame = s.no_frame;
-        fresh = s.fresh;
+        calm = went_calm past (Some Direct) 0x1001 sdu server lent e (sym (ap (λ (l : Lent). l.psm) (same_lent _ lent e))) s.calm;
         free = λ e. refl;
         session = s.session ∙ same_session (Went 0x1001 sdu) refl refl;
-        quiet = quiet_more (Went 0x1001 sdu) refl s.quiet;
       })
 
   -- ---- a channel is closed
@@ -270,29 +228,13 @@ module _ (settings : Settings) (before : List Object) (past : List Occurrence) w
   closed_still : (due : Bool) (at : Reacted) → Stands settings past due at.server → (psm : ℕ) → Stands settings (past ++ Closed psm ∷ []) (due_behind settings past due (Closed psm)) (closed_on psm at.server at.gift).server
   closed_still due at s psm =
       by_psm (λ p. Stands settings (past ++ Closed p ∷ []) (due_behind settings past due (Closed p)) (closed_on p at.server at.gift).server)
-      (same_still (Closed 0x0001) due due at.server.listener at.server.mux at.server.frame refl refl refl refl s)
-      (record {
-        answer = refl;
-        unbroken = refl;
-        no_frame = refl;
-        fresh = reset_fresh at.server.mux s.fresh;
-        free = s.free;
-        session = s.session ∙ same_session (Closed 0x0003) refl refl;
-        quiet = quiet_more (Closed 0x0003) refl s.quiet;
-      })
-      (record {
-        answer = s.answer;
-        unbroken = s.unbroken;
-        no_frame = s.no_frame;
-        fresh = s.fresh;
-        free = λ e. refl;
-        session = rested_now (Closed 0x1001) at.server.listener.service.sessions.direct refl s.session;
-        quiet = quiet_more (Closed 0x1001) refl s.quiet;
-      })
+      (same_still (Closed 0x0001) due due at.server (closed_on 0x0001 at.server at.gift).server refl refl refl refl refl (closed_calm past at s.calm 0x0001) s)
+      (same_still (Closed 0x0003) due due at.server (closed_on 0x0003 at.server at.gift).server refl refl refl refl refl (closed_calm past at s.calm 0x0003) s)
+      (record { calm = closed_calm past at s.calm 0x1001; free = λ e. refl; session = rested_now (Closed 0x1001) at.server.listener.service.sessions.direct refl s.session })
       (λ p x y z.
       subst (λ (r : Reacted). Stands settings (past ++ Closed p ∷ []) (due_behind settings past due (Closed p)) r.server)
       (sym (cond-false _ _ _ x ∙ (cond-false _ _ _ y ∙ cond-false _ _ (let r : Reacted = record { server = at.server; gift = at.gift } in r) z)))
-      (same_still (Closed p) due (due_behind settings past due (Closed p)) at.server.listener at.server.mux at.server.frame z refl refl (cond-false _ _ _ z) s))
+      (same_still (Closed p) due (due_behind settings past due (Closed p)) at.server at.server z refl (cond-false _ _ _ z) refl refl (calm_same past (Closed p) at.server.listener at.server.mux at.server.frame refl s.calm) s))
       psm
 
   down_still : (due : Bool) (at : Reacted) → Stands settings past due at.server → (let first : Reacted = lets_go_on L2cap (unanswered at.server) at.gift in
@@ -300,32 +242,19 @@ module _ (settings : Settings) (before : List Object) (past : List Occurrence) w
   down_still due at s =
       let first : Reacted = lets_go_on L2cap (unanswered at.server) at.gift in
       let session = rested_now LinkDown at.server.listener.service.sessions.direct refl s.session in
-      cond_both first.server.listener.service.failed first (lets_go_on Rfcomm (remuxed (unreplied first.server)) first.gift) (λ (r : Reacted). Stands settings (past ++ LinkDown ∷ []) false r.server)
-      (λ e. record { answer = s.answer; unbroken = s.unbroken; no_frame = s.no_frame; fresh = s.fresh; free = λ f. refl; session = session; quiet = quiet_more LinkDown refl s.quiet })
-      (λ e. record { answer = refl; unbroken = refl; no_frame = refl; fresh = reset_fresh at.server.mux s.fresh; free = λ f. refl; session = session; quiet = quiet_more LinkDown refl s.quiet })
+      cond_both first.server.listener.service.failed first (lets_go_on Rfcomm (remuxed (unreplied first.server)) first.gift) (λ (r : Reacted). IsCalm (past ++ LinkDown ∷ []) r.server → Stands settings (past ++ LinkDown ∷ []) false r.server)
+      (λ e calm. record { calm = calm; free = λ f. refl; session = session }) (λ e calm. record { calm = calm; free = λ f. refl; session = session }) (down_calm past at s.calm)
 
   -- ---- it is asked for an SDU: nothing goes by the multiplexer
 
-  framed_still : (due : Bool) (server : Server) → Stands settings past due server → framed server ≡ record server { frame = None }
-  framed_still due server s =
-      ap (λ (o : Option PlainFrame). framed_by o server) s.no_frame
-      ∙ ap (λ (x : Server). leaves_with (next x.mux) x) (cond-false _ _ server (ap (λ (a : List ℕ). is_ready server.mux && not (is_empty a)) s.answer ∙ and_false (is_ready server.mux)))
-      ∙ ap (λ (o : Option Said). leaves_with o server) (says_nothing server.mux s.fresh)
-      ∙ cond-false _ _ (record server { frame = None }) (ap (λ (b : Bool). b && is_empty server.listener.service.answer) s.unbroken)
-
   lends_still : (due : Bool) (o : Option Outlet) (server : Server) → Stands settings past due server → Stands settings (past ++ Asked ∷ []) due (lends_by o server)
-  lends_still due None server s =
-      let full : Server = framed server in
-      let kept = same_still Asked due due server.listener server.mux server.frame refl refl refl refl s in
-      cond_both (is_empty server.reply && is_empty server.listener.service.response) (record full { lent = outlet_of full }) (record server { lent = outlet_of server }) (λ (x : Server). Stands settings (past ++ Asked ∷ []) due x)
-      (λ e. subst (λ (x : Server). Still settings (past ++ Asked ∷ []) due x.listener x.mux x.frame) (sym (framed_still due server s))
-      (record { answer = kept.answer; unbroken = kept.unbroken; no_frame = refl; fresh = kept.fresh; free = kept.free; session = kept.session; quiet = kept.quiet }))
-      (λ e. kept)
-  lends_still due (Some outlet) server s = same_still Asked due due server.listener server.mux server.frame refl refl refl refl s
+  lends_still due o server s =
+      let asks = lends_calm past o server s.calm in
+      same_still Asked due due server (lends_by o server) refl refl refl (ap (λ (x : Service). x.response) asks.service) (ap (λ (x : Service). x.sessions.direct) asks.service) asks.calm s
 
   -- ---- any occurrence
 
-  still_more : (one : Occurrence) (due : Bool) (at : Reacted) → Clear settings before past at → TakesTurn settings past due at one → Stands settings past due at.server
+  pub still_more : (one : Occurrence) (due : Bool) (at : Reacted) → Clear settings before past at → TakesTurn settings past due at one → Stands settings past due at.server
       → Stands settings (past ++ one ∷ []) (due_behind settings past due one) (done one at).server
   still_more (Came psm sdu) due at c t s =
       subst (λ (r : Reacted). Stands settings (past ++ Came psm sdu ∷ []) (due_behind settings past due (Came psm sdu)) r.server) (sym (unfailed settings before (clean settings before past) at _ c.holds)) (came_still due sdu at c s psm t.turn)
@@ -334,23 +263,16 @@ module _ (settings : Settings) (before : List Object) (past : List Occurrence) w
       subst (λ (r : Reacted). Stands settings (past ++ Closed psm ∷ []) (due_behind settings past due (Closed psm)) r.server) (sym (unfailed settings before (clean settings before past) at _ c.holds)) (closed_still due at s psm)
   still_more LinkDown due at c t s = subst (λ (r : Reacted). Stands settings (past ++ LinkDown ∷ []) false r.server) (sym (unfailed settings before (clean settings before past) at _ c.holds)) (down_still due at s)
   still_more Asked due at c t s = lends_still due at.server.lent at.server s
-  still_more (Answering answers) due at c t s = same_still (Answering answers) due due at.server.listener at.server.mux at.server.frame refl refl refl refl s
+  still_more (Answering answers) due at c t s = same_still (Answering answers) due due at.server at.server refl refl refl refl refl (calm_same past (Answering answers) at.server.listener at.server.mux at.server.frame refl s.calm) s
 
   -- ---- which packets are new
-
-  none_new : (one : Occurrence) → came_on object_psm one ≡ None → new_packets L2cap past one ≡ []
-  none_new one none =
-      elim (cases_Bool (closes object_psm one)) [
-        | inl e ↦ drop_none (length (packets_over L2cap past)) (packets_over L2cap (past ++ one ∷ [])) (read_closed (came_on object_psm) object_psm past one e)
-        | inr e ↦ ap (beyond (packets_over L2cap past)) (read_same (came_on object_psm) object_psm past one e none) ∙ drop_same (packets_over L2cap past)
-      ]
 
   AreHeard : Reacted → Occurrence → Type 0
   AreHeard at one = AllByRecursion (IsHeard settings past at.server.listener.service L2cap) (new_packets L2cap past one)
 
   none_heard : (at : Reacted) (one : Occurrence) → came_on object_psm one ≡ None → AreHeard at one
   unfolding AreHeard
-  none_heard at one none = subst (AllByRecursion (IsHeard settings past at.server.listener.service L2cap)) (sym (none_new one none)) tt
+  none_heard at one none = subst (AllByRecursion (IsHeard settings past at.server.listener.service L2cap)) (sym (none_direct past one none)) tt
 
   came_heard : (due : Bool) (sdu : List ℕ) (at : Reacted) → Stands settings past due at.server → (psm : ℕ) → InTurn settings past due (Came psm sdu) → AreHeard at (Came psm sdu)
   unfolding AreHeard
@@ -359,8 +281,7 @@ module _ (settings : Settings) (before : List Object) (past : List Occurrence) w
       (λ turn. none_heard at (Came 0x0001 sdu) refl)
       (λ turn. none_heard at (Came 0x0003 sdu) refl)
       (λ turn.
-      let new : new_packets L2cap past (Came 0x1001 sdu) ≡ sdu ∷ [] = ap (beyond (packets_over L2cap past)) (read_more (came_on object_psm) object_psm past (Came 0x1001 sdu) refl) ∙ drop_front (packets_over L2cap past) (sdu ∷ []) in
-      subst (AllByRecursion (IsHeard settings past at.server.listener.service L2cap)) (sym new) (heard_now due sdu at s (request_taken due sdu at s (turn.1 refl)), tt))
+      subst (AllByRecursion (IsHeard settings past at.server.listener.service L2cap)) (sym (one_direct past sdu)) (heard_now due sdu at s (request_taken due sdu at s (turn.1 refl)), tt))
       (λ p x y z turn. none_heard at (Came p sdu) (cond-false _ _ _ z))
       psm
 
@@ -375,11 +296,11 @@ module _ (settings : Settings) (before : List Object) (past : List Occurrence) w
   no_frame_comes : (one : Occurrence) (due : Bool) (sdu : List ℕ) → InTurn settings past due one → one ≡ Came rfcomm_psm sdu → ⊥
   no_frame_comes one due sdu turn is = (subst (InTurn settings past due) is turn).0 refl
 
-  may_come : (one : Occurrence) (due : Bool) (at : Reacted) → Clear settings before past at → TakesTurn settings past due at one → Stands settings past due at.server → Stands settings (past ++ one ∷ []) (due_behind settings past due one) (done one at).server
+  pub may_come : (one : Occurrence) (due : Bool) (at : Reacted) → Clear settings before past at → TakesTurn settings past due at one → Stands settings past due at.server → Stands settings (past ++ one ∷ []) (due_behind settings past due one) (done one at).server
       → MayCome AllGranted (IsHeard settings past at.server.listener.service) settings past at one
   unfolding AreHeard
   may_come one due at c t s later =
-      let new : new_packets Rfcomm past one ≡ [] = drop_none (length (packets_over Rfcomm past)) (packets_over Rfcomm (past ++ one ∷ [])) (silent_stream (past ++ one ∷ []) later.quiet) in
+      let new : new_packets Rfcomm past one ≡ [] = none_muxed past one later.calm.quiet in
       record {
         own = t.own;
         answers = t.granted;
@@ -389,7 +310,7 @@ module _ (settings : Settings) (before : List Object) (past : List Occurrence) w
           lengths = subst (AllByRecursion (λ packet. has_bad_length (packet_in Request (own_maximum Rfcomm settings) packet) ≡ false)) (sym new) tt;
         };
         frame = λ sdu is. absurd (no_frame_comes one due sdu t.turn is);
-        orderly = is_orderly (done one at).server.mux later.fresh;
+        orderly = is_orderly (done one at).server.mux later.calm.fresh;
       }
     where
       heard_over : new_packets Rfcomm past one ≡ [] → (transport : Transport) → AllByRecursion (IsHeard settings past at.server.listener.service transport) (new_packets transport past one)
@@ -406,15 +327,11 @@ all_may_come settings before (one ∷ rest) past due at c all s =
     let may = may_come settings before past one due at c all.0 s later in
     (may, all_may_come settings before rest (past ++ one ∷ []) (due_behind settings past due one) (done one at) (clear_more settings before past one at c may) all.1 later)
 
+pub first_clear : (settings : Settings) (before : List Object) → Clear settings before [] (new_over settings before)
+first_clear settings before = record { holds = first_holds settings before; spared = refl; same = refl }
+
+pub first_still : (settings : Settings) (before : List Object) → Stands settings [] false (new_over settings before).server
+first_still settings before = record { calm = first_calm settings; free = λ e. refl; session = refl }
+
 pub no-request_is_ignored : NoRequestIsIgnored
-no-request_is_ignored settings before occurrences all =
-    all_may_come settings before occurrences [] false (new_over settings before) (record { holds = first_holds settings before; spared = refl; same = refl }) all
-    (record {
-      answer = refl;
-      unbroken = refl;
-      no_frame = refl;
-      fresh = record { dlci = 18; largest = _; own = _; cap = _; is = refl };
-      free = λ e. refl;
-      session = refl;
-      quiet = refl;
-    })
+no-request_is_ignored settings before occurrences all = all_may_come settings before occurrences [] false (new_over settings before) (first_clear settings before) all (first_still settings before)

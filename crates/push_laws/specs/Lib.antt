@@ -13,3 +13,4 @@ pub mod Opening
 pub mod Turns
 pub mod Success
 pub mod Exchanges
+pub mod Parties

@@ -1,6 +1,6 @@
 -- The channels that a client opens in one push, and whose they are (Object Push Profile 1.2, 5; Core 5.1, Volume 3 Part B,
 -- 4.7; Generic Object Exchange Profile 2.1, 4.4: over L2CAP the peer is asked first what it supports).
-use Rattle.std.specs.Prelude.{ℕ, ◌≡◌, ◌≤◌, ◌==◌, ◌&&◌, List, [], ◌∷◌, ◌++◌, length, if◌then◌else◌}
+use Rattle.std.specs.Prelude.{ℕ, ◌≡◌, ◌≤◌, ◌*◌, ◌==◌, ◌&&◌, true, Option, Some, None, List, [], ◌∷◌, ◌++◌, length, if◌then◌else◌}
 use Rattle.std.specs.List.{filter_map, flat_map}
 use Rattle.bt_base.specs.declared.settings.Transport.{Transport}
 use Rattle.bt_base.specs.declared.settings.Transport.TheVariants.{L2cap, Rfcomm}
@@ -10,7 +10,8 @@ use Rattle.sdp_client.specs.declared.reason.Found.TheVariants.{More, Service, No
 use Rattle.sdp_client.specs.Hearing.{found_at}
 use Rattle.push_model.specs.Client.{Client, with_object}
 use Rattle.push_model.specs.Events.{News, LinkUp, LinkDown, LinkFailed, ChannelOpen, ChannelClosed, Sdu, FeaturesTold, FeaturesLost, Timer, is_search, search_psm, rfcomm_psm}
-use Rattle.push_model.specs.Laws.{Deed, Hears, Asks, Finishes, Cancels, done}
+use Rattle.push_model.specs.Laws.{Deed, Hears, Asks, Finishes, Cancels, done, all_done}
+use Rattle.push_model.specs.Responding.{is_object}
 use Rattle.push_model.specs.Shown.{way_of}
 use Rattle.push_model.specs.Steps.{Step, Wait, MakeLink, AskFeatures, OpenChannel, SendSdu, CloseChannel, BreakLink, Ended, NoMemory, steps}
 
@@ -88,3 +89,43 @@ pub record TakesTheWay (transport : Transport) (targets : List Target) (taken : 
 
 abbrev pub OpensTheTarget : Type 0
 OpensTheTarget = (client : Client) (name : List ℕ) (size : ℕ) (deeds : List Deed) → let begun : Client = with_object name size client in TakesTheWay client.transport (targets_heard deeds begun) (way_taken deeds begun)
+
+-- ---- over L2CAP
+
+abbrev pub psm_opened : Step → Option ℕ
+psm_opened Wait = None
+psm_opened MakeLink = None
+psm_opened AskFeatures = None
+psm_opened (OpenChannel psm) = Some psm
+psm_opened (SendSdu psm payload) = None
+psm_opened (CloseChannel psm) = None
+psm_opened BreakLink = None
+psm_opened (Ended outcome) = None
+psm_opened NoMemory = None
+
+-- A front of two channels: that to the service records, and that of the object, which is neither that nor RFCOMM's.
+pub record AreTwoAtMost (psms : List ℕ) : Type 0 where
+  pub psm : ℕ
+  pub behind : List ℕ
+  pub all : search_psm ∷ psm ∷ [] ≡ psms ++ behind
+  pub not_search : psm ≡ search_psm → ⊥
+  pub not_rfcomm : psm ≡ rfcomm_psm → ⊥
+
+-- Such are the channels that a client opens in one push over L2CAP.
+abbrev pub OpensTwoAtMost : Type 0
+OpensTwoAtMost = (client : Client) (name : List ℕ) (size : ℕ) (deeds : List Deed) → client.transport ≡ L2cap → AreTwoAtMost (filter_map psm_opened (way_taken deeds (with_object name size client)))
+
+-- ---- the server channel
+
+-- the only target that was heard names a server channel, and the multiplexer has its DLCI, which is twice the number (RFCOMM 1.2, 5.4)
+pub record HasServerChannel (targets : List Target) (client : Client) : Type 0 where
+  pub target : Target
+  pub number : ℕ
+  pub heard : targets ≡ target ∷ []
+  pub named : way_of Rfcomm target ≡ Some number
+  pub dlci : client.mux.dlci ≡ 2 * number
+
+-- Over RFCOMM a client that is on the channel of its object opens there the server channel which the target names.
+abbrev pub OpensTheServerChannel : Type 0
+OpensTheServerChannel = (client : Client) (name : List ℕ) (size : ℕ) (deeds : List Deed) → let begun : Client = with_object name size client in
+    client.transport ≡ Rfcomm → is_object (all_done deeds begun).stage ≡ true → HasServerChannel (targets_heard deeds begun) (all_done deeds begun)

@@ -1,7 +1,8 @@
 //! Laws of a client of Object Push, for every list of what may happen to it from a begin on.
 
 ghost use Rattle.push_laws.specs.Exchanges.{SendsBehindResponses};
-ghost use Rattle.push_laws.specs.Opening.{OpensTheTarget};
+ghost use Rattle.push_laws.specs.Opening.{OpensTheServerChannel, OpensTheTarget, OpensTwoAtMost};
+ghost use Rattle.push_laws.specs.Parties.{PushesLeaveAlike};
 ghost use Rattle.push_laws.specs.Sending.{NothingIsCancelledLate, SendsOnePush, SpellsWhatIsPushed};
 ghost use Rattle.push_laws.specs.Success.{DoneExactly};
 
@@ -30,6 +31,18 @@ pub fn opens_the_target()
     ensures { OpensTheTarget }
 {}
 
+/// Over L2CAP a client opens in one push at most two channels: that to the service records, and behind it another, which is not
+/// RFCOMM's.
+pub fn opens_two_at_most()
+    ensures { OpensTwoAtMost }
+{}
+
+/// Over RFCOMM the multiplexer of a client that is on the channel of its object is for the server channel that the target of the
+/// answer names: its DLCI is twice that.
+pub fn opens_the_server_channel()
+    ensures { OpensTheServerChannel }
+{}
+
 /// A push is done exactly where success to its final PUT is heard, which was sent to its last octet, and no cause came
 /// before it: over L2CAP the SDU is that response, and over RFCOMM it is whole with the octets that an SDU brings. No
 /// response to the final PUT lets a client go on.
@@ -41,4 +54,10 @@ pub fn done_exactly()
 /// the object, and over RFCOMM an SDU came at least. PUTs of single response mode of which more follow have none.
 pub fn sends_behind_responses()
     ensures { SendsBehindResponses }
+{}
+
+/// Behind a push over L2CAP a client is as it was in its transport, its maximum and its wish for single response mode, and its channels
+/// had room: so it may begin the next one.
+pub fn pushes_leave_alike()
+    ensures { PushesLeaveAlike }
 {}

@@ -3,6 +3,7 @@
 ghost use Rattle.push_laws.specs.Calls.{InboxIsCalledByRuns};
 ghost use Rattle.push_laws.specs.Example.{OneFaultIsHeard, OnePushIsHeard};
 ghost use Rattle.push_laws.specs.Laws.{AnswersComeInTurn, CreditsAreRead, GainsAllButFaults, GainsWhatIsHeard, LendsFewOctets, OnePacketIsHeard};
+ghost use Rattle.push_laws.specs.Parties.{RequestsAreHeard, RequestsAreTaken, RequestsComeInTurn};
 ghost use Rattle.push_laws.specs.Turns.{NoRequestIsIgnored};
 
 /// From a new server on the inbox gains exactly the objects that the heard packets spell, over both transports and through
@@ -64,4 +65,20 @@ pub fn one_fault_is_heard()
 /// nothing comes to the multiplexer: all that the laws above ask of what may come holds then.
 pub fn no_request_is_ignored()
     ensures { NoRequestIsIgnored }
+{}
+
+/// Over L2CAP, where the channels of the object are pipes between a client of this profile and a server on each link, the requests
+/// of the client come in turn: each behind the response to the one before, unless it has none itself.
+pub fn requests_come_in_turn()
+    ensures { RequestsComeInTurn }
+{}
+
+/// So none of them is ignored, and all else holds that the laws above ask of what may come.
+pub fn requests_are_heard()
+    ensures { RequestsAreHeard }
+{}
+
+/// Where calls of the inbox fail, but not for want of memory, none is ignored of a client that wants no single response mode.
+pub fn requests_are_taken()
+    ensures { RequestsAreTaken }
 {}

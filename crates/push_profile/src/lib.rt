@@ -10,6 +10,3 @@ mod sessions;
 mod stream;
 
 pub use server::PushServer;
-
-#[cfg(test)]
-mod tests;

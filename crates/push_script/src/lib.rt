@@ -33,6 +33,3 @@ pub use runs::Runs;
 pub use said::{outcome_of, word_of};
 pub use scenario::Scenario;
 pub use writing::put_scenario;
-
-#[cfg(test)]
-mod tests;

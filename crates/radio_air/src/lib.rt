@@ -19,6 +19,3 @@ mod step;
 pub use deed::Deed;
 pub use fate::Fate;
 pub use radio::Radio;
-
-#[cfg(test)]
-mod tests;

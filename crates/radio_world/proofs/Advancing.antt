@@ -1,5 +1,5 @@
 -- Runs of the world, one after the other, and those of one push that begins or ends.
-use Rattle.std.proofs.Common.{◌≡◌, ℕ, ◌+◌, ◌&&◌, Bool, true, false, List, [], ◌∷◌, ◌++◌, Option, refl, sym, ap, subst, ◌∙◌, append_assoc}
+use Rattle.std.proofs.Common.{◌≡◌, ℕ, ◌+◌, ◌&&◌, Bool, true, false, List, [], ◌∷◌, ◌++◌, Option, refl, sym, ap, subst, ◌∙◌, append_assoc, arith}
 use Rattle.std.proofs.lemmas.List.{append-nil}
 use Rattle.std.proofs.lemmas.Grind.{flat_map-append}
 use Rattle.bt_base.specs.Streams.{gained}
@@ -15,8 +15,9 @@ use Rattle.world_model.specs.Worlds.{Happening, Opens, Closes, entries_of, words
 use Rattle.radio_world.specs.Hosts.{Asking, answering, JoinAnswers}
 use Rattle.radio_world.specs.Leaving.{in_radio}
 use Rattle.world_model.specs.Pushes.{Pushes}
-use Rattle.radio_world.specs.Halves.{happenings_of, Goes}
+use Rattle.radio_world.specs.Halves.{happenings_of}
 use Rattle.radio_world.specs.Scenes.{Scene, Moment, world_at, Plays, Stage, stage, moment_of, Advances, Begins, Ends}
+use Rattle.radio_world.specs.Counting.{one_if, GoesBy, AdvancesBy}
 use Rattle.radio_world.proofs.Moving.{written_then}
 use Rattle.radio_world.proofs.Entering.{tryings, tries, silent}
 use Rattle.radio_world.proofs.Lifting.{plays_a, no_words, advances_a, advances_b}
@@ -37,7 +38,7 @@ advances_none U V RA RB at joins_a joins_b = record {
   written = sym (gained-nil at.trace);
 }
 
-pub advances_then :
+unfoldable pub advances_then :
     {S T G H P Q : Type 0} (U : Upper S G) (V : Upper T H) (RA : P → List G → P → Type 0) (RB : Q → List H → Q → Type 0) (ws vs : List Word) (old mid new : Stage S T G H P Q)
     → JoinAnswers RA → JoinAnswers RB → Advances U V RA RB ws old mid → Advances U V RA RB vs mid new → Advances U V RA RB (ws ++ vs) old new
 advances_then {S} {T} {G} {H} U V RA RB ws vs old mid new joins_a joins_b one two = record {
@@ -158,40 +159,44 @@ pub begun_or_not :
     {S T G H P Q : Type 0} (U : Upper S G) (V : Upper T H) (RA : P → List G → P → Type 0) (RB : Q → List H → Q → Type 0) (began : Bool)
     (old new : Scene) (a a' : Asking S G) (b : Asking T H) (shelf shelf' : P) (inbox : Q) (trace trace' : Option (List ℕ)) → JoinAnswers RA → JoinAnswers RB
     → (began ≡ true → Begins U A RA old new a a' shelf shelf' trace trace') → (began ≡ false → (new ≡ old) × (a' ≡ a) × (shelf' ≡ shelf) × (trace' ≡ trace))
-    → Advances U V RA RB [] (stage old a b shelf inbox trace) (stage new a' b shelf' inbox trace')
-begun_or_not U V RA RB true old new a a' b shelf shelf' inbox trace trace' joins_a joins_b begins none = begins_advances U V RA RB old new a a' b shelf shelf' inbox trace trace' joins_b (begins refl)
+    → AdvancesBy (one_if began) U V RA RB [] (stage old a b shelf inbox trace) (stage new a' b shelf' inbox trace')
+unfolding begins_advances
+begun_or_not U V RA RB true old new a a' b shelf shelf' inbox trace trace' joins_a joins_b begins none = record { advances = begins_advances U V RA RB old new a a' b shelf shelf' inbox trace trace' joins_b (begins refl); many = omega arith }
 begun_or_not {S} {T} {G} {H} {P} {Q} U V RA RB false old new a a' b shelf shelf' inbox trace trace' joins_a joins_b begins none =
     let same = none refl in
-    subst (λ (s : Stage S T G H P Q). Advances U V RA RB [] (stage old a b shelf inbox trace) s) (stage_is old new a a' b shelf shelf' inbox trace trace' same.0 same.1 same.2 same.3)
-    (advances_none U V RA RB (stage old a b shelf inbox trace) joins_a joins_b)
+    subst (λ (s : Stage S T G H P Q). AdvancesBy 0 U V RA RB [] (stage old a b shelf inbox trace) s) (stage_is old new a a' b shelf shelf' inbox trace trace' same.0 same.1 same.2 same.3)
+    (record { advances = advances_none U V RA RB (stage old a b shelf inbox trace) joins_a joins_b; many = omega arith })
 
 pub ended_or_not :
     {S T G H P Q : Type 0} (U : Upper S G) (V : Upper T H) (RA : P → List G → P → Type 0) (RB : Q → List H → Q → Type 0) (ended : Bool)
     (old new : Scene) (a : Asking S G) (b : Asking T H) (shelf : P) (inbox : Q) (trace trace' : Option (List ℕ)) → JoinAnswers RA → JoinAnswers RB
     → (ended ≡ true → Ends U old new a trace trace') → (ended ≡ false → (new ≡ old) × (trace' ≡ trace))
-    → Advances U V RA RB [] (stage old a b shelf inbox trace) (stage new a b shelf inbox trace')
-ended_or_not U V RA RB true old new a b shelf inbox trace trace' joins_a joins_b ends none = ends_advances U V RA RB old new a b shelf inbox trace trace' joins_a joins_b (ends refl)
+    → AdvancesBy (one_if ended) U V RA RB [] (stage old a b shelf inbox trace) (stage new a b shelf inbox trace')
+unfolding ends_advances
+ended_or_not U V RA RB true old new a b shelf inbox trace trace' joins_a joins_b ends none = record { advances = ends_advances U V RA RB old new a b shelf inbox trace trace' joins_a joins_b (ends refl); many = omega arith }
 ended_or_not {S} {T} {G} {H} {P} {Q} U V RA RB false old new a b shelf inbox trace trace' joins_a joins_b ends none =
     let same = none refl in
-    subst (λ (s : Stage S T G H P Q). Advances U V RA RB [] (stage old a b shelf inbox trace) s) (stage_is old new a a b shelf shelf inbox trace trace' same.0 refl refl same.1)
-    (advances_none U V RA RB (stage old a b shelf inbox trace) joins_a joins_b)
+    subst (λ (s : Stage S T G H P Q). AdvancesBy 0 U V RA RB [] (stage old a b shelf inbox trace) s) (stage_is old new a a b shelf shelf inbox trace trace' same.0 refl refl same.1)
+    (record { advances = advances_none U V RA RB (stage old a b shelf inbox trace) joins_a joins_b; many = omega arith })
 
 scene_is : (old new : Scene) → (new.pushes ≡ old.pushes) × (new.turned ≡ old.turned) → record { medium = new.medium; pushes = old.pushes; turned = old.turned } ≡ new
 scene_is old new same =
     ap (λ (p : Pushes). record { medium = new.medium; pushes = p; turned = old.turned }) (sym same.0) ∙ ap (λ (n : ℕ). record { medium = new.medium; pushes = new.pushes; turned = n }) (sym same.1)
 
 pub exchanged_a :
-    {S T G H P Q : Type 0} (U : Upper S G) (V : Upper T H) (RA : P → List G → P → Type 0) (RB : Q → List H → Q → Type 0)
+    {S T G H P Q : Type 0} (count : ℕ) (U : Upper S G) (V : Upper T H) (RA : P → List G → P → Type 0) (RB : Q → List H → Q → Type 0)
     (old new : Scene) (a a' : Asking S G) (b : Asking T H) (shelf shelf' : P) (inbox : Q) (trace trace' : Option (List ℕ)) → JoinAnswers RB → (new.pushes ≡ old.pushes) × (new.turned ≡ old.turned)
-    → Goes U A RA old.medium new.medium a a' shelf shelf' trace trace' → Advances U V RA RB [] (stage old a b shelf inbox trace) (stage new a' b shelf' inbox trace')
-exchanged_a U V RA RB old new a a' b shelf shelf' inbox trace trace' joins same goes =
-    subst (λ (s : Scene). Advances U V RA RB [] (stage old a b shelf inbox trace) (stage s a' b shelf' inbox trace')) (scene_is old new same)
-    (advances_a U V RA RB old.medium new.medium old.pushes old.turned a a' b shelf shelf' inbox trace trace' joins goes)
+    → GoesBy count U A RA old.medium new.medium a a' shelf shelf' trace trace' → AdvancesBy count U V RA RB [] (stage old a b shelf inbox trace) (stage new a' b shelf' inbox trace')
+unfolding advances_a
+exchanged_a count U V RA RB old new a a' b shelf shelf' inbox trace trace' joins same goes =
+    subst (λ (s : Scene). AdvancesBy count U V RA RB [] (stage old a b shelf inbox trace) (stage s a' b shelf' inbox trace')) (scene_is old new same)
+    (record { advances = advances_a U V RA RB old.medium new.medium old.pushes old.turned a a' b shelf shelf' inbox trace trace' joins goes.goes; many = goes.many })
 
 pub exchanged_b :
-    {S T G H P Q : Type 0} (U : Upper S G) (V : Upper T H) (RA : P → List G → P → Type 0) (RB : Q → List H → Q → Type 0)
+    {S T G H P Q : Type 0} (count : ℕ) (U : Upper S G) (V : Upper T H) (RA : P → List G → P → Type 0) (RB : Q → List H → Q → Type 0)
     (old new : Scene) (a : Asking S G) (b b' : Asking T H) (shelf : P) (inbox inbox' : Q) (trace trace' : Option (List ℕ)) → JoinAnswers RA → (new.pushes ≡ old.pushes) × (new.turned ≡ old.turned)
-    → Goes V B RB old.medium new.medium b b' inbox inbox' trace trace' → Advances U V RA RB [] (stage old a b shelf inbox trace) (stage new a b' shelf inbox' trace')
-exchanged_b U V RA RB old new a b b' shelf inbox inbox' trace trace' joins same goes =
-    subst (λ (s : Scene). Advances U V RA RB [] (stage old a b shelf inbox trace) (stage s a b' shelf inbox' trace')) (scene_is old new same)
-    (advances_b U V RA RB old.medium new.medium old.pushes old.turned a b b' shelf inbox inbox' trace trace' joins goes)
+    → GoesBy count V B RB old.medium new.medium b b' inbox inbox' trace trace' → AdvancesBy count U V RA RB [] (stage old a b shelf inbox trace) (stage new a b' shelf inbox' trace')
+unfolding advances_b
+exchanged_b count U V RA RB old new a b b' shelf inbox inbox' trace trace' joins same goes =
+    subst (λ (s : Scene). AdvancesBy count U V RA RB [] (stage old a b shelf inbox trace) (stage s a b' shelf inbox' trace')) (scene_is old new same)
+    (record { advances = advances_b U V RA RB old.medium new.medium old.pushes old.turned a b b' shelf inbox inbox' trace trace' joins goes.goes; many = goes.many })

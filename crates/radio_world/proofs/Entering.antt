@@ -127,11 +127,11 @@ entering_entry : (side : Side) (coming : Coming) → all_entries (happenings_of 
 entering_entry side (Part handle piece) = refl
 entering_entry side (Told answer) = refl
 
-entered : (side : Side) (coming : Coming) (efforts : List Effort) → all_entries (happenings_of side (Entering coming ∷ tryings efforts)) ≡ Moved side Into (coming_packet side coming) ∷ []
+pub entered : (side : Side) (coming : Coming) (efforts : List Effort) → all_entries (happenings_of side (Entering coming ∷ tryings efforts)) ≡ Moved side Into (coming_packet side coming) ∷ []
 entered side (Part handle piece) efforts = ap (λ es. Moved side Into (coming_packet side (Part handle piece)) ∷ es) (silent side efforts)
 entered side (Told answer) efforts = ap (λ es. Moved side Into (coming_packet side (Told answer)) ∷ es) (silent side efforts)
 
-pub goes_in :
+unfoldable pub goes_in :
     {S G P : Type 0} (U : Upper S G) (side : Side) (Answers : P → List G → P → Type 0) (coming : Coming) (p : Packet) (medium medium' : Medium) (host host' : Asking S G) (port port' : P) (trace trace' : Option (List ℕ))
     → ComesFirst side coming medium.radio → medium' ≡ in_radio (after_answer side medium.radio) medium → p ≡ coming_packet side coming
     → Reacts U side Answers (hears_coming U side coming) host host' port port' → trace' ≡ gained trace (entry_octets (Moved side Into p))

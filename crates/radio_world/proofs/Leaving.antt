@@ -12,19 +12,25 @@ use Rattle.h4_framing.specs.Leading.{IsLeading}
 use Rattle.h4_framing.specs.Laws.{IsWholeOf}
 use Rattle.h4_framing.proofs.ReadingLemmas.{written_is_read}
 use Rattle.push_terms.specs.declared.word.Side.{Side}
+use Rattle.push_terms.specs.declared.word.Side.TheVariants.{A, B}
 use Rattle.capture.specs.declared.flow.Flow.TheVariants.{Out}
 use Rattle.capture.specs.Entries.{Entry, Moved, entry_octets, capture_octets}
 use Rattle.capture.proofs.MoreLaws.{octets-in_parts}
-use Rattle.radio_air.specs.Radio.{after_packet}
+use Rattle.radio_air.specs.Radio.{Radio, after_packet}
 use Rattle.world_model.specs.Stations.{Order, order_packet}
 use Rattle.world_model.specs.Worlds.{after_order}
 use Rattle.turn_laws.proofs.Spelling.{orders_are_spelled}
 use Rattle.radio_world.specs.Hosts.{IsSent, AreSent, order_octets, acl_limit}
-use Rattle.radio_world.specs.Leaving.{Medium, in_radio, noted, after_all, leaving_entry, leaving_entries, BreaksOff}
+use Rattle.radio_world.specs.Leaving.{Medium, in_radio, noted, after_all, after_leaving, leaving_entry, leaving_entries, BreaksOff}
+use Rattle.radio_world.specs.Shortages.{WantsRoom, Overflows}
 
 entries_then : (side : Side) (xs ys : List Order) → leaving_entries side (xs ++ ys) ≡ leaving_entries side xs ++ leaving_entries side ys
 entries_then side [] ys = refl
 entries_then side (x ∷ xs) ys = ap (λ es. leaving_entry side x ∷ es) (entries_then side xs ys)
+
+after_both : (side : Side) (xs ys : List Order) (medium : Medium) → after_all side (xs ++ ys) medium ≡ after_all side ys (after_all side xs medium)
+after_both side [] ys medium = refl
+after_both side (x ∷ xs) ys medium = after_both side xs ys (after_leaving side x medium)
 
 -- So many orders were taken: the rest of the octets is the rest of the orders.
 pub record IsTaken (side : Side) (orders : List Order) (rest : List ℕ) (old now : Medium) (trace trace' : Option (List ℕ)) : Type 0 where
@@ -33,7 +39,7 @@ pub record IsTaken (side : Side) (orders : List Order) (rest : List ℕ) (old no
   pub orders_are : orders ≡ done ++ left
   pub sent : AreSent side left
   pub octets : rest ≡ order_octets side left
-  pub medium : after_all side left now ≡ after_all side orders old
+  pub medium : now ≡ after_all side done old
   pub written : trace' ≡ gained trace (capture_octets (leaving_entries side done))
 
 pub taken_first : (side : Side) (orders : List Order) (octets : List ℕ) (medium : Medium) (trace : Option (List ℕ)) → AreSent side orders → octets ≡ order_octets side orders → IsTaken side orders octets medium medium trace trace
@@ -95,6 +101,10 @@ written_more side done order octets trace trace' trace'' are before more =
     ∙ ap (gained trace) (sym (octets-in_parts (leaving_entries side done) (leaving_entry side order ∷ [])))
     ∙ ap (λ es. gained trace (capture_octets es)) (sym (entries_then side done (order ∷ [])))
 
+pub noted_radio : (side : Side) (medium : Medium) → (noted side medium).radio ≡ medium.radio
+noted_radio A medium = refl
+noted_radio B medium = refl
+
 moved_octets : (side : Side) (p q : Packet) → p ≡ q → entry_octets (Moved side Out p) ≡ entry_octets (Moved side Out q)
 moved_octets side p q same = ap (λ r. entry_octets (Moved side Out r)) same
 
@@ -111,7 +121,7 @@ taken_more side orders rest rest' unit n old now now' trace trace' trace'' taken
       orders_are = taken.orders_are ∙ ap (λ os. taken.done ++ os) first.left_is ∙ sym (append_assoc taken.done (first.order ∷ []) first.more);
       sent = first.sent;
       octets = behind ∙ first.behind;
-      medium = ap (after_all side first.more) (after ∙ ap (λ r. noted side (in_radio r now)) radio) ∙ ap (λ os. after_all side os now) (sym first.left_is) ∙ taken.medium;
+      medium = after ∙ ap (λ r. noted side (in_radio r now)) radio ∙ ap (after_leaving side first.order) taken.medium ∙ sym (after_both side taken.done (first.order ∷ []) old);
       written = written_more side taken.done first.order (entry_octets (Moved side Out (packet unit))) trace trace' trace'' (moved_octets side (packet unit) (order_packet side first.order) first.packet_is) taken.written written;
     }
 
@@ -127,7 +137,7 @@ pub taken_all :
 taken_all side orders rest found old now trace trace' taken leading none =
     let over = none_left side taken.left rest found taken.sent taken.octets leading none in
     let all : orders ≡ taken.done = taken.orders_are ∙ ap (λ os. taken.done ++ os) over ∙ append-nil taken.done in
-    (ap (λ os. after_all side os now) (sym over) ∙ taken.medium, taken.written ∙ ap (λ os. gained trace (capture_octets (leaving_entries side os))) (sym all))
+    (taken.medium ∙ ap (λ os. after_all side os old) (sym all), taken.written ∙ ap (λ os. gained trace (capture_octets (leaving_entries side os))) (sym all))
 
 pub breaks_off :
     (side : Side) (orders : List Order) (rest : List ℕ) (unit : Unit) (n : ℕ) (old now : Medium) (trace trace' trace'' : Option (List ℕ))
@@ -141,6 +151,26 @@ breaks_off side orders rest unit n old now trace trace' trace'' taken leading fr
       entries_are = ap (leaving_entries side) (taken.orders_are ∙ ap (λ os. taken.done ++ os) first.left_is) ∙ entries_then side taken.done (first.order ∷ first.more);
       front = subst (λ xs. GainedFront (gained trace (capture_octets (leaving_entries side taken.done))) trace'' xs) (moved_octets side (packet unit) (order_packet side first.order) first.packet_is)
           (subst (λ t. GainedFront t trace'' (entry_octets (Moved side Out (packet unit)))) taken.written front);
+    }
+
+-- it is written, and the radio wants memory for it
+pub overflows :
+    (side : Side) (orders : List Order) (rest : List ℕ) (unit : Unit) (n : ℕ) (old now : Medium) (trace trace' trace'' : Option (List ℕ))
+    → IsTaken side orders rest old now trace trace' → IsLeading acl_limit rest (Whole unit n) → trace'' ≡ gained trace' (entry_octets (Moved side Out (packet unit)))
+    → WantsRoom now.radio (after_packet side (packet unit) now.radio) → Overflows side orders old trace trace''
+overflows side orders rest unit n old now trace trace' trace'' taken leading written wants =
+    let first = first_read side taken.left rest unit n taken.sent taken.octets leading in
+    let radio : after_packet side (packet unit) now.radio ≡ after_order side first.order now.radio = ap (λ p. after_packet side p now.radio) first.packet_is ∙ orders_are_spelled side first.order now.radio first.handle.handle in
+    let after : (after_all side (taken.done ++ first.order ∷ []) old).radio ≡ after_order side first.order (after_all side taken.done old).radio =
+    ap (λ (m : Medium). m.radio) (after_both side taken.done (first.order ∷ []) old) ∙ noted_radio side (in_radio (after_order side first.order (after_all side taken.done old).radio) (after_all side taken.done old)) in
+    record {
+      whole = taken.done;
+      due = first.order;
+      left = first.more;
+      orders_are = taken.orders_are ∙ ap (λ os. taken.done ++ os) first.left_is;
+      wants = subst (λ (r : Radio). WantsRoom (after_all side taken.done old).radio r) (sym after)
+          (subst (λ (m : Medium). WantsRoom m.radio (after_order side first.order m.radio)) taken.medium (subst (λ (r : Radio). WantsRoom now.radio r) radio wants));
+      written = written_more side taken.done first.order (entry_octets (Moved side Out (packet unit))) trace trace' trace'' (moved_octets side (packet unit) (order_packet side first.order) first.packet_is) taken.written written;
     }
 
 -- ---- nothing is offered

@@ -13,3 +13,9 @@ mod Hearing
 mod Blaming
 mod Runs
 mod Closing
+mod Wanting
+mod Crowding
+mod Returned
+pub mod Reasons
+mod Tallying
+pub mod Overrunning

@@ -99,7 +99,7 @@ pub no_words : (side : Side) (motions : List Motion) → all_words (happenings_o
 no_words side [] = refl
 no_words side (motion ∷ motions) = ap (λ ws. ws ++ all_words (happenings_of side motions)) (no_word side motion) ∙ no_words side motions
 
-pub advances_a :
+unfoldable pub advances_a :
     {S T G H P Q : Type 0} (U : Upper S G) (V : Upper T H) (RA : P → List G → P → Type 0) (RB : Q → List H → Q → Type 0)
     (medium medium' : Medium) (pushes : Pushes) (turned : ℕ) (a a' : Asking S G) (b : Asking T H) (shelf shelf' : P) (inbox : Q) (trace trace' : Option (List ℕ)) → JoinAnswers RB
     → Goes U A RA medium medium' a a' shelf shelf' trace trace'
@@ -115,7 +115,7 @@ advances_a U V RA RB medium medium' pushes turned a a' b shelf shelf' inbox trac
   written = goes.written;
 }
 
-pub advances_b :
+unfoldable pub advances_b :
     {S T G H P Q : Type 0} (U : Upper S G) (V : Upper T H) (RA : P → List G → P → Type 0) (RB : Q → List H → Q → Type 0)
     (medium medium' : Medium) (pushes : Pushes) (turned : ℕ) (a : Asking S G) (b b' : Asking T H) (shelf : P) (inbox inbox' : Q) (trace trace' : Option (List ℕ)) → JoinAnswers RA
     → Goes V B RB medium medium' b b' inbox inbox' trace trace'

@@ -42,7 +42,7 @@ goes_none U side Answers medium host port trace joins = record {
   written = sym (gained-nil trace);
 }
 
-pub goes_then :
+unfoldable pub goes_then :
     {S G P : Type 0} (U : Upper S G) (side : Side) (Answers : P → List G → P → Type 0) (first mid last : Medium) (host host' host'' : Asking S G) (port port' port'' : P) (trace trace' trace'' : Option (List ℕ))
     → JoinAnswers Answers → Goes U side Answers first mid host host' port port' trace trace' → Goes U side Answers mid last host' host'' port' port'' trace' trace''
     → Goes U side Answers first last host host'' port port'' trace trace''
@@ -65,13 +65,13 @@ pub leaving_are : (side : Side) (orders : List Order) → all_entries (happening
 leaving_are side [] = refl
 leaving_are side (order ∷ orders) = ap (λ es. leaving_entry side order ∷ es) (leaving_are side orders)
 
-leave : {S G : Type 0} (U : Upper S G) (side : Side) (orders : List Order) (medium : Medium) (station : Station S) → station.out ≡ orders
+pub leave : {S G : Type 0} (U : Upper S G) (side : Side) (orders : List Order) (medium : Medium) (station : Station S) → station.out ≡ orders
     → MakesAll U side (leavings orders) (record { medium = medium; station = station }) (record { medium = after_all side orders medium; station = record station { out = [] } })
 leave U side [] medium station are = ap (λ out. record { medium = medium; station = record station { out = out } }) (sym are)
 leave U side (order ∷ orders) medium station are =
     (record { medium = after_leaving side order medium; station = record station { out = orders } }, (orders, are, refl), leave U side orders (after_leaving side order medium) (record station { out = orders }) refl)
 
-pub goes_out :
+unfoldable pub goes_out :
     {S G P : Type 0} (U : Upper S G) (side : Side) (Answers : P → List G → P → Type 0) (medium medium' : Medium) (host host' : Asking S G) (port port' : P) (trace trace' : Option (List ℕ))
     → medium' ≡ after_all side host.out medium → Reacts U side Answers (λ used station. station) (record host { out = [] }) host' port port' → trace' ≡ gained trace (capture_octets (leaving_entries side host.out))
     → Goes U side Answers medium medium' host host' port port' trace trace'

@@ -1,13 +1,14 @@
 -- The words of runs, run by run.
-use Rattle.std.proofs.Common.{◌≡◌, ℕ, ◌+◌, ◌-◌, ◌<◌, zero, suc, List, [], ◌∷◌, ◌++◌, length, take, replicate, Some, None, sym, ap, subst, ◌∙◌, arith}
+use Rattle.std.proofs.Common.{◌≡◌, ℕ, ◌+◌, ◌-◌, ◌*◌, ◌≤◌, ◌<◌, length-append, zero, suc, List, [], ◌∷◌, ◌++◌, length, take, drop, replicate, Some, None, append_assoc, sym, ap, subst, ◌∙◌, arith}
 use Rattle.std.specs.List.{slice_get, AllByRecursion}
-use Rattle.std.proofs.lemmas.List.{append-nil, replicate-append-replicate}
+use Rattle.std.proofs.lemmas.List.{append-nil, length-replicate, replicate-append-replicate, take-append-drop}
 use Rattle.std.proofs.lemmas.Grind.{flat_map-append}
 use Rattle.std.proofs.lemmas.Option.{slice_get_within, slice_get-get_or}
 use Rattle.std.proofs.Math.Seq.{take-suc}
 use Rattle.push_terms.specs.declared.word.Word.{Word}
 use Rattle.push_script.specs.Runs.{IsRun, IsWord}
 use Rattle.capture.specs.Air.{words_of}
+use Rattle.radio_world.specs.Crowds.{ScriptsAreCounted}
 
 pub once_more : (n : ℕ) (word : Word) → replicate n word ++ word ∷ [] ≡ replicate (n + 1) word
 once_more n word = replicate-append-replicate n 1 word
@@ -41,6 +42,18 @@ times_and_rest done count word below =
     let whole : done + (count - done) ≡ count = omega (arith, below) in
     replicate-append-replicate done (count - done) word ∙ ap (λ n. replicate n word) whole
 
+-- the words that come behind one that is turned
+pub times_and_one : (done count : ℕ) (word : Word) → done < count → replicate count word ≡ replicate done word ++ ((word ∷ []) ++ replicate (count - (done + 1)) word)
+times_and_one done count word below =
+    let whole : count ≡ done + suc (count - (done + 1)) = omega (arith, below) in
+    ap (λ n. replicate n word) whole ∙ sym (replicate-append-replicate done (suc (count - (done + 1))) word)
+
+-- and those behind a run
+pub runs_behind : (runs : List (ℕ × Word)) (i count : ℕ) (word : Word) → slice_get runs i ≡ Some (count, word) → words_of runs ≡ words_of (take i runs) ++ (replicate count word ++ words_of (drop (i + 1) runs))
+runs_behind runs i count word is =
+    ap words_of (sym (take-append-drop (i + 1) runs)) ∙ flat_map-append (λ run. replicate run.0 run.1) (take (i + 1) runs) (drop (i + 1) runs)
+    ∙ ap (λ ws. ws ++ words_of (drop (i + 1) runs)) (sym (run_more runs i count word is)) ∙ append_assoc (words_of (take i runs)) (replicate count word) (words_of (drop (i + 1) runs))
+
 -- each word of a script is one
 pub word_at : (runs : List (ℕ × Word)) (i count : ℕ) (word : Word) → AllByRecursion IsRun runs → slice_get runs i ≡ Some (count, word) → IsWord word
 word_at runs i count word are is = (run_at runs i (count, word) are is).2
@@ -49,3 +62,17 @@ word_at runs i count word are is = (run_at runs i (count, word) are is).2
     run_at [] i run are is = absurd cc
     run_at (first ∷ runs) zero run are is = let same : first ≡ run = cc in subst IsRun same are.0
     run_at (first ∷ runs) (suc i) run are is = run_at runs i run are.1 is
+
+-- ---- how many words there are
+
+few_words : (runs : List (ℕ × Word)) → AllByRecursion IsRun runs → length (words_of runs) ≤ 4294967295 * length runs
+few_words [] are = omega arith
+few_words ((count, word) ∷ runs) (is, are) =
+    let low = is.1 in
+    let more = few_words runs are in
+    let long = length-replicate count word in
+    let both = length-append (replicate count word) (words_of runs) in
+    omega arith
+
+pub scripts_are_counted : ScriptsAreCounted
+scripts_are_counted script are few = let words = few_words script are in omega arith

@@ -7,3 +7,6 @@ pub mod Standing
 pub mod Both
 pub mod Measures
 pub mod Causes
+pub mod Counting
+pub mod Shortages
+pub mod Crowds

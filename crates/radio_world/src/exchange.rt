@@ -1,10 +1,13 @@
 //! All that moves between a host and its controller.
 
-ghost use Rattle.std.specs.Prelude.{◌≡◌, ◌<◌, [], false, true, Ok, OnOk, OnErr};
+ghost use Rattle.std.specs.Prelude.{◌≡◌, ◌<◌, [], false, true, Ok, IfOk, OnOk, OnErr};
+ghost use Rattle.radio_air.specs.Owed.{owes_many};
 ghost use Rattle.radio_air.specs.Radio.{after_offer};
-ghost use Rattle.radio_world.specs.Leaving.{in_radio};
-ghost use Rattle.radio_world.specs.Halves.{Goes, IsStillIn, IsSaidFirst, MayAllBeHeard, StaysPut, comes_count};
+ghost use Rattle.radio_world.specs.Leaving.{in_radio, after_all};
+ghost use Rattle.radio_world.specs.Counting.{one_if, GoesBy};
+ghost use Rattle.radio_world.specs.Halves.{IsStillIn, IsSaidFirst, MayAllBeHeard, StaysPut, comes_count};
 ghost use Rattle.radio_world.specs.Causes.{Blames};
+ghost use Rattle.radio_world.specs.Shortages.{Lacks, Shortage};
 
 use crate::fault::WorldFault;
 use crate::feeding::hand_over;
@@ -30,11 +33,13 @@ impl Medium {
     ) -> Result<bool, WorldFault>
         requires side { H.side ≡ side }
         requires sound { H.is_sound host.old port.old }
-        ensures goes { OnOk result (Goes H.machine side H.answers self.old self.new (H.station host.old port.old) (H.station host.new port.new) port.old port.new (T.content trace.old) (T.content trace.new)) }
+        ensures goes { IfOk result (λ moved. GoesBy (one_if moved) H.machine side H.answers self.old self.new (H.station host.old port.old) (H.station host.new port.new) port.old port.new (T.content trace.old) (T.content trace.new)) }
         ensures none { result ≡ Ok false → (H.station host.old port.old).out ≡ [] × (self.new ≡ self.old) × (H.station host.new port.new ≡ H.station host.old port.old) }
+        ensures medium { OnOk result (self.new ≡ after_all side (H.station host.old port.old).out self.old) }
         ensures held { OnOk result (H.held host.new ≡ H.held host.old) }
         ensures sound { OnOk result (H.is_sound host.new port.new) }
         ensures blames { Blames (T.faults trace.old) (T.faults trace.new) result }
+        ensures lacks { Lacks (T.shortages trace.old) (T.shortages trace.new) (Shortage H.lacked side (H.station host.old port.old).out self.old port.old port.new (T.content trace.old) (T.content trace.new)) result }
     {
         let offered = host.out();
         let count = offered.len();
@@ -58,13 +63,14 @@ impl Medium {
         requires none_held { H.held host.old ≡ [] }
         requires heard { MayAllBeHeard H.machine side self.old (H.station host.old port.old) }
         requires sound { H.is_sound host.old port.old }
-        ensures goes { OnOk result (Goes H.machine side H.answers self.old self.new (H.station host.old port.old) (H.station host.new port.new) port.old port.new (T.content trace.old) (T.content trace.new)) }
+        ensures goes { IfOk result (λ moved. GoesBy (one_if moved) H.machine side H.answers self.old self.new (H.station host.old port.old) (H.station host.new port.new) port.old port.new (T.content trace.old) (T.content trace.new)) }
         ensures still { result ≡ Ok false → IsStillIn side self.old × (self.new ≡ self.old) × (H.station host.new port.new ≡ H.station host.old port.old) }
         ensures said { OnErr result (IsSaidFirst side self.old.radio (H.station host.old port.old) (H.station host.new port.new) port.old port.new (T.content trace.old) (T.content trace.new)) }
         ensures shorter { result ≡ Ok true → comes_count side self.new < comes_count side self.old }
         ensures none_held { OnOk result (H.held host.new ≡ []) }
         ensures sound { OnOk result (H.is_sound host.new port.new) }
         ensures blames { Blames (T.faults trace.old) (T.faults trace.new) result }
+        ensures lacks { Lacks (T.shortages trace.old) (T.shortages trace.new) (H.lacked port.old port.new) result }
     {
         let mut room = [0; LONGEST_UNIT];
         let Some(n) = self.radio.hand(side, &mut room) else {
@@ -96,12 +102,13 @@ impl Medium {
         requires none_held { H.held host.old ≡ [] }
         requires heard { MayAllBeHeard H.machine side self.old (H.station host.old port.old) }
         requires sound { H.is_sound host.old port.old }
-        ensures goes { OnOk result (Goes H.machine side H.answers self.old self.new (H.station host.old port.old) (H.station host.new port.new) port.old port.new (T.content trace.old) (T.content trace.new)) }
+        ensures goes { IfOk result (λ moved. GoesBy (one_if moved) H.machine side H.answers self.old self.new (H.station host.old port.old) (H.station host.new port.new) port.old port.new (T.content trace.old) (T.content trace.new)) }
         ensures still { OnOk result (IsStillIn side self.new) }
         ensures none { result ≡ Ok false → (self.new ≡ self.old) × (H.station host.new port.new ≡ H.station host.old port.old) }
         ensures none_held { OnOk result (H.held host.new ≡ []) }
         ensures sound { OnOk result (H.is_sound host.new port.new) }
         ensures blames { Blames (T.faults trace.old) (T.faults trace.new) result }
+        ensures lacks { Lacks (T.shortages trace.old) (T.shortages trace.new) (H.lacked port.old port.new) result }
     {
         let mut moved = false;
         while self.move_into(side, host, port, trace)? {
@@ -112,7 +119,8 @@ impl Medium {
 
     /// A controller gives back the packets of its host that it took.
     fn give_back(&mut self, side: Side) -> Result<(), NoMemory>
-        ensures { OnOk result (self.new ≡ in_radio (after_offer side self.old.radio) self.old) }
+        ensures ok { OnOk result (self.new ≡ in_radio (after_offer side self.old.radio) self.old) }
+        ensures full { OnErr result (owes_many 16 self.old.radio ≡ true) }
     {
         self.radio.offered(side)?;
         Ok(())
@@ -131,12 +139,13 @@ impl Medium {
         requires none_held { H.held host.old ≡ [] }
         requires heard { MayAllBeHeard H.machine side self.old (H.station host.old port.old) }
         requires sound { H.is_sound host.old port.old }
-        ensures goes { OnOk result (Goes H.machine side H.answers self.old self.new (H.station host.old port.old) (H.station host.new port.new) port.old port.new (T.content trace.old) (T.content trace.new)) }
+        ensures goes { IfOk result (λ moved. GoesBy (one_if moved) H.machine side H.answers self.old self.new (H.station host.old port.old) (H.station host.new port.new) port.old port.new (T.content trace.old) (T.content trace.new)) }
         ensures still { OnOk result (IsStillIn side self.new) }
         ensures none { result ≡ Ok false → StaysPut side self.old self.new (H.station host.old port.old) (H.station host.new port.new) }
         ensures none_held { OnOk result (H.held host.new ≡ []) }
         ensures sound { OnOk result (H.is_sound host.new port.new) }
         ensures blames { Blames (T.faults trace.old) (T.faults trace.new) result }
+        ensures lacks { Lacks (T.shortages trace.old) (T.shortages trace.new) (Shortage H.lacked side (H.station host.old port.old).out self.old port.old port.new (T.content trace.old) (T.content trace.new)) result }
     {
         let left = self.move_out(side, host, port, trace)?;
         self.give_back(side)?;

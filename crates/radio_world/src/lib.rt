@@ -5,6 +5,7 @@ mod exchange;
 mod fault;
 mod feeding;
 mod host;
+pub mod laws;
 mod medium;
 mod ordering;
 mod playing;

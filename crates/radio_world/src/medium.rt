@@ -11,6 +11,7 @@ ghost use Rattle.radio_world.specs.Hosts.{acl_limit, order_octets, AreSent};
 ghost use Rattle.radio_world.specs.Leaving.{first_medium, in_radio, noted, after_all, leaving_entries, BreaksOff};
 ghost use Rattle.world_model.specs.Stations.{Order};
 ghost use Rattle.radio_world.specs.Causes.{Blames};
+ghost use Rattle.radio_world.specs.Shortages.{Lacks, Overflows, WantsRoom};
 
 use crate::fault::WorldFault;
 use crate::recording::record;
@@ -86,6 +87,7 @@ impl Medium {
         ensures written { OnOk result (T.content trace.new ≡ gained (T.content trace.old) (entry_octets (Moved side Flow.Out (packet unit.entry)))) }
         ensures front { GainedFront (T.content trace.old) (T.content trace.new) (entry_octets (Moved side Flow.Out (packet unit.entry))) }
         ensures blames { Blames (T.faults trace.old) (T.faults trace.new) result }
+        ensures lacks { Lacks (T.shortages trace.old) (T.shortages trace.new) ((T.content trace.new ≡ gained (T.content trace.old) (entry_octets (Moved side Flow.Out (packet unit.entry)))) × WantsRoom self.old.radio (after_packet side (packet unit.entry) self.old.radio)) result }
     {
         let entry = Entry::Moved {
             side,
@@ -108,6 +110,7 @@ impl Medium {
         ensures moved { OnOk result ((orders : List Order) → AreSent side orders → octets.now ≡ order_octets side orders → (self.new ≡ after_all side orders self.old) × (T.content trace.new ≡ gained (T.content trace.old) (capture_octets (leaving_entries side orders)))) }
         ensures broken { OnErr result ((orders : List Order) → AreSent side orders → octets.now ≡ order_octets side orders → BreaksOff (leaving_entries side orders) (T.content trace.old) (T.content trace.new)) }
         ensures blames { Blames (T.faults trace.old) (T.faults trace.new) result }
+        ensures lacks { Lacks (T.shortages trace.old) (T.shortages trace.new) ((orders : List Order) → AreSent side orders → octets.now ≡ order_octets side orders → Overflows side orders self.old (T.content trace.old) (T.content trace.new)) result }
     {
         let mut rest = octets;
         while let Leading::Whole(unit, n) = first(rest, ACL_LIMIT) {

@@ -5,6 +5,7 @@ ghost use Rattle.bt_base.specs.Streams.{gained, GainedFront};
 ghost use Rattle.capture.specs.Entries.{IsEntry, entry_octets};
 ghost use Rattle.capture.specs.Lent.{plain_entry};
 ghost use Rattle.radio_world.specs.Causes.{Blames};
+ghost use Rattle.radio_world.specs.Shortages.{LacksByTrace};
 
 use crate::fault::WorldFault;
 use bt_base::{PortFault, Sink};
@@ -20,6 +21,7 @@ pub(crate) fn record<T: Sink>(entry: &Entry<'_>, trace: &mut T) -> Result<(), Wo
     ensures ok { OnOk result (T.content trace.new ≡ gained (T.content trace.old) (entry_octets (plain_entry entry.now))) }
     ensures front { GainedFront (T.content trace.old) (T.content trace.new) (entry_octets (plain_entry entry.now)) }
     ensures blames { Blames (T.faults trace.old) (T.faults trace.new) result }
+    ensures lacks { LacksByTrace (T.shortages trace.old) (T.shortages trace.new) result }
 {
     let mut room = [0; LONGEST_ENTRY];
     let n = put_entry(entry, &mut room);

@@ -1,17 +1,21 @@
 //! What goes on between the two hosts.
 
-ghost use Rattle.std.specs.Prelude.{◌≡◌, ◌+◌, ◌<◌, ◌&&◌, ◌∷◌, [], true, false, List, None, Ok, OnOk};
+ghost use Rattle.std.specs.Prelude.{◌≡◌, ◌+◌, ◌<◌, ◌&&◌, ◌∷◌, [], true, false, List, None, Ok, IfOk, OnOk};
 ghost use Rattle.bt_base.specs.Streams.{gained};
 ghost use Rattle.push_terms.specs.declared.word.Side.TheVariants as sides;
 ghost use Rattle.capture.specs.Entries.{Ended, entry_octets};
 ghost use Rattle.radio_air.specs.Radio.{is_apart, is_quiet};
 ghost use Rattle.world_model.specs.Pushes.{next_name, one_ended};
 ghost use Rattle.radio_world.specs.Hosts.{answering};
-ghost use Rattle.radio_world.specs.Halves.{Goes, IsStillIn, MayAllBeHeard, StaysPut};
+ghost use Rattle.radio_world.specs.Counting.{one_if, AdvancesBy, GoesBy};
+ghost use Rattle.radio_world.specs.Halves.{IsStillIn, MayAllBeHeard, StaysPut};
 ghost use Rattle.radio_world.specs.Scenes.{stage, moment, world_at, may_end, Advances, Begins, Ends};
 ghost use Rattle.radio_world.specs.Standing.{IsReached};
 ghost use Rattle.world_model.specs.Worlds.{IsSettled};
+ghost use Rattle.rest_laws.specs.Premises.{AreOrderly};
+ghost use Rattle.room_laws.specs.Rooms.{OwesNoneBack};
 ghost use Rattle.radio_world.specs.Causes.{Blames};
+ghost use Rattle.radio_world.specs.Shortages.{Lacks, LacksByTrace, Shortage, Wants};
 
 use crate::fault::WorldFault;
 use crate::host::{Client, Host};
@@ -23,8 +27,9 @@ use capture::Entry;
 use push_terms::{Outcome, Side};
 use std::marker::Model;
 
-/// How many rounds a settling has at most. It ends far earlier, when nothing moves any more.
-const MOST_ROUNDS: u32 = u32::MAX;
+/// How many rounds a settling has at most. It ends far earlier, when nothing moves any more: each
+/// round before writes to the trace.
+const MOST_ROUNDS: u64 = u64::MAX;
 
 /// What lies between the two hosts, and the pushes of a scenario. A clause sees both, and how many
 /// words were turned.
@@ -56,7 +61,9 @@ impl Scene {
         ensures none { result ≡ Ok false → (self.new ≡ self.old) × (a.new ≡ a.old) × (shelf.new ≡ shelf.old) × (T.content trace.new ≡ T.content trace.old) × ((rest : List A.Host.Answer) → A.Host.machine.is_idle ((A.Host.station a.old shelf.old).upper rest) ≡ true → next_name self.old.pushes ≡ None) }
         ensures held { OnOk result (A.Host.held a.new ≡ A.Host.held a.old) }
         ensures sound { OnOk result (A.Host.is_sound a.new shelf.new) }
+        ensures medium { OnOk result (self.new.medium ≡ self.old.medium) }
         ensures blames { Blames (T.faults trace.old) (T.faults trace.new) result }
+        ensures lacks { Lacks (T.shortages trace.old) (T.shortages trace.new) (A.Host.lacked shelf.old shelf.new) result }
     {
         if !a.idle() {
             return Ok(false);
@@ -76,6 +83,7 @@ impl Scene {
         ensures scene { OnOk result (self.new ≡ record self.old { pushes = one_ended outcome self.old.pushes }) }
         ensures written { OnOk result (T.content trace.new ≡ gained (T.content trace.old) (entry_octets (Ended self.old.pushes.begun outcome))) }
         ensures blames { Blames (T.faults trace.old) (T.faults trace.new) result }
+        ensures lacks { LacksByTrace (T.shortages trace.old) (T.shortages trace.new) result }
     {
         record(&Entry::Ended(self.pushes.begun(), outcome), trace)?;
         self.pushes.end(outcome);
@@ -99,7 +107,9 @@ impl Scene {
         ensures ends { result ≡ Ok true → (shelf : P) → Ends A.Host.machine self.old self.new (A.Host.station a.now shelf) (T.content trace.old) (T.content trace.new) }
         ensures none { result ≡ Ok false → (self.new ≡ self.old) × (T.content trace.new ≡ T.content trace.old) }
         ensures early { result ≡ Ok false → may_end self.old ≡ true → (shelf : P) (rest : List A.Host.Answer) → A.Host.machine.is_idle ((A.Host.station a.now shelf).upper rest) ≡ true → A.Host.machine.outcome ((A.Host.station a.now shelf).upper rest) ≡ None }
+        ensures medium { OnOk result (self.new.medium ≡ self.old.medium) }
         ensures blames { Blames (T.faults trace.old) (T.faults trace.new) result }
+        ensures lacks { LacksByTrace (T.shortages trace.old) (T.shortages trace.new) result }
     {
         if !self.may_end() || !a.idle() {
             return Ok(false);
@@ -123,20 +133,21 @@ impl Scene {
         requires none_held { H.held host.old ≡ [] }
         requires heard { MayAllBeHeard H.machine side self.old.medium (H.station host.old port.old) }
         requires sound { H.is_sound host.old port.old }
-        ensures goes { OnOk result (Goes H.machine side H.answers self.old.medium self.new.medium (H.station host.old port.old) (H.station host.new port.new) port.old port.new (T.content trace.old) (T.content trace.new)) }
+        ensures goes { IfOk result (λ moved. GoesBy (one_if moved) H.machine side H.answers self.old.medium self.new.medium (H.station host.old port.old) (H.station host.new port.new) port.old port.new (T.content trace.old) (T.content trace.new)) }
         ensures scene { OnOk result ((self.new.pushes ≡ self.old.pushes) × (self.new.turned ≡ self.old.turned)) }
         ensures still { OnOk result (IsStillIn side self.new.medium) }
         ensures none { result ≡ Ok false → StaysPut side self.old.medium self.new.medium (H.station host.old port.old) (H.station host.new port.new) }
         ensures none_held { OnOk result (H.held host.new ≡ []) }
         ensures sound { OnOk result (H.is_sound host.new port.new) }
         ensures blames { Blames (T.faults trace.old) (T.faults trace.new) result }
+        ensures lacks { Lacks (T.shortages trace.old) (T.shortages trace.new) (Shortage H.lacked side (H.station host.old port.old).out self.old.medium port.old port.new (T.content trace.old) (T.content trace.new)) result }
     {
         let moved = self.medium.exchange(side, host, port, trace)?;
         Ok(moved)
     }
 
     /// A round: the next push begins, all moves, and a push may end. False where nothing happened.
-    /// It needs what a run of the pure world led to.
+    /// It needs what a run of the pure world led to, orderly machines, and that no packet is owed back.
     fn round<P, A: Client<P>, Q, B: Host<Q>, T: Sink>(
         &mut self,
         a: &mut A,
@@ -145,15 +156,19 @@ impl Scene {
         inbox: &mut Q,
         trace: &mut T,
     ) -> Result<bool, WorldFault>
+        requires orderly { AreOrderly A.Host.machine B.machine }
         requires reached { (rest_a : List A.Host.Answer) (rest_b : List B.Answer) → IsReached A.Host.machine B.machine (moment self.old (answering rest_a (A.Host.station a.old shelf.old)) (answering rest_b (B.station b.old inbox.old))) }
+        requires none_back { OwesNoneBack self.old.medium.radio }
         requires sides { (A.Host.side ≡ sides.A) × (B.side ≡ sides.B) }
         requires none_held { (A.Host.held a.old ≡ []) × (B.held b.old ≡ []) }
         requires sound { A.Host.is_sound a.old shelf.old × B.is_sound b.old inbox.old }
-        ensures advances { OnOk result (Advances A.Host.machine B.machine A.Host.answers B.answers [] (stage self.old (A.Host.station a.old shelf.old) (B.station b.old inbox.old) shelf.old inbox.old (T.content trace.old)) (stage self.new (A.Host.station a.new shelf.new) (B.station b.new inbox.new) shelf.new inbox.new (T.content trace.new))) }
+        ensures advances { IfOk result (λ moved. AdvancesBy (one_if moved) A.Host.machine B.machine A.Host.answers B.answers [] (stage self.old (A.Host.station a.old shelf.old) (B.station b.old inbox.old) shelf.old inbox.old (T.content trace.old)) (stage self.new (A.Host.station a.new shelf.new) (B.station b.new inbox.new) shelf.new inbox.new (T.content trace.new))) }
         ensures settled { result ≡ Ok false → (rest_a : List A.Host.Answer) (rest_b : List B.Answer) → IsSettled A.Host.machine B.machine (world_at (moment self.new (answering rest_a (A.Host.station a.new shelf.new)) (answering rest_b (B.station b.new inbox.new)))) }
         ensures none_held { OnOk result ((A.Host.held a.new ≡ []) × (B.held b.new ≡ [])) }
         ensures sound { OnOk result (A.Host.is_sound a.new shelf.new × B.is_sound b.new inbox.new) }
         ensures blames { Blames (T.faults trace.old) (T.faults trace.new) result }
+        ensures none_back { OnOk result (OwesNoneBack self.new.medium.radio) }
+        ensures lacks { Lacks (T.shortages trace.old) (T.shortages trace.new) (Wants A.Host.machine B.machine A.Host.answers B.answers A.Host.lacked B.lacked [] (stage self.old (A.Host.station a.old shelf.old) (B.station b.old inbox.old) shelf.old inbox.old (T.content trace.old)) shelf.new inbox.new (T.content trace.new)) result }
     {
         let began = self.begin(a, shelf, trace)?;
         let moved_a = self.exchange(Side::A, a, shelf, trace)?;
@@ -162,8 +177,7 @@ impl Scene {
         Ok(began | moved_a | moved_b | ended)
     }
 
-    /// Rounds, until in one nothing happens: then all is settled. It needs what a run of the pure world
-    /// led to.
+    /// Rounds, until in one nothing happens: then all is settled. It needs what `round` does.
     pub(crate) fn settle<P, A: Client<P>, Q, B: Host<Q>, T: Sink>(
         &mut self,
         a: &mut A,
@@ -172,7 +186,9 @@ impl Scene {
         inbox: &mut Q,
         trace: &mut T,
     ) -> Result<(), WorldFault>
+        requires orderly { AreOrderly A.Host.machine B.machine }
         requires reached { (rest_a : List A.Host.Answer) (rest_b : List B.Answer) → IsReached A.Host.machine B.machine (moment self.old (answering rest_a (A.Host.station a.old shelf.old)) (answering rest_b (B.station b.old inbox.old))) }
+        requires none_back { OwesNoneBack self.old.medium.radio }
         requires sides { (A.Host.side ≡ sides.A) × (B.side ≡ sides.B) }
         requires none_held { (A.Host.held a.old ≡ []) × (B.held b.old ≡ []) }
         requires sound { A.Host.is_sound a.old shelf.old × B.is_sound b.old inbox.old }
@@ -181,8 +197,10 @@ impl Scene {
         ensures none_held { OnOk result ((A.Host.held a.new ≡ []) × (B.held b.new ≡ [])) }
         ensures sound { OnOk result (A.Host.is_sound a.new shelf.new × B.is_sound b.new inbox.new) }
         ensures blames { Blames (T.faults trace.old) (T.faults trace.new) result }
+        ensures none_back { OnOk result (OwesNoneBack self.new.medium.radio) }
+        ensures lacks { Lacks (T.shortages trace.old) (T.shortages trace.new) (Wants A.Host.machine B.machine A.Host.answers B.answers A.Host.lacked B.lacked [] (stage self.old (A.Host.station a.old shelf.old) (B.station b.old inbox.old) shelf.old inbox.old (T.content trace.old)) shelf.new inbox.new (T.content trace.new)) result }
     {
-        for _ in 0..MOST_ROUNDS {
+        for done in 0..MOST_ROUNDS {
             if !self.round(a, shelf, b, inbox, trace)? {
                 return Ok(());
             }

@@ -1,6 +1,6 @@
 //! Words of a script, turned where all is at rest.
 
-ghost use Rattle.std.specs.Prelude.{◌≡◌, ◌+◌, ◌<◌, ◌^◌, ◌∷◌, [], true, List, OnOk};
+ghost use Rattle.std.specs.Prelude.{◌≡◌, ◌+◌, ◌<◌, ◌^◌, ◌∷◌, [], ◌⊎◌, true, List, OnErr, OnOk};
 ghost use Rattle.bt_base.specs.Streams.{gained};
 ghost use Rattle.push_script.specs.Runs.{IsWord};
 ghost use Rattle.capture.specs.Entries.{Acted, entry_octets};
@@ -12,7 +12,9 @@ ghost use Rattle.radio_world.specs.Hosts.{answering, Reacts};
 ghost use Rattle.radio_world.specs.Leaving.{in_radio};
 ghost use Rattle.radio_world.specs.Scenes.{stage, moment, world_at, Advances};
 ghost use Rattle.radio_world.specs.Turning.{can_be_done, fires, cancels, done_by, is_checked};
+ghost use Rattle.room_laws.specs.Rooms.{OwesNoneBack};
 ghost use Rattle.radio_world.specs.Causes.{Blames};
+ghost use Rattle.radio_world.specs.Shortages.{Lacks, LacksByTrace};
 
 use crate::fault::WorldFault;
 use crate::host::{Client, Host};
@@ -30,6 +32,7 @@ fn fire<P, H: Host<P>>(host: &mut H, port: &mut P) -> Result<(), NoMemory>
     ensures reacts { OnOk result (Reacts H.machine H.side H.answers (λ used. fired H.machine used) (H.station host.old port.old) (H.station host.new port.new) port.old port.new) }
     ensures held { OnOk result (H.held host.new ≡ H.held host.old) }
     ensures sound { OnOk result (H.is_sound host.new port.new) }
+    ensures lacked { OnErr result (H.lacked port.old port.new) }
 {
     if !host.armed() {
         return Ok(());
@@ -73,6 +76,7 @@ fn client_acts<P, A: Client<P>>(deed: Deed, a: &mut A, shelf: &mut P) -> Result<
     ensures reacts { OnOk result (Reacts A.Host.machine A.Host.side A.Host.answers (done_by A.Host.machine sides.A deed) (A.Host.station a.old shelf.old) (A.Host.station a.new shelf.new) shelf.old shelf.new) }
     ensures held { OnOk result (A.Host.held a.new ≡ A.Host.held a.old) }
     ensures sound { OnOk result (A.Host.is_sound a.new shelf.new) }
+    ensures lacked { OnErr result (A.Host.lacked shelf.old shelf.new) }
 {
     if fires(deed, Side::A) {
         fire(a, shelf)?;
@@ -91,6 +95,7 @@ fn server_acts<Q, B: Host<Q>>(deed: Deed, b: &mut B, inbox: &mut Q) -> Result<()
     ensures reacts { OnOk result (Reacts B.machine B.side B.answers (done_by B.machine sides.B deed) (B.station b.old inbox.old) (B.station b.new inbox.new) inbox.old inbox.new) }
     ensures held { OnOk result (B.held b.new ≡ B.held b.old) }
     ensures sound { OnOk result (B.is_sound b.new inbox.new) }
+    ensures lacked { OnErr result (B.lacked inbox.old inbox.new) }
 {
     if !fires(deed, Side::B) {
         return Ok(());
@@ -175,6 +180,7 @@ impl Scene {
         ensures scene { OnOk result (self.new ≡ record self.old { medium = in_radio (after_deed checked (found word self.old.medium.radio) self.old.medium.radio) self.old.medium; turned = self.old.turned + 1 }) }
         ensures written { OnOk result (T.content trace.new ≡ gained (T.content trace.old) (entry_octets (Acted (self.old.turned + 1) word))) }
         ensures blames { Blames (T.faults trace.old) (T.faults trace.new) result }
+        ensures lacks { LacksByTrace (T.shortages trace.old) (T.shortages trace.new) result }
     {
         let ordinal = self.turned + 1;
         record(&Entry::Acted { ordinal, word }, trace)?;
@@ -206,6 +212,8 @@ impl Scene {
         ensures held { OnOk result ((A.Host.held a.new ≡ A.Host.held a.old) × (B.held b.new ≡ B.held b.old)) }
         ensures sound { OnOk result (A.Host.is_sound a.new shelf.new × B.is_sound b.new inbox.new) }
         ensures blames { Blames (T.faults trace.old) (T.faults trace.new) result }
+        ensures none_back { OnOk result (OwesNoneBack self.new.medium.radio) }
+        ensures lacks { Lacks (T.shortages trace.old) (T.shortages trace.new) (A.Host.lacked shelf.old shelf.new ⊎ B.lacked inbox.old inbox.new) result }
     {
         let deed = self.found(word);
         let checked = self.is_checked(deed, a, b);

@@ -12,7 +12,9 @@ ghost use Rattle.rest_laws.specs.Premises.{AreOrderly};
 ghost use Rattle.radio_world.specs.Hosts.{answering};
 ghost use Rattle.radio_world.specs.Scenes.{first_scene, stage, moment, Advances};
 ghost use Rattle.radio_world.specs.Standing.{IsReached, Stands, last_ended, last_entries, all_outcomes};
+ghost use Rattle.room_laws.specs.Rooms.{OwesNoneBack};
 ghost use Rattle.radio_world.specs.Causes.{Blames};
+ghost use Rattle.radio_world.specs.Shortages.{Lacks, LacksByTrace, Wants};
 
 use crate::fault::WorldFault;
 use crate::host::{Client, Host, Keeps, Measured};
@@ -115,9 +117,10 @@ impl<A: Drop, B: Drop> World<A, B> {
     /// Lets both hosts start and begins the first push: all moves that can. It comes once and first.
     ///
     /// It is a run of the pure world, as the trace gained it, after which the world stands where its
-    /// script goes on. It needs what a run of the pure world led to, as `new` does with two hosts to
-    /// which nothing has happened. `TraceFault` where the trace fails, and `NoMemory` where none could
-    /// be had: then the world goes on no more.
+    /// script goes on. It needs what a run of the pure world led to where no packet is owed back, as
+    /// `new` does with two hosts to which nothing has happened, and orderly machines: both say PDUs
+    /// that hosts take, and host a asks for one link in a push. `TraceFault` where the trace fails, and
+    /// `NoMemory` where none could be had (`lacks` says why): then the world goes on no more.
     pub fn start<P, Q, T: Sink>(
         &mut self,
         trace: &mut T,
@@ -127,7 +130,9 @@ impl<A: Drop, B: Drop> World<A, B> {
     where
         A: Client<P>,
         B: Host<Q>,
+        requires orderly { AreOrderly A.Host.machine B.machine }
         requires reached { (rest_a : List A.Host.Answer) (rest_b : List B.Answer) → IsReached A.Host.machine B.machine (moment self.old.scene (answering rest_a (A.Host.station self.old.a shelf.old)) (answering rest_b (B.station self.old.b inbox.old))) }
+        requires none_back { OwesNoneBack self.old.scene.medium.radio }
         requires sides { (A.Host.side ≡ sides.A) × (B.side ≡ sides.B) }
         requires none_held { (A.Host.held self.old.a ≡ []) × (B.held self.old.b ≡ []) }
         requires sound { A.Host.is_sound self.old.a shelf.old × B.is_sound self.old.b inbox.old }
@@ -136,6 +141,7 @@ impl<A: Drop, B: Drop> World<A, B> {
         ensures none_held { OnOk result ((A.Host.held self.new.a ≡ []) × (B.held self.new.b ≡ [])) }
         ensures sound { OnOk result (A.Host.is_sound self.new.a shelf.new × B.is_sound self.new.b inbox.new) }
         ensures blames { Blames (T.faults trace.old) (T.faults trace.new) result }
+        ensures lacks { Lacks (T.shortages trace.old) (T.shortages trace.new) (Wants A.Host.machine B.machine A.Host.answers B.answers A.Host.lacked B.lacked [] (stage self.old.scene (A.Host.station self.old.a shelf.old) (B.station self.old.b inbox.old) shelf.old inbox.old (T.content trace.old)) shelf.new inbox.new (T.content trace.new)) result }
     {
         self.scene
             .start(&mut self.a, shelf, &mut self.b, inbox, trace)?;
@@ -147,9 +153,8 @@ impl<A: Drop, B: Drop> World<A, B> {
     /// that finds nothing is counted alone.
     ///
     /// It needs a word as a line of a scenario can say it, a world that stands, as `start` and `turn`
-    /// leave it, and orderly machines: both say PDUs that hosts take, and host a asks for one link in
-    /// a push. It refuses as `start` does; `NoMemory` also where more than 2^64 - 1 words would have
-    /// been turned.
+    /// leave it, and orderly machines. It refuses as `start` does; `NoMemory` also where more than
+    /// 2^64 - 1 words would have been turned.
     pub fn turn<P, Q, T: Sink>(
         &mut self,
         word: Word,
@@ -171,6 +176,7 @@ impl<A: Drop, B: Drop> World<A, B> {
         ensures none_held { OnOk result ((A.Host.held self.new.a ≡ []) × (B.held self.new.b ≡ [])) }
         ensures sound { OnOk result (A.Host.is_sound self.new.a shelf.new × B.is_sound self.new.b inbox.new) }
         ensures blames { Blames (T.faults trace.old) (T.faults trace.new) result }
+        ensures lacks { Lacks (T.shortages trace.old) (T.shortages trace.new) (Wants A.Host.machine B.machine A.Host.answers B.answers A.Host.lacked B.lacked (word ∷ []) (stage self.old.scene (A.Host.station self.old.a shelf.old) (B.station self.old.b inbox.old) shelf.old inbox.old (T.content trace.old)) shelf.new inbox.new (T.content trace.new)) result }
     {
         self.scene
             .turn_times(1, word, &mut self.a, shelf, &mut self.b, inbox, trace)?;
@@ -199,6 +205,7 @@ impl<A: Drop, B: Drop> World<A, B> {
         ensures none_held { OnOk result ((A.Host.held self.new.a ≡ []) × (B.held self.new.b ≡ [])) }
         ensures sound { OnOk result (A.Host.is_sound self.new.a shelf.new × B.is_sound self.new.b inbox.new) }
         ensures blames { Blames (T.faults trace.old) (T.faults trace.new) result }
+        ensures lacks { Lacks (T.shortages trace.old) (T.shortages trace.new) (Wants A.Host.machine B.machine A.Host.answers B.answers A.Host.lacked B.lacked (words_of script.now) (stage self.old.scene (A.Host.station self.old.a shelf.old) (B.station self.old.b inbox.old) shelf.old inbox.old (T.content trace.old)) shelf.new inbox.new (T.content trace.new)) result }
     {
         self.scene
             .turn_all(script, &mut self.a, shelf, &mut self.b, inbox, trace)?;
@@ -217,6 +224,7 @@ impl<A: Drop, B: Drop> World<A, B> {
         ensures hosts { (self.new.a ≡ self.old.a) × (self.new.b ≡ self.old.b) }
         ensures medium { OnOk result (self.new.scene.medium ≡ self.old.scene.medium) }
         ensures blames { Blames (T.faults trace.old) (T.faults trace.new) result }
+        ensures lacks { LacksByTrace (T.shortages trace.old) (T.shortages trace.new) result }
     {
         let came = self.a.outcome();
         self.scene.finish(came, trace)?;

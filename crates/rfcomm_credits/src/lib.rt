@@ -4,6 +4,3 @@
 mod account;
 
 pub use account::{Account, AccountRefusal};
-
-#[cfg(test)]
-mod tests;

@@ -25,6 +25,3 @@ pub use frame::{MuxFrame, MuxKind};
 pub use reading::frame_of;
 pub use refusal::MuxRefusal;
 pub use writing::put_frame;
-
-#[cfg(test)]
-mod tests;

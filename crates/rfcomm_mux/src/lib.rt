@@ -11,6 +11,3 @@ mod writing;
 
 pub use mux::{Mux, MuxUp};
 pub use rfcomm_model::MuxReason;
-
-#[cfg(test)]
-mod tests;

@@ -23,7 +23,7 @@ use Rattle.host_laws.specs.Calm.{pdus_in}
 use Rattle.host_laws.specs.OverLinks.{parts}
 use Rattle.scenario_laws.specs.Captures.{client_of, server_of}
 use Rattle.scenario_laws.specs.Coming.{FallTo, CameOver, CameOn, RunsHaveTalks, RestsHaveTalks}
-use Rattle.scenario_laws.proofs.Acting.{Acted, SinceUp, went_all, since_up}
+use Rattle.scenario_laws.proofs.Acting.{Anyhow, AreSo, ActedSo, Acted, SinceUp, went_all, since_up}
 use Rattle.scenario_laws.proofs.Both.{both_acted}
 use Rattle.scenario_laws.proofs.Carrying.{carried}
 use Rattle.scenario_laws.proofs.Fronts.{fits, ended_links, with_ends}
@@ -32,7 +32,7 @@ use Rattle.scenario_laws.proofs.Resting.{both_rested}
 
 -- ---- links of a capture
 
-captured_links : (side : Side) (past : List Entry) → all_links (captured side past) ≡ map pdus (links side past)
+pub captured_links : (side : Side) (past : List Entry) → all_links (captured side past) ≡ map pdus (links side past)
 captured_links side past =
     let known : Linking = linking (moves side past) in
     ap (λ (l : List (List Pdu)). map pdus known.past ++ l) (by known.up) ∙ sym (map-append pdus known.past (option_to_list known.up))
@@ -41,22 +41,41 @@ captured_links side past =
     by None = refl
     by (Some link) = refl
 
-ended_all : (side : Side) (pushes : Pushes) (past ends : List Entry) → IsLastEnd pushes ends → linking (moves side (past ++ ends)) ≡ linking (moves side past)
+pub ended_all : (side : Side) (pushes : Pushes) (past ends : List Entry) → IsLastEnd pushes ends → linking (moves side (past ++ ends)) ≡ linking (moves side past)
 ended_all side pushes past ends last =
     with_ends (λ (es : List Entry). linking (moves side es) ≡ linking (moves side past)) pushes past ends (λ push outcome so. ended_links side past push outcome) last refl
 
 -- ---- at each moment
 
-came_over : {P : Type 0} (A : Profile P) (side : Side) (past capture : List Entry) (linked : Bool) (now : Host P) (waiting : List (List ℕ)) (talk : List Talk) → Acted (upper A) linked now waiting talk → linkage talk ≡ captured side past
-    → linking (moves side capture) ≡ linking (moves side past) → CameOver A side capture now
-came_over A side past capture linked now waiting talk acted known same =
+-- with what is so where it heard something
+pub record CameOverSo {P : Type 0} (A : Profile P) (W : Bool → Host P → Type 0) (side : Side) (capture : List Entry) (now : Host P) : Type 0 where
+  pub came : CameOver A side capture now
+  pub so : AreSo (upper A) W false came.over.acts (upper A).first
+
+unfoldable pub came_over : {P : Type 0} (A : Profile P) (W : Bool → Host P → Type 0) (side : Side) (past capture : List Entry) (linked : Bool) (now : Host P) (waiting : List (List ℕ)) (talk : List Talk) → ActedSo (upper A) W linked now waiting talk → linkage talk ≡ captured side past
+    → linking (moves side capture) ≡ linking (moves side past) → CameOverSo A W side capture now
+came_over A W side past capture linked now waiting talk acted known same =
     let links_are : all_links (linkage talk) ≡ map pdus (links side capture) =
     ap all_links known ∙ (captured_links side past ∙ ap (λ (l : Linking). map pdus (l.past ++ option_to_list l.up)) (sym same)) in
+    let all = went_all (upper A) W linked now waiting talk acted in
     record {
-      talk = talk ++ map Unsent waiting;
-      over = (went_all (upper A) linked now waiting talk acted).over;
-      fall = subst (FallTo (parts (talk ++ map Unsent waiting))) links_are (all_fall linked talk waiting acted.down acted.parted);
+      came = record {
+        talk = talk ++ map Unsent waiting;
+        over = all.went.over;
+        fall = subst (FallTo (parts (talk ++ map Unsent waiting))) links_are (all_fall linked talk waiting acted.down acted.parted);
+      };
+      so = all.so;
     }
+
+-- of any host, by its talk
+unfoldable pub came-over : {P : Type 0} (A : Profile P) (side : Side) (past capture : List Entry) (linked : Bool) (now : Host P) (waiting : List (List ℕ)) (talk : List Talk) → ActedSo (upper A) Anyhow linked now waiting talk → linkage talk ≡ captured side past
+    → linking (moves side capture) ≡ linking (moves side past) → CameOver A side capture now
+came-over A side past capture linked now waiting talk acted known same = (came_over A Anyhow side past capture linked now waiting talk acted known same).came
+
+pub came-talk : {P : Type 0} (A : Profile P) (side : Side) (past capture : List Entry) (linked : Bool) (now : Host P) (waiting : List (List ℕ)) (talk : List Talk) (acted : ActedSo (upper A) Anyhow linked now waiting talk) (known : linkage talk ≡ captured side past)
+    (same : linking (moves side capture) ≡ linking (moves side past)) → (came-over A side past capture linked now waiting talk acted known same).talk ≡ talk ++ map Unsent waiting
+unfolding came-over came_over
+came-talk A side past capture linked now waiting talk acted known same = refl
 
 pub runs_have_talks : RunsHaveTalks
 runs_have_talks scenario content capture ran =
@@ -64,18 +83,18 @@ runs_have_talks scenario content capture ran =
     let V = server_of scenario content in
     let past = all_entries ran.happenings in
     let all = carried U V scenario.acl_length scenario.acl_count scenario.names ran.happenings ran.world (fits scenario content) ran.happened in
-    let acted = (both_acted U V scenario.acl_length scenario.names all.doings _ all.carries).0 in
+    let acted = (both_acted U V Anyhow Anyhow scenario.acl_length scenario.names all.doings _ all.so).0 in
     let same : (side : Side) → linking (moves side capture) ≡ linking (moves side past) = λ side. ap (λ (es : List Entry). linking (moves side es)) ran.capture_is ∙ ended_all side ran.world.pushes past ran.ends ran.last in
     record {
-      a = came_over (client_profile scenario.settings) sides.A past capture _ ran.world.a.upper _ all.talk_a acted.a all.links_a (same sides.A);
-      b = came_over (server_profile scenario.settings content) sides.B past capture _ ran.world.b.upper _ all.talk_b acted.b all.links_b (same sides.B);
+      a = came-over (client_profile scenario.settings) sides.A past capture _ ran.world.a.upper _ all.talk_a acted.a.acted all.links_a (same sides.A);
+      b = came-over (server_profile scenario.settings content) sides.B past capture _ ran.world.b.upper _ all.talk_b acted.b.acted all.links_b (same sides.B);
     }
 
 -- ---- at rest
 
 came_on : {P : Type 0} (A : Profile P) (side : Side) (past : List Entry) (now : Host P) (linked : Bool) (talk : List Talk) → Acted (upper A) linked now [] talk → linkage talk ≡ captured side past → CameOn A (link_up side past) now
 came_on {P} A side past now true talk acted known =
-    let up : SinceUp (upper A) talk now = since_up (upper A) now talk acted in
+    let up : SinceUp (upper A) talk now = since_up (upper A) Anyhow now talk acted in
     by up (link_up side past) (ap (λ (l : Linkage). l.up) (sym known) ∙ up.links_are)
   where
     same : (x y : List Pdu) → Some x ≡ Some y → y ≡ x

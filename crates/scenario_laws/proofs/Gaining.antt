@@ -71,9 +71,9 @@ both_out : (xs ys : List Saying) → AllByRecursion GoesOut xs → AllByRecursio
 both_out [] ys one two = two
 both_out (x ∷ xs) ys one two = (one.0, both_out xs ys one.1 two)
 
-all_out : (unsent : List (List ℕ)) → AllByRecursion GoesOut (said_all (map out_of unsent))
-all_out [] = tt
-all_out (pdu ∷ unsent) = both_out (said_by (out_of pdu)) (said_all (map out_of unsent)) (one_out pdu) (all_out unsent)
+pub all-out : (unsent : List (List ℕ)) → AllByRecursion GoesOut (said_all (map out_of unsent))
+all-out [] = tt
+all-out (pdu ∷ unsent) = both_out (said_by (out_of pdu)) (said_all (map out_of unsent)) (one_out pdu) (all-out unsent)
 
 -- ---- what a front of a talk has
 
@@ -93,7 +93,7 @@ front_served xs ys served = record { asks_for_none = all_front AsksForNone xs ys
 part_spells : (party : Party) (part : List Talk) (link : List Pdu) (unsent : List (List ℕ)) → flat_map pdus_in part ≡ link ++ map out_of unsent → IsServed (moved_in part) → objects party (moved_in part) ≡ objects party (said_all link)
 part_spells party part link unsent moved served =
     let both : moved_in part ≡ said_all link ++ said_all (map out_of unsent) = ap said_all moved ∙ flat_map-append said_by link (map out_of unsent) in
-    objects-move party (moved_in part) (said_all link) (said_all (map out_of unsent)) (all_spoken (flat_map pdus_in part) ∙ both) (all_out unsent) (front_served (said_all link) (said_all (map out_of unsent)) (subst IsServed both served))
+    objects-move party (moved_in part) (said_all link) (said_all (map out_of unsent)) (all_spoken (flat_map pdus_in part) ∙ both) (all-out unsent) (front_served (said_all link) (said_all (map out_of unsent)) (subst IsServed both served))
 
 abbrev spelled_on : Party → List (List Pdu) → List Object
 spelled_on party links = flat_map (λ link. objects party (said_all link)) links

@@ -11,6 +11,9 @@ pub mod Telling
 pub mod Unlinked
 pub mod UnlinkedServers
 pub mod UnlinkedClients
+pub mod Taming
+pub mod Gentle
+pub mod Free
 pub mod Airs
 pub mod Windows
 pub mod Framing
@@ -21,3 +24,5 @@ pub mod Played
 pub mod Outcomes
 pub mod SetHosts
 pub mod Clauses
+pub mod Reaching
+pub mod Orderly

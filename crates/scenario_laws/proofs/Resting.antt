@@ -10,7 +10,7 @@ use Rattle.world_model.specs.Talks.{Talk}
 use Rattle.world_model.specs.PerLink.{linkage, captured}
 use Rattle.world_model.specs.Worlds.{Happening, IsAtRest, all_entries}
 use Rattle.scenario_laws.specs.Captures.{client_of, server_of, BothHosts, Happened}
-use Rattle.scenario_laws.proofs.Acting.{Acted}
+use Rattle.scenario_laws.proofs.Acting.{Anyhow, Acted}
 use Rattle.scenario_laws.proofs.Both.{idle_acted, both_acted}
 use Rattle.scenario_laws.proofs.Carrying.{carried}
 use Rattle.scenario_laws.proofs.Fronts.{fits}
@@ -31,9 +31,9 @@ both_rested scenario content happenings world happened rests =
     let U = client_of scenario in
     let V = server_of scenario content in
     let all = carried U V scenario.acl_length scenario.acl_count scenario.names happenings world (fits scenario content) happened in
-    let both = (both_acted U V scenario.acl_length scenario.names all.doings _ all.carries).0 in
+    let both = (both_acted U V Anyhow Anyhow scenario.acl_length scenario.names all.doings _ all.so).0 in
     let rest = all.rests rests in
     record {
-      a = record { linked = world.radio.a.up; talk = all.talk_a; acted = idle_acted U _ rest.idle_a both.a; links = all.links_a };
-      b = record { linked = world.radio.b.up; talk = all.talk_b; acted = idle_acted V _ rest.idle_b both.b; links = all.links_b };
+      a = record { linked = world.radio.a.up; talk = all.talk_a; acted = idle_acted U Anyhow _ rest.idle_a both.a; links = all.links_a };
+      b = record { linked = world.radio.b.up; talk = all.talk_b; acted = idle_acted V Anyhow _ rest.idle_b both.b; links = all.links_b };
     }

@@ -25,7 +25,7 @@ use Rattle.host_laws.specs.Turning.{OnLink}
 use Rattle.host_laws.proofs.Arming.{armed-is_read}
 use Rattle.host_laws.proofs.Profiles.{checks_are_read}
 use Rattle.scenario_laws.specs.Plain.{TellsOf, IsPlain, IsPlainAt}
-use Rattle.scenario_laws.proofs.Acting.{Acted, since_up}
+use Rattle.scenario_laws.proofs.Acting.{Anyhow, Acted, since_up}
 
 -- what it heard and said, up to its last link and on it
 abbrev marks_of : {P : Type 0} (A : Profile P) (talk : List Talk) (now : Host P) → OnLink (upper A) talk now → List Mark
@@ -48,9 +48,9 @@ side_linked A asks party moved now states plain =
       marks = marks;
       lives = lives;
       said_is = same;
-      uttered = plain.uttered;
+      uttered = plain.so.uttered;
       tells = subst (λ (said : List Saying). TellsOf A party said now) same (record {
-        armed_is = armed-is_read A party asks marks now lives states plain.uttered plain.awaits;
+        armed_is = armed-is_read A party asks marks now lives states plain.so.uttered plain.awaits;
         checks_are = λ channel. checks_are_read A asks marks now lives channel;
       });
     }
@@ -58,7 +58,7 @@ side_linked A asks party moved now states plain =
 -- and where there is no link, it has none
 pub side_tells : {P : Type 0} (A : Profile P) (asks : Asks A) (party : Party) (side : Side) (past : List Entry) (linked : Bool) (now : Host P) (talk : List Talk) → StatesFrame A.policy party → Acted (upper A) linked now [] talk → linkage talk ≡ captured side past
     → IsPlainAt A asks party (link_up side past) now → (Acted (upper A) false now [] talk → TellsOf A party [] now) → TellsOf A party (talk_now side past) now
-side_tells {P} A asks party side past true now talk states acted known plain none = by (link_up side past) (ap (λ (l : Linkage). l.up) (sym known) ∙ (since_up (upper A) now talk acted).links_are) plain
+side_tells {P} A asks party side past true now talk states acted known plain none = by (link_up side past) (ap (λ (l : Linkage). l.up) (sym known) ∙ (since_up (upper A) Anyhow now talk acted).links_are) plain
   where
     by : (link : Option Link) {moved : List Pdu} → option_map pdus link ≡ Some moved → IsPlainAt A asks party link now → TellsOf A party (talk_on link) now
     by None is plain = cc

@@ -18,9 +18,9 @@ use Rattle.scenario_laws.specs.Plain.{TellsOf}
 use Rattle.scenario_laws.proofs.Acting.{IsAside, Acted}
 
 -- no channels, and the profile as it is without a link
-record IsOff {P : Type 0} (Q : P → Type 0) (channels : Channels) (profile : P) : Type 0 where
-  channels_are : channels ≡ no_channels
-  profile_is : Q profile
+pub record IsOff {P : Type 0} (Q : P → Type 0) (channels : Channels) (profile : P) : Type 0 where
+  pub channels_are : channels ≡ no_channels
+  pub profile_is : Q profile
 
 -- what is so of a profile while no link is up: it does not touch the channels
 pub record Keeps {P : Type 0} (A : Profile P) (Q : P → Type 0) : Type 0 where
@@ -33,7 +33,7 @@ pub record Keeps {P : Type 0} (A : Profile P) (Q : P → Type 0) : Type 0 where
   pub quiet : (p : P) → Q p → A.armed p ≡ false
 
 module _ {P : Type 0} (A : Profile P) (Q : P → Type 0) (keeps : Keeps A Q) where
-  abbrev Off : Host P → Type 0
+  abbrev pub Off : Host P → Type 0
   Off host = IsOff Q host.channels host.profile
 
   tells_off : (host : Host P) → Off host → Off (tells_events A host)
@@ -95,10 +95,10 @@ module _ {P : Type 0} (A : Profile P) (Q : P → Type 0) (keeps : Keeps A Q) whe
   hear_off circumstances news host so off = drives_off most_steps (hears_news A circumstances news (ready A circumstances host)) (hears_off circumstances news (ready A circumstances host) so (ready_off circumstances host off))
 
   -- without a channel it says nothing
-  says_none : (host next : Host P) (pdu : List ℕ) → Off host → (upper A).next host ≡ Some (pdu, next) → ⊥
+  pub says_none : (host next : Host P) (pdu : List ℕ) → Off host → (upper A).next host ≡ Some (pdu, next) → ⊥
   says_none host next pdu off is = let none = subst (λ (v : Channels). says A (next_given v) host.may_say host ≡ Some (pdu, next)) off.channels_are is in cc
 
-  act_off : (act : Act Circumstance) (up : Bool) (old mid : Host P) → Does (upper A) act old mid → IsTimely up act → (up ≡ false → Off old) → is_up_behind up act ≡ false → Off mid
+  pub act_off : (act : Act Circumstance) (up : Bool) (old mid : Host P) → Does (upper A) act old mid → IsTimely up act → (up ≡ false → Off old) → is_up_behind up act ≡ false → Off mid
   act_off (Hears gifts (Linked (Down reason))) up old mid does timely off down = subst Off (sym does) (ends_off gifts reason old)
   act_off (Says pdu) up old mid does timely off down = absurd (says_none old mid pdu (off down) does)
   act_off (Hears gifts (Linked Up)) up old mid does timely off down = cc
@@ -115,8 +115,8 @@ module _ {P : Type 0} (A : Profile P) (Q : P → Type 0) (keeps : Keeps A Q) whe
 
   pub none_told : (party : Party) (now : Host P) (talk : List Talk) → Acted (upper A) false now [] talk → TellsOf A party [] now
   none_told party now talk acted =
-      let over = acted.went.over in
-      let there = acts_off over.acts false (upper A).first acted.mid over.acting over.in_turn (λ down. record { channels_are = refl; profile_is = keeps.first }) acted.went.up_is in
+      let over = acted.went.went.over in
+      let there = acts_off over.acts false (upper A).first acted.mid over.acting over.in_turn (λ down. record { channels_are = refl; profile_is = keeps.first }) acted.went.went.up_is in
       let off : Off now = subst Off (sym acted.says) there in
       record {
         armed_is = ap₂ (λ (x y : Bool). x || y) (ap armed off.channels_are) (keeps.quiet now.profile off.profile_is);

@@ -1,5 +1,6 @@
 pub mod Captures
 pub mod Coming
+pub mod Gentle
 pub mod Parties
 pub mod Plain
 pub mod Accounts
@@ -9,3 +10,5 @@ pub mod Gains
 pub mod Played
 pub mod Outcomes
 pub mod Clauses
+pub mod Reaching
+pub mod Orderly

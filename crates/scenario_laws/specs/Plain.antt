@@ -9,7 +9,6 @@ use Rattle.capture.specs.Pdus.{Pdu, pdus}
 use Rattle.link_talk.specs.declared.party.Party.{Party}
 use Rattle.link_talk.specs.Sayings.{Saying}
 use Rattle.link_talk.specs.Waits.{waits, has_check_word}
-use Rattle.channel_laws.specs.Frames.{AreUttered}
 use Rattle.channel_laws.specs.Runs.{run_of}
 use Rattle.world_model.specs.Worlds.{Happening, IsAtRest, all_entries}
 use Rattle.turn_laws.specs.Laws.{IsFront}
@@ -24,6 +23,7 @@ use Rattle.host_laws.specs.Calm.{TalksSo}
 use Rattle.host_laws.specs.Seen.{spoken_of}
 use Rattle.scenario_laws.specs.Captures.{client_of, server_of, BothHosts, Happened}
 use Rattle.scenario_laws.specs.Coming.{CameUp}
+use Rattle.scenario_laws.specs.Gentle.{RestsAreFree, CameSo}
 use Rattle.scenario_laws.specs.Parties.{party_of}
 
 -- A host waits for its timer, and looks for check words, where this talk says so.
@@ -31,14 +31,13 @@ pub record TellsOf {P : Type 0} (A : Profile P) (party : Party) (said : List Say
   pub armed_is : (upper A).armed host ≡ waits party said
   pub checks_are : (own : ℕ) → (upper A).has_check host own ≡ has_check_word said own
 
--- It came by a talk to what moved on its link, and lived so through it that what its channels said and heard there is what moved, it gave up
--- no request, and what it says goes out as its octets; and where its channels wait for nothing, its profile waits for services as its own
--- talk says. A host that is gentle on its link lives through such a talk.
+-- It came by a talk to what moved on its link, and lived so through it that what its channels said and heard there is what moved, and it gave
+-- up no request; and where its channels wait for nothing, its profile waits for services as its own talk says. A host that is gentle on its
+-- link lives through such a talk.
 pub record IsPlain {P : Type 0} (A : Profile P) (asks : Asks A) (party : Party) (moved : List Pdu) (now : Host P) : Type 0 where
   pub came : CameUp A moved now
   pub so : TalksSo A asks came.talk now came.on
   pub keeps_on : spoken_of (run_of A.policy so.lives.now).said ≡ (run_of A.policy so.lives.now).said
-  pub uttered : AreUttered A.policy so.lives.now
   pub awaits : AwaitsServices A party now so.lives.now
 
 -- So it is on the link that a capture has up, if there is one.
@@ -52,3 +51,22 @@ pub record ArePlain (asks : HostsAsk) (scenario : Scenario) (content : Option Co
       → IsPlainAt (client_profile scenario.settings) (asks.clients scenario.settings) (party_of scenario.settings sides.A) (link_up sides.A (all_entries front)) world.a.upper
   pub b : (front : List Happening) (world : BothHosts) → IsFront front happenings → Happened scenario content front world → IsAtRest (client_of scenario) (server_of scenario content) world
       → IsPlainAt (server_profile scenario.settings content) (asks.servers scenario.settings content) (party_of scenario.settings sides.B) (link_up sides.B (all_entries front)) world.b.upper
+
+-- ---- where a run is free at rest
+
+-- However a host came to what moved on its link and lived through it, it gave up no request, and its profile waits for services as its own
+-- talk says.
+abbrev pub KeepsOn : {P : Type 0} (A : Profile P) → Asks A → Party → Option Link → Host P → Type 0
+KeepsOn A asks party None now = Unit {0}
+KeepsOn A asks party (Some link) now =
+    (came : CameSo A asks (pdus link) now) → (spoken_of (run_of A.policy came.so.lives.now).said ≡ (run_of A.policy came.so.lives.now).said) × AwaitsServices A party now came.so.lives.now
+
+pub record RestsKeepOn (asks : HostsAsk) (scenario : Scenario) (content : Option Contents) (happenings : List Happening) : Type 0 where
+  pub a : (front : List Happening) (world : BothHosts) → IsFront front happenings → Happened scenario content front world → IsAtRest (client_of scenario) (server_of scenario content) world
+      → KeepsOn (client_profile scenario.settings) (asks.clients scenario.settings) (party_of scenario.settings sides.A) (link_up sides.A (all_entries front)) world.a.upper
+  pub b : (front : List Happening) (world : BothHosts) → IsFront front happenings → Happened scenario content front world → IsAtRest (client_of scenario) (server_of scenario content) world
+      → KeepsOn (server_profile scenario.settings content) (asks.servers scenario.settings content) (party_of scenario.settings sides.B) (link_up sides.B (all_entries front)) world.b.upper
+
+-- Then both hosts are plain: all else is so of every run that is free at rest.
+abbrev pub FreeHostsArePlain : Type 0
+FreeHostsArePlain = (asks : HostsAsk) (scenario : Scenario) (content : Option Contents) (happenings : List Happening) → RestsAreFree scenario content happenings → RestsKeepOn asks scenario content happenings → ArePlain asks scenario content happenings

@@ -8,8 +8,11 @@ ghost use Rattle.scenario_laws.specs.Captures.{FrontsRan};
 ghost use Rattle.scenario_laws.specs.Clauses.{ScenariosEnd};
 ghost use Rattle.scenario_laws.specs.Coming.{RestsHaveTalks, RunsHaveTalks};
 ghost use Rattle.scenario_laws.specs.Early.{BrokenGoesOn, EarlyEndsGain, FrontsSpellFronts};
+ghost use Rattle.scenario_laws.specs.Gentle.{FreeRestsAreLived, FreeRunsAreGentle, HostsAreGentle, PdusHaveOneCommand, RestsAreLived};
 ghost use Rattle.scenario_laws.specs.Gains.{FirstServersAreOrderly, GainsExactly, GainsOverEither};
+ghost use Rattle.scenario_laws.specs.Orderly.{HostsLiveOverLinks, ServersAreAskedOnce, ServersAreOrderly};
 ghost use Rattle.scenario_laws.specs.Outcomes.{OutcomesAreStated};
+ghost use Rattle.scenario_laws.specs.Plain.{FreeHostsArePlain};
 ghost use Rattle.scenario_laws.specs.Played.{CallsArePlayed, PlaysAreFinished, SetHostsAreHosts};
 ghost use Rattle.host_model.specs.Circumstances.{Circumstance};
 ghost use Rattle.world_model.specs.Machines.{Upper};
@@ -75,9 +78,60 @@ pub fn rests_have_talks()
     ensures { RestsHaveTalks }
 {}
 
+/// Each PDU on the signalling channel that moved on a link of a run has one command.
+pub fn pdus_have_one_command()
+    ensures { PdusHaveOneCommand }
+{}
+
+/// However a host of a run came to what the capture has of its links, it did so gently, where no bound on what it says held a PDU
+/// back and its firings said what waits behind them: what came in has one command in a PDU, and what it said is read so.
+pub fn hosts_are_gentle()
+    ensures { HostsAreGentle }
+{}
+
+/// Wherever a run is at rest each host lives so that its own talk on the link that is up is what moved there, but for requests that it gave
+/// up, and what it says goes out as its octets; where no bound on what it says held a PDU back and its firings said what waits behind them.
+pub fn rests_are_lived()
+    ensures { RestsAreLived }
+{}
+
+/// Where nothing of what a host has to give is held back wherever a run is at rest, and a firing would say what waits behind it, both
+/// hosts came gently to what the capture has of their links.
+pub fn free_runs_are_gentle()
+    ensures { FreeRunsAreGentle }
+{}
+
+/// And at rest each came by a talk to what moved on the link that is up, and lives so that what its channels said and heard is that.
+pub fn free_rests_are_lived()
+    ensures { FreeRestsAreLived }
+{}
+
+/// So both hosts are plain wherever such a run is at rest, where neither gave up a request and each profile waits for services as its own
+/// talk says.
+pub fn free_hosts_are_plain()
+    ensures { FreeHostsArePlain }
+{}
+
 /// A server to which nothing happened yet serves in order.
 pub fn first_servers_are_orderly()
     ensures { FirstServersAreOrderly }
+{}
+
+/// However a host of a run came to what the capture has, it lived so through it that its talk falls to its links, where no bound on what it
+/// says held a PDU back and its firings said what waits behind them.
+pub fn hosts_live_over_links()
+    ensures { HostsLiveOverLinks }
+{}
+
+/// Where host a asks for one channel of objects on each link, so it comes to host b, whatever the air left out and repeated.
+pub fn servers_are_asked_once()
+    ensures { ServersAreAskedOnce }
+{}
+
+/// At each moment of each run host b serves in order, where its client asks for one channel of objects on each link, no call of its inbox
+/// fails, no request is ignored and all that comes on its channels is handed up.
+pub fn servers_are_orderly()
+    ensures { ServersAreOrderly }
 {}
 
 /// At each moment of a run, wherever it broke off, the inbox has gained exactly the objects that the packets spell which

@@ -13,6 +13,3 @@ pub use query::Query;
 pub use reason::{Found, QueryReason};
 pub use said::Part;
 pub use sdp_elements::Target;
-
-#[cfg(test)]
-mod tests;

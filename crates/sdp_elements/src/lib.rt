@@ -24,6 +24,3 @@ pub use reading::element_of;
 pub use sequence::sequence_at;
 pub use target::Target;
 pub use writing::{put_behind, put_element};
-
-#[cfg(test)]
-mod tests;

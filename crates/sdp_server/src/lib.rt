@@ -13,6 +13,3 @@ mod request;
 mod service;
 
 pub use records::Records;
-
-#[cfg(test)]
-mod tests;

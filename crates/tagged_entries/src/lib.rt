@@ -5,6 +5,3 @@ pub mod laws;
 mod record;
 
 pub use record::{FirstRecord, first_record, least_length};
-
-#[cfg(test)]
-mod tests;

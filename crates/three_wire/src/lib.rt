@@ -17,6 +17,3 @@ mod wire;
 pub use fault::{CarryEnd, CarryFault};
 pub use rounds::carry;
 pub use wire::{Wire, WireHeard, WireSubmit};
-
-#[cfg(test)]
-mod tests;

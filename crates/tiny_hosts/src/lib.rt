@@ -16,6 +16,3 @@ pub use mind::Mind;
 pub use playing::play;
 pub use tiny_host::TinyHost;
 pub use told::Told;
-
-#[cfg(test)]
-mod tests;

@@ -4,6 +4,7 @@ use Rattle.std.specs.Prelude.{slice_get}
 use Rattle.push_terms.specs.declared.word.Side.TheVariants.{A, B}
 use Rattle.push_terms.specs.declared.word.Word.{Word}
 use Rattle.push_terms.specs.declared.outcome.Outcome.{Outcome}
+use Rattle.push_script.specs.Runs.{IsWord}
 use Rattle.radio_air.specs.Controllers.{Controller, new_controller}
 use Rattle.radio_air.specs.Radio.{Phase, Apart, Paging, Requested, Together, is_apart, is_together, new_radio, found}
 use Rattle.world_model.specs.Machines.{Opening, Upper}
@@ -11,7 +12,7 @@ use Rattle.world_model.specs.Pushes.{next_name, one_begun, one_ended}
 use Rattle.world_model.specs.Talks.{Talk, Told, Done}
 use Rattle.world_model.specs.Carriages.{Deeds, Misses as Passing, Opens as Opened, Closes as Closed}
 use Rattle.world_model.specs.Stations.{first_station, told, longest_pdu, gives}
-use Rattle.world_model.specs.Worlds.{World, Happening, Tries, Departure, GivingBack, Piecemeal, Answering, Turns, Misses, Opens, Closes, words_in, Does}
+use Rattle.world_model.specs.Worlds.{World, Happening, Tries, Departure, GivingBack, Piecemeal, Answering, Turns, Misses, Opens, Closes, IsAtRest, words_in, Acts, Does}
 use Rattle.world_model.specs.PerLink.{Linkage}
 use Rattle.turn_laws.specs.Premises.{SaysFrames, Idles}
 use Rattle.turn_laws.proofs.Advancing.{Both, breaks_linked}
@@ -23,7 +24,7 @@ use Rattle.turn_laws.proofs.Keeping.{calling, Kept, off_idle}
 use Rattle.turn_laws.proofs.Ordering.{at, Carried}
 use Rattle.turn_laws.proofs.Moving.{departs_a, departs_b, gives_a, gives_b, efforts_a, efforts_b}
 use Rattle.turn_laws.proofs.Coming.{piece_a, piece_b, answer_a, answer_b}
-use Rattle.turn_laws.proofs.Wording.{rests_alike, finds_frame, words_act}
+use Rattle.turn_laws.proofs.Wording.{rests_alike, finds_frame, Worded, words_act}
 
 -- ---- pushes
 
@@ -111,20 +112,26 @@ closes {S} {T} U V w talk_a talk_b outcome going idle is apart none_a none_b kep
 
 -- ---- words
 
+-- what a word does to what it finds
+pub worded : {S T G H : Type 0} (U : Upper S G) (V : Upper T H) (word : Word) (old mid : World S T) (talk_a talk_b : List Talk) → Idles U → IsAtRest U V old → IsWord word → Acts U V (found word old.radio) old mid → Both U V (at old talk_a talk_b)
+    → Kept U V old.radio old.a old.b old.pushes.going → Worded U V (found word old.radio) old mid talk_a talk_b
+worded {S} {T} U V word old mid talk_a talk_b idles rest is_word acts both kept =
+    words_act U V (found word old.radio) old mid talk_a talk_b idles
+    (λ way fate is. finds_frame word old.radio.served old.radio.a.waiting old.radio.b.waiting (is_together old.radio.phase) way fate is_word is)
+    (breaks_linked word old.radio.served old.radio.a.waiting old.radio.b.waiting (is_together old.radio.phase)) rest acts both kept
+
 turns : {S T G H : Type 0} (U : Upper S G) (V : Upper T H) (ordinal : ℕ) (word : Word) (old new : World S T) (talk_a talk_b : List Talk) → Idles U → Does U V (Turns ordinal word) old new → Both U V (at old talk_a talk_b)
     → Kept U V old.radio old.a old.b old.pushes.going → Carried U V as_was as_was old new talk_a talk_b (word ∷ [])
 turns {S} {T} U V ordinal word old new talk_a talk_b idles (rest, is_word, ordinal_is, mid, acts, same) both kept =
-    let worded = words_act U V (found word old.radio) old mid talk_a talk_b idles
-    (λ way fate is. finds_frame word old.radio.served old.radio.a.waiting old.radio.b.waiting (is_together old.radio.phase) way fate is_word is)
-    (breaks_linked word old.radio.served old.radio.a.waiting old.radio.b.waiting (is_together old.radio.phase)) rest acts both kept in
+    let acted : Worded U V (found word old.radio) old mid talk_a talk_b = worded U V word old mid talk_a talk_b idles rest is_word acts both kept in
     rw same (record {
-      kept = worded.kept;
+      kept = acted.kept;
       doings = Deeds word ∷ [];
-      links_a = worded.links_a;
-      links_b = worded.links_b;
-      talk_a' = worded.talk_a';
-      talk_b' = worded.talk_b';
-      carries = (at mid worded.talk_a' worded.talk_b', (rests_alike U V old talk_a talk_b rest kept, worded.acts), refl);
+      links_a = acted.links_a;
+      links_b = acted.links_b;
+      talk_a' = acted.talk_a';
+      talk_b' = acted.talk_b';
+      carries = (at mid acted.talk_a' acted.talk_b', (rests_alike U V old talk_a talk_b rest kept, acted.acts), refl);
       words_are = refl;
     })
 

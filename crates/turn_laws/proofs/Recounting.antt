@@ -1,5 +1,6 @@
 -- Each run of the world is a run of turns, and the capture of it has the links that each host was told of.
 use Rattle.std.proofs.Common.{◌≡◌, ℕ, ◌+◌, ◌≤◌, ◌<◌, ◌==◌, ◌&&◌, not, nat_lt, Bool, true, false, List, [], ◌∷◌, ◌++◌, Option, Some, None, if◌then◌else◌, refl, sym, ap, ◌∙◌, arith, subst, ltb-true}
+use Rattle.std.specs.List.{AllByRecursion}
 use Rattle.std.specs.Option.{option_map}
 use Rattle.std.proofs.lemmas.List.{append-nil, append_assoc}
 use Rattle.std.proofs.lemmas.List.Concat.{flat_map-append}
@@ -8,6 +9,7 @@ use Rattle.push_terms.specs.declared.word.Side.TheVariants.{A, B}
 use Rattle.push_terms.specs.declared.word.Way.{Way}
 use Rattle.push_terms.specs.declared.word.Way.TheVariants.{Ab, Ba}
 use Rattle.push_terms.specs.declared.word.Word.{Word}
+use Rattle.push_script.specs.Runs.{IsWord}
 use Rattle.capture.specs.declared.flow.Flow.TheVariants.{Out, Into}
 use Rattle.capture.specs.Entries.{Entry, Moved, Acted, Begun, Ended}
 use Rattle.capture.specs.Moves.{moves}
@@ -21,10 +23,11 @@ use Rattle.radio_air.specs.Radio.{Radio, Phase, Apart, Paging, Requested, Togeth
 use Rattle.world_model.specs.Machines.{TimerFired, Upper}
 use Rattle.world_model.specs.Talks.{Talk}
 use Rattle.world_model.specs.PerLink.{Linkage, no_linkage, with_moved, linkage, captured}
-use Rattle.world_model.specs.Carriages.{Carriage, Doing, Carries, words_at, all_words as words_carried, all_steps}
+use Rattle.world_model.specs.Carriages.{Carriage, Doing, Moved as Motioned, Deeds, Misses as Passing, Rises, Falls, Opens as Opened, Closes as Closed, IsDone, Carries, words_at, all_words as words_carried, all_steps}
 use Rattle.world_model.specs.Stations.{Order, Reset, ReadBuffers, ReadAddress, Scan, Page, Accept, End, Data, order_packet, Station, longest_pdu, gives, hears_piece, hears_answer, told}
-use Rattle.world_model.specs.Worlds.{World, Happening, Tries, Departure, GivingBack, Piecemeal, Answering, Turns, Misses, Opens, Closes, entries_of, all_entries, words_in, all_words, checks, Acts, Does, Runs, first_world, after_order}
+use Rattle.world_model.specs.Worlds.{World, Happening, Tries, Departure, GivingBack, Piecemeal, Answering, Turns, Misses, Opens, Closes, entries_of, all_entries, words_in, all_words, checks, IsAtRest, Acts, Does, Runs, first_world, after_order}
 use Rattle.turn_laws.specs.Premises.{SaysFrames, Idles}
+use Rattle.turn_laws.specs.Laws.{IsFront}
 use Rattle.turn_laws.specs.WorldLaws.{Fits, WorldIsTurned, BrokenWorldGoesOn}
 use Rattle.turn_laws.proofs.Finishing.{nothing_more}
 use Rattle.turn_laws.proofs.Advancing.{Both}
@@ -35,9 +38,9 @@ use Rattle.turn_laws.proofs.Wiring.{Within}
 use Rattle.turn_laws.proofs.Hearing.{with_coming, with_owed}
 use Rattle.turn_laws.proofs.Coming.{handed_piece, handed_answer}
 use Rattle.turn_laws.proofs.Keeping.{calling, Kept, and_second}
-use Rattle.turn_laws.proofs.Ordering.{at}
+use Rattle.turn_laws.proofs.Ordering.{at, Carried}
 use Rattle.turn_laws.proofs.Wording.{rests_alike}
-use Rattle.turn_laws.proofs.Playing.{by_a, by_b, happens, first_kept}
+use Rattle.turn_laws.proofs.Playing.{by_a, by_b, worded, happens, first_kept}
 use Rattle.turn_laws.proofs.Showing.{out_of, into, ShownUp}
 use Rattle.turn_laws.proofs.Capturing.{View, view, ShownAt, beside, moved}
 use Rattle.turn_laws.proofs.Recording.{effort_shown, stays_shown, BothStay, order_stays, order_shown, data_moves, piece_comes, answer_comes}
@@ -264,32 +267,157 @@ shows_more U V (Closes push outcome) past old new la lb (going, push_is, idle, i
 
 -- ---- runs
 
-pub record Played {S T G H : Type 0} (U : Upper S G) (V : Upper T H) (old new : World S T) (talk_a talk_b : List Talk) (words : List Word) (past : List Entry) : Type 0 where
+-- a word that meets a frame is one of a script
+abbrev pub IsOfScript : Doing → Type 0
+IsOfScript (Deeds word) = IsWord word
+IsOfScript (Passing word) = Unit {0}
+IsOfScript (Motioned side motion) = Unit {0}
+IsOfScript Rises = Unit {0}
+IsOfScript (Falls by) = Unit {0}
+IsOfScript (Opened name) = Unit {0}
+IsOfScript (Closed outcome) = Unit {0}
+
+of_words : (doings : List Doing) → AllByRecursion IsWord (words_carried doings) → AllByRecursion IsOfScript doings
+of_words [] all = tt
+of_words (Deeds word ∷ doings) all = (all.0, of_words doings all.1)
+of_words (Passing word ∷ doings) all = (tt, of_words doings all.1)
+of_words (Motioned side motion ∷ doings) all = (tt, of_words doings all)
+of_words (Rises ∷ doings) all = (tt, of_words doings all)
+of_words (Falls by ∷ doings) all = (tt, of_words doings all)
+of_words (Opened name ∷ doings) all = (tt, of_words doings all)
+of_words (Closed outcome ∷ doings) all = (tt, of_words doings all)
+
+both_of : (one two : List Doing) → AllByRecursion IsOfScript one → AllByRecursion IsOfScript two → AllByRecursion IsOfScript (one ++ two)
+both_of [] two all other = other
+both_of (doing ∷ one) two all other = (all.0, both_of one two all.1 other)
+
+-- ---- what is so wherever a word meets something
+
+abbrev pub RestsIn : {S T : Type 0} → (Carriage S T → Type 0) → Doing → Carriage S T → Type 0
+RestsIn P (Deeds word) c = P c
+RestsIn P (Passing word) c = Unit {0}
+RestsIn P (Motioned side motion) c = Unit {0}
+RestsIn P Rises c = Unit {0}
+RestsIn P (Falls by) c = Unit {0}
+RestsIn P (Opened name) c = Unit {0}
+RestsIn P (Closed outcome) c = Unit {0}
+
+-- a run of which that is so
+abbrev pub CarriesSo : {S T G H : Type 0} → Upper S G → Upper T H → (Carriage S T → Type 0) → List Doing → Carriage S T → Carriage S T → Type 0
+CarriesSo U V P [] old new = new ≡ old
+CarriesSo {S} {T} U V P (doing ∷ doings) old new = (mid : Carriage S T) × (IsDone U V doing old mid × RestsIn P doing old) × CarriesSo U V P doings mid new
+
+wordless : {S T : Type 0} (P : Carriage S T → Type 0) (doing : Doing) (more : List Word) (c : Carriage S T) → words_at doing ++ more ≡ [] → RestsIn P doing c × (more ≡ [])
+wordless P (Deeds word) more c none = cc
+wordless P (Passing word) more c none = cc
+wordless P (Motioned side motion) more c none = (tt, none)
+wordless P Rises more c none = (tt, none)
+wordless P (Falls by) more c none = (tt, none)
+wordless P (Opened name) more c none = (tt, none)
+wordless P (Closed outcome) more c none = (tt, none)
+
+-- without words there is nothing to be so
+so_wordless : {S T G H : Type 0} (U : Upper S G) (V : Upper T H) (P : Carriage S T → Type 0) (doings : List Doing) (old new : Carriage S T) → words_carried doings ≡ [] → Carries U V doings old new → CarriesSo U V P doings old new
+so_wordless U V P [] old new none same = same
+so_wordless U V P (doing ∷ doings) old new none (mid, does, runs) =
+    let now = wordless P doing (words_carried doings) old none in
+    (mid, (does, now.0), so_wordless U V P doings mid new now.1 runs)
+
+record CarriedSo {S T G H : Type 0} (U : Upper S G) (V : Upper T H) (P : Carriage S T → Type 0) (happening : Happening) (old new : World S T) (talk_a talk_b : List Talk) : Type 0 where
+  now : Carried U V (by_a happening old) (by_b happening old) old new talk_a talk_b (words_in happening)
+  of_script : AllByRecursion IsOfScript now.doings
+  so : CarriesSo U V P now.doings (at old talk_a talk_b) (at new now.talk_a' now.talk_b')
+
+wordless_by : {S T G H : Type 0} (U : Upper S G) (V : Upper T H) (P : Carriage S T → Type 0) (happening : Happening) (old new : World S T) (talk_a talk_b : List Talk) → words_in happening ≡ []
+    → Carried U V (by_a happening old) (by_b happening old) old new talk_a talk_b (words_in happening) → CarriedSo U V P happening old new talk_a talk_b
+wordless_by U V P happening old new talk_a talk_b none now =
+    let words = now.words_are ∙ none in
+    record {
+      now = now;
+      of_script = of_words now.doings (subst (AllByRecursion IsWord) (sym words) tt);
+      so = so_wordless U V P now.doings (at old talk_a talk_b) (at new now.talk_a' now.talk_b') words now.carries;
+    }
+
+happens_so :
+    {S T G H : Type 0} (U : Upper S G) (V : Upper T H) (P : Carriage S T → Type 0) (happening : Happening) (old new : World S T) (talk_a talk_b : List Talk) → SaysFrames U → SaysFrames V → Idles U → Does U V happening old new → Both U V (at old talk_a talk_b)
+    → Kept U V old.radio old.a old.b old.pushes.going → (IsAtRest U V old → P (at old talk_a talk_b)) → CarriedSo U V P happening old new talk_a talk_b
+happens_so U V P (Misses word) old new talk_a talk_b frames_a frames_b idles (rest, nothing, same) both kept holds =
+    rw same (record {
+      now = record {
+        kept = kept;
+        doings = Passing word ∷ [];
+        links_a = refl;
+        links_b = refl;
+        talk_a' = talk_a;
+        talk_b' = talk_b;
+        carries = (at old talk_a talk_b, (rests_alike U V old talk_a talk_b rest kept, nothing, refl), refl);
+        words_are = refl;
+      };
+      of_script = (tt, tt);
+      so = (at old talk_a talk_b, ((rests_alike U V old talk_a talk_b rest kept, nothing, refl), tt), refl);
+    })
+happens_so U V P (Turns ordinal word) old new talk_a talk_b frames_a frames_b idles (rest, is_word, ordinal_is, mid, acts, same) both kept holds =
+    let acted = worded U V word old mid talk_a talk_b idles rest is_word acts both kept in
+    rw same (record {
+      now = record {
+        kept = acted.kept;
+        doings = Deeds word ∷ [];
+        links_a = acted.links_a;
+        links_b = acted.links_b;
+        talk_a' = acted.talk_a';
+        talk_b' = acted.talk_b';
+        carries = (at mid acted.talk_a' acted.talk_b', (rests_alike U V old talk_a talk_b rest kept, acted.acts), refl);
+        words_are = refl;
+      };
+      of_script = (is_word, tt);
+      so = (at mid acted.talk_a' acted.talk_b', ((rests_alike U V old talk_a talk_b rest kept, acted.acts), holds rest), refl);
+    })
+happens_so U V P (Tries side effort) old new talk_a talk_b frames_a frames_b idles does both kept holds = wordless_by U V P (Tries side effort) old new talk_a talk_b refl (happens U V (Tries side effort) old new talk_a talk_b frames_a frames_b idles does both kept)
+happens_so U V P (Departure side order) old new talk_a talk_b frames_a frames_b idles does both kept holds = wordless_by U V P (Departure side order) old new talk_a talk_b refl (happens U V (Departure side order) old new talk_a talk_b frames_a frames_b idles does both kept)
+happens_so U V P (GivingBack side) old new talk_a talk_b frames_a frames_b idles does both kept holds = wordless_by U V P (GivingBack side) old new talk_a talk_b refl (happens U V (GivingBack side) old new talk_a talk_b frames_a frames_b idles does both kept)
+happens_so U V P (Piecemeal side handle piece) old new talk_a talk_b frames_a frames_b idles does both kept holds = wordless_by U V P (Piecemeal side handle piece) old new talk_a talk_b refl (happens U V (Piecemeal side handle piece) old new talk_a talk_b frames_a frames_b idles does both kept)
+happens_so U V P (Answering side answer) old new talk_a talk_b frames_a frames_b idles does both kept holds = wordless_by U V P (Answering side answer) old new talk_a talk_b refl (happens U V (Answering side answer) old new talk_a talk_b frames_a frames_b idles does both kept)
+happens_so U V P (Opens push name) old new talk_a talk_b frames_a frames_b idles does both kept holds = wordless_by U V P (Opens push name) old new talk_a talk_b refl (happens U V (Opens push name) old new talk_a talk_b frames_a frames_b idles does both kept)
+happens_so U V P (Closes push outcome) old new talk_a talk_b frames_a frames_b idles does both kept holds = wordless_by U V P (Closes push outcome) old new talk_a talk_b refl (happens U V (Closes push outcome) old new talk_a talk_b frames_a frames_b idles does both kept)
+
+pub record Played {S T G H : Type 0} (U : Upper S G) (V : Upper T H) (P : Carriage S T → Type 0) (old new : World S T) (talk_a talk_b : List Talk) (words : List Word) (past : List Entry) : Type 0 where
   pub kept : Kept U V new.radio new.a new.b new.pushes.going
   pub doings : List Doing
   pub talk_a' : List Talk
   pub talk_b' : List Talk
   pub carries : Carries U V doings (at old talk_a talk_b) (at new talk_a' talk_b')
   pub words_are : words_carried doings ≡ words
+  pub of_script : AllByRecursion IsOfScript doings
+  pub so : CarriesSo U V P doings (at old talk_a talk_b) (at new talk_a' talk_b')
   pub shows : Shows past new (linkage talk_a') (linkage talk_b')
+
+-- wherever the run was at rest before
+abbrev pub HoldsAtRests : {S T G H : Type 0} → Upper S G → Upper T H → (Carriage S T → Type 0) → List Happening → World S T → Type 0
+HoldsAtRests {S} {T} U V P happenings old = (front : List Happening) (mid : World S T) (talk_a talk_b : List Talk) → IsFront front happenings → Runs U V front old mid → IsAtRest U V mid → P (at mid talk_a talk_b)
 
 carries_then : {S T G H : Type 0} (U : Upper S G) (V : Upper T H) (one two : List Doing) (old mid new : Carriage S T) → Carries U V one old mid → Carries U V two mid new → Carries U V (one ++ two) old new
 carries_then {S} {T} U V [] two old mid new same after = subst (λ (c : Carriage S T). Carries U V two c new) same after
 carries_then U V (doing ∷ one) two old mid new carries after = (carries.0, carries.1, carries_then U V one two carries.0 mid new carries.2 after)
 
+so_then : {S T G H : Type 0} (U : Upper S G) (V : Upper T H) (P : Carriage S T → Type 0) (one two : List Doing) (old mid new : Carriage S T) → CarriesSo U V P one old mid → CarriesSo U V P two mid new → CarriesSo U V P (one ++ two) old new
+so_then {S} {T} U V P [] two old mid new same after = subst (λ (c : Carriage S T). CarriesSo U V P two c new) same after
+so_then U V P (doing ∷ one) two old mid new carries after = (carries.0, carries.1, so_then U V P one two carries.0 mid new carries.2 after)
+
 plays :
-    {S T G H : Type 0} (U : Upper S G) (V : Upper T H) (happenings : List Happening) (past : List Entry) (old new : World S T) (talk_a talk_b : List Talk) → SaysFrames U → SaysFrames V → Idles U → Runs U V happenings old new → Both U V (at old talk_a talk_b)
-    → Kept U V old.radio old.a old.b old.pushes.going → Shows past old (linkage talk_a) (linkage talk_b) → Played U V old new talk_a talk_b (all_words happenings) (past ++ all_entries happenings)
-plays U V [] past old new talk_a talk_b frames_a frames_b idles same both kept shows =
-    rw same (record { kept = kept; doings = []; talk_a' = talk_a; talk_b' = talk_b; carries = refl; words_are = refl; shows = shows_none past old (linkage talk_a) (linkage talk_b) shows })
-plays {S} {T} U V (happening ∷ happenings) past old new talk_a talk_b frames_a frames_b idles (mid, does, runs) both kept shows =
-    let now = happens U V happening old mid talk_a talk_b frames_a frames_b idles does both kept in
+    {S T G H : Type 0} (U : Upper S G) (V : Upper T H) (P : Carriage S T → Type 0) (happenings : List Happening) (past : List Entry) (old new : World S T) (talk_a talk_b : List Talk) → SaysFrames U → SaysFrames V → Idles U → Runs U V happenings old new → Both U V (at old talk_a talk_b)
+    → Kept U V old.radio old.a old.b old.pushes.going → Shows past old (linkage talk_a) (linkage talk_b) → HoldsAtRests U V P happenings old → Played U V P old new talk_a talk_b (all_words happenings) (past ++ all_entries happenings)
+plays U V P [] past old new talk_a talk_b frames_a frames_b idles same both kept shows holds =
+    rw same (record { kept = kept; doings = []; talk_a' = talk_a; talk_b' = talk_b; carries = refl; words_are = refl; of_script = tt; so = refl; shows = shows_none past old (linkage talk_a) (linkage talk_b) shows })
+plays {S} {T} U V P (happening ∷ happenings) past old new talk_a talk_b frames_a frames_b idles (mid, does, runs) both kept shows holds =
+    let so = happens_so U V P happening old mid talk_a talk_b frames_a frames_b idles does both kept (λ rest. holds [] old talk_a talk_b (happening ∷ happenings, refl) refl rest) in
+    let now = so.now in
     let both_now = (follows U V now.doings (at old talk_a talk_b) nothing_more nothing_more (at mid now.talk_a' now.talk_b') now.carries both).both in
     let shown = shows_more U V happening past old mid (linkage talk_a) (linkage talk_b) does kept shows in
     let shown_now : Shows (past ++ entries_of happening) mid (linkage now.talk_a') (linkage now.talk_b') =
     subst (λ (l : Linkage). Shows (past ++ entries_of happening) mid l (linkage now.talk_b')) (sym now.links_a)
     (subst (λ (l : Linkage). Shows (past ++ entries_of happening) mid (by_a happening old (linkage talk_a)) l) (sym now.links_b) shown) in
-    let later = plays U V happenings (past ++ entries_of happening) mid new now.talk_a' now.talk_b' frames_a frames_b idles runs both_now now.kept shown_now in
+    let later = plays U V P happenings (past ++ entries_of happening) mid new now.talk_a' now.talk_b' frames_a frames_b idles runs both_now now.kept shown_now
+    (λ front later ta tb (rest, is) there. holds (happening ∷ front) later ta tb (rest, ap (λ (l : List Happening). happening ∷ l) is) (mid, does, there)) in
     record {
       kept = later.kept;
       doings = now.doings ++ later.doings;
@@ -297,6 +425,8 @@ plays {S} {T} U V (happening ∷ happenings) past old new talk_a talk_b frames_a
       talk_b' = later.talk_b';
       carries = carries_then U V now.doings later.doings (at old talk_a talk_b) (at mid now.talk_a' now.talk_b') (at new later.talk_a' later.talk_b') now.carries later.carries;
       words_are = flat_map-append words_at now.doings later.doings ∙ ap (λ (l : List Word). l ++ words_carried later.doings) now.words_are ∙ ap (λ (l : List Word). words_in happening ++ l) later.words_are;
+      of_script = both_of now.doings later.doings so.of_script later.of_script;
+      so = so_then U V P now.doings later.doings (at old talk_a talk_b) (at mid now.talk_a' now.talk_b') (at new later.talk_a' later.talk_b') so.so later.so;
       shows = subst (λ (p : List Entry). Shows p new (linkage later.talk_a') (linkage later.talk_b')) (append_assoc past (entries_of happening) (all_entries happenings)) later.shows;
     }
 
@@ -307,11 +437,16 @@ first_shows U V size n names = record {
   b = record { asks = λ asked none. cc; past = refl; now = tt };
 }
 
-pub played :
+pub played_so :
+    {S T G H : Type 0} (U : Upper S G) (V : Upper T H) (P : Carriage S T → Type 0) (size n : ℕ) (names : List (List ℕ)) (happenings : List Happening) (w : World S T) → Fits U V size → Runs U V happenings (first_world U V size n names) w
+    → HoldsAtRests U V P happenings (first_world U V size n names) → Played U V P (first_world U V size n names) w [] [] (all_words happenings) (all_entries happenings)
+played_so U V P size n names happenings w fits runs holds =
+    plays U V P happenings [] (first_world U V size n names) w [] [] fits.frames_a fits.frames_b fits.idles runs (first_both U V size names) (first_kept U V size n fits.long fits.idles) (first_shows U V size n names) holds
+
+played :
     {S T G H : Type 0} (U : Upper S G) (V : Upper T H) (size n : ℕ) (names : List (List ℕ)) (happenings : List Happening) (w : World S T) → Fits U V size → Runs U V happenings (first_world U V size n names) w
-    → Played U V (first_world U V size n names) w [] [] (all_words happenings) (all_entries happenings)
-played U V size n names happenings w fits runs =
-    plays U V happenings [] (first_world U V size n names) w [] [] fits.frames_a fits.frames_b fits.idles runs (first_both U V size names) (first_kept U V size n fits.long fits.idles) (first_shows U V size n names)
+    → Played U V (λ c. Unit {0}) (first_world U V size n names) w [] [] (all_words happenings) (all_entries happenings)
+played U V size n names happenings w fits runs = played_so U V (λ c. Unit {0}) size n names happenings w fits runs (λ front mid talk_a talk_b is there rest. tt)
 
 -- ---- so the links are those of the capture
 

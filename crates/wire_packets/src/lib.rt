@@ -16,6 +16,3 @@ pub use reading::packet_of;
 pub use refusal::WireRefusal;
 pub use slip::{Slip, SlipTaken};
 pub use writing::{put_packet, put_slip};
-
-#[cfg(test)]
-mod tests;

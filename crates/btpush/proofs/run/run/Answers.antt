@@ -1,97 +1,113 @@
-use Rattle.std.proofs.Common.{◌≡◌, ◌∙◌, List, Option, Ok, Some, None, map, string_bytes, refl, sym, ap, subst}
-use Rattle.command_words.proofs.Asking.{asks_once}
+use Rattle.std.proofs.Common.{◌≡◌, Some, None, refl, sym, ap}
 use Rattle.command_words.specs.declared.form.Form.TheVariants.{Decode, DecodeTagged, DecodeSnoop, Push, Snoop, Wire}
-use Rattle.btpush.specs.declared.viewing.Viewing.TheVariants as viewing
-use Rattle.btpush.proofs.Asked.{found, found_none, not_other, not_written, none_built, is_unbuilt, nothing_decoded, nothing_pushed, nothing_snooped, nothing_carried}
-use Rattle.btpush.specs.Plays.{stocked}
+use Rattle.btpush.proofs.Asked.{not_push, push_is_built, push_traces, nothing_pushed, no_end}
+use Rattle.small_push.specs.Plays.{stocked}
 use Rattle.btpush.proofs.run.run.Goals as goal
 
--- ---- a form was found
+-- ---- the form is done
 
-pub returns-in-Ok-Some-clause-decode : goal.returns-in-Ok-Some-clause-decode
-returns-in-Ok-Some-clause-decode g c = λ asks. c.run_form.ensures.decode (asks_once _ c.in-Ok-Some.form Decode (found _ _ c.form_of.result c.in-Ok-Some.form (ap (λ ws. map string_bytes ws) c.deref.ensures.value) c.form_of.ensures (c.in-Ok-Some.is ∙ ap Ok c.in-Ok-Some.field-0-is)) asks)
+pub returns-in-Some-clause-decode : goal.returns-in-Some-clause-decode
+returns-in-Some-clause-decode g c = λ asks. c.in-Some.ensures.does Decode asks
 
-pub returns-in-Ok-Some-clause-decode_tagged : goal.returns-in-Ok-Some-clause-decode_tagged
-returns-in-Ok-Some-clause-decode_tagged g c = λ asks. c.run_form.ensures.decode_tagged (asks_once _ c.in-Ok-Some.form DecodeTagged (found _ _ c.form_of.result c.in-Ok-Some.form (ap (λ ws. map string_bytes ws) c.deref.ensures.value) c.form_of.ensures (c.in-Ok-Some.is ∙ ap Ok c.in-Ok-Some.field-0-is)) asks)
+pub returns-in-Some-clause-decode_tagged : goal.returns-in-Some-clause-decode_tagged
+returns-in-Some-clause-decode_tagged g c = λ asks. c.in-Some.ensures.does DecodeTagged asks
 
-pub returns-in-Ok-Some-clause-decode_snoop : goal.returns-in-Ok-Some-clause-decode_snoop
-returns-in-Ok-Some-clause-decode_snoop g c = λ asks. c.run_form.ensures.decode_snoop (asks_once _ c.in-Ok-Some.form DecodeSnoop (found _ _ c.form_of.result c.in-Ok-Some.form (ap (λ ws. map string_bytes ws) c.deref.ensures.value) c.form_of.ensures (c.in-Ok-Some.is ∙ ap Ok c.in-Ok-Some.field-0-is)) asks)
+pub returns-in-Some-clause-decode_snoop : goal.returns-in-Some-clause-decode_snoop
+returns-in-Some-clause-decode_snoop g c = λ asks. c.in-Some.ensures.does DecodeSnoop asks
 
-pub returns-in-Ok-Some-clause-push : goal.returns-in-Ok-Some-clause-push
-returns-in-Ok-Some-clause-push g c = λ asks. c.run_form.ensures.push (asks_once _ c.in-Ok-Some.form Push (found _ _ c.form_of.result c.in-Ok-Some.form (ap (λ ws. map string_bytes ws) c.deref.ensures.value) c.form_of.ensures (c.in-Ok-Some.is ∙ ap Ok c.in-Ok-Some.field-0-is)) asks)
+pub returns-in-Some-clause-push : goal.returns-in-Some-clause-push
+returns-in-Some-clause-push g c = λ asks.
+    let same = c.in-Some.ensures.untouched asks in
+    nothing_pushed (g.S.Source.content c.args.source.now) _ (stocked (g.F.Shelf.content c.args.shelf.now) (g.F.Shelf.faults c.args.shelf.now) (g.F.Shelf.absences c.args.shelf.now) (g.B.Inbox.content c.args.inbox.now) (g.B.Inbox.faults c.args.inbox.now) (g.B.Inbox.shortages c.args.inbox.now)) _ _ _ _ _ _ c.in-Some.status (c.in-Some.ensures.push asks) (ap (λ s. g.S.Source.content s) same.0) (ap (λ k. g.K.Sink.content k) same.1) (ap (λ t. g.T.Sink.content t) same.2) (same.2, refl, refl)
 
-pub returns-in-Ok-Some-clause-finish_push : goal.returns-in-Ok-Some-clause-finish_push
-returns-in-Ok-Some-clause-finish_push g c = λ asks. c.run_form.ensures.finish_push (asks_once _ c.in-Ok-Some.form Push (found _ _ c.form_of.result c.in-Ok-Some.form (ap (λ ws. map string_bytes ws) c.deref.ensures.value) c.form_of.ensures (c.in-Ok-Some.is ∙ ap Ok c.in-Ok-Some.field-0-is)) asks)
+pub returns-in-Some-clause-snoop : goal.returns-in-Some-clause-snoop
+returns-in-Some-clause-snoop g c = λ side asks. c.in-Some.ensures.does (Snoop side) asks
 
-pub returns-in-Ok-Some-clause-snoop : goal.returns-in-Ok-Some-clause-snoop
-returns-in-Ok-Some-clause-snoop g c = λ side asks. c.run_form.ensures.snoop side (asks_once _ c.in-Ok-Some.form (Snoop side) (found _ _ c.form_of.result c.in-Ok-Some.form (ap (λ ws. map string_bytes ws) c.deref.ensures.value) c.form_of.ensures (c.in-Ok-Some.is ∙ ap Ok c.in-Ok-Some.field-0-is)) asks)
+pub returns-in-Some-clause-wire : goal.returns-in-Some-clause-wire
+returns-in-Some-clause-wire g c = λ number asks. c.in-Some.ensures.does (Wire number) asks
 
-pub returns-in-Ok-Some-clause-wire : goal.returns-in-Ok-Some-clause-wire
-returns-in-Ok-Some-clause-wire g c = λ number asks. c.run_form.ensures.wire number (asks_once _ c.in-Ok-Some.form (Wire number) (found _ _ c.form_of.result c.in-Ok-Some.form (ap (λ ws. map string_bytes ws) c.deref.ensures.value) c.form_of.ensures (c.in-Ok-Some.is ∙ ap Ok c.in-Ok-Some.field-0-is)) asks)
+pub returns-in-Some-clause-wire_clean : goal.returns-in-Some-clause-wire_clean
+returns-in-Some-clause-wire_clean g c = c.in-Some.ensures.wire_clean
 
-pub returns-in-Ok-Some-clause-wire_clean : goal.returns-in-Ok-Some-clause-wire_clean
-returns-in-Ok-Some-clause-wire_clean g c = λ asks. c.run_form.ensures.wire_clean (asks_once _ c.in-Ok-Some.form (Wire None) (found _ _ c.form_of.result c.in-Ok-Some.form (ap (λ ws. map string_bytes ws) c.deref.ensures.value) c.form_of.ensures (c.in-Ok-Some.is ∙ ap Ok c.in-Ok-Some.field-0-is)) asks)
+pub returns-in-Some-clause-words : goal.returns-in-Some-clause-words
+returns-in-Some-clause-words g c = c.in-Some.ensures.words
 
-pub returns-in-Ok-Some-clause-words : goal.returns-in-Ok-Some-clause-words
-returns-in-Ok-Some-clause-words g c = λ none. c.run_form.ensures.words (is_unbuilt _ c.in-Ok-Some.form (found _ _ c.form_of.result c.in-Ok-Some.form (ap (λ ws. map string_bytes ws) c.deref.ensures.value) c.form_of.ensures (c.in-Ok-Some.is ∙ ap Ok c.in-Ok-Some.field-0-is)) none)
+pub returns-in-Some-clause-bad_words : goal.returns-in-Some-clause-bad_words
+returns-in-Some-clause-bad_words g c = λ is. c.in-Some.ensures.bad_words (ap Some is)
 
-pub returns-in-Ok-Some-clause-bad_words : goal.returns-in-Ok-Some-clause-bad_words
-returns-in-Ok-Some-clause-bad_words g c = λ is. none_built _ c.in-Ok-Some.form (found _ _ c.form_of.result c.in-Ok-Some.form (ap (λ ws. map string_bytes ws) c.deref.ensures.value) c.form_of.ensures (c.in-Ok-Some.is ∙ ap Ok c.in-Ok-Some.field-0-is)) (c.run_form.ensures.bad_words is)
+pub returns-in-Some-clause-finish : goal.returns-in-Some-clause-finish
+returns-in-Some-clause-finish g c = λ is. c.in-Some.ensures.finish (ap Some is)
 
-pub returns-in-Ok-Some-clause-trace : goal.returns-in-Ok-Some-clause-trace
-returns-in-Ok-Some-clause-trace g c = λ none. c.run_form.ensures.trace (not_written _ c.in-Ok-Some.form (found _ _ c.form_of.result c.in-Ok-Some.form (ap (λ ws. map string_bytes ws) c.deref.ensures.value) c.form_of.ensures (c.in-Ok-Some.is ∙ ap Ok c.in-Ok-Some.field-0-is)) none)
+pub returns-in-Some-clause-finish_push : goal.returns-in-Some-clause-finish_push
+returns-in-Some-clause-finish_push g c = λ asks ended. absurd (no_end _ (c.in-Some.ensures.push asks) ended)
 
-pub returns-in-Ok-Some-clause-shelf : goal.returns-in-Ok-Some-clause-shelf
-returns-in-Ok-Some-clause-shelf g c = λ other. c.run_form.ensures.shelf (not_other _ c.in-Ok-Some.form Push (found _ _ c.form_of.result c.in-Ok-Some.form (ap (λ ws. map string_bytes ws) c.deref.ensures.value) c.form_of.ensures (c.in-Ok-Some.is ∙ ap Ok c.in-Ok-Some.field-0-is)) other)
+pub returns-in-Some-clause-causes : goal.returns-in-Some-clause-causes
+returns-in-Some-clause-causes g c = c.in-Some.ensures.causes
 
-pub returns-in-Ok-Some-clause-inbox : goal.returns-in-Ok-Some-clause-inbox
-returns-in-Ok-Some-clause-inbox g c = λ other. c.run_form.ensures.inbox (not_other _ c.in-Ok-Some.form Push (found _ _ c.form_of.result c.in-Ok-Some.form (ap (λ ws. map string_bytes ws) c.deref.ensures.value) c.form_of.ensures (c.in-Ok-Some.is ∙ ap Ok c.in-Ok-Some.field-0-is)) other)
+pub returns-in-Some-clause-source_short : goal.returns-in-Some-clause-source_short
+returns-in-Some-clause-source_short g c = c.in-Some.ensures.source_short
 
--- ---- no form is found
+pub returns-in-Some-clause-sink_short : goal.returns-in-Some-clause-sink_short
+returns-in-Some-clause-sink_short g c = c.in-Some.ensures.sink_short
 
-pub returns-in-Ok-None-clause-decode : goal.returns-in-Ok-None-clause-decode
-returns-in-Ok-None-clause-decode g c = λ asks. absurd (found_none _ _ c.form_of.result (ap (λ ws. map string_bytes ws) c.deref.ensures.value) c.form_of.ensures (c.in-Ok-None.is ∙ ap Ok c.in-Ok-None.field-0-is) Decode asks)
+pub returns-in-Some-clause-trace_short : goal.returns-in-Some-clause-trace_short
+returns-in-Some-clause-trace_short g c = c.in-Some.ensures.trace_short
 
-pub returns-in-Ok-None-clause-decode_tagged : goal.returns-in-Ok-None-clause-decode_tagged
-returns-in-Ok-None-clause-decode_tagged g c = λ asks. absurd (found_none _ _ c.form_of.result (ap (λ ws. map string_bytes ws) c.deref.ensures.value) c.form_of.ensures (c.in-Ok-None.is ∙ ap Ok c.in-Ok-None.field-0-is) DecodeTagged asks)
+pub returns-in-Some-clause-trace : goal.returns-in-Some-clause-trace
+returns-in-Some-clause-trace g c = c.in-Some.ensures.trace
 
-pub returns-in-Ok-None-clause-decode_snoop : goal.returns-in-Ok-None-clause-decode_snoop
-returns-in-Ok-None-clause-decode_snoop g c = λ asks. absurd (found_none _ _ c.form_of.result (ap (λ ws. map string_bytes ws) c.deref.ensures.value) c.form_of.ensures (c.in-Ok-None.is ∙ ap Ok c.in-Ok-None.field-0-is) DecodeSnoop asks)
+-- ---- a push is asked for
 
-pub returns-in-Ok-None-clause-push : goal.returns-in-Ok-None-clause-push
-returns-in-Ok-None-clause-push g c = λ asks. absurd (found_none _ _ c.form_of.result (ap (λ ws. map string_bytes ws) c.deref.ensures.value) c.form_of.ensures (c.in-Ok-None.is ∙ ap Ok c.in-Ok-None.field-0-is) Push asks)
+pub returns-in-None-clause-decode : goal.returns-in-None-clause-decode
+returns-in-None-clause-decode g c = λ asks. absurd (not_push _ Decode (c.run_alone.ensures.none c.in-None.is) (λ is. absurd cc) asks)
 
-pub returns-in-Ok-None-clause-wire_clean : goal.returns-in-Ok-None-clause-wire_clean
-returns-in-Ok-None-clause-wire_clean g c = λ asks. absurd (found_none _ _ c.form_of.result (ap (λ ws. map string_bytes ws) c.deref.ensures.value) c.form_of.ensures (c.in-Ok-None.is ∙ ap Ok c.in-Ok-None.field-0-is) (Wire None) asks)
+pub returns-in-None-clause-decode_tagged : goal.returns-in-None-clause-decode_tagged
+returns-in-None-clause-decode_tagged g c = λ asks. absurd (not_push _ DecodeTagged (c.run_alone.ensures.none c.in-None.is) (λ is. absurd cc) asks)
 
-pub returns-in-Ok-None-clause-finish_push : goal.returns-in-Ok-None-clause-finish_push
-returns-in-Ok-None-clause-finish_push g c = λ asks. absurd (found_none _ _ c.form_of.result (ap (λ ws. map string_bytes ws) c.deref.ensures.value) c.form_of.ensures (c.in-Ok-None.is ∙ ap Ok c.in-Ok-None.field-0-is) Push asks)
+pub returns-in-None-clause-decode_snoop : goal.returns-in-None-clause-decode_snoop
+returns-in-None-clause-decode_snoop g c = λ asks. absurd (not_push _ DecodeSnoop (c.run_alone.ensures.none c.in-None.is) (λ is. absurd cc) asks)
 
-pub returns-in-Ok-None-clause-snoop : goal.returns-in-Ok-None-clause-snoop
-returns-in-Ok-None-clause-snoop g c = λ side asks. absurd (found_none _ _ c.form_of.result (ap (λ ws. map string_bytes ws) c.deref.ensures.value) c.form_of.ensures (c.in-Ok-None.is ∙ ap Ok c.in-Ok-None.field-0-is) (Snoop side) asks)
+pub returns-in-None-clause-push : goal.returns-in-None-clause-push
+returns-in-None-clause-push g c = λ asks. let same = c.run_alone.ensures.untouched (c.run_alone.ensures.none c.in-None.is) in rw (same.0, same.1, same.2) at c.push.ensures.pushes
 
-pub returns-in-Ok-None-clause-wire : goal.returns-in-Ok-None-clause-wire
-returns-in-Ok-None-clause-wire g c = λ number asks. absurd (found_none _ _ c.form_of.result (ap (λ ws. map string_bytes ws) c.deref.ensures.value) c.form_of.ensures (c.in-Ok-None.is ∙ ap Ok c.in-Ok-None.field-0-is) (Wire number) asks)
+pub returns-in-None-clause-snoop : goal.returns-in-None-clause-snoop
+returns-in-None-clause-snoop g c = λ side asks. absurd (not_push _ (Snoop side) (c.run_alone.ensures.none c.in-None.is) (λ is. absurd cc) asks)
 
-pub returns-in-Ok-None-clause-bad_words : goal.returns-in-Ok-None-clause-bad_words
-returns-in-Ok-None-clause-bad_words g c = λ is form built. found_none _ _ c.form_of.result (ap (λ ws. map string_bytes ws) c.deref.ensures.value) c.form_of.ensures (c.in-Ok-None.is ∙ ap Ok c.in-Ok-None.field-0-is) form
+pub returns-in-None-clause-wire : goal.returns-in-None-clause-wire
+returns-in-None-clause-wire g c = λ number asks. absurd (not_push _ (Wire number) (c.run_alone.ensures.none c.in-None.is) (λ is. absurd cc) asks)
 
--- ---- there was no memory to read the words
+pub returns-in-None-clause-wire_clean : goal.returns-in-None-clause-wire_clean
+returns-in-None-clause-wire_clean g c = λ asks. absurd (not_push _ (Wire None) (c.run_alone.ensures.none c.in-None.is) (λ is. absurd cc) asks)
 
-pub returns-in-Err-clause-decode : goal.returns-in-Err-clause-decode
-returns-in-Err-clause-decode g c = λ asks. nothing_decoded viewing.Raw (g.S.Source.content c.args.source.now) (g.S.Source.content c.args.source.now) (g.K.Sink.content c.args.sink.now)
+pub returns-in-None-clause-words : goal.returns-in-None-clause-words
+returns-in-None-clause-words g c = λ none. absurd (push_is_built _ (c.run_alone.ensures.none c.in-None.is) none)
 
-pub returns-in-Err-clause-decode_tagged : goal.returns-in-Err-clause-decode_tagged
-returns-in-Err-clause-decode_tagged g c = λ asks. nothing_decoded viewing.Tagged (g.S.Source.content c.args.source.now) (g.S.Source.content c.args.source.now) (g.K.Sink.content c.args.sink.now)
+pub returns-in-None-clause-bad_words : goal.returns-in-None-clause-bad_words
+returns-in-None-clause-bad_words g c = λ is. absurd (c.push.ensures.known is)
 
-pub returns-in-Err-clause-decode_snoop : goal.returns-in-Err-clause-decode_snoop
-returns-in-Err-clause-decode_snoop g c = λ asks. nothing_decoded viewing.Snoop (g.S.Source.content c.args.source.now) (g.S.Source.content c.args.source.now) (g.K.Sink.content c.args.sink.now)
+pub returns-in-None-clause-finish : goal.returns-in-None-clause-finish
+returns-in-None-clause-finish g c = λ is. c.push.ensures.finish (rw is tt)
 
-pub returns-in-Err-clause-push : goal.returns-in-Err-clause-push
-returns-in-Err-clause-push g c = λ asks. nothing_pushed (g.S.Source.content c.args.source.now) (stocked (g.F.Shelf.content c.args.shelf.now) (g.F.Shelf.faults c.args.shelf.now) (g.F.Shelf.absences c.args.shelf.now) (g.B.Inbox.content c.args.inbox.now) (g.B.Inbox.faults c.args.inbox.now) (g.B.Inbox.shortages c.args.inbox.now)) (g.K.Sink.content c.args.sink.now) (g.T.Sink.content c.args.trace.now) _ _ (refl, refl, refl)
+pub returns-in-None-clause-finish_push : goal.returns-in-None-clause-finish_push
+returns-in-None-clause-finish_push g c = λ asks ended. c.push.ensures.finish ended
 
-pub returns-in-Err-clause-snoop : goal.returns-in-Err-clause-snoop
-returns-in-Err-clause-snoop g c = λ side asks. nothing_snooped side (g.S.Source.content c.args.source.now) (g.S.Source.content c.args.source.now) (g.K.Sink.content c.args.sink.now) (g.T.Sink.content c.args.trace.now)
+pub returns-in-None-clause-causes : goal.returns-in-None-clause-causes
+returns-in-None-clause-causes g c = let same = c.run_alone.ensures.untouched (c.run_alone.ensures.none c.in-None.is) in rw (same.0, same.1, same.2) at c.push.ensures.causes
 
-pub returns-in-Err-clause-wire : goal.returns-in-Err-clause-wire
-returns-in-Err-clause-wire g c = λ number asks. nothing_carried number (g.S.Source.content c.args.source.now) (g.K.Sink.content c.args.sink.now) (g.T.Sink.content c.args.trace.now) _
+pub returns-in-None-clause-source_short : goal.returns-in-None-clause-source_short
+returns-in-None-clause-source_short g c = let same = c.run_alone.ensures.untouched (c.run_alone.ensures.none c.in-None.is) in rw same.0 at c.push.ensures.source_short
+
+pub returns-in-None-clause-sink_short : goal.returns-in-None-clause-sink_short
+returns-in-None-clause-sink_short g c = let same = c.run_alone.ensures.untouched (c.run_alone.ensures.none c.in-None.is) in rw same.1 at c.push.ensures.sink_short
+
+pub returns-in-None-clause-trace_short : goal.returns-in-None-clause-trace_short
+returns-in-None-clause-trace_short g c = let same = c.run_alone.ensures.untouched (c.run_alone.ensures.none c.in-None.is) in rw same.2 at c.push.ensures.trace_short
+
+pub returns-in-None-clause-trace : goal.returns-in-None-clause-trace
+returns-in-None-clause-trace g c = λ none. absurd (none (push_traces _ (c.run_alone.ensures.none c.in-None.is)))
+
+pub returns-in-None-clause-shelf : goal.returns-in-None-clause-shelf
+returns-in-None-clause-shelf g c = λ other. absurd (other (c.run_alone.ensures.none c.in-None.is))
+
+pub returns-in-None-clause-inbox : goal.returns-in-None-clause-inbox
+returns-in-None-clause-inbox g c = λ other. absurd (other (c.run_alone.ensures.none c.in-None.is))

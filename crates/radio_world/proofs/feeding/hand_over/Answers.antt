@@ -1,6 +1,7 @@
 use Rattle.std.proofs.Common.{◌≡◌, ◌≢◌, ℕ, List, [], ◌∷◌, length, refl, sym, ap, ◌∙◌, arith, Bool, false, true}
 use Rattle.std.specs.Bool.{◌==◌}
 use Rattle.std.proofs.lemmas.Bool.{eqb-true}
+use Rattle.radio_world.proofs.Wanting.{any_err}
 use Rattle.radio_world.proofs.Fed.{fed_first, fed_more}
 use Rattle.radio_world.proofs.feeding.hand_over.Goals as goal
 
@@ -34,4 +35,10 @@ loop-rest-preserved g c =
     (c.loop-rest.invariant coming may is spelled) c.in_ok-feed.ensures.hears
 
 pub returns : goal.returns
-returns g c = record { hears = λ coming may is spelled. (c.loop-rest.invariant coming may is spelled).done (all_gone c.loop-rest.rest.now c.is_empty.result c.is_empty.ensures c.loop-rest-test.false) }
+returns g c = record { hears = λ coming may is spelled. (c.loop-rest.invariant coming may is spelled).done (all_gone c.loop-rest.rest.now c.is_empty.result c.is_empty.ensures c.loop-rest-test.false); lacked = tt }
+
+pub returns-in_err-feed-clause-lacked : goal.returns-in_err-feed-clause-lacked
+returns-in_err-feed-clause-lacked g c =
+    let comes = c.requires.comes in
+    let so_far = (c.loop-rest.invariant comes.coming comes.may comes.is comes.spelled).under_way (some_left c.loop-rest.rest.now c.is_empty.result c.is_empty.ensures c.loop-rest-test.true) in
+    any_err c.from_residual.result (g.met.H.Host.lacks c.args.port.now c.loop-rest.port c.feed.new.port [] so_far.2 c.in_err-feed.ensures.lacked)

@@ -1,4 +1,4 @@
-use Rattle.std.proofs.Common.{◌≡◌, ℕ, List, take, refl, sym, ap, subst, ◌∙◌, Result, Ok, Err, inl, inr}
+use Rattle.std.proofs.Common.{◌≡◌, ℕ, List, take, refl, sym, ap, subst, ◌∙◌, Result, Ok, Err, inl, inr, arith}
 use Rattle.std.specs.Result.{OnErr}
 use Rattle.bt_base.specs.Streams.{gained}
 use Rattle.capture.specs.declared.flow.Flow.TheVariants.{Into}
@@ -8,9 +8,11 @@ use Rattle.push_terms.specs.declared.word.Side.{Side}
 use Rattle.radio_air.specs.Radio.{Radio, after_answer}
 use Rattle.radio_world.specs.Hosts.{acl_limit, Coming, coming_packet, hears_coming, Reacts}
 use Rattle.radio_world.specs.Leaving.{Medium, in_radio}
-use Rattle.radio_world.specs.Halves.{Goes, IsStillIn, ComesFirst}
+use Rattle.radio_world.specs.Halves.{IsStillIn, ComesFirst}
 use Rattle.radio_world.proofs.Moving.{goes_none}
-use Rattle.radio_world.proofs.Entering.{none_comes, stays_as_it_is, IsHanded, handed_first, reads_whole, reads_same, goes_in, comes_less}
+use Rattle.radio_world.proofs.Entering.{none_comes, stays_as_it_is, IsHanded, handed_first, reads_whole, reads_same, comes_less}
+use Rattle.radio_world.specs.Counting.{GoesBy}
+use Rattle.radio_world.proofs.Tallying.{goes_in_by}
 use Rattle.radio_world.proofs.Hearing.{may_next}
 use Rattle.radio_world.proofs.medium.Medium.move_into.Goals as goal
 
@@ -32,8 +34,8 @@ returns-in_default-clause-goes g c =
     let still : IsStillIn c.args.side c.args.self.now = subst (λ (m : Medium). IsStillIn c.args.side m) c.self.view_is
     (none_comes c.args.side (mk c.self.inside.radio c.self.inside.peak_a c.self.inside.peak_b) c.hand.result _ c.hand.new.into c.hand.ensures.handed c.in_default.is) in
     let same = with_radio c.args.side c.self.inside.radio c.hand.new.self c.self.inside.peak_a c.self.inside.peak_b c.args.self.now c.hand.ensures.radio c.self.view_is ∙ stays_as_it_is c.args.side c.args.self.now still in
-    subst (λ (m : Medium). Goes host.machine c.args.side host.answers c.args.self.now m (host.station c.args.host.now c.args.port.now) (host.station c.args.host.now c.args.port.now) c.args.port.now c.args.port.now (g.T.Sink.content c.args.trace.now) (g.T.Sink.content c.args.trace.now)) (sym same)
-    (goes_none host.machine c.args.side host.answers c.args.self.now (host.station c.args.host.now c.args.port.now) c.args.port.now (g.T.Sink.content c.args.trace.now) g.met.H.Host.joins)
+    subst (λ (m : Medium). GoesBy 0 host.machine c.args.side host.answers c.args.self.now m (host.station c.args.host.now c.args.port.now) (host.station c.args.host.now c.args.port.now) c.args.port.now c.args.port.now (g.T.Sink.content c.args.trace.now) (g.T.Sink.content c.args.trace.now)) (sym same)
+    (record { goes = goes_none host.machine c.args.side host.answers c.args.self.now (host.station c.args.host.now c.args.port.now) c.args.port.now (g.T.Sink.content c.args.trace.now) g.met.H.Host.joins; many = omega arith })
 
 pub returns-in_default-clause-still : goal.returns-in_default-clause-still
 returns-in_default-clause-still g c = λ none.
@@ -67,7 +69,7 @@ returns-clause-goes g c =
     let after = with_radio c.args.side c.self.inside.radio c.hand.new.self c.self.inside.peak_a c.self.inside.peak_b c.args.self.now c.hand.ensures.radio c.self.view_is in
     let heard = at_side host.side c.args.side handed.coming (take c.in-Some.n c.hand.new.into) c.requires.side handed.is handed.front in
     let reaction = (c.in_ok-hand_over.ensures.hears handed.coming (may_next host.machine c.args.side c.args.self.now (host.station c.args.host.now c.args.port.now) c.requires.heard handed.coming comes) heard.0 heard.1).0 in
-    goes_in host.machine c.args.side host.answers handed.coming (packet c.in-Whole.unit) c.args.self.now _ (host.station c.args.host.now c.args.port.now) (host.station c.hand_over.new.host c.hand_over.new.port) c.args.port.now c.hand_over.new.port
+    goes_in_by host.machine c.args.side host.answers handed.coming (packet c.in-Whole.unit) c.args.self.now _ (host.station c.args.host.now c.args.port.now) (host.station c.hand_over.new.host c.hand_over.new.port) c.args.port.now c.hand_over.new.port
     (g.T.Sink.content c.args.trace.now) (g.T.Sink.content c.record.new.trace) comes after read
     (subst (λ (side : Side). Reacts host.machine side host.answers (hears_coming host.machine side handed.coming) (host.station c.args.host.now c.args.port.now) (host.station c.hand_over.new.host c.hand_over.new.port) c.args.port.now c.hand_over.new.port) c.requires.side reaction)
     c.in_ok-record.ensures.ok

@@ -8,6 +8,7 @@ abbrev pub invariant-loop-unit : goal.invariant-loop-unit
 invariant-loop-unit g l =
     ((orders : List Order) → AreSent l.side orders → l.octets ≡ order_octets l.side orders → IsTaken l.side orders l.rest l.fn.self l.self (g.T.Sink.content l.fn.trace) (g.T.Sink.content l.trace))
     × (g.T.Sink.faults l.fn.trace ≤ g.T.Sink.faults l.trace)
+    × (g.T.Sink.shortages l.fn.trace ≤ g.T.Sink.shortages l.trace)
 
 abbrev pub decreases-loop-unit : goal.decreases-loop-unit
 decreases-loop-unit g l = length l.rest

@@ -6,6 +6,9 @@ use Rattle.radio_air.specs.Owed.{IsMet}
 use Rattle.radio_air.specs.Radio.{found, after_deed}
 use Rattle.radio_world.specs.Hosts.{answering, Reacts}
 use Rattle.radio_world.specs.Turning.{cancels, done_by, is_checked}
+use Rattle.room_laws.specs.Rooms.{OwesNoneBack}
+use Rattle.radio_world.specs.Scenes.{Scene}
+use Rattle.radio_world.proofs.Returned.{deeds_give_none}
 use Rattle.radio_world.proofs.Turned.{asked_right, asked_for, word_advances, cancels_may}
 use Rattle.radio_world.proofs.scene.Scene.do_word.Goals as goal
 
@@ -38,3 +41,9 @@ returns-clause-advances g c =
     (subst (λ (side : Side). Reacts two.machine side two.answers (done_by two.machine B deed) (two.station c.args.b.now c.args.inbox.now) (two.station c.server_acts.new.b c.server_acts.new.inbox) c.args.inbox.now c.server_acts.new.inbox) c.requires.sides.1
     (subst (λ (d : Deed). Reacts two.machine two.side two.answers (done_by two.machine B d) (two.station c.args.b.now c.args.inbox.now) (two.station c.server_acts.new.b c.server_acts.new.inbox) c.args.inbox.now c.server_acts.new.inbox) same c.in_ok-server_acts.ensures.reacts))
     c.in_ok-act.ensures.written
+
+pub returns-clause-none_back : goal.returns-clause-none_back
+returns-clause-none_back g c =
+    let radio = c.args.self.now.medium.radio in
+    let rest = c.requires.rest [] [] in
+    subst (λ (s : Scene). OwesNoneBack s.medium.radio) (sym c.in_ok-act.ensures.scene) (deeds_give_none c.is_checked-checked.result (found c.args.word radio) radio rest.still_a.none_owed rest.still_b.none_owed)

@@ -14,3 +14,4 @@ invariant-loop-i g l =
     × ((one.held l.a ≡ []) × (two.held l.b ≡ []))
     × (one.is_sound l.a l.shelf × two.is_sound l.b l.inbox)
     × (g.T.Sink.faults l.fn.trace ≤ g.T.Sink.faults l.trace)
+    × (g.T.Sink.shortages l.fn.trace ≤ g.T.Sink.shortages l.trace)

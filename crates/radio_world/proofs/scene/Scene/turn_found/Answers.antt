@@ -1,4 +1,7 @@
-use Rattle.std.proofs.Common.{[], ◌∷◌, ◌∙◌}
+use Rattle.std.proofs.Common.{[], ◌∷◌, inl, inr, refl, ◌∙◌, arith}
+use Rattle.radio_world.specs.Shortages.{ShelfLacked, InboxLacked, WordsFull}
+use Rattle.radio_world.proofs.Wanting.{lacks_for, lacks_on}
+use Rattle.radio_world.proofs.Reasons.{wants_behind}
 use Rattle.radio_world.proofs.Advancing.{advances_then}
 use Rattle.radio_world.proofs.Standing.{at_rest, reached_then, stands_quiet, stands_then}
 use Rattle.radio_world.proofs.scene.Scene.turn_found.Goals as goal
@@ -42,3 +45,19 @@ returns-clause-stands g c =
     c.args.shelf.now c.settle.new.shelf c.args.inbox.now c.settle.new.inbox (content c.args.trace.now) (content c.settle.new.trace)
     (advances_then one.machine two.machine one.answers two.answers (c.args.word ∷ []) [] _ _ _ g.met.A.Host.joins g.met.B.Host.joins c.in_ok-do_word.ensures.advances c.in_ok-settle.ensures.advances)
     c.requires.stands.reached c.in_ok-settle.ensures.settled
+
+pub returns-then-is_count_full-clause-lacks : goal.returns-then-is_count_full-clause-lacks
+returns-then-is_count_full-clause-lacks g c = lacks_for _ _ _ _ (omega arith) (WordsFull (omega (arith, c.is_count_full.ensures.full c.if-is_count_full.true)))
+
+pub returns-in_err-do_word-clause-lacks : goal.returns-in_err-do_word-clause-lacks
+returns-in_err-do_word-clause-lacks g c =
+    lacks_on _ _ _ _ _ c.do_word.result c.from_residual.result c.in_err-do_word.field-0.0 c.from_residual.ensures.1 c.in_err-do_word.was (omega arith)
+    (λ cause. elim cause [ inl shelf ↦ ShelfLacked shelf | inr inbox ↦ InboxLacked inbox ]) c.do_word.ensures.lacks
+
+pub returns-in_err-settle-clause-lacks : goal.returns-in_err-settle-clause-lacks
+returns-in_err-settle-clause-lacks g c =
+    let one = g.A.Host in
+    let two = g.B.Host in
+    lacks_on _ _ _ _ _ c.settle.result c.from_residual-in_err-settle.result c.in_err-settle.field-0.0 c.from_residual-in_err-settle.ensures.1 c.in_err-settle.was c.do_word.ensures.lacks.stays
+    (λ cause. wants_behind one.machine two.machine one.answers two.answers one.lacked two.lacked (c.args.word ∷ []) (c.args.word ∷ []) [] [] _ _ _ _ _ g.met.A.Host.joins g.met.B.Host.joins g.met.A.Host.lacks g.met.B.Host.lacks refl
+    c.in_ok-do_word.ensures.advances cause) c.settle.ensures.lacks

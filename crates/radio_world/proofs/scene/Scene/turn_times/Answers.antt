@@ -1,8 +1,12 @@
-use Rattle.std.proofs.Common.{rules, ◌<◌, ◌+◌, ◌-◌, List, [], ◌∷◌, replicate, sym, subst, ◌∙◌, arith}
+use Rattle.std.proofs.Common.{rules, ℕ, ◌≡◌, ◌<◌, ◌+◌, ◌-◌, List, [], ◌∷◌, ◌++◌, length, replicate, sym, ap, subst, ◌∙◌, arith}
+use Rattle.std.proofs.lemmas.List.{append-nil, length-replicate}
+use Rattle.radio_world.specs.Shortages.{WordsFull}
+use Rattle.radio_world.proofs.Wanting.{lacks_for, lacks_on}
+use Rattle.radio_world.proofs.Reasons.{wants_behind}
 use Rattle.push_terms.specs.declared.word.Word.{Word}
 use Rattle.radio_world.specs.Scenes.{stage, Advances}
 use Rattle.radio_world.proofs.Advancing.{advances_none, advances_then}
-use Rattle.radio_world.proofs.Runs.{once_more, times_and_rest}
+use Rattle.radio_world.proofs.Runs.{once_more, times_and_one, times_and_rest}
 use Rattle.radio_world.proofs.Standing.{at_rest, stands_quiet, reached_then, misses_advance, misses_stand}
 use Rattle.radio_world.proofs.scene.Scene.turn_times.Goals as goal
 
@@ -10,7 +14,7 @@ pub loop-done-init : goal.loop-done-init
 loop-done-init g c =
     let one = g.A.Host in
     let two = g.B.Host in
-    (advances_none one.machine two.machine one.answers two.answers _ g.met.A.Host.joins g.met.B.Host.joins, c.requires.stands, c.requires.none_held, c.requires.sound, omega arith)
+    (advances_none one.machine two.machine one.answers two.answers _ g.met.A.Host.joins g.met.B.Host.joins, c.requires.stands, c.requires.none_held, c.requires.sound, omega arith, omega arith)
 
 pub finds-requires : goal.finds-requires
 finds-requires g c =
@@ -33,6 +37,7 @@ loop-done-preserved g c =
       c.in_ok-turn_found.ensures.none_held,
       c.in_ok-turn_found.ensures.sound,
       omega (arith, c.loop-done.invariant.4, c.turn_found.ensures.blames.stays),
+      omega (arith, c.loop-done.invariant.5, c.turn_found.ensures.lacks.stays),
     )
 
 pub returns-then-not-finds-clause-turns : goal.returns-then-not-finds-clause-turns
@@ -66,3 +71,26 @@ returns-then-not-finds-clause-stands g c =
     (λ rest_a rest_b. sym (c.finds.ensures c.loop-done.shelf c.loop-done.inbox rest_a rest_b) ∙ c.if-not-finds.true))
     c.loop-done.invariant.1.reached)
     c.loop-done.invariant.1
+
+long : (n : ℕ) (word : Word) → length (replicate n word) ≡ n
+long n word = length-replicate n word
+
+pub returns-in_err-pass_over-clause-lacks : goal.returns-in_err-pass_over-clause-lacks
+returns-in_err-pass_over-clause-lacks g c =
+    let one = g.A.Host in
+    let two = g.B.Host in
+    let below : c.loop-done.done < c.args.count = search rules in
+    let rest = c.args.count - c.loop-done.done in
+    lacks_for _ _ _ _ c.loop-done.invariant.5
+    (wants_behind one.machine two.machine one.answers two.answers one.lacked two.lacked (replicate c.args.count c.args.word) (replicate c.loop-done.done c.args.word) (replicate rest c.args.word) [] _ _ _ _ _ g.met.A.Host.joins g.met.B.Host.joins g.met.A.Host.lacks g.met.B.Host.lacks
+    (sym (times_and_rest c.loop-done.done c.args.count c.args.word below) ∙ ap (λ (ws : List Word). replicate c.loop-done.done c.args.word ++ ws) (sym (append-nil (replicate rest c.args.word))))
+    c.loop-done.invariant.0 (WordsFull (omega (arith, c.in_err-pass_over.ensures.full, long rest c.args.word))))
+
+pub returns-in_err-turn_found-clause-lacks : goal.returns-in_err-turn_found-clause-lacks
+returns-in_err-turn_found-clause-lacks g c =
+    let one = g.A.Host in
+    let two = g.B.Host in
+    let below : c.loop-done.done < c.args.count = search rules in
+    lacks_on _ _ _ _ _ c.turn_found.result c.from_residual-in_err-turn_found.result c.in_err-turn_found.field-0.0 c.from_residual-in_err-turn_found.ensures.1 c.in_err-turn_found.was c.loop-done.invariant.5
+    (λ cause. wants_behind one.machine two.machine one.answers two.answers one.lacked two.lacked (replicate c.args.count c.args.word) (replicate c.loop-done.done c.args.word) (c.args.word ∷ []) (replicate (c.args.count - (c.loop-done.done + 1)) c.args.word) _ _ _ _ _
+    g.met.A.Host.joins g.met.B.Host.joins g.met.A.Host.lacks g.met.B.Host.lacks (times_and_one c.loop-done.done c.args.count c.args.word below) c.loop-done.invariant.0 cause) c.turn_found.ensures.lacks

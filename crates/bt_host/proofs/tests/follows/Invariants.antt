@@ -1,6 +1,0 @@
-use Rattle.std.proofs.Common.{◌≡◌, None, is_some}
-use Rattle.bt_host.specs.Serving.{Works}
-use Rattle.bt_host.proofs.tests.follows.Given as goal
-
-abbrev pub invariant-loop-row : goal.invariant-loop-row
-invariant-loop-row l = (l.host.refusal ≡ None) × Works l.host.stack.upper.end (is_some l.inbox.contents.pending)

@@ -1,0 +1,68 @@
+-- What the words ask for, and what is left where they could not be read.
+use Rattle.std.proofs.Common.{◌≡◌, ℕ, List, [], Option, Some, None, IfSome, IfOk, Result, Ok, Err, refl, sym, subst, arith}
+use Rattle.bt_base.proofs.PortLaws.{front_none}
+use Rattle.clap.specs.Words.{Text}
+use Rattle.command_words.specs.Forms.{AsksFor, IsAnswered}
+use Rattle.command_words.specs.declared.form.Form.{Form}
+use Rattle.command_words.specs.declared.form.Form.TheVariants as form
+use Rattle.command_words.proofs.Asking.{asks_once}
+use Rattle.push_terms.specs.declared.word.Side.{Side}
+use Rattle.h4_view.specs.declared.refusal.ViewFault.TheVariants as view
+use Rattle.h4_view.specs.View.{OfLines}
+use Rattle.h4_view.specs.Viewing.{OfLines as ShownLines}
+use Rattle.h4_view.proofs.TaggedEnds.{none_begins as none_tagged}
+use Rattle.h4_view.proofs.SnoopEnds.{none_begins as none_snooped}
+use Rattle.btsnoop.specs.declared.fault.SnoopFault.TheVariants as snooped
+use Rattle.three_wire.specs.declared.fault.CarryFault.TheVariants as fault
+use Rattle.three_wire.proofs.Carrying.{carries_nothing}
+use Rattle.btpush_forms.specs.declared.status.Status.TheVariants as status
+use Rattle.btpush_forms.specs.declared.viewing.Viewing.{Viewing}
+use Rattle.btpush_forms.specs.declared.viewing.Viewing.TheVariants.{Raw, Tagged, Snoop}
+use Rattle.btpush_forms.specs.Carrying.{Wires}
+use Rattle.btpush_forms.specs.Doing.{Does}
+use Rattle.btpush_forms.specs.Run.{Decodes}
+use Rattle.btpush_forms.specs.Snooping.{Snoops}
+use Rattle.btpush_forms.specs.Words.{IsBuilt, WritesTrace, AskForNone, AskForTrace}
+
+-- ---- the form that was found
+
+pub found : {E : Type 0} (given words : List Text) (result : Result (Option Form) E) (form : Form) → given ≡ words → IfOk result (IsAnswered given) → result ≡ Ok (Some form) → AsksFor words form
+found given words result form same answer is = subst (λ (ws : List Text). AsksFor ws form) same (subst (λ r. IfOk r (IsAnswered given)) is answer)
+
+pub found_none : {E : Type 0} (given words : List Text) (result : Result (Option Form) E) → given ≡ words → IfOk result (IsAnswered given) → result ≡ Ok None → (form : Form) → AsksFor words form → ⊥
+found_none given words result same answer is form asks = (subst (λ r. IfOk r (IsAnswered given)) is answer) form (subst (λ (ws : List Text). AsksFor ws form) (sym same) asks)
+
+-- no form is asked for beside the one that is not built
+pub none_built : (words : List Text) (form : Form) → AsksFor words form → (IsBuilt form → ⊥) → AskForNone words
+none_built words form asks unbuilt other built asks' = unbuilt (subst IsBuilt (sym (asks_once words form other asks asks')) built)
+
+pub is_unbuilt : (words : List Text) (form : Form) → AsksFor words form → AskForNone words → IsBuilt form → ⊥
+is_unbuilt words form asks none built = none form built asks
+
+pub not_written : (words : List Text) (form : Form) → AsksFor words form → (AskForTrace words → ⊥) → WritesTrace form → ⊥
+not_written words form asks none writes = none (form, writes, asks)
+
+-- ---- there was no memory to read the words
+
+nothing_decoded : (viewing : Viewing) (content sink : Option (List ℕ)) → IfSome content (λ input. Decodes viewing input content sink sink status.NoMemory)
+nothing_decoded viewing None sink = tt
+nothing_decoded Raw (Some input) sink = (Err view.NoMemory, OfLines [] (record { each = tt; within = omega arith; rest = input; whole = refl }) (front_none sink _), refl)
+nothing_decoded Tagged (Some input) sink = (Err view.NoMemory, ShownLines [] (none_tagged input) (front_none sink _), refl)
+nothing_decoded Snoop (Some input) sink = (Err view.NoMemory, ShownLines [] (none_snooped input) (front_none sink _), refl)
+
+nothing_snooped : (side : Side) (content sink trace : Option (List ℕ)) → IfSome content (λ input. Snoops side input content sink sink trace trace status.NoMemory)
+nothing_snooped side None sink trace = tt
+nothing_snooped side (Some input) sink trace = (Err snooped.NoMemory, record { items = []; begins = record { each = tt; within = omega arith; rest = input; whole = refl }; wrote = front_none sink _ }, (refl, refl))
+
+nothing_carried : (number : Option ℕ) (content sink trace : Option (List ℕ)) (Rose : Type 0) → Wires number content sink sink trace trace Rose status.NoMemory
+nothing_carried number content sink trace Rose = record { end = Err fault.NoMemory; carried = trace; carries = carries_nothing number content sink trace Rose; tells = (refl, refl) }
+
+pub nothing_done : (form : Form) (content sink trace : Option (List ℕ)) (Rose : Type 0) → Does form content content sink sink trace trace Rose status.NoMemory
+nothing_done form.Decode content sink trace Rose = nothing_decoded Raw content sink
+nothing_done form.DecodeTagged content sink trace Rose = nothing_decoded Tagged content sink
+nothing_done form.DecodeSnoop content sink trace Rose = nothing_decoded Snoop content sink
+nothing_done (form.Snoop side) content sink trace Rose = nothing_snooped side content sink trace
+nothing_done (form.Wire number) content sink trace Rose = nothing_carried number content sink trace Rose
+nothing_done form.Push content sink trace Rose = tt
+nothing_done form.Receive content sink trace Rose = tt
+nothing_done (form.Make number) content sink trace Rose = tt

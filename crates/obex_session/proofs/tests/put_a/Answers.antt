@@ -1,5 +1,0 @@
-use Rattle.obex_session.proofs.NameLaws.{one_letter}
-use Rattle.obex_session.proofs.tests.put_a.Goals as goal
-
-pub put_next-requires-clause-few : goal.put_next-requires-clause-few
-put_next-requires-clause-few c = one_letter

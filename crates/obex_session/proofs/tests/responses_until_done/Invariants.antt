@@ -1,7 +1,0 @@
-use Rattle.std.proofs.Common.{◌≡◌}
-use Rattle.std.specs.Prelude.{is_some}
-use Rattle.obex_session.specs.Rules.{is_under_way, progress_in}
-use Rattle.obex_session.proofs.tests.responses_until_done.Given as goal
-
-abbrev pub invariant-loop-round : goal.invariant-loop-round
-invariant-loop-round l = is_some l.inbox.contents.pending ≡ is_under_way (progress_in l.server.course)

@@ -1,5 +1,0 @@
-use Rattle.obex_session.proofs.NameLaws.{one_letter}
-use Rattle.push_client.proofs.tests.begins.Goals as goal
-
-pub begin-requires : goal.begin-requires
-begin-requires c = one_letter

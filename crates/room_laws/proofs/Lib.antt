@@ -1,0 +1,5 @@
+pub mod Straying
+pub mod Spending
+pub mod Handing
+pub mod Numbering
+pub mod Rooming

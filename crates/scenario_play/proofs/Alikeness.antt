@@ -1,0 +1,97 @@
+-- What a world in code did from hosts whose ports have still to answer, both hosts of the scenario do.
+use Rattle.std.proofs.Common.{◌≡◌, List, ◌++◌, Option, inl, inr, refl, sym, ap, ap₂, subst, ◌∙◌}
+use Rattle.bt_base.specs.Objects.{Contents}
+use Rattle.push_script.specs.declared.scenario.Scenario.{Scenario}
+use Rattle.push_terms.specs.declared.outcome.Outcome.{Outcome}
+use Rattle.capture.specs.Air.{words_of}
+use Rattle.world_model.specs.Machines.{Upper}
+use Rattle.world_model.specs.Pushes.{Pushes}
+use Rattle.world_model.specs.Worlds.{World, Happening, IsAtRest, all_entries, all_words}
+use Rattle.air_laws.specs.AirLaws.{IsLastEnd}
+use Rattle.run_laws.specs.Embedding.{world_as}
+use Rattle.run_laws.proofs.Embedding.{runs_are_of_less, rest_is_of_less}
+use Rattle.alike_laws.specs.Twins.{AreTwins, IsOther, WorldsAlike}
+use Rattle.alike_laws.proofs.Twins.{runs_are_of_twins, rest_is_of_twins}
+use Rattle.radio_world.specs.Scenes.{Moment, world_at, Plays}
+use Rattle.radio_world.specs.Standing.{starting, first_moment, last_ended, last_entries, all_outcomes}
+use Rattle.radio_world.proofs.Standing.{runs_of}
+use Rattle.host_model.specs.Circumstances.{Circumstance}
+use Rattle.host_model.specs.Hosts.{Host}
+use Rattle.host_model.specs.Clients.{ClientProfile}
+use Rattle.host_model.specs.Servers.{ServerProfile}
+use Rattle.scenario_laws.specs.Captures.{client_of, server_of, beginning, BothHosts, Happened, Ran, Finished}
+use Rattle.scenario_laws.specs.Outcomes.{outcomes_of}
+use Rattle.scenario_laws.specs.Played.{AreHostsOf}
+use Rattle.scenario_laws.proofs.Outcomes.{outcomes_stated}
+use Rattle.scenario_laws.proofs.Played.{last_is}
+
+-- what is told of both of two is told of each of them
+told_same : {S X : Type 0} (tell : S → X) (first other s t : S) → tell other ≡ tell first → IsOther first other s t → tell t ≡ tell s
+told_same tell first other s t same (inl is) = ap tell is
+told_same tell first other s t same (inr (is_s, is_t)) = ap tell is_t ∙ same ∙ sym (ap tell is_s)
+
+-- a run of both hosts of the scenario, whose world is that one but for machines that have heard nothing
+pub record IsLike {S T : Type 0} (scenario : Scenario) (content : Option Contents) (as_a : Host ClientProfile → S) (as_b : Host ServerProfile → T) (s : S) (t : T) (happenings : List Happening) (at : World S T) : Type 0 where
+  pub world : BothHosts
+  pub happened : Happened scenario content happenings world
+  pub alike : WorldsAlike (IsOther s (as_a (client_of scenario).first)) (IsOther t (as_b (server_of scenario content).first)) at (world_as as_a as_b world)
+
+-- the scenario ran to its end, as it does where that run stands behind all that happened
+pub record IsWhole {S T : Type 0} (scenario : Scenario) (content : Option Contents) (as_a : Host ClientProfile → S) (as_b : Host ServerProfile → T) (s : S) (t : T) (happenings : List Happening) (at : World S T)
+    (like : IsLike scenario content as_a as_b s t happenings at) (came : Option Outcome) : Type 0 where
+  pub finished : Finished scenario content (all_entries happenings ++ last_entries came at.pushes)
+  pub world_is : finished.ran.world ≡ like.world
+  pub ends : finished.ran.ends ≡ last_entries ((client_of scenario).outcome finished.ran.world.a.upper) finished.ran.world.pushes
+  pub outcomes_are : all_outcomes (last_ended came at.pushes) ≡ outcomes_of scenario (all_entries happenings ++ last_entries came at.pushes)
+
+module _ {S T : Type 0} (U : Upper S Circumstance) (V : Upper T Circumstance) (scenario : Scenario) (content : Option Contents) (as_a : Host ClientProfile → S) (as_b : Host ServerProfile → T) (hosts : AreHostsOf scenario content U V as_a as_b)
+    (s : S) (t : T) (twins_a : AreTwins U s (as_a (client_of scenario).first)) (twins_b : AreTwins V t (as_b (server_of scenario content).first)) where
+  abbrev Like : List Happening → World S T → Type 0
+  Like happenings at = IsLike scenario content as_a as_b s t happenings at
+
+  pub like_plays : (happenings : List Happening) (at : Moment S T) → Plays U V happenings (first_moment (starting s U) (starting t V) scenario.acl_length scenario.acl_count scenario.names) at → Like happenings (world_at at)
+  like_plays happenings at plays =
+      let first = first_moment (starting s U) (starting t V) scenario.acl_length scenario.acl_count scenario.names in
+      let other_a = as_a (client_of scenario).first in
+      let other_b = as_b (server_of scenario content).first in
+      let (new, alike, runs) = runs_are_of_twins U V s other_a t other_b twins_a twins_b happenings (world_at first) (world_at at) refl refl (runs_of U V happenings first at plays) in
+      let (world, same, happened) = runs_are_of_less as_a as_b (client_of scenario) U (server_of scenario content) V hosts.a hosts.b happenings (beginning scenario content) new runs in
+      record { world = world; happened = happened; alike = subst (λ (w : World S T). WorldsAlike (IsOther s other_a) (IsOther t other_b) (world_at at) w) same alike }
+
+  module _ (happenings : List Happening) (at : World S T) (like : Like happenings at) where
+    -- what is told of the machines that have heard nothing is told of all
+    pub told_a : {X : Type 0} (tell : S → X) → tell (as_a (client_of scenario).first) ≡ tell s → tell (as_a like.world.a.upper) ≡ tell at.a.upper
+    told_a tell same = told_same tell s (as_a (client_of scenario).first) at.a.upper (as_a like.world.a.upper) same like.alike.a
+
+    pub told_b : {X : Type 0} (tell : T → X) → tell (as_b (server_of scenario content).first) ≡ tell t → tell (as_b like.world.b.upper) ≡ tell at.b.upper
+    told_b tell same = told_same tell t (as_b (server_of scenario content).first) at.b.upper (as_b like.world.b.upper) same like.alike.b
+
+    pushes_are : like.world.pushes ≡ at.pushes
+    pushes_are = ap (λ (w : World S T). w.pushes) like.alike.same
+
+    came_is : (client_of scenario).outcome like.world.a.upper ≡ U.outcome at.a.upper
+    came_is = sym (hosts.a.outcome like.world.a.upper) ∙ told_a (λ (x : S). U.outcome x) twins_a.outcome
+
+    pub like_ends : IsAtRest U V at → all_words happenings ≡ words_of scenario.script → IsWhole scenario content as_a as_b s t happenings at like (U.outcome at.a.upper)
+    like_ends rest words =
+        let came = U.outcome at.a.upper in
+        let ends = last_entries came at.pushes in
+        let ran : Ran scenario content (all_entries happenings ++ ends) = record {
+          happenings = happenings;
+          world = like.world;
+          happened = like.happened;
+          ends = ends;
+          last = subst (λ (p : Pushes). IsLastEnd p ends) (sym pushes_are) (last_is came at.pushes);
+          capture_is = refl;
+        } in
+        record {
+          finished = record {
+            ran = ran;
+            words_are = words;
+            rests = rest_is_of_less as_a as_b (client_of scenario) U (server_of scenario content) V hosts.a hosts.b like.world
+                (rest_is_of_twins U V s (as_a (client_of scenario).first) t (as_b (server_of scenario content).first) twins_a twins_b at (world_as as_a as_b like.world) like.alike rest);
+          };
+          world_is = refl;
+          ends = ap₂ (λ (c : Option Outcome) (p : Pushes). last_entries c p) (sym came_is) (sym pushes_are);
+          outcomes_are = subst (λ (p : Pushes). all_outcomes (last_ended came p) ≡ outcomes_of scenario (all_entries happenings ++ last_entries came p)) pushes_are ((outcomes_stated scenario content (all_entries happenings ++ ends) ran).all came);
+        }

@@ -1,0 +1,3 @@
+mod Newness
+mod Alikeness
+mod Course

@@ -1,0 +1,21 @@
+use Rattle.std.proofs.Common.{ap, ◌∙◌}
+use Rattle.push_laws.specs.Laws.{stored_in}
+use Rattle.scenario_laws.specs.Captures.{client_of}
+use Rattle.scenario_laws.proofs.Clauses.{scenarios_end}
+use Rattle.scenario_play.proofs.ending.plays_end.Goals as goal
+
+pub returns : goal.returns
+returns c asks scenario before after trace trace' outcomes played transport orderly =
+    let world = played.finished.ran.world in
+    let ends = scenarios_end asks scenario before played.capture played.finished ((client_of scenario).outcome world.a.upper) played.ends transport orderly in
+    record {
+      gained = ap stored_in played.stored ∙ ends.gained;
+      within_a = ends.within_a;
+      within_b = ends.within_b;
+      window_a = ends.window_a;
+      window_b = ends.window_b;
+      honest = ends.honest;
+      in_turn = ends.in_turn;
+      outcomes_are = played.outcomes_are;
+      obeys = ends.obeys;
+    }

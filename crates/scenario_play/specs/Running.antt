@@ -1,0 +1,31 @@
+-- A world of any two hosts that goes from its beginning to the end of its last push (this project's own).
+use Rattle.std.specs.Prelude.{ℕ, ◌≡◌, List, [], Option}
+use Rattle.bt_base.specs.Streams.{gained}
+use Rattle.push_terms.specs.declared.outcome.Outcome.{Outcome}
+use Rattle.push_terms.specs.declared.word.Word.{Word}
+use Rattle.capture.specs.Entries.{capture_octets}
+use Rattle.world_model.specs.Machines.{Upper}
+use Rattle.radio_world.specs.Hosts.{Asking}
+use Rattle.radio_world.specs.Scenes.{Scene, Stage, stage, Advances}
+use Rattle.radio_world.specs.Standing.{Stands, last_ended, last_entries, all_outcomes}
+
+-- Both hosts went to where the world stands for the first time, and then the words were turned; behind that nothing happened but the end of
+-- the push that went on, and all objects had their outcomes.
+pub record RunsThrough {S T G H P Q : Type 0} (U : Upper S G) (V : Upper T H) (AnswersA : P → List G → P → Type 0) (AnswersB : Q → List H → Q → Type 0) (words : List Word) (old new : Stage S T G H P Q) : Type 0 where
+  pub mid : Stage S T G H P Q
+  pub last : Scene
+  pub trace : Option (List ℕ)
+  pub starts : Advances U V AnswersA AnswersB [] old mid
+  pub turns : Advances U V AnswersA AnswersB words mid (stage last new.a new.b new.shelf new.inbox trace)
+  pub stands : Stands U V last new.a new.b
+  pub outcomes_are : new.scene.pushes.outcomes ≡ all_outcomes (last_ended (U.outcome (new.a.upper [])) last.pushes)
+  pub written : new.trace ≡ gained trace (capture_octets (last_entries (U.outcome (new.a.upper [])) last.pushes))
+
+-- The same of a world that is let go then: these hosts were in it, and these outcomes.
+pub record PlaysOut {S T G H P Q X Y : Type 0} (U : Upper S G) (V : Upper T H) (AnswersA : P → List G → P → Type 0) (AnswersB : Q → List H → Q → Type 0) (station_a : X → P → Asking S G) (station_b : Y → Q → Asking T H) (words : List Word)
+    (old : Stage S T G H P Q) (shelf : P) (inbox : Q) (trace : Option (List ℕ)) (outcomes : List Outcome) : Type 0 where
+  pub a : X
+  pub b : Y
+  pub scene : Scene
+  pub runs : RunsThrough U V AnswersA AnswersB words old (stage scene (station_a a shelf) (station_b b inbox) shelf inbox trace)
+  pub outcomes_are : outcomes ≡ scene.pushes.outcomes

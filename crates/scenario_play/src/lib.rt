@@ -1,0 +1,12 @@
+//! A scenario that is played: both hosts of Object Push in their world, over any shelf, any inbox and any trace.
+#![tactic(auto)]
+
+mod ending;
+mod playing;
+mod running;
+
+pub use ending::plays_end;
+pub use playing::{Played, play};
+
+#[cfg(test)]
+mod tests;

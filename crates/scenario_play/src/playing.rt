@@ -1,0 +1,73 @@
+//! A scenario is played to its end.
+
+ghost use Rattle.std.specs.Prelude.{◌≡◌, ◌≤◌, false, IfOk, OnOk};
+ghost use Rattle.radio_world.specs.Causes.{Blames};
+ghost use Rattle.scenario_play.specs.Playing.{fresh_world, KeepsShelf, IsPlayed};
+
+use crate::running::play_out;
+use bt_base::{Inbox, NoMemory, Shelf, Sink};
+use bt_host::{ClientHost, ServerHost};
+use push_script::Scenario;
+use push_terms::Outcome;
+use radio_world::{World, WorldFault};
+use std::alloc::Global;
+
+/// The world of both hosts of Object Push.
+type HostsWorld = World<ClientHost, ServerHost>;
+
+/// What a scenario came to.
+#[derive(Drop)]
+pub struct Played {
+    /// What came of its objects, in their order.
+    pub outcomes: Vec<Outcome>,
+}
+
+/// A world of two new hosts with the settings of a scenario, to which nothing has happened.
+fn new_world(alloc: Global, scenario: &Scenario) -> Result<HostsWorld, NoMemory>
+    ensures { IfOk result (λ world. world ≡ fresh_world scenario.now) }
+{
+    let a = ClientHost::new(alloc, &scenario.settings)?;
+    let b = ServerHost::new(alloc, &scenario.settings)?;
+    World::new(alloc, scenario, a, b)
+}
+
+/// Plays a scenario in the world of two new hosts, and answers what came of its objects.
+fn play_in<F: Shelf, I: Inbox, T: Sink>(
+    alloc: Global,
+    world: HostsWorld,
+    scenario: &Scenario,
+    shelf: &mut F,
+    inbox: &mut I,
+    trace: &mut T,
+) -> Result<Vec<Outcome>, WorldFault>
+    requires fresh { world ≡ fresh_world scenario.now }
+    requires none_pending { I.is_pending inbox.old ≡ false }
+    ensures plays { IfOk result (λ outcomes. IsPlayed scenario.now (I.content inbox.old) (I.content inbox.new) (T.content trace.old) (T.content trace.new) outcomes.items) }
+    ensures shelf { OnOk result (KeepsShelf (F.content shelf.old) (F.content shelf.new) (F.faults shelf.old) (F.faults shelf.new) (F.shortages shelf.old) (F.shortages shelf.new)) }
+    ensures inbox { OnOk result (I.shortages inbox.old ≤ I.shortages inbox.new) }
+    ensures blames { Blames (T.faults trace.old) (T.faults trace.new) result }
+{
+    play_out(alloc, world, &scenario.script, shelf, inbox, trace)
+}
+
+/// Plays a scenario: host a pushes its objects, which lie on the shelf, and host b stores in the inbox what arrives, while the
+/// words of the script are turned. What happens stands in the trace.
+///
+/// The inbox may have no object pending. `TraceFault` where the trace fails, and `NoMemory` where none could be had.
+pub fn play<F: Shelf, I: Inbox, T: Sink>(
+    alloc: Global,
+    scenario: &Scenario,
+    shelf: &mut F,
+    inbox: &mut I,
+    trace: &mut T,
+) -> Result<Played, WorldFault>
+    requires none_pending { I.is_pending inbox.old ≡ false }
+    ensures plays { IfOk result (λ played. IsPlayed scenario.now (I.content inbox.old) (I.content inbox.new) (T.content trace.old) (T.content trace.new) played.outcomes.items) }
+    ensures shelf { OnOk result (KeepsShelf (F.content shelf.old) (F.content shelf.new) (F.faults shelf.old) (F.faults shelf.new) (F.shortages shelf.old) (F.shortages shelf.new)) }
+    ensures inbox { OnOk result (I.shortages inbox.old ≤ I.shortages inbox.new) }
+    ensures blames { Blames (T.faults trace.old) (T.faults trace.new) result }
+{
+    let world = new_world(alloc, scenario)?;
+    let outcomes = play_in(alloc, world, scenario, shelf, inbox, trace)?;
+    Ok(Played { outcomes })
+}

@@ -1,0 +1,138 @@
+use bt_base::{MemSink, MemSource, NoMemory};
+use codec_tests::tables::rows;
+use h4_view::*;
+use std::alloc::Global;
+use std::test::*;
+
+/// A file as a phone writes it, and the lines of each part: further bits of the flags are set, packets
+/// were lost, times differ, a channel is told by both directions, records are cut or are no packets.
+const FILE: [(&[u8], &str); 12] = [
+    (
+        b"\x62\x74\x73\x6E\x6F\x6F\x70\x00\x00\x00\x00\x01\x00\x00\x03\xEA",
+        "",
+    ),
+    (
+        b"\x00\x00\x00\x04\x00\x00\x00\x04\x00\x00\x00\x02\x00\x00\x00\x00\x00\xE0\x3A\xB4\x4A\x67\x60\x00\x01\x03\x0C\x00",
+        "16 > cmd 0C03 Reset -\n",
+    ),
+    (
+        b"\x00\x00\x00\x07\x00\x00\x00\x07\x80\x00\x00\x13\x00\x00\x00\x07\x00\xE2\x5B\x01\x02\x03\x04\x05\x04\x0E\x04\x01\x03\x0C\x00",
+        "44 < evt 0E CommandComplete 01030C00\n",
+    ),
+    (
+        b"\x00\x00\x00\x11\x00\x00\x00\x11\x00\x00\x00\x00\x00\x00\x00\x00\x00\xE0\x3A\xB4\x4A\x67\x60\x00\x02\x01\x00\x0C\x00\x08\x00\x01\x00\x02\x01\x04\x00\x01\x00\x40\x00",
+        "75 > acl 0001 12\n  pdu 0001 8\n  sig 02 01 ConnectionRequest 01004000\n",
+    ),
+    (
+        b"\x00\x00\x00\x09\x00\x00\x00\x09\x00\x00\x00\x10\x00\x00\x00\x00\x00\xE0\x3A\xB4\x4A\x67\x60\x00\x02\x01\x00\x04\x00\x08\x00\x50\x00",
+        "116 > acl 0001 4\n",
+    ),
+    (
+        b"\x00\x00\x00\x15\x00\x00\x00\x15\x00\x00\x00\x01\x00\x00\x00\x00\x00\xE0\x3A\xB4\x4A\x67\x60\x00\x02\x01\x20\x10\x00\x0C\x00\x01\x00\x03\x01\x08\x00\x41\x00\x40\x00\x00\x00\x00\x00",
+        "149 < acl 2001 16\n  pdu 0001 12\n  sig 03 01 ConnectionResponse 4100400000000000\n",
+    ),
+    (
+        b"\x00\x00\x00\x0D\x00\x00\x00\x0D\x00\x00\x00\x21\x00\x00\x00\x00\x00\x00\x00\x00\x00\x00\x00\x05\x02\x01\x20\x08\x00\x04\x00\x40\x00\x07\x00\x01\x00",
+        "194 < acl 2001 8\n  pdu 0040 4\n  sdp bad\n",
+    ),
+    (
+        b"\x00\x00\x01\x2C\x00\x00\x00\x05\x80\x00\x00\x11\x00\x00\x00\x07\x00\xE0\x3A\xB4\x4A\x67\x60\x00\x02\x01\x20\x27\x01",
+        "231 < cut 300 5\n",
+    ),
+    (
+        b"\x00\x00\x00\xFF\x00\x00\x00\x00\x00\x00\x00\x00\x00\x00\x00\x00\x00\xE0\x3A\xB4\x4A\x67\x60\x00",
+        "260 > cut 255 0\n",
+    ),
+    (
+        b"\x00\x00\x00\x05\x00\x00\x00\x05\x00\x00\x00\x02\x00\x00\x00\x00\x00\xE0\x3A\xB4\x4A\x67\x60\x00\x01\x03\x0C\x00\x00",
+        "284 > bad\n",
+    ),
+    (
+        b"\x00\x00\x00\x01\x00\x00\x00\x01\x00\x00\x00\x03\x00\x00\x00\x00\x00\xE0\x3A\xB4\x4A\x67\x60\x00\x09",
+        "313 < bad\n",
+    ),
+    (
+        b"\x00\x00\x00\x09\x00\x00\x00\x04\x00\x00\x00\x02\x00\x00\x00\x00\x00\xE0\x3A\xB4\x4A\x67\x60\x00\x01\x03\x0C\x00",
+        "338 > cmd 0C03 Reset -\n",
+    ),
+];
+
+/// Inputs that are no files, and what is written of each.
+const FAULTS: [(&[u8], &str); 9] = [
+    (b"", "refused offset 0 Truncated\n"),
+    (
+        b"\x62\x74\x73\x6E\x6F\x6F\x70\x00\x00\x00\x00\x01\x00\x00\x03",
+        "refused offset 0 Truncated\n",
+    ),
+    (
+        b"\x62\x74\x73\x6E\x6F\x6F\x70\x01",
+        "refused offset 0 BadMagic\n",
+    ),
+    (
+        b"\x62\x74\x73\x6E\x6F\x6F\x70\x00\x00\x00\x00\x02\x00\x00\x03\xE9",
+        "refused offset 8 BadVersion\n",
+    ),
+    (
+        b"\x62\x74\x73\x6E\x6F\x6F\x70\x00\x00\x00\x00\x01\x00\x00\x03\xE9",
+        "refused offset 12 BadLink\n",
+    ),
+    (
+        b"\x62\x74\x73\x6E\x6F\x6F\x70\x00\x00\x00\x00\x01\x00\x00\x03\xEA\x00\x00\x00\x04\x00\x00\x00\x04\x00\x00\x00\x02\x00\x00\x00\x00\x00\xE0\x3A\xB4\x4A\x67\x60\x00\x01\x03\x0C",
+        "refused offset 16 Truncated\n",
+    ),
+    (
+        b"\x62\x74\x73\x6E\x6F\x6F\x70\x00\x00\x00\x00\x01\x00\x00\x03\xEA\x00\x00\x00\x04\x00\x00\x00\x04\x00\x00\x00\x02\x00\x00\x00\x00\x00\xE0\x3A\xB4\x4A\x67\x60\x00\x01\x03\x0C\x00\x00\x00\x00\x04\x00",
+        "16 > cmd 0C03 Reset -\nrefused offset 44 Truncated\n",
+    ),
+    (
+        b"\x62\x74\x73\x6E\x6F\x6F\x70\x00\x00\x00\x00\x01\x00\x00\x03\xEA\x00\x00\x00\x04\x00\x00\x00\x04\x00\x00\x00\x02\x00\x00\x00\x00\x00\xE0\x3A\xB4\x4A\x67\x60\x00\x01\x03\x0C\x00\x00\x00\x00\x03\x00\x00\x00\x04",
+        "16 > cmd 0C03 Reset -\nrefused offset 44 BadLength\n",
+    ),
+    (
+        b"\x62\x74\x73\x6E\x6F\x6F\x70\x00\x00\x00\x00\x01\x00\x00\x03\xEA\x00\x01\x11\x70\x00\x01\x00\x05",
+        "refused offset 16 BadLength\n",
+    ),
+];
+
+/// What is written of a file that is read in pieces of so many octets, one at least.
+fn snoop_view_of(alloc: Global, octets: &[u8], step: usize) -> Result<MemSink, NoMemory> {
+    let mut source = MemSource::new(alloc, octets, step.max(1), &[])?;
+    let mut sink = MemSink::new(alloc, &[])?;
+    match view_snoop(alloc, &mut source, &mut sink) {
+        Err(ViewFault::NoMemory) => Err(NoMemory),
+        _ => Ok(sink),
+    }
+}
+
+/// The octets of a file and all its lines.
+fn joined(alloc: Global) -> Result<(Vec<u8>, Vec<u8>), NoMemory> {
+    let mut octets = Vec::new(alloc);
+    let mut lines = Vec::new(alloc);
+    for (part, text) in rows(&FILE) {
+        octets.extend_from_slice(part)?;
+        lines.extend_from_slice(text.as_bytes())?;
+    }
+    Ok((octets, lines))
+}
+
+/// Whether the view of a file is that text, in whatever pieces it is read.
+fn is_shown(alloc: Global, octets: &[u8], text: &[u8]) -> Result<bool, NoMemory> {
+    let whole = snoop_view_of(alloc, octets, 65_536)?;
+    let pieces = snoop_view_of(alloc, octets, 1)?;
+    Ok(whole.octets() == text && pieces.octets() == text)
+}
+
+#[test]
+fn files_are_shown(rt: HostRuntime) -> Result<(), Fail> {
+    let (octets, lines) = joined(rt.alloc())?;
+    assert!(rt; is_shown(rt.alloc(), &octets, &lines)?);
+    Ok(())
+}
+
+#[test]
+fn first_faults_of_files(rt: HostRuntime) -> Result<(), Fail> {
+    for (octets, text) in rows(&FAULTS) {
+        assert!(rt; is_shown(rt.alloc(), octets, text.as_bytes())?);
+    }
+    Ok(())
+}
