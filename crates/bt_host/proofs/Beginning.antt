@@ -12,8 +12,7 @@ use Rattle.world_model.specs.Worlds.{Tries}
 use Rattle.station_laws.specs.Seen.{role_of}
 use Rattle.host_model.specs.Circumstances.{Circumstance}
 use Rattle.host_model.specs.Profiles.{Profile}
-use Rattle.host_model.specs.Clients.{client_profile}
-use Rattle.host_model.specs.Settings.{SetHost, with_settings, client_machine, server_machine}
+use Rattle.host_model.specs.Settings.{SetHost, with_settings}
 use Rattle.host_model.proofs.Setting.{hosts_say_octets}
 use Rattle.radio_world.specs.Hosts.{answering}
 use Rattle.radio_world.specs.Scenes.{first_scene, moment, Moment, Plays}
@@ -24,9 +23,8 @@ use Rattle.line_laws.proofs.Seeing.{stations_are_seen}
 use Rattle.bt_host.specs.Refusals.{fresh_framing}
 use Rattle.bt_host.specs.Stacks.{Standing, standing, Rests}
 use Rattle.bt_host.specs.Newness as served
-use Rattle.bt_host.specs.Pushing.{pushed_by}
 use Rattle.bt_host.specs.Pushing as pushed
-use Rattle.bt_host.specs.Serving.{profile_of, served_by}
+use Rattle.bt_host.specs.NotedHosts.{noted_client, noted_client_machine, noted_server_machine, client_noting, noted_server, server_noting}
 use Rattle.bt_host.specs.Playing.{set_host, playing, PushesSoundly, ServesSoundly}
 
 begins : {S : Type 0} (profile : Settings → Profile S) (side : Side) (first : SetHost S)
@@ -75,17 +73,17 @@ new_reached {S} {T} profile_a profile_b size count names first_a first_b sized c
 -- ---- a client and a server
 
 pub hosts_reached : {P Q : Type 0} (content : Q → Option Contents) (a b : Settings) (size count : ℕ) (names : List (List ℕ)) (shelf : P) (inbox : Q) (rest_a rest_b : List Circumstance) → IsSize size → IsCount count → length names ≤ 64
-    → IsReached client_machine server_machine (moment (first_scene size count names) (answering rest_a (playing pushed_by shelf (pushed.new_stack a))) (answering rest_b (playing (served_by content) inbox (served.new_stack b))))
+    → IsReached noted_client_machine noted_server_machine (moment (first_scene size count names) (answering rest_a (playing client_noting shelf (pushed.new_stack a))) (answering rest_b (playing (server_noting content) inbox (served.new_stack b))))
 hosts_reached content a b size count names shelf inbox rest_a rest_b sized counted few =
-    new_reached client_profile profile_of size count names (set_host pushed_by shelf (pushed.new_stack a) rest_a) (set_host (served_by content) inbox (served.new_stack b) rest_b) sized counted few refl
+    new_reached noted_client noted_server size count names (set_host client_noting shelf (pushed.new_stack a) rest_a) (set_host (server_noting content) inbox (served.new_stack b) rest_b) sized counted few refl
 
 pub client_sound : {P : Type 0} (settings : Settings) (shelf : P) → PushesSoundly (record { framing = fresh_framing; stack = pushed.new_stack settings; refusal = None }) shelf
 client_sound settings shelf = (
   refl,
   (record { works = refl; called = refl; psm = refl; endpoints = tt }, refl),
   record {
-    is_seen = λ rest. new_seen client_profile A (set_host pushed_by shelf (pushed.new_stack settings) rest);
-    rests = λ rest. new_rests (client_profile settings) A (standing pushed_by shelf (pushed.new_stack settings) rest) refl refl;
+    is_seen = λ rest. new_seen noted_client A (set_host client_noting shelf (pushed.new_stack settings) rest);
+    rests = λ rest. new_rests (noted_client settings) A (standing client_noting shelf (pushed.new_stack settings) rest) refl refl;
   },
 )
 
@@ -95,7 +93,7 @@ server_sound content pending settings inbox none = (
   refl,
   record { under_way = none; sound = refl },
   record {
-    is_seen = λ rest. new_seen profile_of B (set_host (served_by content) inbox (served.new_stack settings) rest);
-    rests = λ rest. new_rests (profile_of settings) B (standing (served_by content) inbox (served.new_stack settings) rest) refl refl;
+    is_seen = λ rest. new_seen noted_server B (set_host (server_noting content) inbox (served.new_stack settings) rest);
+    rests = λ rest. new_rests (noted_server settings) B (standing (server_noting content) inbox (served.new_stack settings) rest) refl refl;
   },
 )

@@ -7,6 +7,7 @@ use Rattle.std.specs.List.{AllByRecursion}
 use Rattle.bt_base.specs.Counts.{HasRisen}
 use Rattle.bt_base.specs.Numbers.{IsCid}
 use Rattle.bt_base.specs.Objects.{Object}
+use Rattle.bt_base.specs.Octets.{IsOctets}
 use Rattle.bt_base.specs.declared.settings.Settings.{Settings}
 use Rattle.channel_model.specs.Value.{Channels}
 use Rattle.channel_model.specs.Calls.{sends}
@@ -24,7 +25,7 @@ use Rattle.push_client.specs.declared.step.Step.TheVariants as step
 use Rattle.world_model.specs.Machines.{Cancelled, Opening}
 use Rattle.host_model.specs.Clients as model
 use Rattle.host_model.specs.Clients.{ClientProfile, client_profile, calls}
-use Rattle.host_model.specs.Endpoints.{Endpoint, is_of, endpoint_of, with_endpoint}
+use Rattle.host_model.specs.Endpoints.{Endpoint, is_of, endpoint_of, with_endpoint, takes_sdu}
 use Rattle.host_model.specs.Pdus.{sdu_of}
 use Rattle.host_model.proofs.Single.{only_sdu}
 use Rattle.bt_host.specs.Calls.{Does}
@@ -32,6 +33,7 @@ use Rattle.bt_host.specs.Pushing.{pushing, HasCid, Pushes, IsDue}
 use Rattle.bt_host.specs.PushingLaws.{Answers}
 use Rattle.bt_host.proofs.Clients.{ended_is, step_does, step_sound}
 use Rattle.bt_host.proofs.ClientsBeginning.{calls_is, asked_is, asks_link, opening, begin_does}
+use Rattle.bt_host.proofs.Servers.{takes-octets}
 
 -- ---- its channels
 
@@ -73,15 +75,15 @@ put_cid psm own endpoints cid all = (cid, three_cid (filter (λ other. not (is_o
 
 -- ---- its SDU
 
-pub submit_is : (end now : ClientProfile) (own psm : ℕ) (sdu : List ℕ) (machine machine' : Machine) → end ≡ now → endpoint_of psm now.endpoints ≡ Some own → IsSaid (payload_in end.client) sdu → takes own (length sdu) machine.channels ≡ true
+pub submit_is : (end now : ClientProfile) (own psm : ℕ) (sdu : List ℕ) (machine machine' : Machine) → end ≡ now → endpoint_of psm now.endpoints ≡ Some own → IsSaid (payload_in end.client) sdu → IsOctets sdu → takes own (length sdu) machine.channels ≡ true
     → machine' ≡ with_channels machine (sends own sdu machine.channels)
     → record { channels = machine'.channels; profile = record end { submitted = Some own }; more = false } ≡ model.submits (endpoint_of psm now.endpoints) (payload_in now.client) machine.channels now
-submit_is end now own psm sdu machine machine' view at said may machine_is =
+submit_is end now own psm sdu machine machine' view at said octets may machine_is =
     let v = machine.channels in
     let after = record end { submitted = Some own } in
     ap (λ (m : Machine). model.waiting m.channels after) machine_is
-    ∙ sym (ap (λ (b : Bool). (if b then model.waiting (sends own sdu v) after else model.waiting v end)) may)
-    ∙ ap (λ (xs : List ℕ). (if takes own (length xs) v then model.waiting (sends own xs v) after else model.waiting v end)) (only_sdu (payload_in end.client) sdu said)
+    ∙ sym (ap (λ (b : Bool). (if b then model.waiting (sends own sdu v) after else model.waiting v end)) (takes-octets own sdu v octets ∙ may))
+    ∙ ap (λ (xs : List ℕ). (if takes_sdu own xs v then model.waiting (sends own xs v) after else model.waiting v end)) (only_sdu (payload_in end.client) sdu said)
     ∙ sym (ap (λ (found : Option ℕ). model.submits found (payload_in end.client) v end) (ap (λ (e : ClientProfile). endpoint_of psm e.endpoints) view ∙ at))
     ∙ ap (λ (e : ClientProfile). model.submits (endpoint_of psm e.endpoints) (payload_in e.client) v e) view
 

@@ -1,4 +1,5 @@
 pub mod Calling
+pub mod NotedCalls
 pub mod Telling
 pub mod Driving
 pub mod Keeping
@@ -10,6 +11,7 @@ pub mod Reacting
 pub mod Resting
 pub mod PieceReading
 pub mod Feeding
+pub mod ToldNews
 pub mod Clients
 pub mod ClientsBeginning
 pub mod ClientsCalls

@@ -9,7 +9,7 @@ use Rattle.l2cap_channels.specs.Machine.{Machine, with_channels}
 use Rattle.host_model.specs.Circumstances.{Circumstance}
 use Rattle.host_model.specs.Pdus.{pdu_of, is_frame}
 use Rattle.host_model.specs.Profiles.{Profile}
-use Rattle.host_model.specs.Hosts.{Host, driven, with_channels as on_channels, says_frame, after_said, says as say_given, next}
+use Rattle.host_model.specs.Hosts.{Host, drives, steps_behind, with_channels as on_channels, says_frame, after_said, says as say_given, next}
 use Rattle.host_model.proofs.Single.{only_pdu, pdu_is_frame}
 use Rattle.bt_host.specs.Calls.{Does}
 use Rattle.bt_host.specs.Uppers.{Upward, asking, says, GivesInto, SaysInto}
@@ -37,20 +37,21 @@ module _ {E S P : Type 0} (profile : Settings → Profile S) (Answers : P → Li
       ap (λ xs. says_frame xs (after_said A count host)) (sym (only_pdu given pdu is)) ∙ framed_so (is_frame pdu) (pdu, after_said A count host) (pdu_is_frame given pdu is octets short)
 
   -- the next PDU of the channels is said, and the profile goes on
-  pub says_into : (now mid after : Upward E) (machine : Machine) (end : E) (may_say count : ℕ) (first last : P) (into into' : List ℕ) (size : ℕ) → record { machine = machine; end = end; may_say = may_say } ≡ after
-      → now.may_say ≡ suc count → size ≤ 32775 → IsOctets (take size into') → GivesInto now into size mid into'
-      → Does Answers (λ rest. driven (profile mid.machine.settings) (asking pushing first mid rest)) (asking pushing last after) first last
+  pub says_into : (now mid after : Upward E) (machine : Machine) (end : E) (may_say count steps : ℕ) (first last : P) (into into' : List ℕ) (size : ℕ) → record { machine = machine; end = end; may_say = may_say } ≡ after
+      → now.may_say ≡ suc count → steps ≡ steps_behind count → size ≤ 32775 → IsOctets (take size into') → GivesInto now into size mid into'
+      → Does Answers (λ rest. drives (profile mid.machine.settings) steps (asking pushing first mid rest)) (asking pushing last after) first last
       → SaysInto (profile now.machine.settings) Answers (asking pushing first now) (asking pushing last (record { machine = machine; end = end; may_say = count })) first last into size into'
-  says_into now mid after machine end may_say count first last into into' size view one short octets gives drives =
+  says_into now mid after machine end may_say count steps first last into into' size view one same short octets gives goes_on =
       let A = profile now.machine.settings in
       let v = now.machine.channels in
       let fits : length gives.pdu ≤ 32775 = let same = gives.size_is in omega (arith, same, short) in
-      let goes : Does Answers (λ rest. driven A (on_channels (after_given v) (asking pushing first now rest))) (asking pushing last (record { machine = machine; end = end; may_say = may_say })) first last =
-      subst (λ (u : Upward E). Does Answers (λ rest. driven A (on_channels (after_given v) (asking pushing first now rest))) (asking pushing last u) first last) (sym view)
-      (subst (λ (u : Upward E). Does Answers (λ rest. driven (profile u.machine.settings) (asking pushing first u rest)) (asking pushing last after) first last) gives.after drives) in
+      let goes : Does Answers (λ rest. drives A (steps_behind count) (on_channels (after_given v) (asking pushing first now rest))) (asking pushing last (record { machine = machine; end = end; may_say = may_say })) first last =
+      subst (λ (u : Upward E). Does Answers (λ rest. drives A (steps_behind count) (on_channels (after_given v) (asking pushing first now rest))) (asking pushing last u) first last) (sym view)
+      (subst (λ (u : Upward E). Does Answers (λ rest. drives (profile u.machine.settings) (steps_behind count) (asking pushing first u rest)) (asking pushing last after) first last) gives.after
+      (subst (λ (n : ℕ). Does Answers (λ rest. drives (profile mid.machine.settings) n (asking pushing first mid rest)) (asking pushing last after) first last) same goes_on)) in
       record {
         pdu = gives.pdu;
-        says = does_from Answers _ (λ rest. Some (gives.pdu, record (driven A (on_channels (after_given v) (asking pushing first now rest))) { may_say = count })) _ first last
+        says = does_from Answers _ (λ rest. Some (gives.pdu, record (drives A (steps_behind count) (on_channels (after_given v) (asking pushing first now rest))) { may_say = count })) _ first last
             (λ rest. ap (λ (n : ℕ). say_given A (next_given v) n (asking pushing first now rest)) one ∙ ap (λ (g : Option Given). say_given A g (suc count) (asking pushing first now rest)) gives.next
             ∙ one_said A gives.given gives.pdu count (asking pushing first now rest) gives.is_pdu (subst IsOctets (ap (take size) gives.written ∙ front_is gives.pdu (drop size into) size gives.size_is) octets) fits)
             (does_map Answers (λ (h : Host S). Some (gives.pdu, record h { may_say = count })) _ _ first last goes);

@@ -1,8 +1,9 @@
 -- The calls of a server as those of its profile.
-use Rattle.std.proofs.Common.{◌≡◌, ◌∙◌, ◌≤◌, ◌==◌, ◌&&◌, not, ℕ, Bool, true, false, List, [], ◌∷◌, ◌++◌, length, refl, sym, ap, subst, true≢false, if◌then◌else◌, map, inl, inr}
+use Rattle.std.proofs.Common.{◌≡◌, ◌∙◌, ◌≤◌, ◌==◌, ◌&&◌, nat_lt, not, ℕ, Bool, true, false, List, [], ◌∷◌, ◌++◌, length, refl, sym, ap, subst, true≢false, arith, tests, if◌then◌else◌, map, inl, inr}
 use Rattle.std.specs.Prelude.{Option, Some, None, min}
 use Rattle.std.proofs.lemmas.Bool.{cases_Bool, eqb-true}
 use Rattle.bt_base.specs.Numbers.{IsPsm}
+use Rattle.bt_base.specs.Octets.{IsOctets}
 use Rattle.bt_base.specs.Objects.{Contents}
 use Rattle.bt_base.specs.declared.settings.Settings.{Settings}
 use Rattle.channel_model.specs.declared.event.ChannelEvent.{ChannelEvent}
@@ -21,12 +22,13 @@ use Rattle.push_model.specs.Payloads.{Payload}
 use Rattle.push_model.specs.Sessions.{Gift, is_pending}
 use Rattle.push_model.specs.Server as push
 use Rattle.push_model.specs.Server.{Server, Reacted, Lent, on_sdu, hears_on, unless_failed, channel_down, link_down, lends, lent_sdu, stepped, filled, said_on, left_by, leaves_with, framed_by, framed, lends_by, lends_new, outlet_of, breaks_now}
+use Rattle.h4_framing.proofs.OctetLists.{IsOctets-tail}
 use Rattle.push_profile.specs.Reactions.{Comes}
 use Rattle.push_profile.specs.Serving.{reacted, has_failed, IsPsmOf, AreLent}
 use Rattle.world_model.specs.Machines.{Linked, Down}
 use Rattle.host_model.specs.Circumstances.{Circumstance, Stored, answers_in}
 use Rattle.host_model.specs.Endpoints.{Endpoint, endpoint_of, with_endpoint, takes_sdu}
-use Rattle.host_model.specs.Pdus.{sdu_of}
+use Rattle.host_model.specs.Pdus.{sdu_of, are_octets}
 use Rattle.host_model.specs.Profiles.{Stride}
 use Rattle.host_model.specs.Servers.{ServerProfile, is_told}
 use Rattle.host_model.specs.Servers as model
@@ -46,6 +48,22 @@ answers_stored (answer ∷ used) rest = ap (λ xs. answer ∷ xs) (answers_store
 
 abbrev served : Server → List Endpoint → Bool → Served
 served server endpoints breaks = record { server = server; endpoints = endpoints; breaks = breaks }
+
+-- ---- an SDU in code is octets
+
+octets_of : (xs : List ℕ) → IsOctets xs → are_octets xs ≡ true
+octets_of [] octets = refl
+octets_of (x ∷ xs) octets =
+    let below = octets 0 in
+    let first : nat_lt x 256 ≡ true = grind (arith, tests, below) in
+    ap (λ (b : Bool). b && are_octets xs) first ∙ octets_of xs (IsOctets-tail x xs octets)
+
+pub takes-octets : (own : ℕ) (sdu : List ℕ) (v : Channels) → IsOctets sdu → takes_sdu own sdu v ≡ takes own (length sdu) v
+takes-octets own sdu v octets = ap (λ (b : Bool). takes own (length sdu) v && b) (octets_of sdu octets) ∙ and_on (takes own (length sdu) v)
+  where
+    and_on : (b : Bool) → (b && true) ≡ b
+    and_on true = refl
+    and_on false = refl
 
 module _ {P : Type 0} (content : P → Option Contents) (shortages : P → ℕ) where
   abbrev Asks : P → List Circumstance → P → Type 0
@@ -132,31 +150,31 @@ module _ {P : Type 0} (content : P → Option Contents) (shortages : P → ℕ) 
   submits_with own (Some lent) v server s = model.submits own lent v server s
 
   one_step : (old new : Server) (endpoints : List Endpoint) (breaks test : Bool) (v : Channels) (psm own : ℕ) (sdu : List ℕ) (payload : Payload) (content_now : Option Contents) (rest : List Circumstance)
-      → new ≡ lends old → lent_sdu new ≡ Some (record { psm = psm; payload = payload }) → sdu ≡ sdu_of payload → endpoint_of psm endpoints ≡ Some own → takes own (length sdu) v ≡ test
+      → new ≡ lends old → lent_sdu new ≡ Some (record { psm = psm; payload = payload }) → sdu ≡ sdu_of payload → IsOctets sdu → endpoint_of psm endpoints ≡ Some own → takes own (length sdu) v ≡ test
       → model.next_stride v (serving (served old endpoints breaks) content_now rest) ≡ strided v new own payload (serving (served old endpoints breaks) content_now rest) test
-  one_step old new endpoints breaks test v psm own sdu payload content_now rest is lent sdu_is endpoint may =
+  one_step old new endpoints breaks test v psm own sdu payload content_now rest is lent sdu_is octets endpoint may =
       let s = serving (served old endpoints breaks) content_now rest in
       ap (λ (one : Server). model.takes (lent_sdu one) v one s) (sym is)
       ∙ ap (λ (one : Option Lent). model.takes one v new s) lent
       ∙ ap (λ (at : Option ℕ). model.submits at (record { psm = psm; payload = payload }) v new s) endpoint
-      ∙ ap (λ (xs : List ℕ). strided v new own payload s (takes own (length xs) v)) (sym sdu_is)
-      ∙ ap (λ (b : Bool). strided v new own payload s b) may
+      ∙ ap (λ (xs : List ℕ). strided v new own payload s (takes_sdu own xs v)) (sym sdu_is)
+      ∙ ap (λ (b : Bool). strided v new own payload s b) (takes-octets own sdu v octets ∙ may)
 
   pub waits_does : (old new : Server) (endpoints : List Endpoint) (breaks test : Bool) (now : Served) (v : Channels) (psm own : ℕ) (sdu : List ℕ) (port : P) → served old endpoints breaks ≡ now
-      → new ≡ lends old → IsPsmOf (lent_sdu new) (Some psm) → AreLent (lent_sdu new) sdu → endpoint_of psm endpoints ≡ Some own → takes own (length sdu) v ≡ test → test ≡ false → steps_to v v new endpoints breaks false now port
-  waits_does old new endpoints breaks test now v psm own sdu port view is psm_is said endpoint may off settings =
+      → new ≡ lends old → IsPsmOf (lent_sdu new) (Some psm) → AreLent (lent_sdu new) sdu → IsOctets sdu → endpoint_of psm endpoints ≡ Some own → takes own (length sdu) v ≡ test → test ≡ false → steps_to v v new endpoints breaks false now port
+  waits_does old new endpoints breaks test now v psm own sdu port view is psm_is said octets endpoint may off settings =
       let found = finds (lent_sdu new) psm sdu psm_is said in
       subst (λ (n : Served). Does Asks (λ rest. (profile_of settings).steps v (serving n (content port) rest)) (λ rest. record { channels = v; profile = serving (served new endpoints breaks) (content port) rest; more = false }) port port) view
-      (does_none Asks (joins shortages) _ _ port (λ rest. one_step old new endpoints breaks false v psm own sdu found.0 (content port) rest is found.1 found.2 endpoint (may ∙ off)))
+      (does_none Asks (joins shortages) _ _ port (λ rest. one_step old new endpoints breaks false v psm own sdu found.0 (content port) rest is found.1 found.2 octets endpoint (may ∙ off)))
 
   pub submits_does : (old new after : Server) (endpoints : List Endpoint) (breaks test : Bool) (now : Served) (machine machine' : Machine) (psm own : ℕ) (sdu : List ℕ) (port : P) → served old endpoints breaks ≡ now
-      → new ≡ lends old → IsPsmOf (lent_sdu new) (Some psm) → AreLent (lent_sdu new) sdu → endpoint_of psm endpoints ≡ Some own → takes own (length sdu) machine.channels ≡ test → test ≡ true
+      → new ≡ lends old → IsPsmOf (lent_sdu new) (Some psm) → AreLent (lent_sdu new) sdu → IsOctets sdu → endpoint_of psm endpoints ≡ Some own → takes own (length sdu) machine.channels ≡ test → test ≡ true
       → machine' ≡ with_channels machine (sends own sdu machine.channels) → after ≡ stepped new → steps_to machine.channels machine'.channels after endpoints breaks true now port
-  submits_does old new after endpoints breaks test now machine machine' psm own sdu port view is psm_is said endpoint may on machine_is after_is settings =
+  submits_does old new after endpoints breaks test now machine machine' psm own sdu port view is psm_is said octets endpoint may on machine_is after_is settings =
       let v = machine.channels in
       let found = finds (lent_sdu new) psm sdu psm_is said in
       subst (λ (n : Served). Does Asks (λ rest. (profile_of settings).steps v (serving n (content port) rest)) (λ rest. record { channels = machine'.channels; profile = serving (served after endpoints breaks) (content port) rest; more = true }) port port) view
-      (does_none Asks (joins shortages) _ _ port (λ rest. one_step old new endpoints breaks true v psm own sdu found.0 (content port) rest is found.1 found.2 endpoint (may ∙ on)
+      (does_none Asks (joins shortages) _ _ port (λ rest. one_step old new endpoints breaks true v psm own sdu found.0 (content port) rest is found.1 found.2 octets endpoint (may ∙ on)
       ∙ ap (λ (w : Channels). record { channels = w; profile = serving (served (stepped new) endpoints breaks) (content port) rest; more = true }) (ap (λ xs. sends own xs v) (sym found.2) ∙ ap (λ (m : Machine). m.channels) (sym machine_is))
       ∙ ap (λ (s : Server). record { channels = machine'.channels; profile = serving (served s endpoints breaks) (content port) rest; more = true }) (sym after_is)))
 

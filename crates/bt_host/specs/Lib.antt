@@ -1,6 +1,7 @@
 pub mod Calls
 pub mod Refusals
 pub mod Pieces
+pub mod Noting
 pub mod Uppers
 pub mod Stacks
 pub mod Serving
@@ -10,6 +11,8 @@ pub mod Shells
 pub mod Newness
 pub mod Pushing
 pub mod PushingLaws
+pub mod NotedHosts
 pub mod Playing
 pub mod Stopping
 pub mod PlayingLaws
+pub mod NotingLaws

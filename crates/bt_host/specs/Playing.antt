@@ -7,15 +7,17 @@ use Rattle.radio_air.specs.Controllers.{address}
 use Rattle.bt_base.specs.declared.settings.Settings.{Settings}
 use Rattle.host_model.specs.Circumstances.{Circumstance}
 use Rattle.host_model.specs.Profiles.{Profile}
-use Rattle.host_model.specs.Clients.{ClientProfile, client_profile}
+use Rattle.host_model.specs.Clients.{ClientProfile}
 use Rattle.host_model.specs.Settings.{SetHost, set_to}
 use Rattle.radio_world.specs.Hosts.{Asking}
 use Rattle.line_laws.specs.Seeing.{seen, IsSeen}
 use Rattle.bt_host.specs.Uppers.{asking}
 use Rattle.bt_host.specs.Stacks.{Stacked, IsResting}
 use Rattle.bt_host.specs.Shells.{Shelled}
-use Rattle.bt_host.specs.Pushing.{pushed_by, Pushes}
-use Rattle.bt_host.specs.Serving.{Served, profile_of, served_by, Works}
+use Rattle.bt_host.specs.Pushing.{Pushes}
+use Rattle.bt_host.specs.Serving.{Served, Works}
+use Rattle.bt_host.specs.Noting.{Noted}
+use Rattle.bt_host.specs.NotedHosts.{noted_client, client_noting, noted_server, server_noting}
 
 -- what stands above its line, with its settings, for all that its port may answer from now on
 abbrev pub set_host : {E S P : Type 0} → (E → P → List Circumstance → S) → P → Stacked E → List Circumstance → SetHost S
@@ -32,8 +34,8 @@ pub record IsPlayed {E S P : Type 0} (profile : Settings → Profile S) (side : 
 
 -- A client refused nothing, needs no more of its shelf, pages device b, and is played; a server refused nothing, its inbox has an object
 -- pending exactly where one is under way, and it is played.
-abbrev pub PushesSoundly : {P : Type 0} → Shelled ClientProfile → P → Type 0
-PushesSoundly host shelf = (host.refusal ≡ None) × (Pushes host.stack.upper.end × (host.stack.paged ≡ address B)) × IsPlayed client_profile A pushed_by host.stack shelf
+abbrev pub PushesSoundly : {P : Type 0} → Shelled (Noted ClientProfile) → P → Type 0
+PushesSoundly host shelf = (host.refusal ≡ None) × (Pushes host.stack.upper.end.end × (host.stack.paged ≡ address B)) × IsPlayed noted_client A client_noting host.stack shelf
 
-abbrev pub ServesSoundly : {P : Type 0} → (P → Option Contents) → (P → Bool) → Shelled Served → P → Type 0
-ServesSoundly content pending host inbox = (host.refusal ≡ None) × Works host.stack.upper.end (pending inbox) × IsPlayed profile_of B (served_by content) host.stack inbox
+abbrev pub ServesSoundly : {P : Type 0} → (P → Option Contents) → (P → Bool) → Shelled (Noted Served) → P → Type 0
+ServesSoundly content pending host inbox = (host.refusal ≡ None) × Works host.stack.upper.end.end (pending inbox) × IsPlayed noted_server B (server_noting content) host.stack inbox

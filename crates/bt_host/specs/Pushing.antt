@@ -18,6 +18,7 @@ use Rattle.host_model.specs.Circumstances.{Circumstance, Size, Part, Stored, par
 use Rattle.host_model.specs.Clients as model
 use Rattle.host_model.specs.Clients.{ClientProfile, client_profile}
 use Rattle.host_model.specs.Endpoints.{Endpoint}
+use Rattle.bt_host.specs.Noting.{Noted, unnoted}
 use Rattle.bt_host.specs.Stacks.{Stacked, usual_peer}
 use Rattle.bt_host.specs.declared.client_end.Bid.{Bid}
 use Rattle.bt_host.specs.declared.client_end.Bid.TheVariants.{Nothing, Paging, Parting}
@@ -84,9 +85,9 @@ abbrev pub pushed_by : {P : Type 0} → ClientProfile → P → List Circumstanc
 pushed_by end port rest = pushing end rest
 
 -- what stands above the line before anything happened
-abbrev pub new_stack : Settings → Stacked ClientProfile
+abbrev pub new_stack : Settings → Stacked (Noted ClientProfile)
 new_stack settings = record {
   line = started Client;
-  upper = record { machine = new_machine settings false; end = (client_profile settings).first; may_say = 0 };
+  upper = record { machine = new_machine settings false; end = unnoted (client_profile settings).first; may_say = 0 };
   paged = usual_peer;
 }

@@ -20,6 +20,7 @@ ghost use Rattle.bt_host.specs.PushingLaws.{Answers};
 
 use crate::end::End;
 use crate::endpoints::Endpoints;
+use crate::upper::are_octets;
 use bt_base::{Cid, NoMemory, Psm, Settings, Shelf};
 use channel_model::{ChannelEvent, CloseReason};
 use l2cap_channels::Channels;
@@ -232,6 +233,7 @@ impl ClientEnd {
             return;
         };
         let sdu = self.client.octets();
+        are_octets(sdu);
         if !channels.takes(own.get(), sdu.len()) {
             return;
         }
@@ -338,6 +340,7 @@ impl<F: Shelf> End<F> for ClientEnd {
     ghost use Rattle.std.specs.Prelude.{◌≡◌, ◌≤◌, Bool, false, refl};
     ghost use Rattle.bt_base.specs.Counts.{HasRisen};
     ghost use Rattle.host_model.specs.Clients.{ClientProfile, client_profile};
+    ghost use Rattle.bt_host.specs.NotedHosts.{credits_of_client};
     ghost use Rattle.bt_host.specs.Pushing.{pushing, Pushes};
     ghost use Rattle.bt_host.specs.PushingLaws.{Answers, joins, lacks, told_alone};
 
@@ -408,6 +411,12 @@ impl<F: Shelf> End<F> for ClientEnd {
 
     fn armed(&self) -> bool {
         self.client.armed()
+    }
+
+    ghost credits_in = { credits_of_client };
+
+    fn credits(&self) -> u16 {
+        self.client.credits()
     }
 
     ghost joins = { joins F.content F.faults F.shortages };

@@ -5,6 +5,7 @@ ghost use Rattle.bt_host.specs.Pushing.{new_stack};
 
 use crate::client_end::ClientEnd;
 use crate::feed_refusal::FeedRefusal;
+use crate::noting::Noting;
 use crate::shell::{ACL_LIMIT, feed_on, noted};
 use crate::stack::{LONGEST_PDU, Stack, usual_peer};
 use crate::upper::Upper;
@@ -19,23 +20,24 @@ use std::marker::Model;
 
 /// The host that pushes objects of a shelf: octets of its controller in, octets for it out (Object Push Profile 1.2, 4.3).
 ///
-/// A clause sees how far it has come in what it was fed, its line, its channels with the client above them, and why it cannot
-/// go on.
+/// A clause sees how far it has come in what it was fed, its line, its channels with the client above them and what it noted of
+/// both, and why it cannot go on.
 #[derive(Drop)]
 pub struct ClientHost {
     pub(crate) framer: Framer,
-    pub(crate) stack: Stack<ClientEnd>,
+    pub(crate) stack: Stack<Noting<ClientEnd>>,
     pub(crate) refusal: Option<FeedRefusal>,
 }
 
 impl Model for ClientHost {
     ghost use Rattle.std.specs.Prelude.{◌≡◌, None, false};
     ghost use Rattle.host_model.specs.Clients.{ClientProfile};
+    ghost use Rattle.bt_host.specs.Noting.{Noted};
     ghost use Rattle.bt_host.specs.Refusals.{acl_limit};
     ghost use Rattle.bt_host.specs.Shells.{Shelled};
     ghost use Rattle.bt_host.specs.Uppers.{IsOf};
 
-    ghost Value = { Shelled ClientProfile };
+    ghost Value = { Shelled (Noted ClientProfile) };
 
     ghost view = { λ host. record { framing = host.framer; stack = host.stack; refusal = host.refusal } };
 
@@ -43,12 +45,12 @@ impl Model for ClientHost {
 }
 
 /// What stands above the line of a client before anything happened.
-fn new_stack(alloc: Global, settings: &Settings) -> Result<Stack<ClientEnd>, NoMemory>
+fn new_stack(alloc: Global, settings: &Settings) -> Result<Stack<Noting<ClientEnd>>, NoMemory>
     ensures { IfOk result (λ stack. stack ≡ new_stack settings.now) }
 {
     let upper = Upper {
         channels: Channels::new(alloc, settings, false)?,
-        end: ClientEnd::new(alloc, settings)?,
+        end: Noting::new(ClientEnd::new(alloc, settings)?),
         may_say: 0,
     };
     Ok(Stack {
@@ -67,11 +69,11 @@ impl ClientHost {
     ghost use Rattle.channel_model.specs.Calls as calls;
     ghost use Rattle.obex_session.specs.PutPackets.{units_in};
     ghost use Rattle.world_model.specs.Machines.{TimerFired, Cancelled, Opening};
-    ghost use Rattle.host_model.specs.Clients.{client_profile};
     ghost use Rattle.bt_host.specs.declared.feed_refusal.FeedRefusal.TheVariants as refusals;
     ghost use Rattle.bt_host.specs.Refusals.{fresh_framing};
     ghost use Rattle.bt_host.specs.Stacks.{GoesOn, HearsNews};
-    ghost use Rattle.bt_host.specs.Pushing.{pushed_by, Pushes, Lacks};
+    ghost use Rattle.bt_host.specs.Pushing.{Pushes, Lacks};
+    ghost use Rattle.bt_host.specs.NotedHosts.{noted_client, client_noting};
     ghost use Rattle.bt_host.specs.PushingLaws.{Answers};
     ghost use Rattle.bt_host.specs.Shells.{settings_of, moment_of, ComesToRest, Feeds};
 
@@ -94,10 +96,10 @@ impl ClientHost {
     /// before it was heard. `NoMemory` where the shelf had none. After any of these the same is answered for good, and the
     /// host stays as it is.
     pub fn feed<F: Shelf>(&mut self, piece: &[u8], shelf: &mut F) -> Result<(), FeedRefusal>
-        requires works { self.old.refusal ≡ None → Pushes self.old.stack.upper.end }
-        ensures feeds { Feeds (client_profile (settings_of self.old)) (Answers F.content F.faults F.shortages) (Lacks F.shortages) pushed_by piece.now self.old self.new shelf.old shelf.new result }
-        ensures rests { OnOk result (ComesToRest client_profile pushed_by self.old self.new shelf.new) }
-        ensures works { OnOk result (Pushes self.new.stack.upper.end) }
+        requires works { self.old.refusal ≡ None → Pushes self.old.stack.upper.end.end }
+        ensures feeds { Feeds (noted_client (settings_of self.old)) (Answers F.content F.faults F.shortages) (Lacks F.shortages) client_noting piece.now self.old self.new shelf.old shelf.new result }
+        ensures rests { OnOk result (ComesToRest noted_client client_noting self.old self.new shelf.new) }
+        ensures works { OnOk result (Pushes self.new.stack.upper.end.end) }
     {
         if let Some(refusal) = self.refusal {
             return Err(refusal);
@@ -111,11 +113,11 @@ impl ClientHost {
     /// had none, and then the host goes on no more. It needs a host that refused nothing.
     pub fn on_timer<F: Shelf>(&mut self, shelf: &mut F) -> Result<(), NoMemory>
         requires sound { self.old.refusal ≡ None }
-        requires works { Pushes self.old.stack.upper.end }
-        ensures hears { OnOk result (HearsNews (client_profile (settings_of self.old)) (Answers F.content F.faults F.shortages) pushed_by TimerFired (moment_of self.old shelf.old) (moment_of self.new shelf.new)) }
-        ensures rests { OnOk result (ComesToRest client_profile pushed_by self.old self.new shelf.new) }
+        requires works { Pushes self.old.stack.upper.end.end }
+        ensures hears { OnOk result (HearsNews (noted_client (settings_of self.old)) (Answers F.content F.faults F.shortages) client_noting TimerFired (moment_of self.old shelf.old) (moment_of self.new shelf.new)) }
+        ensures rests { OnOk result (ComesToRest noted_client client_noting self.old self.new shelf.new) }
         ensures stays { OnOk result (self.new ≡ record self.old { stack = self.new.stack }) }
-        ensures works { OnOk result (Pushes self.new.stack.upper.end) }
+        ensures works { OnOk result (Pushes self.new.stack.upper.end.end) }
         ensures lacked { OnErr result (Lacks F.shortages shelf.old shelf.new) }
         ensures refused { OnErr result (self.new.refusal ≡ Some refusals.NoMemory) }
     {
@@ -128,13 +130,13 @@ impl ClientHost {
     /// It needs a host that refused nothing and pushes nothing, and a name of at most 100 UTF-16 units (Object Push Profile 1.2, 4.3).
     pub fn push<F: Shelf>(&mut self, name: &str, shelf: &mut F) -> Result<(), NoMemory>
         requires sound { self.old.refusal ≡ None }
-        requires works { Pushes self.old.stack.upper.end }
-        requires idle { is_idle self.old.stack.upper.end.client ≡ true }
+        requires works { Pushes self.old.stack.upper.end.end }
+        requires idle { is_idle self.old.stack.upper.end.end.client ≡ true }
         requires few { length (units_in name.now) ≤ 100 }
-        ensures hears { OnOk result (HearsNews (client_profile (settings_of self.old)) (Answers F.content F.faults F.shortages) pushed_by (Opening name.now) (moment_of self.old shelf.old) (moment_of self.new shelf.new)) }
-        ensures rests { OnOk result (ComesToRest client_profile pushed_by self.old self.new shelf.new) }
+        ensures hears { OnOk result (HearsNews (noted_client (settings_of self.old)) (Answers F.content F.faults F.shortages) client_noting (Opening name.now) (moment_of self.old shelf.old) (moment_of self.new shelf.new)) }
+        ensures rests { OnOk result (ComesToRest noted_client client_noting self.old self.new shelf.new) }
         ensures stays { OnOk result (self.new ≡ record self.old { stack = self.new.stack }) }
-        ensures works { OnOk result (Pushes self.new.stack.upper.end) }
+        ensures works { OnOk result (Pushes self.new.stack.upper.end.end) }
         ensures lacked { OnErr result (Lacks F.shortages shelf.old shelf.new) }
         ensures refused { OnErr result (self.new.refusal ≡ Some refusals.NoMemory) }
     {
@@ -145,12 +147,12 @@ impl ClientHost {
     /// refused nothing, and a push that may be given up.
     pub fn cancel<F: Shelf>(&mut self, shelf: &mut F) -> Result<(), NoMemory>
         requires sound { self.old.refusal ≡ None }
-        requires works { Pushes self.old.stack.upper.end }
-        requires may { may_cancel self.old.stack.upper.end.client ≡ true }
-        ensures hears { OnOk result (HearsNews (client_profile (settings_of self.old)) (Answers F.content F.faults F.shortages) pushed_by Cancelled (moment_of self.old shelf.old) (moment_of self.new shelf.new)) }
-        ensures rests { OnOk result (ComesToRest client_profile pushed_by self.old self.new shelf.new) }
+        requires works { Pushes self.old.stack.upper.end.end }
+        requires may { may_cancel self.old.stack.upper.end.end.client ≡ true }
+        ensures hears { OnOk result (HearsNews (noted_client (settings_of self.old)) (Answers F.content F.faults F.shortages) client_noting Cancelled (moment_of self.old shelf.old) (moment_of self.new shelf.new)) }
+        ensures rests { OnOk result (ComesToRest noted_client client_noting self.old self.new shelf.new) }
         ensures stays { OnOk result (self.new ≡ record self.old { stack = self.new.stack }) }
-        ensures works { OnOk result (Pushes self.new.stack.upper.end) }
+        ensures works { OnOk result (Pushes self.new.stack.upper.end.end) }
         ensures lacked { OnErr result (Lacks F.shortages shelf.old shelf.new) }
         ensures refused { OnErr result (self.new.refusal ≡ Some refusals.NoMemory) }
     {
@@ -168,11 +170,11 @@ impl ClientHost {
     /// goes on no more. It needs a host that refused nothing.
     pub fn put_out<F: Shelf>(&mut self, shelf: &mut F) -> Result<(), NoMemory>
         requires sound { self.old.refusal ≡ None }
-        requires works { Pushes self.old.stack.upper.end }
-        ensures goes { OnOk result (GoesOn (client_profile (settings_of self.old)) (Answers F.content F.faults F.shortages) pushed_by (moment_of self.old shelf.old) (moment_of self.new shelf.new)) }
-        ensures rests { OnOk result (ComesToRest client_profile pushed_by self.old self.new shelf.new) }
+        requires works { Pushes self.old.stack.upper.end.end }
+        ensures goes { OnOk result (GoesOn (noted_client (settings_of self.old)) (Answers F.content F.faults F.shortages) client_noting (moment_of self.old shelf.old) (moment_of self.new shelf.new)) }
+        ensures rests { OnOk result (ComesToRest noted_client client_noting self.old self.new shelf.new) }
         ensures stays { OnOk result (self.new ≡ record self.old { stack = self.new.stack }) }
-        ensures works { OnOk result (Pushes self.new.stack.upper.end) }
+        ensures works { OnOk result (Pushes self.new.stack.upper.end.end) }
         ensures lacked { OnErr result (Lacks F.shortages shelf.old shelf.new) }
         ensures refused { OnErr result (self.new.refusal ≡ Some refusals.NoMemory) }
     {
@@ -210,35 +212,35 @@ impl ClientHost {
 
     /// The client.
     fn client(&self) -> &ClientEnd
-        ensures { result.now ≡ self.now.stack.upper.end }
+        ensures { result.now ≡ self.now.stack.upper.end.end }
     {
-        &self.stack.upper.end
+        &self.stack.upper.end.end
     }
 
     /// Whether an own request of signalling or of the search waits for its response, or the machine of a channel for its timer.
     pub fn armed(&self) -> bool
-        ensures { result ≡ (calls.armed self.now.stack.upper.machine.channels || armed self.now.stack.upper.end.client) }
+        ensures { result ≡ (calls.armed self.now.stack.upper.machine.channels || armed self.now.stack.upper.end.end.client) }
     {
         self.stack.channels().armed() || self.client().is_armed()
     }
 
     /// Whether no push goes on: none was begun, or the last one has ended.
     pub fn idle(&self) -> bool
-        ensures { result ≡ is_idle self.now.stack.upper.end.client }
+        ensures { result ≡ is_idle self.now.stack.upper.end.end.client }
     {
         self.client().is_idle()
     }
 
     /// The first cause that came since the last push was begun: its outcome.
     pub fn outcome(&self) -> Option<Outcome>
-        ensures { result ≡ self.now.stack.upper.end.client.cause }
+        ensures { result ≡ self.now.stack.upper.end.end.client.cause }
     {
         self.client().outcome()
     }
 
     /// Whether the push may be given up: it goes on without a cause, and its final PUT was not made.
     pub fn may_cancel(&self) -> bool
-        ensures { result ≡ may_cancel self.now.stack.upper.end.client }
+        ensures { result ≡ may_cancel self.now.stack.upper.end.end.client }
     {
         self.client().may_cancel()
     }

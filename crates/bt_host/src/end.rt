@@ -1,6 +1,6 @@
 //! What stands above the channels of a host.
 
-ghost use Rattle.std.specs.Prelude.{◌≡◌, Bool, [], List, Option, IfOk, OnOk, OnErr};
+ghost use Rattle.std.specs.Prelude.{◌≡◌, ℕ, Bool, [], List, Option, IfOk, OnOk, OnErr};
 ghost use Rattle.bt_base.specs.declared.settings.Settings.{Settings};
 ghost use Rattle.channel_model.specs.Policies.{policy};
 ghost use Rattle.l2cap_channels.specs.Machine.{with_channels};
@@ -112,6 +112,13 @@ pub(crate) trait End<P>: Drop {
     /// Whether something waits for the timer.
     fn armed(&self) -> bool
         ensures { (settings : Settings) (port : P) (rest : List Circumstance) → result ≡ (profile settings).armed (pushing self.now port rest) };
+
+    /// How many credits it holds, in a state.
+    ghost credits_in: { State → ℕ };
+
+    /// How many credits its multiplexer holds.
+    fn credits(&self) -> u16
+        ensures { (port : P) (rest : List Circumstance) → result ≡ credits_in (pushing self.now port rest) };
 
     /// Lists of answers join.
     ghost joins: { JoinAnswers answers };

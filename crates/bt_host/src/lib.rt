@@ -8,6 +8,7 @@ mod end;
 mod endpoints;
 mod fed;
 mod feed_refusal;
+mod noting;
 mod played_client;
 mod played_server;
 mod pushing;

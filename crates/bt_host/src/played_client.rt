@@ -5,28 +5,30 @@ use crate::fed::want;
 use crate::shell::feed_stack;
 use bt_base::{NoMemory, Shelf};
 use push_terms::Outcome;
-use radio_world::{Client, Host};
+use radio_world::{Client, Host, Measured};
 
 impl<F: Shelf> Host<F> for ClientHost {
     ghost use Rattle.push_terms.specs.declared.word.Side.TheVariants.{A};
     ghost use Rattle.host_model.specs.Circumstances.{Circumstance};
-    ghost use Rattle.host_model.specs.Clients.{ClientProfile, client_profile};
-    ghost use Rattle.host_model.specs.Settings.{SetHost, client_machine};
-    ghost use Rattle.bt_host.specs.Pushing.{pushed_by, Lacks};
+    ghost use Rattle.host_model.specs.Clients.{ClientProfile};
+    ghost use Rattle.host_model.specs.Settings.{SetHost};
+    ghost use Rattle.bt_host.specs.Pushing.{Lacks};
+    ghost use Rattle.bt_host.specs.Noting.{Noted};
+    ghost use Rattle.bt_host.specs.NotedHosts.{noted_client, noted_client_machine, client_noting};
     ghost use Rattle.bt_host.specs.PushingLaws as laws;
     ghost use Rattle.bt_host.specs.PushingLaws.{Answers};
     ghost use Rattle.bt_host.specs.Playing.{playing, PushesSoundly};
     ghost use Rattle.bt_host.specs.PlayingLaws.{joined, stops};
 
-    ghost State = { SetHost ClientProfile };
+    ghost State = { SetHost (Noted ClientProfile) };
 
     ghost Answer = { Circumstance };
 
-    ghost machine = { client_machine };
+    ghost machine = { noted_client_machine };
 
     ghost side = { A };
 
-    ghost station = { λ host shelf. playing pushed_by shelf host.stack };
+    ghost station = { λ host shelf. playing client_noting shelf host.stack };
 
     ghost held = { λ host. host.framing.held };
 
@@ -67,7 +69,7 @@ impl<F: Shelf> Host<F> for ClientHost {
 
     ghost joins = { joined (Answers F.content F.faults F.shortages) (laws.joins F.content F.faults F.shortages) };
 
-    ghost stops = { λ host shelf is. stops client_profile A pushed_by host.stack shelf is.2 };
+    ghost stops = { λ host shelf is. stops noted_client A client_noting host.stack shelf is.2 };
 }
 
 impl<F: Shelf> Client<F> for ClientHost {
@@ -90,4 +92,27 @@ impl<F: Shelf> Client<F> for ClientHost {
     fn cancel(&mut self, port: &mut F) -> Result<(), NoMemory> {
         ClientHost::cancel(self, port)
     }
+}
+
+impl<F: Shelf> Measured<F> for ClientHost {
+    ghost use Rattle.host_model.specs.Clients.{client_profile};
+    ghost use Rattle.bt_host.specs.NotedHosts.{credits_of_client, client_noting};
+    ghost use Rattle.std.specs.Prelude.{refl};
+    ghost use Rattle.bt_host.specs.NotingLaws.{window_is_noted, credits_are_noted};
+
+    ghost frames_sent = { λ host. host.stack.upper.end.window };
+
+    ghost credits_held = { λ host. host.stack.upper.end.credits };
+
+    fn greatest_window(&self) -> u8 {
+        self.stack.upper.end.window
+    }
+
+    fn greatest_credits(&self) -> u16 {
+        self.stack.upper.end.credits
+    }
+
+    ghost frames_noted = { window_is_noted credits_of_client client_profile client_noting (λ host port rest. refl) };
+
+    ghost credits_noted = { credits_are_noted credits_of_client client_profile client_noting (λ host port rest. refl) };
 }

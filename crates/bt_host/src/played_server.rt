@@ -4,27 +4,29 @@ use crate::fed::want;
 use crate::server_host::ServerHost;
 use crate::shell::feed_stack;
 use bt_base::{Inbox, NoMemory};
-use radio_world::Host;
+use radio_world::{Host, Measured};
 
 impl<I: Inbox> Host<I> for ServerHost {
     ghost use Rattle.push_terms.specs.declared.word.Side.TheVariants.{B};
     ghost use Rattle.host_model.specs.Circumstances.{Circumstance};
     ghost use Rattle.host_model.specs.Servers.{ServerProfile};
-    ghost use Rattle.host_model.specs.Settings.{SetHost, server_machine};
-    ghost use Rattle.bt_host.specs.Serving.{profile_of, served_by, Asks, Lacks};
+    ghost use Rattle.host_model.specs.Settings.{SetHost};
+    ghost use Rattle.bt_host.specs.Serving.{Asks, Lacks};
+    ghost use Rattle.bt_host.specs.Noting.{Noted};
+    ghost use Rattle.bt_host.specs.NotedHosts.{noted_server_machine, noted_server, server_noting};
     ghost use Rattle.bt_host.specs.ServingLaws as laws;
     ghost use Rattle.bt_host.specs.Playing.{playing, ServesSoundly};
     ghost use Rattle.bt_host.specs.PlayingLaws.{joined, stops};
 
-    ghost State = { SetHost ServerProfile };
+    ghost State = { SetHost (Noted ServerProfile) };
 
     ghost Answer = { Circumstance };
 
-    ghost machine = { server_machine };
+    ghost machine = { noted_server_machine };
 
     ghost side = { B };
 
-    ghost station = { λ host inbox. playing (served_by I.content) inbox host.stack };
+    ghost station = { λ host inbox. playing (server_noting I.content) inbox host.stack };
 
     ghost held = { λ host. host.framing.held };
 
@@ -65,5 +67,28 @@ impl<I: Inbox> Host<I> for ServerHost {
 
     ghost joins = { joined (Asks I.shortages) (laws.joins I.shortages) };
 
-    ghost stops = { λ host inbox is. stops profile_of B (served_by I.content) host.stack inbox is.2 };
+    ghost stops = { λ host inbox is. stops noted_server B (server_noting I.content) host.stack inbox is.2 };
+}
+
+impl<I: Inbox> Measured<I> for ServerHost {
+    ghost use Rattle.bt_host.specs.Serving.{profile_of};
+    ghost use Rattle.bt_host.specs.NotedHosts.{credits_of_server, server_noting};
+    ghost use Rattle.std.specs.Prelude.{refl};
+    ghost use Rattle.bt_host.specs.NotingLaws.{window_is_noted, credits_are_noted};
+
+    ghost frames_sent = { λ host. host.stack.upper.end.window };
+
+    ghost credits_held = { λ host. host.stack.upper.end.credits };
+
+    fn greatest_window(&self) -> u8 {
+        self.stack.upper.end.window
+    }
+
+    fn greatest_credits(&self) -> u16 {
+        self.stack.upper.end.credits
+    }
+
+    ghost frames_noted = { window_is_noted credits_of_server profile_of (server_noting I.content) (λ host port rest. refl) };
+
+    ghost credits_noted = { credits_are_noted credits_of_server profile_of (server_noting I.content) (λ host port rest. refl) };
 }

@@ -4,29 +4,54 @@ ghost use Rattle.std.specs.Prelude.{◌≡◌, ◌≤◌, [], false, length, OnO
 ghost use Rattle.l2cap_channels.specs.Machine.{with_channels};
 ghost use Rattle.obex_session.specs.PutPackets.{units_in};
 ghost use Rattle.world_model.specs.Machines.{Cancelled, Opening};
-ghost use Rattle.host_model.specs.Clients.{client_profile};
+ghost use Rattle.bt_base.specs.declared.settings.Settings.{Settings};
+ghost use Rattle.host_model.specs.Clients.{told};
 ghost use Rattle.host_model.specs.Hosts.{hear};
 ghost use Rattle.bt_host.specs.Calls.{Does};
 ghost use Rattle.bt_host.specs.Uppers.{asking, IsOf};
 ghost use Rattle.bt_host.specs.Stacks.{HearsNews, IsResting};
-ghost use Rattle.bt_host.specs.Pushing.{pushed_by, Pushes, Lacks};
+ghost use Rattle.bt_host.specs.Pushing.{Pushes, Lacks};
+ghost use Rattle.bt_host.specs.NotedHosts.{noted_client, client_noting};
 ghost use Rattle.bt_host.specs.PushingLaws.{Answers};
 
 use crate::client_end::ClientEnd;
+use crate::noting::Noting;
 use crate::stack::Stack;
 use crate::upper::{MOST_SAID, Upper};
 use bt_base::{NoMemory, Shelf};
 
-impl Upper<ClientEnd> {
-    /// Begins the push of the object of that name, and goes on. It needs a name of at most 100 UTF-16 units.
+impl Noting<ClientEnd> {
+    /// Begins the push of the object of that name. It needs a name of at most 100 UTF-16 units.
     fn begin<F: Shelf>(&mut self, name: &str, shelf: &mut F) -> Result<(), NoMemory>
         requires few { length (units_in name.now) ≤ 100 }
         requires sound { Pushes self.old.end }
+        ensures does { OnOk result ((settings : Settings) → Does (Answers F.content F.faults F.shortages) (λ rest. (noted_client settings).told rest (Opening name.now) (client_noting self.old shelf.old rest)) (client_noting self.new shelf.new) shelf.old shelf.new) }
+        ensures sound { OnOk result (Pushes self.new.end) }
+        ensures lacked { OnErr result (Lacks F.shortages shelf.old shelf.new) }
+    {
+        self.end.begin(name, shelf)
+    }
+
+    /// Gives up its push, where that may be.
+    fn cancel(&mut self)
+        requires sound { Pushes self.old.end }
+        ensures is { self.new ≡ record self.old { end = told [] Cancelled self.old.end } }
+        ensures sound { Pushes self.new.end }
+    {
+        self.end.cancel();
+    }
+}
+
+impl Upper<Noting<ClientEnd>> {
+    /// Begins the push of the object of that name, and goes on. It needs a name of at most 100 UTF-16 units.
+    fn begin<F: Shelf>(&mut self, name: &str, shelf: &mut F) -> Result<(), NoMemory>
+        requires few { length (units_in name.now) ≤ 100 }
+        requires sound { Pushes self.old.end.end }
         requires of { IsOf false self.old }
-        ensures does { OnOk result (Does (Answers F.content F.faults F.shortages) (λ rest. hear (client_profile self.old.machine.settings) rest (Opening name.now) (asking pushed_by shelf.old self.old rest)) (asking pushed_by shelf.new self.new) shelf.old shelf.new) }
+        ensures does { OnOk result (Does (Answers F.content F.faults F.shortages) (λ rest. hear (noted_client self.old.machine.settings) rest (Opening name.now) (asking client_noting shelf.old self.old rest)) (asking client_noting shelf.new self.new) shelf.old shelf.new) }
         ensures machine { self.new.machine ≡ with_channels self.old.machine self.new.machine.channels }
         ensures told { OnOk result (self.new.machine.channels.events ≡ []) }
-        ensures sound { OnOk result (Pushes self.new.end) }
+        ensures sound { OnOk result (Pushes self.new.end.end) }
         ensures lacked { OnErr result (Lacks F.shortages shelf.old shelf.new) }
     {
         self.may_say = MOST_SAID;
@@ -37,12 +62,12 @@ impl Upper<ClientEnd> {
 
     /// Gives up its push, where that may be, and goes on.
     fn cancel<F: Shelf>(&mut self, shelf: &mut F) -> Result<(), NoMemory>
-        requires sound { Pushes self.old.end }
+        requires sound { Pushes self.old.end.end }
         requires of { IsOf false self.old }
-        ensures does { OnOk result (Does (Answers F.content F.faults F.shortages) (λ rest. hear (client_profile self.old.machine.settings) rest Cancelled (asking pushed_by shelf.old self.old rest)) (asking pushed_by shelf.new self.new) shelf.old shelf.new) }
+        ensures does { OnOk result (Does (Answers F.content F.faults F.shortages) (λ rest. hear (noted_client self.old.machine.settings) rest Cancelled (asking client_noting shelf.old self.old rest)) (asking client_noting shelf.new self.new) shelf.old shelf.new) }
         ensures machine { self.new.machine ≡ with_channels self.old.machine self.new.machine.channels }
         ensures told { OnOk result (self.new.machine.channels.events ≡ []) }
-        ensures sound { OnOk result (Pushes self.new.end) }
+        ensures sound { OnOk result (Pushes self.new.end.end) }
         ensures lacked { OnErr result (Lacks F.shortages shelf.old shelf.new) }
     {
         self.may_say = MOST_SAID;
@@ -52,18 +77,18 @@ impl Upper<ClientEnd> {
     }
 }
 
-impl Stack<ClientEnd> {
+impl Stack<Noting<ClientEnd>> {
     /// Begins the push of the object of that name, and puts out what may be put out. It needs a name of at most 100 UTF-16 units.
     pub(crate) fn begin<F: Shelf>(&mut self, name: &str, shelf: &mut F) -> Result<(), NoMemory>
         requires few { length (units_in name.now) ≤ 100 }
-        requires sound { Pushes self.old.upper.end }
+        requires sound { Pushes self.old.upper.end.end }
         requires of { IsOf false self.old.upper }
-        ensures hears { OnOk result (HearsNews (client_profile self.old.upper.machine.settings) (Answers F.content F.faults F.shortages) pushed_by (Opening name.now) (record { stack = self.old; port = shelf.old }) (record { stack = self.new; port = shelf.new })) }
+        ensures hears { OnOk result (HearsNews (noted_client self.old.upper.machine.settings) (Answers F.content F.faults F.shortages) client_noting (Opening name.now) (record { stack = self.old; port = shelf.old }) (record { stack = self.new; port = shelf.new })) }
         ensures machine { self.new.upper.machine ≡ with_channels self.old.upper.machine self.new.upper.machine.channels }
         ensures paged { self.new.paged ≡ self.old.paged }
-        ensures rests { OnOk result (IsResting (client_profile self.old.upper.machine.settings) pushed_by (record { stack = self.new; port = shelf.new })) }
+        ensures rests { OnOk result (IsResting (noted_client self.old.upper.machine.settings) client_noting (record { stack = self.new; port = shelf.new })) }
         ensures of { OnOk result (IsOf false self.new.upper) }
-        ensures sound { OnOk result (Pushes self.new.upper.end) }
+        ensures sound { OnOk result (Pushes self.new.upper.end.end) }
         ensures lacked { OnErr result (Lacks F.shortages shelf.old shelf.new) }
     {
         self.upper.begin(name, shelf)?;
@@ -73,14 +98,14 @@ impl Stack<ClientEnd> {
 
     /// Gives up its push, where that may be, and puts out what may be put out.
     pub(crate) fn cancel<F: Shelf>(&mut self, shelf: &mut F) -> Result<(), NoMemory>
-        requires sound { Pushes self.old.upper.end }
+        requires sound { Pushes self.old.upper.end.end }
         requires of { IsOf false self.old.upper }
-        ensures hears { OnOk result (HearsNews (client_profile self.old.upper.machine.settings) (Answers F.content F.faults F.shortages) pushed_by Cancelled (record { stack = self.old; port = shelf.old }) (record { stack = self.new; port = shelf.new })) }
+        ensures hears { OnOk result (HearsNews (noted_client self.old.upper.machine.settings) (Answers F.content F.faults F.shortages) client_noting Cancelled (record { stack = self.old; port = shelf.old }) (record { stack = self.new; port = shelf.new })) }
         ensures machine { self.new.upper.machine ≡ with_channels self.old.upper.machine self.new.upper.machine.channels }
         ensures paged { self.new.paged ≡ self.old.paged }
-        ensures rests { OnOk result (IsResting (client_profile self.old.upper.machine.settings) pushed_by (record { stack = self.new; port = shelf.new })) }
+        ensures rests { OnOk result (IsResting (noted_client self.old.upper.machine.settings) client_noting (record { stack = self.new; port = shelf.new })) }
         ensures of { OnOk result (IsOf false self.new.upper) }
-        ensures sound { OnOk result (Pushes self.new.upper.end) }
+        ensures sound { OnOk result (Pushes self.new.upper.end.end) }
         ensures lacked { OnErr result (Lacks F.shortages shelf.old shelf.new) }
     {
         self.upper.cancel(shelf)?;

@@ -7,6 +7,7 @@ ghost use Rattle.host_model.specs.Servers.{is_told};
 
 use crate::end::End;
 use crate::endpoints::Endpoints;
+use crate::upper::are_octets;
 use bt_base::{Inbox, NoMemory, Psm, Settings};
 use channel_model::{ChannelEvent, CloseReason};
 use l2cap_channels::Channels;
@@ -62,6 +63,7 @@ impl<B: Inbox> End<B> for ServerEnd {
     ghost use Rattle.std.specs.Prelude.{◌≡◌, ◌≤◌, Bool, true, refl};
     ghost use Rattle.bt_base.specs.Counts.{HasRisen};
     ghost use Rattle.host_model.specs.Servers.{ServerProfile};
+    ghost use Rattle.bt_host.specs.NotedHosts.{credits_of_server};
     ghost use Rattle.bt_host.specs.Serving.{serving, profile_of, Works};
     ghost use Rattle.bt_host.specs.ServingLaws.{joins, lacks, told_alone};
 
@@ -129,6 +131,7 @@ impl<B: Inbox> End<B> for ServerEnd {
             return Ok(false);
         };
         let sdu = self.server.sdu();
+        are_octets(sdu);
         if !channels.takes(own, sdu.len()) {
             return Ok(false);
         }
@@ -147,6 +150,12 @@ impl<B: Inbox> End<B> for ServerEnd {
 
     fn armed(&self) -> bool {
         false
+    }
+
+    ghost credits_in = { credits_of_server };
+
+    fn credits(&self) -> u16 {
+        self.server.credits()
     }
 
     ghost joins = { joins B.shortages };

@@ -4,6 +4,7 @@ ghost use Rattle.std.specs.Prelude.{◌≡◌, IfOk};
 ghost use Rattle.bt_host.specs.Newness.{new_stack};
 
 use crate::feed_refusal::FeedRefusal;
+use crate::noting::Noting;
 use crate::server_end::ServerEnd;
 use crate::shell::{ACL_LIMIT, feed_on, noted};
 use crate::stack::{LONGEST_PDU, Stack, usual_peer};
@@ -19,23 +20,24 @@ use std::marker::Model;
 /// The host that receives objects and stores them in an inbox: octets of its controller in, octets for it out (Object Push
 /// Profile 1.2, 4.3).
 ///
-/// A clause sees how far it has come in what it was fed, its line, its channels with the server above them, and why it cannot
-/// go on.
+/// A clause sees how far it has come in what it was fed, its line, its channels with the server above them and what it noted of
+/// both, and why it cannot go on.
 #[derive(Drop)]
 pub struct ServerHost {
     pub(crate) framer: Framer,
-    pub(crate) stack: Stack<ServerEnd>,
+    pub(crate) stack: Stack<Noting<ServerEnd>>,
     pub(crate) refusal: Option<FeedRefusal>,
 }
 
 impl Model for ServerHost {
     ghost use Rattle.std.specs.Prelude.{◌≡◌, None, true};
+    ghost use Rattle.bt_host.specs.Noting.{Noted};
     ghost use Rattle.bt_host.specs.Refusals.{acl_limit};
     ghost use Rattle.bt_host.specs.Serving.{Served};
     ghost use Rattle.bt_host.specs.Shells.{Shelled};
     ghost use Rattle.bt_host.specs.Uppers.{IsOf};
 
-    ghost Value = { Shelled Served };
+    ghost Value = { Shelled (Noted Served) };
 
     ghost view = { λ host. record { framing = host.framer; stack = host.stack; refusal = host.refusal } };
 
@@ -43,12 +45,12 @@ impl Model for ServerHost {
 }
 
 /// What stands above the line of a server before anything happened.
-fn new_stack(alloc: Global, settings: &Settings) -> Result<Stack<ServerEnd>, NoMemory>
+fn new_stack(alloc: Global, settings: &Settings) -> Result<Stack<Noting<ServerEnd>>, NoMemory>
     ensures { IfOk result (λ stack. stack ≡ new_stack settings.now) }
 {
     let upper = Upper {
         channels: Channels::new(alloc, settings, true)?,
-        end: ServerEnd::new(alloc, settings)?,
+        end: Noting::new(ServerEnd::new(alloc, settings)?),
         may_say: 0,
     };
     Ok(Stack {
@@ -67,7 +69,8 @@ impl ServerHost {
     ghost use Rattle.bt_host.specs.declared.feed_refusal.FeedRefusal.TheVariants as refusals;
     ghost use Rattle.bt_host.specs.Refusals.{fresh_framing};
     ghost use Rattle.bt_host.specs.Stacks.{GoesOn, HearsNews};
-    ghost use Rattle.bt_host.specs.Serving.{profile_of, served_by, Works, Asks, Lacks};
+    ghost use Rattle.bt_host.specs.Serving.{Works, Asks, Lacks};
+    ghost use Rattle.bt_host.specs.NotedHosts.{noted_server, server_noting};
     ghost use Rattle.bt_host.specs.Shells.{settings_of, moment_of, ComesToRest, Feeds};
 
     /// A server whose first command stands in `out`. It reserves all memory that it ever needs; `NoMemory` where that cannot
@@ -91,10 +94,10 @@ impl ServerHost {
     ///
     /// It needs an inbox that has an object pending exactly where one is under way.
     pub fn feed<B: Inbox>(&mut self, piece: &[u8], inbox: &mut B) -> Result<(), FeedRefusal>
-        requires works { self.old.refusal ≡ None → Works self.old.stack.upper.end (B.is_pending inbox.old) }
-        ensures feeds { Feeds (profile_of (settings_of self.old)) (Asks B.shortages) (Lacks B.shortages) (served_by B.content) piece.now self.old self.new inbox.old inbox.new result }
-        ensures rests { OnOk result (ComesToRest profile_of (served_by B.content) self.old self.new inbox.new) }
-        ensures works { OnOk result (Works self.new.stack.upper.end (B.is_pending inbox.new)) }
+        requires works { self.old.refusal ≡ None → Works self.old.stack.upper.end.end (B.is_pending inbox.old) }
+        ensures feeds { Feeds (noted_server (settings_of self.old)) (Asks B.shortages) (Lacks B.shortages) (server_noting B.content) piece.now self.old self.new inbox.old inbox.new result }
+        ensures rests { OnOk result (ComesToRest noted_server (server_noting B.content) self.old self.new inbox.new) }
+        ensures works { OnOk result (Works self.new.stack.upper.end.end (B.is_pending inbox.new)) }
     {
         if let Some(refusal) = self.refusal {
             return Err(refusal);
@@ -108,11 +111,11 @@ impl ServerHost {
     /// had none, and then the host goes on no more. It needs a host that refused nothing.
     pub fn on_timer<B: Inbox>(&mut self, inbox: &mut B) -> Result<(), NoMemory>
         requires sound { self.old.refusal ≡ None }
-        requires works { Works self.old.stack.upper.end (B.is_pending inbox.old) }
-        ensures hears { OnOk result (HearsNews (profile_of (settings_of self.old)) (Asks B.shortages) (served_by B.content) TimerFired (moment_of self.old inbox.old) (moment_of self.new inbox.new)) }
-        ensures rests { OnOk result (ComesToRest profile_of (served_by B.content) self.old self.new inbox.new) }
+        requires works { Works self.old.stack.upper.end.end (B.is_pending inbox.old) }
+        ensures hears { OnOk result (HearsNews (noted_server (settings_of self.old)) (Asks B.shortages) (server_noting B.content) TimerFired (moment_of self.old inbox.old) (moment_of self.new inbox.new)) }
+        ensures rests { OnOk result (ComesToRest noted_server (server_noting B.content) self.old self.new inbox.new) }
         ensures stays { OnOk result (self.new ≡ record self.old { stack = self.new.stack }) }
-        ensures works { OnOk result (Works self.new.stack.upper.end (B.is_pending inbox.new)) }
+        ensures works { OnOk result (Works self.new.stack.upper.end.end (B.is_pending inbox.new)) }
         ensures lacked { OnErr result (Lacks B.shortages inbox.old inbox.new) }
         ensures refused { OnErr result (self.new.refusal ≡ Some refusals.NoMemory) }
     {
@@ -123,11 +126,11 @@ impl ServerHost {
     /// goes on no more. It needs a host that refused nothing.
     pub fn put_out<B: Inbox>(&mut self, inbox: &mut B) -> Result<(), NoMemory>
         requires sound { self.old.refusal ≡ None }
-        requires works { Works self.old.stack.upper.end (B.is_pending inbox.old) }
-        ensures goes { OnOk result (GoesOn (profile_of (settings_of self.old)) (Asks B.shortages) (served_by B.content) (moment_of self.old inbox.old) (moment_of self.new inbox.new)) }
-        ensures rests { OnOk result (ComesToRest profile_of (served_by B.content) self.old self.new inbox.new) }
+        requires works { Works self.old.stack.upper.end.end (B.is_pending inbox.old) }
+        ensures goes { OnOk result (GoesOn (noted_server (settings_of self.old)) (Asks B.shortages) (server_noting B.content) (moment_of self.old inbox.old) (moment_of self.new inbox.new)) }
+        ensures rests { OnOk result (ComesToRest noted_server (server_noting B.content) self.old self.new inbox.new) }
         ensures stays { OnOk result (self.new ≡ record self.old { stack = self.new.stack }) }
-        ensures works { OnOk result (Works self.new.stack.upper.end (B.is_pending inbox.new)) }
+        ensures works { OnOk result (Works self.new.stack.upper.end.end (B.is_pending inbox.new)) }
         ensures lacked { OnErr result (Lacks B.shortages inbox.old inbox.new) }
         ensures refused { OnErr result (self.new.refusal ≡ Some refusals.NoMemory) }
     {

@@ -9,7 +9,7 @@ ghost use Rattle.host_link.specs.Hearing.{plain_news};
 ghost use Rattle.world_model.specs.Machines as machines;
 ghost use Rattle.world_model.specs.Machines.{Linked, Down, Failed, Heard, TimerFired};
 ghost use Rattle.host_model.specs.Circumstances.{Circumstance};
-ghost use Rattle.host_model.specs.Hosts.{tells_events, drives, driven, handed, hear};
+ghost use Rattle.host_model.specs.Hosts.{tells_events, drives, driven, handed, hear, steps_behind};
 ghost use Rattle.bt_host.specs.Calls.{Does};
 ghost use Rattle.bt_host.specs.Uppers.{asking, strode, says, told_of, hears_told, IsOf, IsTitled, SaysInto, GivesInto};
 
@@ -21,6 +21,9 @@ use std::marker::Model;
 
 /// How many PDUs a host says at most until it hears something.
 pub(crate) const MOST_SAID: u64 = 4_294_967_296;
+
+/// Behind the others of these its profile is asked for no steps: they are for what waits in its channels.
+const HALF_SAID: u64 = 2_147_483_648;
 
 /// How many steps of its profile a host takes at most, one after the other.
 const MOST_STEPS: u8 = 4;
@@ -41,8 +44,18 @@ impl<E> Model for Upper<E> {
     ghost view = { λ upper. record { machine = upper.channels; end = upper.end; may_say = upper.may_say } };
 }
 
+/// How many steps of its profile a host takes at most behind a PDU, where it may say so many more.
+fn steps_behind(left: u64) -> u8
+    ensures { result ≡ steps_behind left }
+{
+    if left >= HALF_SAID {
+        return MOST_STEPS;
+    }
+    0
+}
+
 /// A slice has octets.
-fn are_octets(octets: &[u8])
+pub(crate) fn are_octets(octets: &[u8])
     ensures { IsOctets octets.now }
 {
     let _ = octets;
@@ -197,8 +210,9 @@ impl<E: Drop> Upper<E> {
         ensures lacked { OnErr result (E.lacked port.old port.new) }
     {
         let left = self.may_say - 1;
+        let steps = steps_behind(left);
         let size = self.give(into);
-        self.drive(port)?;
+        self.drive_by(steps, port)?;
         self.may_say = left;
         Ok(size)
     }

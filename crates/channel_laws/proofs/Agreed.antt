@@ -14,15 +14,12 @@ use Rattle.channel_model.specs.Configuring.{bounded_agreement, carrier_by}
 use Rattle.channel_model.specs.Carrying.{read_by}
 use Rattle.channel_model.proofs.Going.{IsAccepted, CarrierGoes}
 use Rattle.channel_model.proofs.Calling.{Sending, Giving}
+use Rattle.channel_laws.specs.Agreements.{agreed_of}
 use Rattle.channel_laws.proofs.Keeping.{OfCarrier, StageKeeps, HeldKeeps, AllKeep, Keeps, Carries}
 use Rattle.channel_laws.proofs.Attending.{submits-aside, gives-aside, fires-aside}
 use Rattle.channel_laws.proofs.HandedUp.{heard-agreed}
 
 -- what is agreed on is never changed
-abbrev pub agreed_of : Carrier → Agreed
-agreed_of (Plain agreed waiting) = agreed
-agreed_of (Retransmitting machine) = machine.agreed
-
 abbrev pub SameAgreed : Carrier → Carrier → Type 0
 SameAgreed before after = agreed_of after ≡ agreed_of before
 

@@ -187,7 +187,7 @@ answer-agrees wish before after said part agrees own carrier lasts answers = ans
 
 -- ---- a request of the host
 
-wish_states : (mode : Mode) (options : List ℕ) (before : Option Mode) → mode_in options ≡ states_mode mode → (before ≡ None) ⊎ (before ≡ Some mode) → Some (unwrap_or (mode_in options) (unwrap_or before Basic)) ≡ Some mode
+pub wish_states : (mode : Mode) (options : List ℕ) (before : Option Mode) → mode_in options ≡ states_mode mode → (before ≡ None) ⊎ (before ≡ Some mode) → Some (unwrap_or (mode_in options) (unwrap_or before Basic)) ≡ Some mode
 wish_states Basic options before is was = ap (λ m. Some (unwrap_or m (unwrap_or before Basic))) is ∙ elim was [
   | inl none ↦ ap (λ b. Some (unwrap_or b Basic)) none
   | inr some ↦ ap (λ b. Some (unwrap_or b Basic)) some

@@ -1,28 +1,28 @@
 -- What was agreed on a channel stays so while it is open.
-use Rattle.std.proofs.Common.{◌≡◌, ℕ, ◌≤◌, List, [], ◌∷◌, ◌++◌, fold, Bool, true, false, Option, Some, None, refl, sym, ap, subst, ◌∙◌, inl, inr}
-use Rattle.std.specs.Prelude.{find}
+use Rattle.std.proofs.Common.{◌≡◌, ℕ, ◌≤◌, List, ◌++◌, Bool, true, false, Option, Some, None, refl, sym, ap, subst, ◌∙◌, inl, inr}
 use Rattle.std.proofs.lemmas.List.Sums.{fold-append}
 use Rattle.l2cap_config.specs.declared.wish.Agreed.{Agreed}
 use Rattle.l2cap_config.specs.declared.wish.Wish.{Wish}
 use Rattle.ertm_model.specs.Value.{Ertm}
-use Rattle.channel_model.specs.Value.{Carrier, Retransmitting, Setup, Stage, Requested, Connected, Leaving, Closing, Crossed, Held, Channels}
+use Rattle.channel_model.specs.Value.{Carrier, Retransmitting, Setup, Stage, Requested, Connected, Leaving, Closing, Crossed, Held}
 use Rattle.channel_model.specs.Policies.{Policy}
-use Rattle.channel_model.specs.Changing.{has_own, held_at, is_open}
+use Rattle.channel_model.specs.Changing.{held_at, is_open}
 use Rattle.channel_model.specs.Calls.{setup_on, carrier_if, open_carrier, carrier_at}
 use Rattle.channel_model.proofs.Going.{CarrierGoes}
-use Rattle.channel_laws.specs.Runs.{Occurrence, Run, new_link, run_on, run_of, value_after}
+use Rattle.channel_laws.specs.Runs.{Occurrence, Run, new_link, run_on, run_of}
 use Rattle.channel_laws.specs.Suiting.{AgreementsStay}
 use Rattle.channel_laws.proofs.Keeping.{OfCarrier, StageKeeps, HeldKeeps, AllKeep, Keeps, keeps-all}
-use Rattle.channel_laws.proofs.Agreed.{agreed_of, SameAgreed, carries-stated}
+use Rattle.channel_laws.specs.Agreements.{agreed_of}
+use Rattle.channel_laws.proofs.Agreed.{SameAgreed, carries-stated}
 use Rattle.channel_laws.proofs.Running.{IsSound, goes-on, all-sound}
 
 -- it is open by this agreement
-abbrev IsBy : Agreed → (opened : Bool) → Option Carrier → Type 0
+abbrev pub IsBy : Agreed → (opened : Bool) → Option Carrier → Type 0
 IsBy agreed opened None = ⊥
 IsBy agreed opened (Some carrier) = (opened ≡ true) × (agreed_of carrier ≡ agreed)
 
 -- the channel of one endpoint is
-abbrev Binds : Agreed → (one : ℕ) → ℕ → OfCarrier
+abbrev pub Binds : Agreed → (one : ℕ) → ℕ → OfCarrier
 Binds agreed one own wish leaving opened carrier = own ≡ one → IsBy agreed opened carrier
 
 stays_open : (opened after_opened : Bool) → (after_opened ≡ false → opened ≡ false) → opened ≡ true → after_opened ≡ true
@@ -91,13 +91,13 @@ agreed_at policy agreed own (Some held) again keeps is = by held.stage keeps is
     by (Closing peer request checked) keeps is = cc
     by (Crossed peer request) keeps is = cc
 
-pub agreements-stay : AgreementsStay
-agreements-stay policy list later own machine again is also = agreed_at policy machine.agreed own (held_at own (run_of policy (list ++ later)).value) (Retransmitting again) (all.at own) also
-  where
-    first : AllKeep policy (Binds machine.agreed own) (run_of policy list).value
-    first = bound_at policy (run_of policy list) own (Retransmitting machine) (all-sound policy list) is
+-- at all later moments
+pub bound-later : (policy : Policy) (list later : List Occurrence) (own : ℕ) (machine : Ertm) → carrier_at own (run_of policy list).value ≡ Some (Retransmitting machine) → AllKeep policy (Binds machine.agreed own) (run_of policy (list ++ later)).value
+bound-later policy list later own machine is =
+    subst (λ (run : Run). AllKeep policy (Binds machine.agreed own) run.value) (sym (fold-append (run_on policy) new_link list later))
+    (goes-on policy (λ run. AllKeep policy (Binds machine.agreed own) run.value)
+    (λ run more sound keeps. keeps-all policy SameAgreed (Binds machine.agreed own) (keeps_bound policy machine.agreed own) carries-stated more run.value sound.core.lone keeps) later (run_of policy list) (all-sound policy list)
+    (bound_at policy (run_of policy list) own (Retransmitting machine) (all-sound policy list) is)).1
 
-    all : AllKeep policy (Binds machine.agreed own) (run_of policy (list ++ later)).value
-    all = subst (λ (run : Run). AllKeep policy (Binds machine.agreed own) run.value) (sym (fold-append (run_on policy) new_link list later))
-        (goes-on policy (λ run. AllKeep policy (Binds machine.agreed own) run.value)
-        (λ run more sound keeps. keeps-all policy SameAgreed (Binds machine.agreed own) (keeps_bound policy machine.agreed own) carries-stated more run.value sound.core.lone keeps) later (run_of policy list) (all-sound policy list) first).1
+pub agreements-stay : AgreementsStay
+agreements-stay policy list later own machine again is also = agreed_at policy machine.agreed own (held_at own (run_of policy (list ++ later)).value) (Retransmitting again) ((bound-later policy list later own machine is).at own) also

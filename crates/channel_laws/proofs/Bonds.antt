@@ -5,8 +5,7 @@ use Rattle.l2cap_config.specs.declared.wish.Agreed.{Agreed}
 use Rattle.l2cap_config.specs.declared.wish.Mode.TheVariants.{Enhanced}
 use Rattle.l2cap_config.specs.declared.wish.Wish.{Wish}
 use Rattle.l2cap_config.specs.Items.{no_options}
-use Rattle.l2cap_config.specs.Agreement.{answered, agreed_on}
-use Rattle.l2cap_config.specs.declared.agreement.ConfigAnswer.TheVariants.{Accept}
+use Rattle.l2cap_config.specs.Agreement.{agreed_on}
 use Rattle.ertm_model.specs.Value.{Ertm}
 use Rattle.link_talk.specs.declared.channel.Channel.{Channel}
 use Rattle.link_talk.specs.Sayings.{Saying}
@@ -17,16 +16,16 @@ use Rattle.channel_model.specs.Configuring.{bounded_agreement}
 use Rattle.channel_model.specs.Calls.{carrier_at}
 use Rattle.channel_laws.specs.Views.{read_at}
 use Rattle.channel_laws.specs.Endpoints.{IsOf}
-use Rattle.channel_laws.specs.Signals.{StandsIn}
-use Rattle.channel_laws.specs.Runs.{Run, new_link, run_on, run_of}
+use Rattle.channel_laws.specs.Runs.{Run, new_link, run_on}
 use Rattle.channel_laws.specs.Pairs.{Side, Near, Far, Turn, pair_of, IsRunOf}
 use Rattle.channel_laws.specs.Ends.{end_at}
 use Rattle.channel_laws.specs.Belonging.{AreRead, said_at}
 use Rattle.channel_laws.specs.Modes.{policy_of}
-use Rattle.channel_laws.specs.Pipes.{Suits, CanState, IsOnHeard, AgreesOnHeard}
-use Rattle.channel_laws.proofs.Saying.{stands-left}
+use Rattle.channel_laws.specs.Agreements.{IsOnHeard}
+use Rattle.channel_laws.specs.Pipes.{Suits, CanState}
 use Rattle.channel_laws.proofs.Pairing.{each-end_runs}
-use Rattle.channel_laws.proofs.Sharing.{run-grows, said-grows}
+use Rattle.channel_laws.proofs.Sharing.{run-grows, said-grows, stays-of}
+use Rattle.channel_laws.proofs.Agreements.{on-heard-later, agreements-are_on_heard}
 use Rattle.channel_laws.proofs.Suiting.{options-suit}
 use Rattle.channel_laws.proofs.Binding.{agreements-stay}
 
@@ -36,17 +35,17 @@ IsAgreed agreed own v = (machine : Ertm) → carrier_at own v ≡ Some (Retransm
 
 -- ---- one agreement at all moments
 
-abbrev value_at : (near far : Policy) → Side → List Turn → Channels
+abbrev pub value_at : (near far : Policy) → Side → List Turn → Channels
 value_at near far side turns = (end_at side (pair_of near far turns)).run.value
 
-runs_at : (near far : Policy) (turns : List Turn) (side : Side) → IsRunOf (policy_of side near far) (end_at side (pair_of near far turns)).run
-runs_at near far turns Near = (each-end_runs near far turns).0
-runs_at near far turns Far = (each-end_runs near far turns).1
+pub runs-at : (near far : Policy) (turns : List Turn) (side : Side) → IsRunOf (policy_of side near far) (end_at side (pair_of near far turns)).run
+runs-at near far turns Near = (each-end_runs near far turns).0
+runs-at near far turns Far = (each-end_runs near far turns).1
 
 bound_turns : (near far : Policy) (side : Side) (past rest : List Turn) (own : ℕ) (machine again : Ertm) → carrier_at own (value_at near far side past) ≡ Some (Retransmitting machine) → carrier_at own (value_at near far side (past ++ rest)) ≡ Some (Retransmitting again) → again.agreed ≡ machine.agreed
 bound_turns near far side past rest own machine again is also =
     let policy : Policy = policy_of side near far in
-    let (list, runs) = runs_at near far past side in
+    let (list, runs) = runs-at near far past side in
     let (later, grows) = run-grows near far side past rest in
     agreements-stay policy list later own machine again (subst (λ (run : Run). carrier_at own run.value ≡ Some (Retransmitting machine)) runs is)
     (subst (λ (run : Run). carrier_at own run.value ≡ Some (Retransmitting again)) (grows ∙ (ap (λ run. fold (run_on policy) run later) runs ∙ sym (fold-append (run_on policy) new_link list later))) also)
@@ -163,10 +162,10 @@ pub record Bond (near far : Policy) (turns : List Turn) (side : Side) (psm own :
   pub within : IsWithin ((policy_of side near far).wish psm) ((policy_of side far near).wish psm) agreed
   pub all : (first last : List Turn) → turns ≡ first ++ last → IsAgreed agreed own (value_at near far side first)
 
-heard_within : (near far : Policy) (turns : List Turn) → AreRead near far turns → (side : Side) (channel : Channel) → IsOf channel (read_at channel.own (reading (said_at side (pair_of near far turns))).entries)
-    → CanState ((policy_of side near far).wish channel.psm) → CanState ((policy_of side far near).wish channel.psm) → (agreed : Agreed) → IsOnHeard (policy_of side near far) channel.psm channel.own (said_at side (pair_of near far turns)) agreed
-    → IsWithin ((policy_of side near far).wish channel.psm) ((policy_of side far near).wish channel.psm) agreed
-heard_within near far turns read side channel has can theirs_can agreed heard = by (read_at channel.own (reading (said_at side (pair_of near far turns))).entries) refl has
+pub heard-within : (near far : Policy) (turns : List Turn) → AreRead near far turns → (side : Side) (channel : Channel) → IsOf channel (read_at channel.own (reading (said_at side (pair_of near far turns))).entries)
+    → CanState ((policy_of side near far).wish channel.psm) → CanState ((policy_of side far near).wish channel.psm) → (agreed : Agreed) → ((policy_of side near far).wish channel.psm).mode ≡ Enhanced
+    → IsOnHeard (policy_of side near far) channel.psm channel.own (said_at side (pair_of near far turns)) agreed → IsWithin ((policy_of side near far).wish channel.psm) ((policy_of side far near).wish channel.psm) agreed
+heard-within near far turns read side channel has can theirs_can agreed enhanced heard = by (read_at channel.own (reading (said_at side (pair_of near far turns))).entries) refl has
   where
     mine : Wish
     mine = (policy_of side near far).wish channel.psm
@@ -174,50 +173,71 @@ heard_within near far turns read side channel has can theirs_can agreed heard = 
     theirs : Wish
     theirs = (policy_of side far near).wish channel.psm
 
-    within : Suits (bounded_agreement (agreed_on mine heard.options)) (bounded_agreement (agreed_on theirs no_options)) → IsWithin mine theirs (bounded_agreement (agreed_on mine heard.options))
-    within suits = record { some = suits.meets.some; window = suits.meets.within; mtu = suits.meets.mtu; least = suits.some; mps = suits.within; own_window = refl; own_mtu = refl; own_mps = refl }
+    within : Suits agreed (bounded_agreement (agreed_on theirs no_options)) → IsWithin mine theirs agreed
+    within suits = record {
+      some = suits.meets.some;
+      window = suits.meets.within;
+      mtu = suits.meets.mtu;
+      least = suits.some;
+      mps = suits.within;
+      own_window = ap (λ (a : Agreed). a.receive_window) heard.agreed_is;
+      own_mtu = ap (λ (a : Agreed). a.receive_mtu) heard.agreed_is;
+      own_mps = ap (λ (a : Agreed). a.receive_mps) heard.agreed_is;
+    }
 
     on : (entry : Entry) → read_at channel.own (reading (said_at side (pair_of near far turns))).entries ≡ Some entry → channel ≡ entry.channel → IsWithin mine theirs agreed
-    on entry at same = subst (IsWithin mine theirs) (sym heard.agreed_is) (within (subst
-        (λ (c : Channel). let m : Wish = (policy_of side near far).wish c.psm in let t : Wish = (policy_of side far near).wish c.psm in Suits (bounded_agreement (agreed_on m heard.options)) (bounded_agreement (agreed_on t no_options))) (sym same)
-        (options-suit near far turns read side channel.own heard.identifier heard.flags entry heard.octets heard.options heard.given no_options at heard.heard heard.read_is
-        (subst (λ (c : Channel). ((policy_of side near far).wish c.psm).mode ≡ Enhanced) same heard.enhanced)
+    on entry at same = within (subst (λ (c : Channel). let t : Wish = (policy_of side far near).wish c.psm in Suits agreed (bounded_agreement (agreed_on t no_options))) (sym same)
+        (options-suit near far turns read side channel.own entry agreed no_options at
+        (subst (λ (c : Channel). IsOnHeard (policy_of side near far) c.psm channel.own (said_at side (pair_of near far turns)) agreed) same heard)
+        (subst (λ (c : Channel). ((policy_of side near far).wish c.psm).mode ≡ Enhanced) same enhanced)
         (subst (λ (c : Channel). CanState ((policy_of side near far).wish c.psm)) same can)
-        (subst (λ (c : Channel). CanState ((policy_of side far near).wish c.psm)) same theirs_can)
-        (subst (λ (c : Channel). answered ((policy_of side near far).wish c.psm) heard.options ≡ Accept heard.given) same heard.accepts))))
+        (subst (λ (c : Channel). CanState ((policy_of side far near).wish c.psm)) same theirs_can)))
 
     by : (found : Option Entry) → read_at channel.own (reading (said_at side (pair_of near far turns))).entries ≡ found → IsOf channel found → IsWithin mine theirs agreed
     by None at is = elim is [ ]
     by (Some entry) at is = on entry at (sym is)
 
+-- two channels that are read at one endpoint are one
+one_channel : (a b : Channel) (found : Option Entry) → IsOf a found → IsOf b found → a ≡ b
+one_channel a b None is also = elim is [ ]
+one_channel a b (Some entry) is also = sym is ∙ also
+
+-- what a host has the channel open by at a moment
+record IsOpenBy (near far : Policy) (side : Side) (past : List Turn) (channel : Channel) (agreed : Agreed) : Type 0 where
+  mode : ((policy_of side near far).wish channel.psm).mode ≡ Enhanced
+  heard : IsOnHeard (policy_of side near far) channel.psm channel.own (said_at side (pair_of near far past)) agreed
+
+open_by : (near far : Policy) (side : Side) (past rest : List Turn) (channel : Channel) (machine : Ertm) → IsOf channel (read_at channel.own (reading (said_at side (pair_of near far (past ++ rest)))).entries)
+    → carrier_at channel.own (value_at near far side past) ≡ Some (Retransmitting machine) → IsOpenBy near far side past channel machine.agreed
+open_by near far side past rest channel machine has carries =
+    let policy : Policy = policy_of side near far in
+    let (list, runs) = runs-at near far past side in
+    let (found, is_of, mode, heard) = agreements-are_on_heard policy list channel.own (Retransmitting machine) (subst (λ (run : Run). carrier_at channel.own run.value ≡ Some (Retransmitting machine)) runs carries) in
+    let same : found ≡ channel =
+    one_channel found channel (read_at channel.own (reading (said_at side (pair_of near far (past ++ rest)))).entries)
+    (stays-of near far side past rest found channel.own (subst (λ (run : Run). IsOf found (read_at channel.own (reading run.said).entries)) (sym runs) is_of)) has in
+    record {
+      mode = subst (λ (c : Channel). (policy.wish c.psm).mode ≡ Enhanced) same (sym mode);
+      heard = subst (λ (c : Channel). IsOnHeard policy c.psm channel.own (said_at side (pair_of near far past)) machine.agreed) same (subst (λ (run : Run). IsOnHeard policy found.psm channel.own run.said machine.agreed) (sym runs) heard);
+    }
+
 pub bond-of : (near far : Policy) (turns : List Turn) → AreRead near far turns → (side : Side) (channel : Channel) → IsOf channel (read_at channel.own (reading (said_at side (pair_of near far turns))).entries)
-    → CanState ((policy_of side near far).wish channel.psm) → CanState ((policy_of side far near).wish channel.psm)
-    → ((first last : List Turn) → turns ≡ first ++ last → AgreesOnHeard (policy_of side near far) channel.psm channel.own (end_at side (pair_of near far first)).run) → Bond near far turns side channel.psm channel.own
-bond-of near far turns read side channel has can theirs_can agrees = by (search near far side channel.own [] turns)
+    → CanState ((policy_of side near far).wish channel.psm) → CanState ((policy_of side far near).wish channel.psm) → Bond near far turns side channel.psm channel.own
+bond-of near far turns read side channel has can theirs_can = by (search near far side channel.own [] turns)
   where
     mine : Wish
     mine = (policy_of side near far).wish channel.psm
 
     by : Opens near far side channel.own [] turns ⊎ Never near far side channel.own [] turns → Bond near far turns side channel.psm channel.own
-    by (inl opens) = record { agreed = opens.machine.agreed; within = heard_within near far turns read side channel has can theirs_can opens.machine.agreed later; all = opens.all }
+    by (inl opens) = record { agreed = opens.machine.agreed; within = heard-within near far turns read side channel has can theirs_can opens.machine.agreed now.mode later; all = opens.all }
       where
-        now : IsOnHeard (policy_of side near far) channel.psm channel.own (said_at side (pair_of near far opens.front)) opens.machine.agreed
-        now = agrees opens.front opens.behind opens.split opens.machine opens.carries
+        now : IsOpenBy near far side opens.front channel opens.machine.agreed
+        now = open_by near far side opens.front opens.behind channel opens.machine (subst (λ l. IsOf channel (read_at channel.own (reading (said_at side (pair_of near far l))).entries)) opens.split has) opens.carries
 
         grows : (more : List Saying) × (said_at side (pair_of near far turns) ≡ said_at side (pair_of near far opens.front) ++ more)
         grows = subst (λ l. (more : List Saying) × (said_at side (pair_of near far l) ≡ said_at side (pair_of near far opens.front) ++ more)) (sym opens.split) (said-grows near far side opens.front opens.behind)
 
         later : IsOnHeard (policy_of side near far) channel.psm channel.own (said_at side (pair_of near far turns)) opens.machine.agreed
-        later = record {
-          identifier = now.identifier;
-          flags = now.flags;
-          octets = now.octets;
-          options = now.options;
-          given = now.given;
-          heard = subst (StandsIn _) (sym grows.1) (stands-left _ (said_at side (pair_of near far opens.front)) grows.0 now.heard);
-          read_is = now.read_is;
-          enhanced = now.enhanced;
-          accepts = now.accepts;
-          agreed_is = now.agreed_is;
-        }
+        later = subst (λ said. IsOnHeard (policy_of side near far) channel.psm channel.own said opens.machine.agreed) (sym grows.1)
+            (on-heard-later (policy_of side near far) channel.psm channel.own (said_at side (pair_of near far opens.front)) grows.0 opens.machine.agreed now.heard)
     by (inr never) = record { agreed = least_agreed mine; within = least_within mine ((policy_of side far near).wish channel.psm) theirs_can; all = λ first last split machine is. absurd (never first last split machine is) }

@@ -21,10 +21,10 @@ use Rattle.channel_laws.proofs.Running.{all-sound}
 
 -- ---- one entry of all
 
-abbrev checks : Entry → Bool
+abbrev pub checks : Entry → Bool
 checks entry = is_there entry.life && is_checked_by entry.setup
 
-abbrev checked : Option Entry → Bool
+abbrev pub checked : Option Entry → Bool
 checked None = false
 checked (Some entry) = checks entry
 
@@ -71,7 +71,7 @@ stage_checks policy held (Closing peer request still) (Some entry) is (there, ag
 stage_checks policy held (Crossed peer request) None is reads = elim reads [ ]
 stage_checks policy held (Crossed peer request) (Some entry) is (there, agrees) = sym (ap (λ t. t && is_checked_by entry.setup) (ap is_there (there.life_is ∙ ap life_of is)))
 
-held_checks : (policy : Policy) (held : Option Held) (found : Option Entry) → Reads policy held found → has_fcs_on held ≡ checked found
+pub held_checks : (policy : Policy) (held : Option Held) (found : Option Entry) → Reads policy held found → has_fcs_on held ≡ checked found
 held_checks policy None None reads = refl
 held_checks policy None (Some entry) reads = sym (ap (λ l. is_there l && is_checked_by entry.setup) reads)
 held_checks policy (Some held) found reads = stage_checks policy held held.stage found refl reads

@@ -133,7 +133,7 @@ Short policy r v identifier code =
 short-invites : (identifier : ℕ) → eqb identifier 0 ≡ false → Invites (short 2 identifier) identifier None
 short-invites identifier is = invites-by (short 2 identifier) identifier None (λ asked. ap (requests_after asked) (short-sense 2 identifier is)) (λ asked. ap (meant asked) (short-sense 2 identifier is))
 
-short-queries : (identifier : ℕ) → eqb identifier 0 ≡ false → Queries (short 4 identifier) identifier None
+pub short-queries : (identifier : ℕ) → eqb identifier 0 ≡ false → Queries (short 4 identifier) identifier None
 short-queries identifier is = queries-by (short 4 identifier) identifier None (λ asked. ap (requests_after asked) (short-sense 4 identifier is)) (λ asked. ap (meant asked) (short-sense 4 identifier is))
 
 short-two : (policy : Policy) (r : Reading) (v : Channels) (identifier : ℕ) → eqb identifier 0 ≡ false → Sound policy r v → Short policy r v identifier 2

@@ -48,7 +48,7 @@ use Rattle.channel_laws.proofs.Receiving.{up-nothing}
 use Rattle.channel_laws.proofs.Passages.{GoesOut, out-own, spelled-frame}
 use Rattle.channel_laws.proofs.Holding.{IsRead, is-read, set-is}
 use Rattle.channel_laws.proofs.Outgoing.{Counts, connection-counts, configuration-counts, disconnection-counts, open-stated, gives-none, gives-by}
-use Rattle.channel_laws.proofs.Joining.{Seen, Terms, Holds, IsEnd, Joined, joined-same, joined-loses}
+use Rattle.channel_laws.proofs.Joining.{Seen, Terms, Holds, IsEnd, Joined, next-ends_none, joined-same, joined-loses}
 use Rattle.channel_laws.proofs.Partaking.{IsSole, IsMate, CanHear, hears-frame, hears-damaged, joined-gives, kept-on}
 use Rattle.channel_laws.proofs.Piped.{frames_said, under_way, is_to, Next, Piped, said-elsewhere, acts-next, comes-next}
 
@@ -201,7 +201,7 @@ frame_behind party t channel pair pdu held setup machine frame speaks found has 
             let after : Seen = record { near_said = frames_said party channel past ++ frame ∷ []; far_said = frames_said party (mirrored channel) pair.far.run.said; to_near = under_way channel.own pair.near.coming; to_far = under_way channel.peer pair.far.coming ++ pdu ∷ [] } in
             subst (λ k. Joined pair.near.policy pair.far.policy t k channel.peer after (sdus_up channel.own pair.near.run.up) (sdus_up channel.peer pair.far.run.up) (carrier_spent (Some setup) held v) pair.far.run.value) same
             (joined-gives pair.near.policy pair.far.policy t channel.peer d (sdus_up channel.own pair.near.run.up) (sdus_up channel.peer pair.far.run.up) v pair.far.run.value held setup machine pdu frame speaks.sound.core.held_below found has is next
-            (λ most within. written-read r.peer most frame pdu (answer_in most pdu) spells within (answer-is_worked_out most pdu octets))
+            (next-ends_none machine frame next, λ most within. written-read r.peer most frame pdu (answer_in most pdu) spells within (answer-is_worked_out most pdu octets))
             (subst (λ k. Joined pair.near.policy pair.far.policy t k channel.peer d (sdus_up channel.own pair.near.run.up) (sdus_up channel.peer pair.far.run.up) v pair.far.run.value) (sym same) h))
 
 spent_behind : (party : Party) (t : Terms) (channel : Channel) (pair : Pair) (pdu : List ℕ) (held : Held) (setup : Setup) (carrier : Option Carrier) → Speaks t.mine party channel pair → find (has_own held.own) pair.near.run.value.held ≡ Some held → setup_of held.stage ≡ Some setup → setup.carrier ≡ carrier

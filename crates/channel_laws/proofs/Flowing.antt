@@ -1,15 +1,13 @@
 -- An enhanced channel that two hosts have in common is a pipe of SDUs, over all turns.
-use Rattle.std.proofs.Common.{◌≡◌, ℕ, ◌≤◌, List, [], ◌∷◌, ◌++◌, length, Bool, true, false, cond, ◌&&◌, Option, Some, None, refl, sym, ap, subst, ◌∙◌, inl, inr, append_assoc, append-nil}
-use Rattle.std.specs.Prelude.{option_map, take}
+use Rattle.std.proofs.Common.{◌≡◌, ℕ, ◌≤◌, List, [], ◌∷◌, ◌++◌, Bool, true, false, cond, ◌&&◌, Option, Some, None, refl, sym, ap, subst, ◌∙◌, inl, inr, append_assoc, append-nil}
+use Rattle.std.specs.Prelude.{option_map}
 use Rattle.std.specs.List.{filter_map, cons_option}
-use Rattle.std.proofs.lemmas.List.{take_at}
 use Rattle.std.proofs.lemmas.List.Sums.{fold-append}
 use Rattle.std.proofs.lemmas.List.Elements.{filter_map-append}
 use Rattle.capture.specs.declared.flow.Flow.{Flow}
 use Rattle.capture.specs.declared.flow.Flow.TheVariants.{Out, Into}
-use Rattle.capture.specs.Histories.{each_after, EachAfter, AtEach}
+use Rattle.capture.specs.Histories.{each_after, EachAfter}
 use Rattle.l2cap_config.specs.declared.wish.Mode.TheVariants.{Basic, Enhanced}
-use Rattle.l2cap_config.specs.declared.wish.Agreed.{Agreed}
 use Rattle.l2cap_config.specs.declared.wish.Mode.{Mode}
 use Rattle.ertm_frames.specs.Frames.{PlainFrame}
 use Rattle.ertm_frames.specs.Reading.{frame_in, frames_in}
@@ -29,13 +27,13 @@ use Rattle.channel_model.specs.Policies.{Policy}
 use Rattle.channel_laws.specs.Runs.{sdus_up}
 use Rattle.channel_laws.specs.Frames.{IsUttered}
 use Rattle.channel_laws.specs.Pairs.{End, Pair, new_pair, Happening, happens_near, Side, Near, Far, turned, Turn, happens_at, pair_after, pair_of, IsRunOf}
-use Rattle.channel_laws.specs.Ends.{DoesSo, end_at}
+use Rattle.channel_laws.specs.Ends.{DoesSo, AreFair, end_at}
 use Rattle.channel_laws.specs.Views.{read_at}
 use Rattle.channel_laws.specs.Endpoints.{IsOf}
 use Rattle.channel_laws.specs.Belonging.{AreRead, said_at}
 use Rattle.channel_laws.specs.Common.{mirrored}
 use Rattle.channel_laws.specs.Modes.{policy_of, OneWishes}
-use Rattle.channel_laws.specs.Pipes.{IsCarried, HaveChannel, Suits, AgreesOnHeard, AreAgreed, IsFront, IsPipe, EnhancedChannelsArePipes}
+use Rattle.channel_laws.specs.Pipes.{IsCarried, HaveChannel, Suits, CanStateBoth, AreCarried, IsFront, IsPipe, EnhancedChannelsArePipes}
 use Rattle.channel_laws.proofs.Running.{IsSound, all-sound}
 use Rattle.channel_laws.proofs.Pairing.{OfOccurrence, Runs, BothRun, at-runs, first-runs, each-end_runs}
 use Rattle.channel_laws.proofs.Partaking.{IsMate}
@@ -52,8 +50,8 @@ use Rattle.channel_laws.proofs.Conveying.{near-piped}
 pub sound-of : (F : OfOccurrence) (policy : Policy) (end' : End) → Runs F policy end' → IsSound end'.policy end'.run
 sound-of F policy end' runs = subst (λ p. IsSound p end'.run) (sym runs.policy_is) (subst (IsSound policy) (sym runs.run_is) (all-sound policy runs.list))
 
-turned_piped : (party : Party) (t : Terms) (channel : Channel) (pair : Pair) → Piped party t channel pair → Piped party (other_terms t) (mirrored channel) (turned pair)
-turned_piped party t channel pair h = joined-swapped pair.near.policy pair.far.policy t channel.own channel.peer _ _ _ pair.near.run.value pair.far.run.value h
+pub turned-piped : (party : Party) (t : Terms) (channel : Channel) (pair : Pair) → Piped party t channel pair → Piped party (other_terms t) (mirrored channel) (turned pair)
+turned-piped party t channel pair h = joined-swapped pair.near.policy pair.far.policy t channel.own channel.peer _ _ _ pair.near.run.value pair.far.run.value h
 
 -- both hosts have the channel as it is
 record Common (t : Terms) (channel : Channel) (pair : Pair) : Type 0 where
@@ -72,14 +70,11 @@ side_piped near far party t channel pair Near happening fair runs before after u
     near-piped party t channel pair happening fair.own_high fair.there (record { high = fair.peer_high; sound = sound-of IsUttered near pair.near runs.near_runs; mate = before.near_mate }) after.near_mate uttered carried' h
 side_piped near far party t channel pair Far happening fair runs before after uttered carried' h =
     let other : Pair = turned pair in
-    turned_piped party (other_terms t) (mirrored channel) (happens_near happening other)
+    turned-piped party (other_terms t) (mirrored channel) (happens_near happening other)
     (near-piped party (other_terms t) (mirrored channel) other happening fair.peer_high fair.back (record { high = fair.own_high; sound = sound-of IsUttered far pair.far runs.far_runs; mate = before.far_mate }) after.far_mate uttered carried'
-    (turned_piped party t channel pair h))
+    (turned-piped party t channel pair h))
 
 -- ---- all turns
-
-at_front : {X : Type 0} (P : List X → Type 0) (all past rest : List X) → AtEach P all → all ≡ past ++ rest → P past
-at_front P all past rest each is = subst P (ap (take (length past)) is ∙ take_at past rest (length past) refl) (each (length past))
 
 all_piped : (near far : Policy) (party : Party) (t : Terms) (channel : Channel) (all past rest : List Turn) → Fair t channel → ((front behind : List Turn) → all ≡ front ++ behind → Common t channel (pair_of near far front)) → all ≡ past ++ rest
     → EachAfter (λ front turn. DoesSo IsUttered turn.happening (end_at turn.side (pair_of near far front))) past rest → EachAfter (λ front turn. IsCarried turn.happening (end_at turn.side (pair_of near far front))) past rest
@@ -151,20 +146,20 @@ out_frames : (party : Party) (carriages : List Carriage) → outs (filter_map (p
 out_frames party [] = refl
 out_frames party (one ∷ carriages) = out_one party one.flow one.pdu carriages (out_frames party carriages)
 
-sent_are : (party : Party) (channel : Channel) (said : List Saying) → mode_of channel said ≡ Enhanced → sdus party channel Out said ≡ sdus_of (picked 0 (frames_said party channel said))
-sent_are party channel said mode =
+pub sent-are : (party : Party) (channel : Channel) (said : List Saying) → mode_of channel said ≡ Enhanced → sdus party channel Out said ≡ sdus_of (picked 0 (frames_said party channel said))
+sent-are party channel said mode =
     ap (λ m. sdus_by 65535 m (pdus_of Out (stretch channel said))) mode
     ∙ ap (λ fs. sdus_of (picked 0 fs)) (ap (frames_in 65535) (out-same channel [] said) ∙ sym (out_frames party (passages channel said)))
 
-front_of_front : {X : Type 0} (xs ys zs : List X) → IsFront xs ys → IsFront ys zs → IsFront xs zs
-front_of_front xs ys zs (more, is) (further, also) = (more ++ further, also ∙ (ap (λ l. l ++ further) is ∙ append_assoc xs more further))
+pub front-of_front : {X : Type 0} (xs ys zs : List X) → IsFront xs ys → IsFront ys zs → IsFront xs zs
+front-of_front xs ys zs (more, is) (further, also) = (more ++ further, also ∙ (ap (λ l. l ++ further) is ∙ append_assoc xs more further))
 
 near_pipe : (t : Terms) (channel : Channel) (pair : Pair) → ((party : Party) → Piped party t channel pair) → IsPipe (mirrored channel) pair.far.run.said channel.own pair.near.run.up
 near_pipe t channel pair piped party mode =
     let h = piped party in
     let said = frames_said party (mirrored channel) pair.far.run.said in
-    subst (IsFront (sdus_up channel.own pair.near.run.up)) (sym (sent_are party (mirrored channel) pair.far.run.said mode))
-    (front_of_front (sdus_up channel.own pair.near.run.up) h.pair.a.up (sdus_of (picked 0 said)) h.near_at.front (tells-pipe t.mine.receive_mps h.pair.b h.pair.a said (swapped h.joins.stands) h.joins.far_tells))
+    subst (IsFront (sdus_up channel.own pair.near.run.up)) (sym (sent-are party (mirrored channel) pair.far.run.said mode))
+    (front-of_front (sdus_up channel.own pair.near.run.up) h.pair.a.up (sdus_of (picked 0 said)) h.near_at.front (tells-pipe t.mine.receive_mps h.pair.b h.pair.a said (swapped h.joins.stands) h.joins.far_tells))
 
 -- each host has it as it is, whenever
 common_at : (near far : Policy) (turns : List Turn) (channel : Channel) (near_bond : Bond near far turns Near channel.psm channel.own) (far_bond : Bond near far turns Far channel.psm channel.peer) → AreRead near far turns → HaveChannel near far turns channel → OneWishes near far channel.psm Enhanced
@@ -184,8 +179,8 @@ common_at near far turns channel near_bond far_bond read have wish front behind 
     whole = subst (AreRead near far) is read
 
 -- what its talk has in enhanced mode its host accepted in that mode
-enhanced_accepted : (setup : Setup) → agreed_mode setup ≡ Enhanced → setup.accepted ≡ Some Enhanced
-enhanced_accepted setup is = by (is_enhanced setup.asked) setup.accepted is
+pub enhanced-accepted : (setup : Setup) → agreed_mode setup ≡ Enhanced → setup.accepted ≡ Some Enhanced
+enhanced-accepted setup is = by (is_enhanced setup.asked) setup.accepted is
   where
     by : (asked : Bool) (accepted : Option Mode) → cond (asked && is_enhanced accepted) Enhanced Basic ≡ Enhanced → accepted ≡ Some Enhanced
     by false accepted is = cc
@@ -200,29 +195,27 @@ other_wishes near far turns read side channel has mode = by (read_at channel.own
   where
     by : (found : Option Entry) → read_at channel.own (reading (said_at side (pair_of near far turns))).entries ≡ found → IsOf channel found → entry_mode found ≡ Enhanced → ((policy_of side far near).wish channel.psm).mode ≡ Enhanced
     by None at has mode = elim has [ ]
-    by (Some entry) at has mode = ap (λ (c : Channel). ((policy_of side far near).wish c.psm).mode) (sym has) ∙ modes-are_wished near far turns read side channel.own entry Enhanced at (enhanced_accepted entry.setup mode)
+    by (Some entry) at has mode = ap (λ (c : Channel). ((policy_of side far near).wish c.psm).mode) (sym has) ∙ modes-are_wished near far turns read side channel.own entry Enhanced at (enhanced-accepted entry.setup mode)
 
-pub enhanced-are_pipes : EnhancedChannelsArePipes
-enhanced-are_pipes near far turns channel uttered read passes have agreed = (
-  λ party mode. near_pipe t channel (pair_of near far turns) (piped (inl (other_wishes near far turns read Far (mirrored channel) have.far_has mode))) party mode,
-  λ party mode. let wish : OneWishes near far channel.psm Enhanced = inr (other_wishes near far turns read Near channel have.near_has mode) in
-      near_pipe (other_terms t) (mirrored channel) (turned (pair_of near far turns)) (λ party. turned_piped party t channel (pair_of near far turns) (piped wish party)) party mode,
-)
+-- by what each end has it
+abbrev pub terms_of : (near far : Policy) (turns : List Turn) (channel : Channel) → Bond near far turns Near channel.psm channel.own → Bond near far turns Far channel.psm channel.peer → Terms
+terms_of near far turns channel near_bond far_bond = record { mine = near_bond.agreed; other = far_bond.agreed }
+
+-- where one host wishes enhanced mode, its two ends are two ends in order
+pub piped-by : (near far : Policy) (turns : List Turn) → AreFair near far turns → AreRead near far turns → AreCarried near far turns → (channel : Channel) → HaveChannel near far turns channel → CanStateBoth near far channel.psm
+    → (near_bond : Bond near far turns Near channel.psm channel.own) (far_bond : Bond near far turns Far channel.psm channel.peer) → OneWishes near far channel.psm Enhanced → (party : Party)
+    → Piped party (terms_of near far turns channel near_bond far_bond) channel (pair_of near far turns)
+piped-by near far turns uttered read passes channel have can near_bond far_bond wish party =
+    all_piped near far party t channel turns [] turns fair (common_at near far turns channel near_bond far_bond read have wish) refl uttered passes (first-runs IsUttered near far) (first_piped near far party t channel there back)
   where
-    near_bond : Bond near far turns Near channel.psm channel.own
-    near_bond = bond-of near far turns read Near channel have.near_has agreed.near_can agreed.far_can (λ first last split. at_front (λ x. AgreesOnHeard near channel.psm channel.own (pair_of near far x).near.run) turns first last agreed.near_agreed split)
-
-    far_bond : Bond near far turns Far channel.psm channel.peer
-    far_bond = bond-of near far turns read Far (mirrored channel) have.far_has agreed.far_can agreed.near_can (λ first last split. at_front (λ x. AgreesOnHeard far channel.psm channel.peer (pair_of near far x).far.run) turns first last agreed.far_agreed split)
-
     t : Terms
-    t = record { mine = near_bond.agreed; other = far_bond.agreed }
+    t = terms_of near far turns channel near_bond far_bond
 
     there : Suits t.mine t.other
-    there = within-suits (near.wish channel.psm) (far.wish channel.psm) near_bond.agreed far_bond.agreed agreed.far_can near_bond.within far_bond.within
+    there = within-suits (near.wish channel.psm) (far.wish channel.psm) near_bond.agreed far_bond.agreed can.far_can near_bond.within far_bond.within
 
     back : Suits t.other t.mine
-    back = within-suits (far.wish channel.psm) (near.wish channel.psm) far_bond.agreed near_bond.agreed agreed.near_can far_bond.within near_bond.within
+    back = within-suits (far.wish channel.psm) (near.wish channel.psm) far_bond.agreed near_bond.agreed can.near_can far_bond.within near_bond.within
 
     runs : IsRunOf near (pair_of near far turns).near.run × IsRunOf far (pair_of near far turns).far.run
     runs = each-end_runs near far turns
@@ -235,6 +228,21 @@ enhanced-are_pipes near far turns channel uttered read passes have agreed = (
       back = back;
     }
 
+pub enhanced-are_pipes : EnhancedChannelsArePipes
+enhanced-are_pipes near far turns channel uttered read passes have can = (
+  λ party mode. near_pipe t channel (pair_of near far turns) (piped (inl (other_wishes near far turns read Far (mirrored channel) have.far_has mode))) party mode,
+  λ party mode. let wish : OneWishes near far channel.psm Enhanced = inr (other_wishes near far turns read Near channel have.near_has mode) in
+      near_pipe (other_terms t) (mirrored channel) (turned (pair_of near far turns)) (λ party. turned-piped party t channel (pair_of near far turns) (piped wish party)) party mode,
+)
+  where
+    near_bond : Bond near far turns Near channel.psm channel.own
+    near_bond = bond-of near far turns read Near channel have.near_has can.near_can can.far_can
+
+    far_bond : Bond near far turns Far channel.psm channel.peer
+    far_bond = bond-of near far turns read Far (mirrored channel) have.far_has can.far_can can.near_can
+
+    t : Terms
+    t = terms_of near far turns channel near_bond far_bond
+
     piped : OneWishes near far channel.psm Enhanced → (party : Party) → Piped party t channel (pair_of near far turns)
-    piped wish party =
-        all_piped near far party t channel turns [] turns fair (common_at near far turns channel near_bond far_bond read have wish) refl uttered passes (first-runs IsUttered near far) (first_piped near far party t channel there back)
+    piped wish party = piped-by near far turns uttered read passes channel have can near_bond far_bond wish party

@@ -211,7 +211,7 @@ opened_set (Some entry) is = by (is_set entry.setup) is
     by false all = all
 
 -- what is carried of it
-before_comes : (policy : Policy) (party : Party) (channel : Channel) (run : Run) (pdu : List ℕ) → IsSound policy run → eqb (channel_of pdu) channel.own ≡ true
+pub before_comes : (policy : Policy) (party : Party) (channel : Channel) (run : Run) (pdu : List ℕ) → IsSound policy run → eqb (channel_of pdu) channel.own ≡ true
     → (let more : List Saying = run.said ++ Carried Into pdu ∷ [] in
     Before policy party channel.own pdu run.told run.up (heard_on channel run.said) (heard_on channel more) (sdus party channel Into run.said) (sdus party channel Into more) (read_at channel.own (reading run.said).entries))
 before_comes policy party channel run pdu sound same =

@@ -4,11 +4,11 @@ use Rattle.std.proofs.lemmas.Bool.Decides.{leb_tells}
 use Rattle.l2cap_config.specs.declared.wish.Agreed.{Agreed}
 use Rattle.l2cap_config.specs.declared.wish.Mode.TheVariants.{Basic}
 use Rattle.l2cap_config.specs.declared.wish.Wish.{Wish}
-use Rattle.ertm_frames.specs.Frames.{PlainFrame}
+use Rattle.ertm_frames.specs.Frames.{PlainFrame, information, supervisory}
 use Rattle.ertm_frames.specs.Answers.{IsWithin}
 use Rattle.ertm_frames.specs.Reading.{answer_in}
 use Rattle.ertm_model.specs.Value.{Ertm, new_ertm}
-use Rattle.ertm_model.specs.Giving.{timed}
+use Rattle.ertm_model.specs.Giving.{Giving, PollAnswer, Acknowledgement, Rejection, Polling, Again, New, giving, given_frame, frame_by, next_frame, timed}
 use Rattle.ertm_model.specs.Pair.{Sent, End, Pair, new_end, near, Fire, behind_front}
 use Rattle.ertm_model.specs.Order.{StandsBoth}
 use Rattle.ertm_model.proofs.Standing.{does-stands, goes-stands, swapped}
@@ -31,9 +31,32 @@ pub record Seen : Type 0 where
   pub to_near : List (List ℕ)
   pub to_far : List (List ℕ)
 
+-- an I-frame ends no wait
+abbrev pub EndsNoWait : PlainFrame → Type 0
+EndsNoWait (information tx final req sar total octets) = final ≡ false
+EndsNoWait (supervisory kind poll final req) = Unit {0}
+
+given_ends_none : (given : Giving) (machine : Ertm) → EndsNoWait (given_frame given machine)
+given_ends_none PollAnswer machine = tt
+given_ends_none Acknowledgement machine = tt
+given_ends_none Rejection machine = tt
+given_ends_none Polling machine = tt
+given_ends_none (Again kept) machine = refl
+given_ends_none (New segment behind) machine = refl
+
+frame_ends_none : (given : Option Giving) (machine : Ertm) (frame : PlainFrame) → frame_by given machine ≡ Some frame → EndsNoWait frame
+frame_ends_none None machine frame is = cc
+frame_ends_none (Some given) machine frame is =
+    let same : given_frame given machine ≡ frame = cc in
+    subst EndsNoWait same (given_ends_none given machine)
+
+-- so it is of those that a machine gives
+pub next-ends_none : (machine : Ertm) (frame : PlainFrame) → next_frame machine ≡ Some frame → EndsNoWait frame
+next-ends_none machine frame next = frame_ends_none (giving machine) machine frame next
+
 -- a PDU is read as the frame, where it is none too long
 abbrev pub Reads : List ℕ → PlainFrame → Type 0
-Reads pdu frame = (most : ℕ) → IsWithin most frame → answer_in most pdu ≡ Ok frame
+Reads pdu frame = EndsNoWait frame × ((most : ℕ) → IsWithin most frame → answer_in most pdu ≡ Ok frame)
 
 abbrev pub AreSpelled : List (List ℕ) → List Sent → Type 0
 AreSpelled [] [] = Unit {0}

@@ -100,3 +100,17 @@ pub mod Fitting
 pub mod Modest
 pub mod Fitted
 pub mod Numbering
+pub mod Lingering
+pub mod Agreements
+pub mod HandingUp
+pub mod Wholeness
+pub mod Mild
+pub mod PlainReplies
+pub mod OwnModes
+pub mod Arrived
+pub mod OwnWishes
+pub mod Putting
+pub mod Drawing
+pub mod Submitting
+pub mod Taken
+pub mod Delivered

@@ -15,26 +15,23 @@ use Rattle.link_talk.specs.declared.channel.Channel.{Channel}
 use Rattle.link_talk.specs.Sayings.{Saying}
 use Rattle.link_talk.specs.Meanings.{Part}
 use Rattle.link_talk.specs.Setups.{Setup, mode_numbered, mode_stated, mode_in, with_answer}
-use Rattle.link_talk.specs.declared.life.Life.TheVariants.{Alive, Over, Leaving as Left, Crossed as Crossing}
 use Rattle.link_talk.specs.Channels.{Entry, reading}
-use Rattle.channel_model.specs.Value.{Carrier, Setup as Talks, Stage, Requested, Connected, Leaving, Closing, Crossed, Held}
 use Rattle.channel_model.specs.Policies.{Policy}
-use Rattle.channel_model.specs.Changing.{held_at}
-use Rattle.channel_laws.specs.Views.{peer_of, life_of, carrier_mode, standing, IsThere, read_at}
+use Rattle.channel_laws.specs.Views.{read_at}
 use Rattle.channel_laws.specs.Endpoints.{IsOf}
 use Rattle.channel_laws.specs.Pairs.{Side, Near, Far, turned, Turn, pair_of, IsRunOf}
 use Rattle.channel_laws.specs.Belonging.{AreRead, said_at}
 use Rattle.channel_laws.specs.Common.{mirrored}
 use Rattle.channel_laws.specs.Runs.{Run}
 use Rattle.channel_laws.specs.Modes.{policy_of, ModesAreWished, ModesAreCommon}
-use Rattle.channel_laws.proofs.Sound.{PartsAre, states_mode, CarrierIs, Agrees, AgreesIf, ReadsBy, Reads}
+use Rattle.channel_laws.proofs.Sound.{PartsAre, states_mode}
 use Rattle.channel_laws.proofs.Agreeing.{parts-more, requested-states}
 use Rattle.channel_laws.proofs.Granting.{no_parts}
 use Rattle.channel_laws.proofs.Belonging.{IsWished, wishes-wished}
 use Rattle.channel_laws.proofs.Petitions.{IsAskedOf, asked-before, Survives, all-survive}
 use Rattle.channel_laws.proofs.Sharing.{psms-same, channels-are_common}
 use Rattle.channel_laws.proofs.Pairing.{each-end_runs}
-use Rattle.channel_laws.proofs.Running.{IsSound, all-sound}
+use Rattle.channel_laws.proofs.OwnModes.{modes-are_own}
 
 -- ---- what requests state
 
@@ -153,39 +150,14 @@ modes-are_wished near far turns read side own entry mode found accepted = accept
 
 -- ---- the own mode
 
--- what a host accepted of a channel that it has, and whose end it has not asked for, has the mode that it wishes
-own_mode : (policy : Policy) (run : Run) (own : ℕ) (entry : Entry) (mode : Mode) → IsRunOf policy run → read_at own (reading run.said).entries ≡ Some entry → entry.life ≡ Alive → entry.setup.accepted ≡ Some mode → (policy.wish entry.channel.psm).mode ≡ mode
-own_mode policy run own entry mode (list, is) found alive accepted = by (held_at own run.value) (subst (Reads policy (held_at own run.value)) found (sound.core.reads own))
-  where
-    sound : IsSound policy run
-    sound = subst (IsSound policy) (sym is) (all-sound policy list)
-
-    carried : (wish : Wish) (setup : Talks) (carrier : Option Carrier) → setup.carrier ≡ carrier → Agrees wish setup entry.setup → wish.mode ≡ mode
-    carried wish setup None at agrees = let never : Some mode ≡ None = sym accepted ∙ (agrees.set_up.accepted_is ∙ ap (option_map carrier_mode) at) in absurd cc
-    carried wish setup (Some carrier) at agrees =
-        sym (subst (CarrierIs wish) at agrees.carrier_is)
-        ∙ some_mode (carrier_mode carrier) mode (sym (agrees.set_up.accepted_is ∙ ap (option_map carrier_mode) at) ∙ accepted)
-
-    talks : (held : Held) (stage : Stage) (peer : ℕ) → held.stage ≡ stage → peer_of stage ≡ Some peer → IsThere held peer entry → AgreesIf (policy.wish held.psm) (standing stage) entry.setup → (policy.wish held.psm).mode ≡ mode
-    talks held (Requested request) peer is to there agrees = cc
-    talks held (Connected at setup) peer is to there agrees = carried (policy.wish held.psm) setup setup.carrier refl agrees
-    talks held (Leaving at setup request) peer is to there agrees = let never : Alive ≡ Left = sym alive ∙ (there.life_is ∙ ap life_of is) in absurd cc
-    talks held (Closing at request checked) peer is to there agrees = let never : Alive ≡ Left = sym alive ∙ (there.life_is ∙ ap life_of is) in absurd cc
-    talks held (Crossed at request) peer is to there agrees = let never : Alive ≡ Crossing = sym alive ∙ (there.life_is ∙ ap life_of is) in absurd cc
-
-    of : (held : Held) (peer : Option ℕ) → peer_of held.stage ≡ peer → ReadsBy policy held peer (Some entry) → (policy.wish entry.channel.psm).mode ≡ mode
-    of held None to reads = elim reads [ ]
-    of held (Some peer) to (there, agrees) = ap (λ (c : Channel). (policy.wish c.psm).mode) there.channel_is ∙ talks held held.stage peer refl to there agrees
-
-    by : (held : Option Held) → Reads policy held (Some entry) → (policy.wish entry.channel.psm).mode ≡ mode
-    by None over = let never : Alive ≡ Over = sym alive ∙ over in absurd cc
-    by (Some held) reads = of held (peer_of held.stage) refl reads
+own_of_run : (policy : Policy) (run : Run) (own : ℕ) (entry : Entry) (mode : Mode) → IsRunOf policy run → read_at own (reading run.said).entries ≡ Some entry → entry.setup.accepted ≡ Some mode → (policy.wish entry.channel.psm).mode ≡ mode
+own_of_run policy run own entry mode (list, is) found accepted = modes-are_own policy list own entry mode (subst (λ (r : Run). read_at own (reading r.said).entries ≡ Some entry) is found) accepted
 
 -- at either end
-own_at : (near far : Policy) (turns : List Turn) (side : Side) (own : ℕ) (entry : Entry) (mode : Mode) → read_at own (reading (said_at side (pair_of near far turns))).entries ≡ Some entry → entry.life ≡ Alive → entry.setup.accepted ≡ Some mode
+own_at : (near far : Policy) (turns : List Turn) (side : Side) (own : ℕ) (entry : Entry) (mode : Mode) → read_at own (reading (said_at side (pair_of near far turns))).entries ≡ Some entry → entry.setup.accepted ≡ Some mode
     → ((policy_of side near far).wish entry.channel.psm).mode ≡ mode
-own_at near far turns Near own entry mode found alive accepted = own_mode near (pair_of near far turns).near.run own entry mode (each-end_runs near far turns).0 found alive accepted
-own_at near far turns Far own entry mode found alive accepted = own_mode far (pair_of near far turns).far.run own entry mode (each-end_runs near far turns).1 found alive accepted
+own_at near far turns Near own entry mode found accepted = own_of_run near (pair_of near far turns).near.run own entry mode (each-end_runs near far turns).0 found accepted
+own_at near far turns Far own entry mode found accepted = own_of_run far (pair_of near far turns).far.run own entry mode (each-end_runs near far turns).1 found accepted
 
 -- what the other end accepted this one wishes
 wished_here : (near far : Policy) (turns : List Turn) → AreRead near far turns → (side : Side) (own : ℕ) (entry : Entry) (mode : Mode) → read_at own (reading (said_at side (turned (pair_of near far turns)))).entries ≡ Some entry → entry.setup.accepted ≡ Some mode
@@ -194,8 +166,8 @@ wished_here near far turns read Near own entry mode found accepted = modes-are_w
 wished_here near far turns read Far own entry mode found accepted = modes-are_wished near far turns read Near own entry mode found accepted
 
 pub modes-are_common : ModesAreCommon
-modes-are_common near far turns read side own one other mode again found also alive accepted answered =
-    sym (own_at near far turns side own one mode found alive accepted)
+modes-are_common near far turns read side own one other mode again found also accepted answered =
+    sym (own_at near far turns side own one mode found accepted)
     ∙ (ap (λ psm. ((policy_of side near far).wish psm).mode) (sym same) ∙ wished_here near far turns read side one.channel.peer other again also answered)
   where
     common : IsOf (mirrored one.channel) (Some other)

@@ -117,7 +117,7 @@ pub record IsMate (agreed : Agreed) (own peer : ℕ) (v : Channels) : Type 0 whe
 abbrev pub Agrees : Agreed → (own : ℕ) → Channels → Type 0
 Agrees agreed own v = (held : Held) (setup : Setup) (carrier : Carrier) → held_at own v ≡ Some held → setup_of held.stage ≡ Some setup → setup.carrier ≡ Some carrier → IsMachine agreed (is_open setup) carrier
 
-settle : (agreed : Agreed) (e : End) (opened : Bool) (machine : Ertm) → machine.agreed ≡ agreed → Holds agreed e opened (Some (Retransmitting machine)) → (machine ≡ e.machine) × (machine.closed ≡ None)
+pub settle : (agreed : Agreed) (e : End) (opened : Bool) (machine : Ertm) → machine.agreed ≡ agreed → Holds agreed e opened (Some (Retransmitting machine)) → (machine ≡ e.machine) × (machine.closed ≡ None)
 settle agreed e opened machine is (inl (other, same, new)) =
     let alike : other ≡ agreed = sym (ap (λ (m : Ertm). m.agreed) same) ∙ is in
     (same ∙ (ap new_ertm alike ∙ sym (ap (λ (x : End). x.machine) new)), ap (λ (m : Ertm). m.closed) same)
@@ -140,9 +140,9 @@ all_at P [] n x all is = cc
 all_at P (y ∷ xs) zero x all is = let same : y ≡ x = cc in subst P same all.0
 all_at P (y ∷ xs) (suc n) x all is = all_at P xs n x all.1 is
 
-frame_within : (most window given reach number : ℕ) (put : List Segment) (frame : PlainFrame) → AllByRecursion (λ (s : Segment). length s.octets ≤ most) put → MayFly window put given reach number frame → IsWithin most frame
-frame_within most window given reach number put (information tx final req sar total octets) short may = all_at (λ (s : Segment). length s.octets ≤ most) put number (segment_of sar total octets) short may.3
-frame_within most window given reach number put (supervisory kind poll final req) short may = tt
+pub frame-within : (most window given reach number : ℕ) (put : List Segment) (frame : PlainFrame) → AllByRecursion (λ (s : Segment). length s.octets ≤ most) put → MayFly window put given reach number frame → IsWithin most frame
+frame-within most window given reach number put (information tx final req sar total octets) short may = all_at (λ (s : Segment). length s.octets ≤ most) put number (segment_of sar total octets) short may.3
+frame-within most window given reach number put (supervisory kind poll final req) short may = tt
 
 same_queue : (frame : PlainFrame) (e : End) → (hearing frame e).queue ≡ e.queue
 same_queue frame e = by e.machine.closed (fault frame e.machine)
@@ -159,9 +159,9 @@ hears-frame t d pdu rest is p joins open' = by p.b.queue refl (subst (λ pdus. A
     by : (queue : List Sent) → p.b.queue ≡ queue → AreSpelled (pdu ∷ rest) queue → Heard t d p (answer_in t.mine.receive_mps pdu)
     by [] none spelled = elim spelled [ ]
     by (sent ∷ queue) first (read, spelled) =
-        let within : IsWithin t.mine.receive_mps sent.frame = frame_within t.mine.receive_mps _ _ _ sent.number p.b.put sent.frame joins.far_tells.short (front-flies p.b p.a sent queue (swapped joins.stands) first) in
+        let within : IsWithin t.mine.receive_mps sent.frame = frame-within t.mine.receive_mps _ _ _ sent.number p.b.put sent.frame joins.far_tells.short (front-flies p.b p.a sent queue (swapped joins.stands) first) in
         let now : End = hearing sent.frame p.a in
-        subst (Heard t d p) (sym (read t.mine.receive_mps within)) (record {
+        subst (Heard t d p) (sym (read.1 t.mine.receive_mps within)) (record {
           pair = record { a = now; b = p.b };
           joins = record {
             stands = swapped (hearing-stands p.b p.a sent queue first (swapped joins.stands));

@@ -1,7 +1,8 @@
 -- Options that a host accepts are within what its peer wishes.
-use Rattle.std.proofs.Common.{◌≡◌, ℕ, ◌≤◌, Bool, true, false, cond, eqb, ◌||◌, Some, None, Ok, refl, sym, ap, subst, ◌∙◌, arith}
+use Rattle.std.proofs.Common.{◌≡◌, ℕ, ◌≤◌, List, [], ◌∷◌, ◌++◌, Bool, true, false, cond, eqb, ◌||◌, Some, None, Ok, refl, sym, ap, subst, ◌∙◌, arith, append_assoc}
 use Rattle.std.specs.Prelude.{min, nat_lt, unwrap_or, IfSome, zero, suc, Result}
-use Rattle.std.proofs.Math.Nat.{min-le_left, min-le_right}
+use Rattle.std.specs.List.{AllByRecursion}
+use Rattle.std.proofs.Math.Nat.{min-le_right}
 use Rattle.std.proofs.lemmas.Bool.{ltb-false}
 use Rattle.l2cap_config.specs.declared.options.ModeOption.{ModeOption}
 use Rattle.l2cap_config.specs.declared.options.Options.{Options}
@@ -12,15 +13,19 @@ use Rattle.l2cap_config.specs.declared.wish.Mode.{Mode}
 use Rattle.l2cap_config.specs.declared.wish.Mode.TheVariants.{Basic, Enhanced}
 use Rattle.l2cap_config.specs.declared.wish.Wish.{Wish}
 use Rattle.l2cap_config.specs.Laws.{FitsMode, Fits}
+use Rattle.l2cap_config.specs.Items.{no_options, joined}
 use Rattle.l2cap_config.specs.Reading.{options_read}
-use Rattle.l2cap_config.specs.Writing.{written}
 use Rattle.l2cap_config.specs.Agreement.{mode_number, own_mode, bounded, requested_mode, requested, answered_values, answered, sent_mps, sent_window, agreed_on}
 use Rattle.l2cap_config.proofs.Written.{written_read}
+use Rattle.link_talk.specs.Sayings.{Saying}
 use Rattle.channel_model.specs.Configuring.{bounded_agreement}
+use Rattle.channel_laws.specs.Agreements.{IsHeard, joined_parts}
+use Rattle.channel_laws.specs.Pairs.{pair_of}
+use Rattle.channel_laws.specs.Belonging.{said_at}
 use Rattle.channel_laws.specs.Modes.{policy_of}
 use Rattle.channel_laws.specs.Pipes.{Suits, CanState}
 use Rattle.channel_laws.specs.Suiting.{OptionsSuit}
-use Rattle.channel_laws.proofs.Agreeing.{accepts-mode}
+use Rattle.channel_laws.proofs.Agreeing.{read-joined, accepts-mode}
 use Rattle.channel_laws.proofs.Attending.{accepted-values}
 use Rattle.channel_laws.proofs.Modes.{asked-wished}
 
@@ -100,10 +105,21 @@ suits_by mine theirs suggested given others Enhanced is enhanced can theirs_can 
 ok_options : (a b : Options) → (let one : Result Options ConfigRefusal = Ok a in let other : Result Options ConfigRefusal = Ok b in one ≡ other) → a ≡ b
 ok_options a b is = cc
 
+-- of what a host asks for, the later takes the place of the earlier
+joined_requested : (wish : Wish) (suggested other : Options) → joined (requested wish suggested) (requested wish other) ≡ requested wish other
+joined_requested wish suggested other = by wish.mode
+  where
+    by : (mode : Mode)
+        → (let one : Options = record no_options { mtu = Some (min (unwrap_or suggested.mtu wish.mtu) wish.mtu); mode = requested_mode wish mode suggested.mode } in
+        let two : Options = record no_options { mtu = Some (min (unwrap_or other.mtu wish.mtu) wish.mtu); mode = requested_mode wish mode other.mode } in joined one two ≡ two)
+    by Basic = refl
+    by Enhanced = refl
+
 pub options-suit : OptionsSuit
-options-suit near far turns read side own identifier flags entry octets options given others found heard stated enhanced can theirs_can accepts =
-    subst (λ o. Suits (bounded_agreement (agreed_on mine o)) (bounded_agreement (agreed_on theirs others))) (sym same)
-    (suits_by mine theirs asked.0 given others theirs.mode refl enhanced can theirs_can (subst (λ o. answered mine o ≡ Accept given) same accepts))
+options-suit near far turns read side own entry agreed others found on enhanced can theirs_can =
+    subst (λ a. Suits a (bounded_agreement (agreed_on theirs others))) (sym on.agreed_is)
+    (subst (λ o. Suits (bounded_agreement (agreed_on mine o)) (bounded_agreement (agreed_on theirs others))) (sym same)
+    (suits_by mine theirs whole.0 on.given others theirs.mode refl enhanced can theirs_can (subst (λ o. answered mine o ≡ Accept on.given) same on.accepts)))
   where
     mine : Wish
     mine = (policy_of side near far).wish entry.channel.psm
@@ -111,11 +127,31 @@ options-suit near far turns read side own identifier flags entry octets options 
     theirs : Wish
     theirs = (policy_of side far near).wish entry.channel.psm
 
-    asked : (suggested : Options) × (octets ≡ written (requested theirs suggested))
-    asked = asked-wished near far turns read side own entry found octets (identifier, flags, heard)
+    said : List Saying
+    said = said_at side (pair_of near far turns)
 
-    both : (let one : Result Options ConfigRefusal = Ok options in let other : Result Options ConfigRefusal = Ok (requested theirs asked.0) in one ≡ other)
-    both = sym stated ∙ (ap options_read asked.1 ∙ written_read (requested theirs asked.0) (requested_fits theirs asked.0 theirs_can))
+    Asks : List ℕ → Type 0
+    Asks octets = (suggested : Options) × (options_read octets ≡ Ok (requested theirs suggested))
 
-    same : options ≡ requested theirs asked.0
-    same = ok_options options (requested theirs asked.0) both
+    -- each part states what the other end asks for
+    one : (more : Bool) (octets : List ℕ) → IsHeard own more said octets → Asks octets
+    one more octets heard =
+        let (suggested, is) = asked-wished near far turns read side own entry found octets (heard.identifier, heard.flags, heard.heard) in
+        (suggested, ap options_read is ∙ written_read (requested theirs suggested) (requested_fits theirs suggested theirs_can))
+
+    -- and so do all of them
+    all : (parts : List (List ℕ)) (last : List ℕ) → AllByRecursion (IsHeard own true said) parts → IsHeard own false said last → Asks (joined_parts parts ++ last)
+    all [] last parts_heard last_heard = one false last last_heard
+    all (part ∷ parts) last (now, parts_heard) last_heard =
+        let (first, first_is) = one true part now in
+        let (rest, rest_is) = all parts last parts_heard last_heard in (
+          rest,
+          ap options_read (append_assoc part (joined_parts parts) last)
+              ∙ (read-joined part (joined_parts parts ++ last) (requested theirs first) (requested theirs rest) first_is rest_is ∙ ap Ok (joined_requested theirs first rest)),
+        )
+
+    whole : Asks (joined_parts on.parts ++ on.last)
+    whole = all on.parts on.last on.parts_heard on.last_heard
+
+    same : on.options ≡ requested theirs whole.0
+    same = ok_options on.options (requested theirs whole.0) (sym on.read_is ∙ whole.1)

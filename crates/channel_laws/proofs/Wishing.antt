@@ -240,7 +240,7 @@ mild_wish party channel w other peer held request octets at talks asks = λ past
         ∙ asking_is held.stage request m (sym (ap asked_on here) ∙ asked) asks
     by past after m asked is false away = wish_passes party channel past w request.identifier peer other octets m held (held_at channel.own w) (all_before past s w (λ q. refl) after) at talks away refl asked ∙ is
 
-setup_wishes : (stage : Stage) (setup : Setup) (peer : ℕ) (request : Request) (options : Options) → setup_of stage ≡ Some setup → peer_of stage ≡ Some peer → setup.own ≡ Asking request options → (talks_to stage ≡ Some peer) × (asked_at stage ≡ Some (Some request.identifier))
+pub setup_wishes : (stage : Stage) (setup : Setup) (peer : ℕ) (request : Request) (options : Options) → setup_of stage ≡ Some setup → peer_of stage ≡ Some peer → setup.own ≡ Asking request options → (talks_to stage ≡ Some peer) × (asked_at stage ≡ Some (Some request.identifier))
 setup_wishes (Requested other) setup peer request options has to is = cc
 setup_wishes (Connected p s) setup peer request options has to is = let same : s ≡ setup = cc in (to, ap (λ o. Some (asked_by (own_request o))) (ap (λ (x : Setup). x.own) same ∙ is))
 setup_wishes (Leaving p s other) setup peer request options has to is = let same : s ≡ setup = cc in (to, ap (λ o. Some (asked_by (own_request o))) (ap (λ (x : Setup). x.own) same ∙ is))

@@ -27,3 +27,7 @@ pub mod Singly
 pub mod Pending
 pub mod Closings
 pub mod Fit
+pub mod Agreements
+pub mod Whole
+pub mod Taken
+pub mod Delivered

@@ -1,9 +1,9 @@
 -- In what mode the two ends of a link have a channel (Core 5.1, Volume 3 Part A, 5.4 and 7.1).
 use Rattle.std.specs.Prelude.{ℕ, ◌≡◌, List, Some, ◌⊎◌}
 use Rattle.l2cap_config.specs.declared.wish.Mode.{Mode}
-use Rattle.link_talk.specs.declared.life.Life.TheVariants.{Alive}
 use Rattle.link_talk.specs.Channels.{Entry, reading}
 use Rattle.channel_model.specs.Policies.{Policy}
+use Rattle.channel_laws.specs.Runs.{Occurrence, run_of}
 use Rattle.channel_laws.specs.Views.{read_at}
 use Rattle.channel_laws.specs.Pairs.{Side, Near, Far, turned, Turn, pair_of}
 use Rattle.channel_laws.specs.Belonging.{AreRead, said_at}
@@ -22,8 +22,11 @@ abbrev pub ModesAreWished : Type 0
 ModesAreWished = (near far : Policy) (turns : List Turn) → AreRead near far turns → (side : Side) (own : ℕ) (entry : Entry) (mode : Mode) → read_at own (reading (said_at side (pair_of near far turns))).entries ≡ Some entry → entry.setup.accepted ≡ Some mode
     → ((policy_of side far near).wish entry.channel.psm).mode ≡ mode
 
--- So where both accepted options of a channel that they have in common, both did so in the same mode. One of them has it still, and has
--- not asked for its end.
+-- Whatever happens to a host: the mode that it accepted of a channel is the one that it wishes of it.
+abbrev pub ModesAreOwn : Type 0
+ModesAreOwn = (policy : Policy) (list : List Occurrence) (own : ℕ) (entry : Entry) (mode : Mode) → read_at own (reading (run_of policy list).said).entries ≡ Some entry → entry.setup.accepted ≡ Some mode → (policy.wish entry.channel.psm).mode ≡ mode
+
+-- So where both accepted options of a channel that they have in common, both did so in the same mode.
 abbrev pub ModesAreCommon : Type 0
 ModesAreCommon = (near far : Policy) (turns : List Turn) → AreRead near far turns → (side : Side) (own : ℕ) (one other : Entry) (mode again : Mode) → read_at own (reading (said_at side (pair_of near far turns))).entries ≡ Some one
-    → read_at one.channel.peer (reading (said_at side (turned (pair_of near far turns)))).entries ≡ Some other → one.life ≡ Alive → one.setup.accepted ≡ Some mode → other.setup.accepted ≡ Some again → mode ≡ again
+    → read_at one.channel.peer (reading (said_at side (turned (pair_of near far turns)))).entries ≡ Some other → one.setup.accepted ≡ Some mode → other.setup.accepted ≡ Some again → mode ≡ again

@@ -1,37 +1,27 @@
 -- Enhanced channels are pipes of SDUs, whatever a link loses, repeats and damages (Core 5.1, Volume 3 Part A, 8.6).
-use Rattle.std.specs.Prelude.{ℕ, ◌≡◌, ◌≤◌, ◌<◌, ◌^◌, List, [], ◌∷◌, ◌++◌, length, Option, Some, None, Ok, Err, ◌⊎◌}
+use Rattle.std.specs.Prelude.{ℕ, ◌≡◌, ◌≤◌, ◌<◌, ◌^◌, List, [], ◌∷◌, ◌++◌, length, Option, Some, None, Err, ◌⊎◌}
 use Rattle.acl_fragments.specs.Pieces.{channel_of}
-use Rattle.capture.specs.Histories.{EachAfter, AtEach}
-use Rattle.capture.specs.declared.flow.Flow.TheVariants.{Out, Into}
-use Rattle.l2cap_signal.specs.Commands.{configuration_request}
-use Rattle.l2cap_config.specs.declared.options.Options.{Options}
-use Rattle.l2cap_config.specs.declared.agreement.ConfigAnswer.TheVariants.{Accept}
+use Rattle.capture.specs.Histories.{EachAfter}
+use Rattle.capture.specs.declared.flow.Flow.TheVariants.{Out}
 use Rattle.l2cap_config.specs.declared.wish.Wish.{Wish}
-use Rattle.l2cap_config.specs.Reading.{options_read}
-use Rattle.l2cap_config.specs.Agreement.{answered, agreed_on}
 use Rattle.l2cap_config.specs.declared.wish.Agreed.{Agreed}
 use Rattle.l2cap_config.specs.declared.wish.Mode.TheVariants.{Enhanced}
 use Rattle.ertm_frames.specs.declared.refusal.FrameRefusal.TheVariants.{Short, BadFcs}
 use Rattle.ertm_frames.specs.Reading.{answer_in}
-use Rattle.ertm_model.specs.Value.{Ertm}
 use Rattle.ertm_model.specs.Pair.{Meets}
 use Rattle.link_talk.specs.declared.channel.Channel.{Channel}
 use Rattle.link_talk.specs.declared.party.Party.{Party}
 use Rattle.link_talk.specs.Sayings.{Saying}
-use Rattle.link_talk.specs.Sayings as sayings
 use Rattle.link_talk.specs.Channels.{reading}
 use Rattle.link_talk.specs.Carriages.{mode_of}
 use Rattle.link_talk.specs.Sdus.{sdus}
-use Rattle.channel_model.specs.Value.{Retransmitting, Channels}
+use Rattle.channel_model.specs.Value.{Channels}
 use Rattle.channel_model.specs.Policies.{Policy}
-use Rattle.channel_model.specs.Configuring.{bounded_agreement}
 use Rattle.channel_model.specs.Carrying.{Up}
 use Rattle.channel_model.specs.Giving.{Given, Signal, Whole, Framed, next_given}
-use Rattle.channel_model.specs.Calls.{carrier_at, peer_mtu}
-use Rattle.channel_laws.specs.Runs.{Run, Occurrence, Comes, Connects, AsksFeatures, Disconnects, Sends, Gives, Fires, Tells, sdus_up}
+use Rattle.channel_model.specs.Calls.{peer_mtu}
+use Rattle.channel_laws.specs.Runs.{Occurrence, Comes, Connects, AsksFeatures, Disconnects, Sends, Gives, Fires, Tells, sdus_up}
 use Rattle.channel_laws.specs.Views.{read_at}
-use Rattle.channel_laws.specs.OwnTalk.{command_with}
-use Rattle.channel_laws.specs.Signals.{StandsIn}
 use Rattle.channel_laws.specs.Endpoints.{IsOf}
 use Rattle.channel_laws.specs.Belonging.{AreRead}
 use Rattle.channel_laws.specs.Common.{mirrored}
@@ -97,29 +87,10 @@ pub record CanState (wish : Wish) : Type 0 where
   pub some : 1 ≤ wish.window
   pub most : wish.window ≤ 63
 
--- it is what a host agrees on where it finds options acceptable, in enhanced mode, of a request that it heard of the channel
-pub record IsOnHeard (policy : Policy) (psm own : ℕ) (said : List Saying) (agreed : Agreed) : Type 0 where
-  pub identifier : ℕ
-  pub flags : ℕ
-  pub octets : List ℕ
-  pub options : Options
-  pub given : Options
-  pub heard : StandsIn (sayings.Command Into (Ok (command_with identifier (configuration_request own flags octets)))) said
-  pub read_is : options_read octets ≡ Ok options
-  pub enhanced : (policy.wish psm).mode ≡ Enhanced
-  pub accepts : answered (policy.wish psm) options ≡ Accept given
-  pub agreed_is : agreed ≡ bounded_agreement (agreed_on (policy.wish psm) options)
-
--- while the channel is open its host has it so
-abbrev pub AgreesOnHeard : Policy → (psm own : ℕ) → Run → Type 0
-AgreesOnHeard policy psm own run = (machine : Ertm) → carrier_at own run.value ≡ Some (Retransmitting machine) → IsOnHeard policy psm own run.said machine.agreed
-
--- at each moment, at both ends
-pub record AreAgreed (near far : Policy) (turns : List Turn) (channel : Channel) : Type 0 where
-  pub near_can : CanState (near.wish channel.psm)
-  pub far_can : CanState (far.wish channel.psm)
-  pub near_agreed : AtEach (λ past. AgreesOnHeard near channel.psm channel.own (pair_of near far past).near.run) turns
-  pub far_agreed : AtEach (λ past. AgreesOnHeard far channel.psm channel.peer (pair_of near far past).far.run) turns
+-- so both hosts can of the channels of the PSM
+pub record CanStateBoth (near far : Policy) (psm : ℕ) : Type 0 where
+  pub near_can : CanState (near.wish psm)
+  pub far_can : CanState (far.wish psm)
 
 -- ---- the law
 
@@ -131,8 +102,7 @@ IsFront {X} front all = (behind : List X) × (all ≡ front ++ behind)
 abbrev pub IsPipe : (sent : Channel) → List Saying → (own : ℕ) → List Up → Type 0
 IsPipe sent said own ups = (party : Party) → mode_of sent said ≡ Enhanced → IsFront (sdus_up own ups) (sdus party sent Out said)
 
--- Whatever the link loses, repeats and damages: an enhanced channel that two hosts have in common, each by its agreement on
--- options that it heard, is a pipe of SDUs both ways.
+-- Whatever the link loses, repeats and damages: an enhanced channel that two hosts have in common is a pipe of SDUs both ways.
 abbrev pub EnhancedChannelsArePipes : Type 0
-EnhancedChannelsArePipes = (near far : Policy) (turns : List Turn) (channel : Channel) → AreFair near far turns → AreRead near far turns → AreCarried near far turns → HaveChannel near far turns channel → AreAgreed near far turns channel
+EnhancedChannelsArePipes = (near far : Policy) (turns : List Turn) (channel : Channel) → AreFair near far turns → AreRead near far turns → AreCarried near far turns → HaveChannel near far turns channel → CanStateBoth near far channel.psm
     → IsPipe (mirrored channel) (pair_of near far turns).far.run.said channel.own (pair_of near far turns).near.run.up × IsPipe channel (pair_of near far turns).near.run.said channel.peer (pair_of near far turns).far.run.up

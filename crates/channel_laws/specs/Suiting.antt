@@ -1,36 +1,31 @@
 -- That what one end of a link accepts is within what the other receives by (Core 5.1, Volume 3 Part A, 5.1, 5.4 and 7.1).
-use Rattle.std.specs.Prelude.{ℕ, ◌≡◌, ◌≤◌, ◌<◌, ◌^◌, List, ◌++◌, Some, Ok}
-use Rattle.capture.specs.declared.flow.Flow.TheVariants.{Into}
-use Rattle.l2cap_signal.specs.Commands.{configuration_request}
+use Rattle.std.specs.Prelude.{ℕ, ◌≡◌, List, ◌++◌, Some}
 use Rattle.l2cap_config.specs.declared.options.Options.{Options}
-use Rattle.l2cap_config.specs.declared.agreement.ConfigAnswer.TheVariants.{Accept}
+use Rattle.l2cap_config.specs.declared.wish.Agreed.{Agreed}
 use Rattle.l2cap_config.specs.declared.wish.Mode.TheVariants.{Enhanced}
 use Rattle.l2cap_config.specs.declared.wish.Wish.{Wish}
-use Rattle.l2cap_config.specs.Reading.{options_read}
-use Rattle.l2cap_config.specs.Agreement.{answered, agreed_on}
-use Rattle.link_talk.specs.Sayings as sayings
+use Rattle.l2cap_config.specs.Agreement.{agreed_on}
 use Rattle.link_talk.specs.Channels.{Entry, reading}
 use Rattle.ertm_model.specs.Value.{Ertm}
 use Rattle.channel_model.specs.Value.{Retransmitting}
 use Rattle.channel_model.specs.Policies.{Policy}
 use Rattle.channel_model.specs.Calls.{carrier_at}
 use Rattle.channel_model.specs.Configuring.{bounded_agreement}
-use Rattle.channel_laws.specs.OwnTalk.{command_with}
 use Rattle.channel_laws.specs.Runs.{Occurrence, run_of}
 use Rattle.channel_laws.specs.Views.{read_at}
-use Rattle.channel_laws.specs.Signals.{StandsIn}
+use Rattle.channel_laws.specs.Agreements.{IsOnHeard}
 use Rattle.channel_laws.specs.Pairs.{Side, Turn, pair_of}
 use Rattle.channel_laws.specs.Belonging.{AreRead, said_at}
 use Rattle.channel_laws.specs.Modes.{policy_of}
 use Rattle.channel_laws.specs.Pipes.{Suits, CanState}
 
--- Whatever the link loses, repeats and damages: where the options of a request that one end heard of a channel are acceptable to
--- it, in enhanced mode, its agreement on them suits every agreement that the other end may have of the PSM.
+-- Whatever the link loses, repeats and damages: where options that one end heard of a channel, in one request or in parts, are
+-- acceptable to it, in enhanced mode, its agreement on them suits every agreement that the other end may have of the PSM.
 abbrev pub OptionsSuit : Type 0
-OptionsSuit = (near far : Policy) (turns : List Turn) → AreRead near far turns → (side : Side) (own identifier flags : ℕ) (entry : Entry) (octets : List ℕ) (options given others : Options)
-    → read_at own (reading (said_at side (pair_of near far turns))).entries ≡ Some entry → StandsIn (sayings.Command Into (Ok (command_with identifier (configuration_request own flags octets)))) (said_at side (pair_of near far turns)) → options_read octets ≡ Ok options
+OptionsSuit = (near far : Policy) (turns : List Turn) → AreRead near far turns → (side : Side) (own : ℕ) (entry : Entry) (agreed : Agreed) (others : Options)
+    → read_at own (reading (said_at side (pair_of near far turns))).entries ≡ Some entry → IsOnHeard (policy_of side near far) entry.channel.psm own (said_at side (pair_of near far turns)) agreed
     → (let mine : Wish = (policy_of side near far).wish entry.channel.psm in let theirs : Wish = (policy_of side far near).wish entry.channel.psm in
-    mine.mode ≡ Enhanced → CanState mine → CanState theirs → answered mine options ≡ Accept given → Suits (bounded_agreement (agreed_on mine options)) (bounded_agreement (agreed_on theirs others)))
+    mine.mode ≡ Enhanced → CanState mine → CanState theirs → Suits agreed (bounded_agreement (agreed_on theirs others)))
 
 -- Whatever happens to a host: while an enhanced channel of it is open its agreement stays the one by which it opened.
 abbrev pub AgreementsStay : Type 0

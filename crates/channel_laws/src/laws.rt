@@ -1,21 +1,25 @@
 //! Laws of the channels of one host.
 
 ghost use Rattle.channel_laws.specs.Acceptance.{SendsBehindAcceptance};
+ghost use Rattle.channel_laws.specs.Agreements.{AgreementsAreOnHeard};
 ghost use Rattle.channel_laws.specs.Armed.{ArmedIsWhatWaits};
 ghost use Rattle.channel_laws.specs.Awaited.{FeaturesAreAwaited, OptionsAreAwaited, RequestsAreAwaited};
-ghost use Rattle.channel_laws.specs.CheckWords.{CheckWordsAreRead};
+ghost use Rattle.channel_laws.specs.CheckWords.{CheckWordsAreRead, CheckWordsAreWished};
 ghost use Rattle.channel_laws.specs.Endpoints.{EndpointsNameOneChannel};
 ghost use Rattle.channel_laws.specs.Endings.{EndsAreTold};
 ghost use Rattle.channel_laws.specs.Ends.{EachEndUtters};
 ghost use Rattle.channel_laws.specs.Fit.{GivenIsFit};
 ghost use Rattle.channel_laws.specs.Frames.{FramesAreHeld};
 ghost use Rattle.channel_laws.specs.Laws.{ChannelsAreRead, EndpointsAreNew};
+ghost use Rattle.channel_laws.specs.Modes.{ModesAreOwn};
 ghost use Rattle.channel_laws.specs.Pairs.{EachEndRuns};
 ghost use Rattle.channel_laws.specs.Repeats.{RepeatsAreAnswered};
 ghost use Rattle.channel_laws.specs.Sdus.{SdusAreRead};
 ghost use Rattle.channel_laws.specs.Services.{ChannelsAloneWait};
 ghost use Rattle.channel_laws.specs.Belonging.{UtteredIsRead, PledgesWereSaid, ChannelsBelong};
 ghost use Rattle.channel_laws.specs.Signals.{AnswersAreSaid};
+ghost use Rattle.channel_laws.specs.Taken.{TakenGoesOut};
+ghost use Rattle.channel_laws.specs.Whole.{SdusAreHandedUp};
 ghost use Rattle.channel_laws.specs.Tries.{FiringsAloneRepeat, FiringsAreCounted, FiringsAreCountedSince, TriesAreKept};
 
 /// What a host holds of each of its endpoints is what its own talk says, whatever it asks for, whatever
@@ -158,4 +162,31 @@ pub fn firings_are_counted_since()
 /// wait: for the t-th time only behind t - 1 firings.
 pub fn firings_are_counted()
     ensures { FiringsAreCounted }
+{}
+
+/// Whatever happens to a host: while a channel of it is open, it has it in the mode that it wishes, by its agreement on options that it
+/// heard of it, in one request or in parts, and found acceptable.
+pub fn agreements_are_on_heard()
+    ensures { AgreementsAreOnHeard }
+{}
+
+/// Where no retransmission machine closes at a PDU that has a part of an SDU, all SDUs that the own talk of a host brings are handed up.
+pub fn sdus_are_handed_up()
+    ensures { SdusAreHandedUp }
+{}
+
+/// Whatever happens to a host: the mode that it accepted of a channel is the one that it wishes of it, also when the channel has ended.
+pub fn modes_are_own()
+    ensures { ModesAreOwn }
+{}
+
+/// Whatever happens to a host: an endpoint at which it looks for a check word is that of a channel of which it wishes enhanced retransmission
+/// mode, also where it had closed the channel before.
+pub fn check_words_are_wished()
+    ensures { CheckWordsAreWished }
+{}
+
+/// What a host's own talk says that went out on an enhanced channel is a front of what its channel took, SDU for SDU.
+pub fn taken_goes_out()
+    ensures { TakenGoesOut }
 {}

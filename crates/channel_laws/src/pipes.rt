@@ -1,14 +1,16 @@
 //! Laws of two hosts that have a channel in common, on a link that loses, repeats and damages.
 
-ghost use Rattle.channel_laws.specs.Arrivals.{BasicChannelsArrive};
+ghost use Rattle.channel_laws.specs.Arrivals.{BasicChannelsArrive, BasicChannelsComeOnce};
 ghost use Rattle.channel_laws.specs.Closings.{ClosingsAreRead};
 ghost use Rattle.channel_laws.specs.Common.{ChannelsAreCommon};
+ghost use Rattle.channel_laws.specs.Delivered.{TakenIsDelivered, WishedIsDelivered};
 ghost use Rattle.channel_laws.specs.Granted.{EndpointsAreGrantedOnce, EndpointsAskForOnePsm};
 ghost use Rattle.channel_laws.specs.Modes.{ModesAreCommon, ModesAreWished};
 ghost use Rattle.channel_laws.specs.Pipes.{EnhancedChannelsArePipes};
 ghost use Rattle.channel_laws.specs.Pending.{NoneComesDue, OneOpens};
 ghost use Rattle.channel_laws.specs.Singly.{CallsAreOneByOne, GrantsAreSingle, NoneIsCalled};
 ghost use Rattle.channel_laws.specs.Suiting.{AgreementsStay, OptionsSuit};
+ghost use Rattle.channel_laws.specs.Whole.{ChannelsAreWhole};
 
 /// An endpoint that a host granted is that of a channel, for the one endpoint of its peer that it was granted to, and the host never
 /// asks for a channel with it.
@@ -53,8 +55,7 @@ pub fn modes_are_wished()
     ensures { ModesAreWished }
 {}
 
-/// Where both ends accepted options of a channel that they have in common, and one of them has it still and has not asked for its end,
-/// both did so in the same mode.
+/// Where both ends accepted options of a channel that they have in common, both did so in the same mode.
 pub fn modes_are_common()
     ensures { ModesAreCommon }
 {}
@@ -64,8 +65,8 @@ pub fn agreements_stay()
     ensures { AgreementsStay }
 {}
 
-/// Whatever a link loses, repeats and damages: where the options of a request that one end heard of a channel are acceptable to it, in
-/// enhanced mode, its agreement on them suits every agreement that the other end may have of the PSM.
+/// Whatever a link loses, repeats and damages: where options that one end heard of a channel, in one request or in parts, are acceptable to
+/// it, in enhanced mode, its agreement on them suits every agreement that the other end may have of the PSM.
 pub fn options_suit()
     ensures { OptionsSuit }
 {}
@@ -90,4 +91,27 @@ pub fn enhanced_channels_are_pipes()
 /// there come the SDUs that were sent, in their order, some left out and some two or more times running.
 pub fn basic_channels_arrive()
     ensures { BasicChannelsArrive }
+{}
+
+/// Whatever a link loses, repeats and damages: all SDUs that come on the channels of two hosts are handed up, also of a channel that its
+/// retransmission machine closed.
+pub fn channels_are_whole()
+    ensures { ChannelsAreWhole }
+{}
+
+/// Whatever a link loses and damages, where it repeats nothing: over a channel that two hosts have in common, and of which one of them wishes
+/// basic mode, there come the SDUs that were sent, in their order, each once at most.
+pub fn basic_channels_come_once()
+    ensures { BasicChannelsComeOnce }
+{}
+
+/// Whatever a link loses, repeats and damages: over an enhanced channel that two hosts have in common there come the SDUs that the
+/// channel took of the other host, in their order, both ways.
+pub fn taken_is_delivered()
+    ensures { TakenIsDelivered }
+{}
+
+/// The same where both hosts wish enhanced mode of the channel's PSM, in whatever mode the talk of either has the channel so far.
+pub fn wished_is_delivered()
+    ensures { WishedIsDelivered }
 {}

@@ -1,8 +1,9 @@
 -- What one channel does in a firing.
-use Rattle.std.proofs.Common.{◌≡◌, ℕ, List, [], ◌∷◌, ◌++◌, map, filter, find, Bool, true, false, cond, not, ◌||◌, eqb, nat_le, Option, Some, None, is_some, refl, sym, ap, ap₂, subst, ◌∙◌, append-nil}
+use Rattle.std.proofs.Common.{◌≡◌, ℕ, List, [], ◌∷◌, ◌++◌, map, filter, find, Bool, true, false, cond, not, ◌||◌, eqb, nat_le, Option, Some, None, is_some, refl, sym, ap, ap₂, subst, ◌∙◌, append_assoc, append-nil}
 use Rattle.std.specs.List.{AllByRecursion, list_any}
 use Rattle.ertm_model.specs.declared.reason.ErtmReason.{ErtmReason}
 use Rattle.ertm_model.specs.Giving.{timed}
+use Rattle.l2cap_config.specs.declared.options.Options.{Options}
 use Rattle.link_talk.specs.Sayings.{Saying}
 use Rattle.channel_model.specs.declared.errand.Errand.{Errand}
 use Rattle.channel_model.specs.declared.errand.Errand.TheVariants as errands
@@ -21,6 +22,8 @@ use Rattle.channel_laws.specs.OwnTalk.{said_of}
 use Rattle.channel_laws.specs.Runs.{said_on_firing}
 use Rattle.channel_laws.proofs.Asking.{newest-last}
 use Rattle.host_laws.specs.Seen.{spoken_of, waiting_in, AllDue}
+use Rattle.host_laws.specs.Steady.{IsSteadyOwn}
+use Rattle.host_laws.proofs.Moving.{spoken-both}
 use Rattle.host_laws.proofs.Firing.{still-said, any-last, again-connection, again-configuration, again-disconnection, closed-said}
 
 -- ---- no copy about a channel waits
@@ -85,6 +88,10 @@ pub record Half (own : ℕ) (u w : Channels) (said : List Saying) : Type 0 where
 
 abbrev pub HalfTo : ℕ → (u w : Channels) → Type 0
 HalfTo own u w = Half own u w (said_on_firing own u w)
+
+-- what the channel waits for, up to a moment, and then its end
+abbrev pub Whole : ℕ → ℕ → (u between : Channels) → Type 0
+Whole own tries u between = Half own u (times_end (held_at own between) tries between) (said_on_firing own u between ++ said_on_firing own between (times_end (held_at own between) tries between))
 
 pub half-still : (own : ℕ) (u w : Channels) → w.identifier ≡ u.identifier → w.queue ≡ u.queue → Kept own u w → HalfTo own u w
 half-still own u w same queue_is kept = record { asks = []; queue_is = queue_is ∙ sym (append-nil u.queue); about = tt; told = still-said own u w same queue_is; due = tt; kept = kept }
@@ -190,6 +197,7 @@ module _ (tries : ℕ) (u : Channels) (held : Held) (found : held_at held.own u 
   pub data Mid : Channels → Type 0 where
     Rests : (w : Channels) → w.identifier ≡ u.identifier → w.queue ≡ u.queue → Kept held.own u w → Mid w
     Goes : (w : Channels) → HalfTo held.own u w → times_end (held_at held.own w) tries w ≡ w → Mid w
+    Both : (w : Channels) → Whole held.own tries u w → Mid w
 
   if_mid : (one other : Channels) (b : Bool) → Mid one → Mid other → Mid (cond b one other)
   if_mid one other true this that = this
@@ -265,7 +273,49 @@ module _ (tries : ℕ) (u : Channels) (held : Held) (found : held_at held.own u 
   asked_at (Asking request options) peer is = refl
   asked_at Granted peer is = cc
 
-  pub stage-mid : (stage : Stage) → held.stage ≡ stage → ((peer : ℕ) (setup : Setup) (request : Request) → stage ≡ Leaving peer setup request → own_waits setup.own ≡ false) → Mid (times_stage stage tries held u)
+  -- the options of a channel on its way out are asked for once more, and so is its end
+  asks_both : (peer : ℕ) (setup : Setup) (end asked : Request) (options : Options) → held.stage ≡ Leaving peer setup end → setup.own ≡ Asking asked options → nat_le tries end.given ≡ false → Mid (queued (Ask (errands.Configuration held.own)) u)
+  asks_both peer setup end asked options is own_is more =
+      let first = errands.Configuration held.own in
+      let last = errands.Disconnection held.own in
+      let w = queued (Ask first) u in
+      let x = queued (Ask last) w in
+      let was = own_due first (configuration_apart held.own) in
+      let then : is_due last w ≡ false = any-last last first u.queue ∙ ap (λ b. b || false) (own_due last (disconnection_apart held.own)) in
+      let ends : times_end (held_at held.own w) tries w ≡ x =
+      ap (λ (f : Option Held). times_end f tries w) found ∙ (ap (λ s. times_end_at s tries held w) is ∙ (not-due tries last end (ends RetryLimit held) w then ∙ ap (λ b. cond b (ends RetryLimit held w) x) more)) in
+      let asks_first : is_some (command_of first x) ≡ true = ap (λ (h : Option Held). is_some (on_held (λ y. configuration_at y.stage) h)) found ∙ (ap (λ s. is_some (configuration_at s)) is ∙ ap (λ o. is_some (configuration_by o peer)) own_is) in
+      let asks_last : is_some (command_of last x) ≡ true = ap (λ (h : Option Held). is_some (on_held (λ y. disconnection_at y.stage y) h)) found ∙ ap (λ s. is_some (disconnection_at s held)) is in
+      let whole : Half held.own u x (said_on_firing held.own u w ++ said_on_firing held.own w x) = record {
+        asks = Ask first ∷ Ask last ∷ [];
+        queue_is = append_assoc u.queue (Ask first ∷ []) (Ask last ∷ []);
+        about = (eqb-same held.own, (eqb-same held.own, tt));
+        told = spoken-both (said_on_firing held.own u w) (said_on_firing held.own w x)
+            ∙ ap₂ (λ (a b : List Saying). a ++ b) (again-configuration held.own u was) (again-disconnection held.own w then ∙ sym (append-nil (said_of (Some last) x)));
+        due = (asks_first, (asks_last, tt));
+        kept = record { others = λ other apart. refl; features_is = refl; lone = lone };
+      } in
+      Both w (subst (λ (y : Channels). Half held.own u y (said_on_firing held.own u w ++ said_on_firing held.own w y)) (sym ends) whole)
+
+  leaving_mid : (peer : ℕ) (setup : Setup) (end : Request) (own : Own) → held.stage ≡ Leaving peer setup end → setup.own ≡ own → IsSteadyOwn tries end own → Mid (times_setup own tries held setup u)
+  leaving_mid peer setup end Unasked is own_is steady = carrier_mid setup setup.carrier (ap (λ s. is_some (setup_of s)) is)
+  leaving_mid peer setup end (Asking asked options) is own_is steady =
+      let errand = errands.Configuration held.own in
+      subst Mid (sym (not-due tries errand asked (closes RetryLimit held) u (own_due errand (configuration_apart held.own)))) (by (nat_le tries asked.given) refl)
+    where
+      may : nat_le tries asked.given ≡ false → nat_le tries end.given ≡ false
+      may off = on (nat_le tries end.given) refl
+        where
+          on : (b : Bool) → nat_le tries end.given ≡ b → nat_le tries end.given ≡ false
+          on true full = let never : true ≡ false = sym (steady full) ∙ off in absurd cc
+          on false open' = open'
+
+      by : (b : Bool) → nat_le tries asked.given ≡ b → Mid (cond b (closes RetryLimit held u) (queued (Ask (errands.Configuration held.own)) u))
+      by true full = close_mid RetryLimit held.stage (ap (λ s. is_some (setup_of s)) is)
+      by false more = asks_both peer setup end asked options is own_is (may more)
+  leaving_mid peer setup end Granted is own_is steady = carrier_mid setup setup.carrier (ap (λ s. is_some (setup_of s)) is)
+
+  pub stage-mid : (stage : Stage) → held.stage ≡ stage → ((peer : ℕ) (setup : Setup) (request : Request) → stage ≡ Leaving peer setup request → IsSteadyOwn tries request setup.own) → Mid (times_stage stage tries held u)
   stage-mid (Requested request) is steady =
       let errand = errands.Connection held.own in
       let was = own_due errand (connection_apart held.own) in
@@ -278,8 +328,6 @@ module _ (tries : ℕ) (u : Channels) (held : Held) (found : held_at held.own u 
       (no_end (Requested request) is refl w refl)))
   stage-mid (Connected peer setup) is steady =
       setup_mid setup setup.own refl (ap (λ s. is_some (setup_of s)) is) (λ waits. ap (λ s. is_some (configuration_at s)) is ∙ asked_at setup.own peer waits) (λ waits w same. no_end (Connected peer setup) is refl w same)
-  stage-mid (Leaving peer setup request) is steady =
-      let none = steady peer setup request refl in
-      setup_mid setup setup.own refl (ap (λ s. is_some (setup_of s)) is) (λ waits. let never : true ≡ false = sym waits ∙ none in absurd cc) (λ waits w same. let never : true ≡ false = sym waits ∙ none in absurd cc)
+  stage-mid (Leaving peer setup request) is steady = leaving_mid peer setup request setup.own is refl (steady peer setup request refl)
   stage-mid (Closing peer request checked) is steady = stays_mid
   stage-mid (Crossed peer request) is steady = stays_mid

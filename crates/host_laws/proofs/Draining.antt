@@ -12,6 +12,7 @@ use Rattle.host_laws.specs.Calls.{Asks, values_after, asked, outer}
 use Rattle.host_laws.specs.Feeds.{Feed, Happens, all_fed, asked_from, Tiding, Tells, tidings_of, tidings_from}
 use Rattle.host_laws.specs.Seen.{IsCalm}
 use Rattle.host_laws.specs.Woven.{Strand, IsOnLink, Telling, woven_list, woven_profile}
+use Rattle.host_laws.specs.Fed.{woven_feeds, happenings}
 use Rattle.host_laws.proofs.Steps.{Grows}
 
 -- one occurrence for each event
@@ -34,10 +35,7 @@ none_asked : (events : List ChannelEvent) → filter_map asked (tellings events)
 none_asked [] = refl
 none_asked (event ∷ events) = none_asked events
 
--- what the profile goes through: each event with the channels as it is taken from them
-abbrev pub happenings : Channels → List ChannelEvent → List Feed
-happenings v [] = []
-happenings v (event ∷ events) = Happens event (record v { events = events }) ∷ happenings (record v { events = events }) events
+-- what the profile goes through
 
 pub each_fed : {P : Type 0} (A : Profile P) (v : Channels) (events : List ChannelEvent) (p : P) → tells_each A events v p ≡ all_fed A p (happenings v events)
 each_fed A v [] p = refl
@@ -66,6 +64,11 @@ drained_profile : {P : Type 0} (A : Profile P) (asks : Asks A) (v : Channels) (e
 drained_profile A asks v [] p = refl
 drained_profile A asks v (event ∷ events) p = let now : Channels = record v { events = events } in drained_profile A asks now events (A.happened event now p)
 
+drained_feeds : {P : Type 0} (A : Profile P) (asks : Asks A) (v : Channels) (events : List ChannelEvent) (p : P) → (let w : Channels = record v { events = events } in happenings v events ≡ woven_feeds A asks (told_strands events) w p)
+drained_feeds A asks v [] p = refl
+drained_feeds A asks v (event ∷ events) p =
+    let now : Channels = record v { events = events } in ap (λ (l : List Feed). Happens event now ∷ l) (drained_feeds A asks now events (A.happened event now p))
+
 told_on_link : (events : List ChannelEvent) → AllByRecursion IsOnLink (told_strands events)
 told_on_link [] = tt
 told_on_link (event ∷ events) = (tt, told_on_link events)
@@ -86,4 +89,5 @@ tells_grow A asks C host =
       woven_is = drained_list A asks v v.events host.profile;
       last_is = drained_profile A asks v v.events host.profile;
       on_link = told_on_link v.events;
+      feeds_are = drained_feeds A asks v v.events host.profile;
     }

@@ -1,6 +1,6 @@
 -- Whatever a host hears and says, its channels are fit: so what it says is read as it was meant.
 use Rattle.std.proofs.Common.{◌≡◌, ℕ, zero, suc, ◌^◌, ◌<◌, List, [], ◌∷◌, length, Bool, true, false, Option, Some, None, is_some, refl, arith, if◌then◌else◌}
-use Rattle.std.specs.Prelude.{not}
+use Rattle.std.specs.Prelude.{not, ◌&&◌}
 use Rattle.std.proofs.lemmas.Bool.{and_parts, leb-true}
 use Rattle.acl_fragments.specs.Pieces.{channel_of}
 use Rattle.bt_base.specs.Objects.{Contents}
@@ -26,9 +26,9 @@ use Rattle.push_model.specs.Server.{Server, Lent, lends, lent_sdu}
 use Rattle.push_model.specs.Steps.{Step, Wait, MakeLink, AskFeatures, OpenChannel, SendSdu, CloseChannel, BreakLink, Ended, NoMemory, steps}
 use Rattle.host_model.specs.Circumstances.{Circumstance, size_in}
 use Rattle.host_model.specs.Endpoints.{endpoint_of, fits, takes_sdu}
-use Rattle.host_model.specs.Pdus.{sdu_of}
+use Rattle.host_model.specs.Pdus.{sdu_of, are_octets}
 use Rattle.host_model.specs.Profiles.{Stride, Profile}
-use Rattle.host_model.specs.Hosts.{Host, first_host, tells_each, tells_events, settles, strides, goes_by, drives, most_steps, handed, hears_pdu, ready, hears_news, hear, after_said}
+use Rattle.host_model.specs.Hosts.{Host, first_host, tells_each, tells_events, settles, strides, goes_by, drives, most_steps, steps_behind, handed, hears_pdu, ready, hears_news, hear, after_said}
 use Rattle.host_model.specs.Clients as clients
 use Rattle.host_model.specs.Clients.{ClientProfile, client_profile, after_end, ended, after_call, calls, cause_of, closed_by, opened_by, event_heard, sent_on, NoBid}
 use Rattle.host_model.specs.Servers as servers
@@ -51,6 +51,17 @@ pub record HoldsOn (policy : Policy) (S : List ℕ → Type 0) (K : Channels →
   pub disconnects : (own : ℕ) (v : Channels) → K v → K (disconnected own v)
   pub sends : (own : ℕ) (sdu : List ℕ) (v : Channels) → takes_sdu own sdu v ≡ true → K v → K (sends own sdu v)
 
+-- what of that a host does to its channels without its profile
+pub record Heeds (policy : Policy) (S : List ℕ → Type 0) (K : Channels → Type 0) : Type 0 where
+  pub new : (events : List ChannelEvent) → K (record no_channels { events = events })
+  pub told : (events : List ChannelEvent) (v : Channels) → K v → K (record v { events = events })
+  pub comes : (pdu : List ℕ) (v : Channels) → S pdu → K v → K (hears policy (channel_of pdu) pdu v)
+  pub timed : (v : Channels) → K v → K (timed_out policy v)
+  pub gives : (v : Channels) → K v → K (after_given v)
+
+heeds_of : (policy : Policy) (S : List ℕ → Type 0) (K : Channels → Type 0) → HoldsOn policy S K → Heeds policy S K
+heeds_of policy S K holds = record { new = holds.new; told = holds.told; comes = holds.comes; timed = holds.timed; gives = holds.gives }
+
 -- they are fit, and the numbers of their frames fit
 pub record IsProper (policy : Policy) (v : Channels) : Type 0 where
   pub fitted : FittedLow v
@@ -58,7 +69,7 @@ pub record IsProper (policy : Policy) (v : Channels) : Type 0 where
 
 -- an SDU that a channel takes is short
 takes_short : (wanted : Policy) (own : ℕ) (sdu : List ℕ) (v : Channels) → takes_sdu own sdu v ≡ true → AreNumbered wanted v → length sdu < 2 ^ 16
-takes_short wanted own sdu v taken so = by (peer_mtu own v) refl (and_parts (fits (length sdu) (peer_mtu own v)) (not (waits own v)) taken).0
+takes_short wanted own sdu v taken so = by (peer_mtu own v) refl (and_parts (fits (length sdu) (peer_mtu own v)) (not (waits own v)) (and_parts (fits (length sdu) (peer_mtu own v) && not (waits own v)) (are_octets sdu) taken).0).0
   where
     by : (mtu : Option ℕ) → peer_mtu own v ≡ mtu → fits (length sdu) mtu ≡ true → length sdu < 2 ^ 16
     by None is fit = cc
@@ -97,7 +108,7 @@ any-holds wanted = record {
 
 -- what is so of a profile, whatever it is told: what it asks for leaves its channels so
 pub record KeepsFit {P : Type 0} (A : Profile P) (S : List ℕ → Type 0) (K : Channels → Type 0) (Q : P → Type 0) : Type 0 where
-  pub holds : HoldsOn A.policy S K
+  pub holds : Heeds A.policy S K
   pub first : Q A.first
   pub given : (circumstances : List Circumstance) (p : P) → Q p → Q (A.given circumstances p)
   pub told : (circumstances : List Circumstance) (news : News) (p : P) → Q p → Q (A.told circumstances news p)
@@ -180,7 +191,7 @@ module _ {P : Type 0} (A : Profile P) (S : List ℕ → Type 0) (K : Channels �
   pub said-fits : (count : ℕ) (host : Host P) → FitHost K Q host → FitHost K Q (after_said A count host)
   said-fits count host fit =
       let given : Host P = record host { channels = after_given host.channels } in
-      let driven : FitHost K Q (drives A most_steps given) = drives_fit most_steps given (record { channels = keeps.holds.gives host.channels fit.channels; profile = fit.profile }) in
+      let driven : FitHost K Q (drives A (steps_behind count) given) = drives_fit (steps_behind count) given (record { channels = keeps.holds.gives host.channels fit.channels; profile = fit.profile }) in
       record { channels = driven.channels; profile = driven.profile }
 
 -- ---- a server
@@ -188,10 +199,10 @@ module _ {P : Type 0} (A : Profile P) (S : List ℕ → Type 0) (K : Channels �
 abbrev pub AnyServer : ServerProfile → Type 0
 AnyServer serving = Unit {0}
 
-module _ (policy : Policy) (S : List ℕ → Type 0) (K : Channels → Type 0) (holds : HoldsOn policy S K) where
+module _ (K : Channels → Type 0) (sending : (own : ℕ) (sdu : List ℕ) (v : Channels) → takes_sdu own sdu v ≡ true → K v → K (sends own sdu v)) where
   server_sends : (taken : Bool) (own : ℕ) (lent : Lent) (v : Channels) (server after : Server) (serving : ServerProfile) → takes_sdu own (sdu_of lent.payload) v ≡ taken → K v
       → (let took : Stride ServerProfile = record { channels = sends own (sdu_of lent.payload) v; profile = record serving { server = after }; more = true } in K (if taken then took else servers.waiting v server serving).channels)
-  server_sends true own lent v server after serving taken fitted = holds.sends own (sdu_of lent.payload) v taken fitted
+  server_sends true own lent v server after serving taken fitted = sending own (sdu_of lent.payload) v taken fitted
   server_sends false own lent v server after serving taken fitted = fitted
 
   server_lends : (lent : Option Lent) (v : Channels) (server : Server) (serving : ServerProfile) → K v → K (servers.takes lent v server serving).channels
@@ -202,17 +213,22 @@ module _ (policy : Policy) (S : List ℕ → Type 0) (K : Channels → Type 0) (
       by None = fitted
       by (Some own) = server_sends (takes_sdu own (sdu_of lent.payload) v) own lent v server _ serving refl fitted
 
-pub servers-keep_fit : (settings : Settings) (content : Option Contents) (S : List ℕ → Type 0) (K : Channels → Type 0) → HoldsOn (policy settings true) S K → KeepsFit (server_profile settings content) S K AnyServer
-servers-keep_fit settings content S K holds = record {
-  holds = holds;
+-- it asks for no channel, and for the end of none
+pub servers-keep_so : (settings : Settings) (content : Option Contents) (S : List ℕ → Type 0) (K : Channels → Type 0) → Heeds (policy settings true) S K → ((own : ℕ) (sdu : List ℕ) (v : Channels) → takes_sdu own sdu v ≡ true → K v → K (sends own sdu v))
+    → KeepsFit (server_profile settings content) S K AnyServer
+servers-keep_so settings content S K heeds sending = record {
+  holds = heeds;
   first = tt;
   given = λ circumstances p so. tt;
   told = λ circumstances news p so. tt;
   received = λ own psm sdu p so. tt;
   happened = λ event v p so. tt;
   sent = λ v p so. tt;
-  steps = λ v p fitted so. (server_lends (policy settings true) S K holds (lent_sdu (lends p.server)) v (lends p.server) p fitted, tt);
+  steps = λ v p fitted so. (server_lends K sending (lent_sdu (lends p.server)) v (lends p.server) p fitted, tt);
 }
+
+pub servers-keep_fit : (settings : Settings) (content : Option Contents) (S : List ℕ → Type 0) (K : Channels → Type 0) → HoldsOn (policy settings true) S K → KeepsFit (server_profile settings content) S K AnyServer
+servers-keep_fit settings content S K holds = servers-keep_so settings content S K (heeds_of (policy settings true) S K holds) holds.sends
 
 -- ---- a client
 
@@ -316,7 +332,7 @@ module _ (policy : Policy) (S : List ℕ → Type 0) (K : Channels → Type 0) (
 
 pub clients-keep_fit : (settings : Settings) (S : List ℕ → Type 0) (K : Channels → Type 0) → HoldsOn (policy settings false) S K → KeepsFit (client_profile settings) S K IsLowClient
 clients-keep_fit settings S K holds = record {
-  holds = holds;
+  holds = heeds_of (policy settings false) S K holds;
   first = omega arith;
   given = λ circumstances p so. so;
   told = told_low;

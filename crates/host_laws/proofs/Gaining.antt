@@ -115,13 +115,13 @@ feeds_same settings content serving (feed ∷ feeds) =
 
 -- ---- on one link
 
-abbrev Fits : Channel → Tiding → Type 0
+abbrev pub Fits : Channel → Tiding → Type 0
 Fits channel (Brings own psm sdu) = (eqb own channel.own ≡ true → psm ≡ 0x1001) × (eqb own channel.own ≡ false → eqb psm 0x1001 ≡ false)
 Fits channel (Tells event) = ClosesItself channel event
 Fits channel (Turns event) = ⊥
 
 -- none is told behind a closing
-abbrev Ends : ℕ → List Tiding → Type 0
+abbrev pub Ends : ℕ → List Tiding → Type 0
 Ends own [] = Unit {0}
 Ends own (Brings other psm sdu ∷ rest) = Ends own rest
 Ends own (Tells event ∷ rest) = (closes_for any_reason own event ≡ true → sdus_told own rest ≡ []) × Ends own rest
@@ -212,7 +212,7 @@ pub no_turns : (policy : Policy) (v : Channels) (list : List Occurrence) → All
 no_turns policy v [] = tt
 no_turns policy v (one ∷ list) = with_no_turn (up_with one v) (told_in one v) (tidings_from policy (value_after policy one v) list) (no_turns policy (value_after policy one v) list)
 
-all_fit : (channel : Channel) (entries : List Entry) (tidings : List Tiding) → channel.psm ≡ 0x1001 → AllByRecursion (λ (entry : Entry). IsFor channel entry.channel) entries → AllByRecursion (IsOfChannel entries) tidings
+pub all_fit : (channel : Channel) (entries : List Entry) (tidings : List Tiding) → channel.psm ≡ 0x1001 → AllByRecursion (λ (entry : Entry). IsFor channel entry.channel) entries → AllByRecursion (IsOfChannel entries) tidings
     → AllByRecursion (ClosesItself channel) (events_told tidings) → AllByRecursion NoTurn tidings → AllByRecursion (Fits channel) tidings
 all_fit channel entries [] psm_is all named closings still = tt
 all_fit channel entries (Brings own psm sdu ∷ rest) psm_is all named closings still = (brings_fit channel entries own psm named.0.0 psm_is all named.0.1, all_fit channel entries rest psm_is all named.1 closings still.1)
@@ -227,7 +227,7 @@ closed_last own (one ∷ list) event is = by (closes_for any_reason own one) (cl
     by true later = refl
     by false later = later
 
-all_end : (own : ℕ) (all before rest : List Tiding) → all ≡ before ++ rest → ((front after : List Tiding) → all ≡ front ++ after → is_told_closed own (events_told front) ≡ true → sdus_told own after ≡ []) → Ends own rest
+pub all_end : (own : ℕ) (all before rest : List Tiding) → all ≡ before ++ rest → ((front after : List Tiding) → all ≡ front ++ after → is_told_closed own (events_told front) ≡ true → sdus_told own after ≡ []) → Ends own rest
 all_end own all before [] is last = tt
 all_end own all before (Brings other psm sdu ∷ rest) is last = all_end own all (before ++ Brings other psm sdu ∷ []) rest (is ∙ sym (append_assoc before (Brings other psm sdu ∷ []) rest)) last
 all_end own all before (Tells event ∷ rest) is last =

@@ -76,7 +76,7 @@ tells_none : (list : List ChannelEvent) (rest : List Tiding) → AllByRecursion 
 tells_none [] rest all = all
 tells_none (event ∷ list) rest all = (tt, tells_none list rest all)
 
-none_told : (policy : Policy) (v : Channels) (list : List Occurrence) → AllByRecursion IsNoPdu list → AllByRecursion IsNoSdu (tidings_from policy v list)
+pub none_told : (policy : Policy) (v : Channels) (list : List Occurrence) → AllByRecursion IsNoPdu list → AllByRecursion IsNoSdu (tidings_from policy v list)
 none_told policy v [] none = tt
 none_told policy v (Comes pdu ∷ list) none = absurd none.0
 none_told policy v (Connects psm ∷ list) none = none_told policy (value_after policy (Connects psm) v) list none.1
@@ -157,7 +157,7 @@ module _ (policy : Policy) (party : Party) (states_frame : StatesFrame policy pa
       let bare = no_pdu up list (Turned Up ∷ rest) (off_by up list rest timely) timely in
       record { gained = bare_gained list part bare is; bare = none_told policy no_channels list bare; next = true; timely = (behind_marks up list (Turned Up ∷ rest) timely).1 }
   ends_so up list (Down reason) rest part timely one is served none =
-      record { gained = one_gained list part one is served none; bare = tt; next = false; timely = behind_marks up list (Turned (Down reason) ∷ rest) timely }
+      record { gained = one_gained list part one is served none; bare = tt; next = false; timely = (behind_marks up list (Turned (Down reason) ∷ rest) timely).1 }
 
   all_gained : (up : Bool) (spans : List Span) (now : List Occurrence) (talks : List (List Talk)) → AreTimely up (all_marks spans now) → AllByRecursion (λ (span : Span). CarriedOne policy span.event span.list) spans → CarriesOne policy now
       → AllZip (IsTalkOf policy) (map (λ (span : Span). span.list) spans ++ now ∷ []) talks → AllByRecursion (λ part. IsServed (moved_in part)) talks

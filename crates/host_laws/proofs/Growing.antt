@@ -16,7 +16,7 @@ use Rattle.world_model.specs.Machines.{News, Linked, Failed, Heard, TimerFired, 
 use Rattle.host_model.specs.Circumstances.{Circumstance}
 use Rattle.host_model.specs.Pdus.{pdu_of, is_frame}
 use Rattle.host_model.specs.Profiles.{Profile}
-use Rattle.host_model.specs.Hosts.{Host, with_channels, tells_events, settles, strides, goes_by, drives, most_steps, driven, handed, told, hears_news, ready, hear, after_said, says}
+use Rattle.host_model.specs.Hosts.{Host, with_channels, tells_events, settles, strides, goes_by, drives, most_steps, steps_behind, driven, handed, told, hears_news, ready, hear, after_said, says}
 use Rattle.host_model.specs.Machines.{upper}
 use Rattle.host_laws.specs.Acts.{Act, Hears, Says, Does, StaysOnLink, from_news, from_act}
 use Rattle.host_laws.specs.Calls.{Call, Connect, AskFeatures, Disconnect, Send, Asks, from_call, values_after, asked, outer}
@@ -25,6 +25,7 @@ use Rattle.host_laws.specs.Feeds as feeds
 use Rattle.host_laws.specs.Seen.{IsQuiet, IsGiven, IsCalmAt, IsCalm}
 use Rattle.host_laws.specs.Calm.{IsCalmNews, IsReadFrom, IsCalmAct}
 use Rattle.host_laws.specs.Woven.{Strand, IsOnLink, Hearing, Giving, Firing, Gifting, Learning, Checking, Stepping, strand_list, strand_profile, woven_list, woven_profile}
+use Rattle.host_laws.specs.Fed.{feeds_up, strand_feeds, woven_feeds}
 use Rattle.host_laws.proofs.Steps.{Grows}
 use Rattle.host_laws.proofs.Draining.{tells_grow}
 
@@ -70,15 +71,28 @@ woven-last A asks (strand ∷ one) two v p =
     woven-last A asks one two w q
     ∙ ap (λ (u : Channels). woven_profile A asks two u (woven_profile A asks one w q)) (sym (fold-append (λ u next. value_after A.policy next u) v here (woven_list A asks one w q)))
 
+pub fed-both : {P : Type 0} (A : Profile P) (asks : Asks A) (one two : List Strand) (v : Channels) (p : P)
+    → woven_feeds A asks (one ++ two) v p ≡ woven_feeds A asks one v p ++ woven_feeds A asks two (values_after A.policy v (woven_list A asks one v p)) (woven_profile A asks one v p)
+fed-both A asks [] two v p = refl
+fed-both A asks (strand ∷ one) two v p =
+    let here = strand_list A asks strand v p in
+    let fed = strand_feeds strand v in
+    let w = values_after A.policy v here in
+    let q = strand_profile A strand v p in
+    let more = woven_feeds A asks one w q in
+    ap (λ (l : List Feed). fed ++ l) (fed-both A asks one two w q)
+    ∙ (ap (λ (u : Channels). fed ++ (more ++ woven_feeds A asks two u (woven_profile A asks one w q))) (sym (fold-append (λ u next. value_after A.policy next u) v here (woven_list A asks one w q)))
+    ∙ sym (append_assoc fed more (woven_feeds A asks two (values_after A.policy v (here ++ woven_list A asks one w q)) (woven_profile A asks one w q))))
+
 pub none-some : {X : Type 0} (found : Option X) → is_some found ≡ false → found ≡ None
 none-some None is = refl
 none-some (Some x) is = cc
 
 module _ {P : Type 0} (A : Profile P) (asks : Asks A) (C : Type 0) where
   pub grows_none : (host : Host P) → Grows A asks C [] host host
-  grows_none host = record { list = []; feeds = []; channels_are = refl; profile_is = refl; tidings_are = refl; asked_is = refl; acted_is = refl; calm = λ c. tt; weave = []; woven_is = refl; last_is = refl; on_link = tt }
+  grows_none host = record { list = []; feeds = []; channels_are = refl; profile_is = refl; tidings_are = refl; asked_is = refl; acted_is = refl; calm = λ c. tt; weave = []; woven_is = refl; last_is = refl; on_link = tt; feeds_are = refl }
 
-  pub grows_then : (xs ys : List Occurrence) (old mid new : Host P) → Grows A asks C xs old mid → Grows A asks C ys mid new → Grows A asks C (xs ++ ys) old new
+  unfoldable pub grows_then : (xs ys : List Occurrence) (old mid new : Host P) → Grows A asks C xs old mid → Grows A asks C ys mid new → Grows A asks C (xs ++ ys) old new
   grows_then xs ys old mid new one two = record {
     list = one.list ++ two.list;
     feeds = one.feeds ++ two.feeds;
@@ -101,11 +115,14 @@ module _ {P : Type 0} (A : Profile P) (asks : Asks A) (C : Type 0) where
         ∙ (ap₂ (λ (v : Channels) (p : P). woven_profile A asks two.weave v p) (one.channels_are ∙ ap (values_after A.policy old.channels) one.woven_is) one.last_is
         ∙ sym (woven-last A asks one.weave two.weave old.channels old.profile));
     on_link = both-on_link one.weave two.weave one.on_link two.on_link;
+    feeds_are = ap₂ (λ (a b : List Feed). a ++ b) one.feeds_are
+        (two.feeds_are ∙ ap₂ (λ (v : Channels) (p : P). woven_feeds A asks two.weave v p) (one.channels_are ∙ ap (values_after A.policy old.channels) one.woven_is) one.last_is)
+        ∙ sym (fed-both A asks one.weave two.weave old.channels old.profile);
   }
 
   -- the profile alone goes on
-  pub feeds_grow : (host : Host P) (feed : Feed) (strand : Strand) (count : ℕ) → IsOnLink strand → strand_list A asks strand host.channels host.profile ≡ [] → fed A host.profile feed ≡ strand_profile A strand host.channels host.profile → tidings_in feed ≡ [] → asked_with A asks host.profile feed ≡ [] → (let after : Host P = record host { profile = fed A host.profile feed; may_say = count } in Grows A asks C [] host after)
-  feeds_grow host feed strand count on silent goes none nothing = record {
+  pub feeds_grow : (host : Host P) (feed : Feed) (strand : Strand) (count : ℕ) → IsOnLink strand → strand_list A asks strand host.channels host.profile ≡ [] → fed A host.profile feed ≡ strand_profile A strand host.channels host.profile → strand_feeds strand host.channels ≡ feed ∷ [] → tidings_in feed ≡ [] → asked_with A asks host.profile feed ≡ [] → (let after : Host P = record host { profile = fed A host.profile feed; may_say = count } in Grows A asks C [] host after)
+  feeds_grow host feed strand count on silent goes told none nothing = record {
     list = [];
     feeds = feed ∷ [];
     channels_are = refl;
@@ -118,22 +135,19 @@ module _ {P : Type 0} (A : Profile P) (asks : Asks A) (C : Type 0) where
     woven_is = sym (ap (λ (l : List Occurrence). l ++ []) silent);
     last_is = goes;
     on_link = (on, tt);
+    feeds_are = sym (ap (λ (l : List Feed). l ++ []) told);
   }
 
   pub settles_grow : (host : Host P) → Grows A asks C [] host (settles A host)
-  settles_grow host = feeds_grow host (feeds.Sent host.channels) Checking host.may_say tt refl refl refl refl
+  settles_grow host = feeds_grow host (feeds.Sent host.channels) Checking host.may_say tt refl refl refl refl refl
 
   -- ---- a PDU comes in
-
-  abbrev feeds_up : Handed → List Feed
-  feeds_up Nothing = []
-  feeds_up (Received own psm sdu) = Receives own psm sdu ∷ []
 
   fed_up : (up : Handed) (p : P) → handed A up p ≡ all_fed A p (feeds_up up)
   fed_up Nothing p = refl
   fed_up (Received own psm sdu) p = refl
 
-  told_up : (up : Handed) → tidings_of (feeds_up up) ≡ (brought_by up ++ []) ++ []
+  pub told_up : (up : Handed) → tidings_of (feeds_up up) ≡ (brought_by up ++ []) ++ []
   told_up Nothing = refl
   told_up (Received own psm sdu) = refl
 
@@ -145,22 +159,22 @@ module _ {P : Type 0} (A : Profile P) (asks : Asks A) (C : Type 0) where
       → (let after : Host P = record host { channels = channels.hears A.policy (channel_of pdu) pdu host.channels; profile = handed A (channels.up (channel_of pdu) pdu host.channels) host.profile } in Grows A asks C (Comes pdu ∷ []) host after)
   comes_grow pdu host calm =
       let up = channels.up (channel_of pdu) pdu host.channels in
-      record { list = Comes pdu ∷ []; feeds = feeds_up up; channels_are = refl; profile_is = fed_up up host.profile; tidings_are = told_up up; asked_is = sym (asked_up up host.profile); acted_is = refl; calm = λ c. (calm c, tt); weave = Hearing pdu ∷ []; woven_is = refl; last_is = refl; on_link = (tt, tt) }
+      record { list = Comes pdu ∷ []; feeds = feeds_up up; channels_are = refl; profile_is = fed_up up host.profile; tidings_are = told_up up; asked_is = sym (asked_up up host.profile); acted_is = refl; calm = λ c. (calm c, tt); weave = Hearing pdu ∷ []; woven_is = refl; last_is = refl; on_link = (tt, tt); feeds_are = sym (append-nil (feeds_up up)) }
 
   -- ---- the timer fires, a PDU is given
 
   fires_grow : (host : Host P) → (C → IsCalmAt A.policy Fires host.channels) → Grows A asks C (Fires ∷ []) host (with_channels (timed_out A.policy host.channels) host)
-  fires_grow host calm = record { list = Fires ∷ []; feeds = []; channels_are = refl; profile_is = refl; tidings_are = refl; asked_is = refl; acted_is = refl; calm = λ c. (calm c, tt); weave = Firing ∷ []; woven_is = refl; last_is = refl; on_link = (tt, tt) }
+  fires_grow host calm = record { list = Fires ∷ []; feeds = []; channels_are = refl; profile_is = refl; tidings_are = refl; asked_is = refl; acted_is = refl; calm = λ c. (calm c, tt); weave = Firing ∷ []; woven_is = refl; last_is = refl; on_link = (tt, tt); feeds_are = refl }
 
   gives_grow : (pdu : List ℕ) (host : Host P) → (C → IsGiven host.channels pdu) → Grows A asks C (Gives pdu ∷ []) host (with_channels (after_given host.channels) host)
-  gives_grow pdu host calm = record { list = Gives pdu ∷ []; feeds = []; channels_are = refl; profile_is = refl; tidings_are = refl; asked_is = refl; acted_is = refl; calm = λ c. (calm c, tt); weave = Giving pdu ∷ []; woven_is = refl; last_is = refl; on_link = (tt, tt) }
+  gives_grow pdu host calm = record { list = Gives pdu ∷ []; feeds = []; channels_are = refl; profile_is = refl; tidings_are = refl; asked_is = refl; acted_is = refl; calm = λ c. (calm c, tt); weave = Giving pdu ∷ []; woven_is = refl; last_is = refl; on_link = (tt, tt); feeds_are = refl }
 
   learns_grow : (circumstances : List Circumstance) (news : News) (host : Host P) → tidings_by news ≡ [] → Grows A asks C [] host (told A circumstances news host)
-  learns_grow circumstances news host none = feeds_grow host (Learns circumstances news) (Learning circumstances news) host.may_say none refl refl none refl
+  learns_grow circumstances news host none = feeds_grow host (Learns circumstances news) (Learning circumstances news) host.may_say none refl refl refl none refl
 
   -- ---- a step of its profile
 
-  none_told : (call : Option Call) (v : Channels) → [] ≡ tidings_from A.policy v (from_call call)
+  pub none_told : (call : Option Call) (v : Channels) → [] ≡ tidings_from A.policy v (from_call call)
   none_told None v = refl
   none_told (Some (Connect psm)) v = refl
   none_told (Some AskFeatures) v = refl
@@ -204,6 +218,7 @@ module _ {P : Type 0} (A : Profile P) (asks : Asks A) (C : Type 0) where
         calm = λ c. call_calm call host.channels quiet;
         weave = Stepping ∷ [];
         on_link = (tt, tt);
+        feeds_are = refl;
         woven_is = sym (append-nil (from_call call));
         last_is = refl;
       } in
@@ -230,9 +245,12 @@ module _ {P : Type 0} (A : Profile P) (asks : Asks A) (C : Type 0) where
       let test = is_some (next_given now.channels) in
       grows_then [] [] host now (if test then now else goes_by A more (A.steps now.channels now.profile) now) (settles_grow host) (goes_on more test now refl (λ next. drives_grow count next))
 
+  then_drives : (count : ℕ) (acted : List Occurrence) (old new : Host P) → Grows A asks C acted old new → Grows A asks C acted old (drives A count new)
+  then_drives count acted old new grows =
+      subst (λ (list : List Occurrence). Grows A asks C list old (drives A count new)) (append-nil acted) (grows_then acted [] old new (drives A count new) grows (drives_grow count new))
+
   pub then_driven : (acted : List Occurrence) (old new : Host P) → Grows A asks C acted old new → Grows A asks C acted old (driven A new)
-  then_driven acted old new grows =
-      subst (λ (list : List Occurrence). Grows A asks C list old (driven A new)) (append-nil acted) (grows_then acted [] old new (driven A new) grows (drives_grow most_steps new))
+  then_driven acted old new grows = then_drives most_steps acted old new grows
 
   -- how much it may say counts for nothing
   may_grow : (acted : List Occurrence) (old new : Host P) (count : ℕ) → Grows A asks C acted old new → (let after : Host P = record new { may_say = count } in Grows A asks C acted old after)
@@ -249,10 +267,11 @@ module _ {P : Type 0} (A : Profile P) (asks : Asks A) (C : Type 0) where
     woven_is = grows.woven_is;
     last_is = grows.last_is;
     on_link = grows.on_link;
+    feeds_are = grows.feeds_are;
   }
 
   pub readies : (circumstances : List Circumstance) (host : Host P) → Grows A asks C [] host (ready A circumstances host)
-  readies circumstances host = feeds_grow host (Gifts circumstances) (Gifting circumstances) (ready A circumstances host).may_say tt refl refl refl refl
+  readies circumstances host = feeds_grow host (Gifts circumstances) (Gifting circumstances) (ready A circumstances host).may_say tt refl refl refl refl refl
 
   -- ---- acts
 
@@ -291,7 +310,7 @@ module _ {P : Type 0} (A : Profile P) (asks : Asks A) (C : Type 0) where
       let pdu = pdu_of given in
       let gave = with_channels (after_given old.channels) old in
       frames_grow old (is_frame pdu) pdu (after_said A count old)
-      (λ calm. may_grow (Gives pdu ∷ []) old (driven A gave) count (then_driven (Gives pdu ∷ []) old gave (gives_grow pdu old (λ c. record { given = given; is = is; said_as = calm c given is }))))
+      (λ calm. may_grow (Gives pdu ∷ []) old (drives A (steps_behind count) gave) count (then_drives (steps_behind count) (Gives pdu ∷ []) old gave (gives_grow pdu old (λ c. record { given = given; is = is; said_as = calm c given is }))))
 
   pub act_grows : (act : Act Circumstance) (old new : Host P) → StaysOnLink act → (C → IsCalmAct A act old) → Does (upper A) act old new → Grows A asks C (from_act act) old new
   act_grows (Hears circumstances news) old new stays calm does = subst (λ (host : Host P). Grows A asks C (from_news news) old host) (sym does) (hears_grow circumstances news old stays calm)
@@ -312,4 +331,5 @@ without_calm A asks acted old new grows = record {
   woven_is = grows.woven_is;
   last_is = grows.last_is;
   on_link = grows.on_link;
+  feeds_are = grows.feeds_are;
 }

@@ -94,23 +94,23 @@ spans_none (span ∷ spans) none =
     (list_none span.list (all_left AsksForNoChannel (filter_map asked span.list) rest none), spans_none spans (all_right AsksForNoChannel (filter_map asked span.list) rest none))
 
 -- a server in particular
-pub servers_ask_nothing : ServersAskNothing
-servers_ask_nothing = record { asks = hosts_ask; nothing = nothing }
+pub asks-nothing : (settings : Settings) (content : Option Contents) → AsksNoChannels (server_profile settings content) (hosts_ask.servers settings content)
+asks-nothing settings content v serving psm is = lending (lent_sdu (lends serving.server)) (sym (servers-call settings content v serving) ∙ is)
   where
-    sends_alone : (taken : Bool) (own : ℕ) (sdu : List ℕ) (psm : ℕ) → cond taken (Some (Send own sdu)) None ≡ Some (Connect psm) → ⊥
-    sends_alone true own sdu psm is = cc
-    sends_alone false own sdu psm is = cc
+    sends_alone : (taken : Bool) (own : ℕ) (sdu : List ℕ) → cond taken (Some (Send own sdu)) None ≡ Some (Connect psm) → ⊥
+    sends_alone true own sdu is = cc
+    sends_alone false own sdu is = cc
 
-    on : (v : Channels) (lent : Lent) (own : Option ℕ) (psm : ℕ) → sends_on v lent.payload own ≡ Some (Connect psm) → ⊥
-    on v lent None psm is = cc
-    on v lent (Some own) psm is = sends_alone (takes_sdu own (sdu_of lent.payload) v) own (sdu_of lent.payload) psm is
+    on : (lent : Lent) (own : Option ℕ) → sends_on v lent.payload own ≡ Some (Connect psm) → ⊥
+    on lent None is = cc
+    on lent (Some own) is = sends_alone (takes_sdu own (sdu_of lent.payload) v) own (sdu_of lent.payload) is
 
-    lending : (v : Channels) (serving : ServerProfile) (lent : Option Lent) (psm : ℕ) → lent_call lent v serving ≡ Some (Connect psm) → ⊥
-    lending v serving None psm is = cc
-    lending v serving (Some lent) psm is = on v lent (endpoint_of lent.psm serving.endpoints) psm is
+    lending : (lent : Option Lent) → lent_call lent v serving ≡ Some (Connect psm) → ⊥
+    lending None is = cc
+    lending (Some lent) is = on lent (endpoint_of lent.psm serving.endpoints) is
 
-    nothing : (settings : Settings) (content : Option Contents) → AsksNoChannels (server_profile settings content) (hosts_ask.servers settings content)
-    nothing settings content v serving psm is = lending v serving (lent_sdu (lends serving.server)) psm (sym (servers-call settings content v serving) ∙ is)
+pub servers_ask_nothing : ServersAskNothing
+servers_ask_nothing = record { asks = hosts_ask; nothing = asks-nothing }
 
 -- ---- one link
 

@@ -12,7 +12,7 @@ use Rattle.world_model.specs.Machines.{LinkEvent, Up, Down, News, Linked, Failed
 use Rattle.host_model.specs.Circumstances.{Circumstance}
 use Rattle.host_model.specs.Pdus.{pdu_of, is_frame}
 use Rattle.host_model.specs.Profiles.{Stride, Profile}
-use Rattle.host_model.specs.Hosts.{Host, with_channels, settles, strides, goes_by, drives, most_steps, hears_news, ready, after_said, says}
+use Rattle.host_model.specs.Hosts.{Host, with_channels, settles, strides, goes_by, drives, most_steps, steps_behind, hears_news, ready, after_said, says}
 use Rattle.host_model.specs.Machines.{upper}
 use Rattle.host_laws.specs.Acts.{Act, Hears, Says, Does}
 use Rattle.host_laws.specs.Calls.{values_after}
@@ -88,7 +88,7 @@ module _ {P : Type 0} (A : Profile P) where
   says_told (Some given) zero host is = tt
   says_told (Some given) (suc count) host is =
       let gave = with_channels (after_given host.channels) host in
-      frames_told (is_frame (pdu_of given)) (pdu_of given) (after_said A count host) (drives_told most_steps gave (queue_events host.channels.queue host.channels ∙ is))
+      frames_told (is_frame (pdu_of given)) (pdu_of given) (after_said A count host) (drives_told (steps_behind count) gave (queue_events host.channels.queue host.channels ∙ is))
 
   pub act_told : (act : Act Circumstance) (old new : Host P) → Does (upper A) act old new → IsTold old → IsTold new
   act_told (Hears circumstances news) old new does is =

@@ -19,7 +19,8 @@ use Rattle.host_laws.specs.Calls.{Asks, values_after, asked, outer}
 use Rattle.host_laws.specs.Feeds.{Feed, Learns, fed, all_fed, asked_from, Tiding, Turns, tidings_in, tidings_of, tidings_from}
 use Rattle.host_laws.proofs.Steps.{Grows}
 use Rattle.host_laws.specs.Lives.{Mark, Occurred, Turned, act_marks, Span, end_tidings, span_tidings, marks_on, span_marks, Lives, HostsRun}
-use Rattle.host_laws.proofs.Draining.{happenings, each_fed, each_told, each_asked}
+use Rattle.host_laws.specs.Fed.{happenings, turned_feeds}
+use Rattle.host_laws.proofs.Draining.{each_fed, each_told, each_asked}
 use Rattle.host_laws.proofs.Growing.{tidings-append, asked-append, readies, drives_grow, act_grows}
 use Rattle.host_laws.proofs.Links.{value_run, drives_told, act_told, linked_new}
 
@@ -74,8 +75,7 @@ module _ {P : Type 0} (A : Profile P) (asks : Asks A) where
   -- ---- its link comes up or goes down
 
   abbrev at_end : LinkEvent → Channels → List Circumstance → List Feed
-  at_end Up v circumstances = Learns circumstances (Linked Up) ∷ []
-  at_end (Down reason) v circumstances = happenings (link_down v) (link_down v).events ++ Learns circumstances (Linked (Down reason)) ∷ []
+  at_end event v circumstances = turned_feeds circumstances event v
 
   pub end_told : (event : LinkEvent) (v : Channels) (circumstances : List Circumstance) → tidings_of (at_end event v circumstances) ≡ end_tidings event v
   end_told Up v circumstances = refl

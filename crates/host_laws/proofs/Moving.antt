@@ -336,7 +336,8 @@ fires_so policy seen said v so quiet plainly distinct =
     let still = quiet_so seen said v so quiet in
     let w = timed_out policy v in
     let plain = timed-goes policy StaysSent GoesPlain (walks-plain policy) v (λ machine open' none. refl) still.plain in
-    behind seen said (said_in policy Fires v) [] v w so quiet (sym plainly.waits ∙ sym (pending_plain w distinct plain)) plainly.due (NoneWaits plain)
+    let fires = plainly still.queue_is in
+    behind seen said (said_in policy Fires v) [] v w so quiet (sym fires.waits ∙ sym (pending_plain w distinct plain)) fires.due (NoneWaits plain)
 
 event_same : (v : Channels) → SameCommands v (after_event v)
 event_same v (errands.Connection own) = refl

@@ -14,7 +14,7 @@ use Rattle.link_talk.specs.Gains.{beyond, gained}
 use Rattle.link_talk.specs.Carriages.{Carriage, one_way, pdus_of, stretch, mode_of}
 use Rattle.link_talk.specs.Sdus.{longest, sdus_by, sdus_of, sdus, spoken_as, spoken_with, spoken, spoken_way, spoken_one_way}
 use Rattle.link_talk.specs.Packets.{packets_heard}
-use Rattle.link_talk.proofs.Multiplexed.{over_l2cap, over_nothing}
+use Rattle.link_talk.proofs.Ways.{over_l2cap, over_nothing}
 use Rattle.talk_laws.specs.Sdus.{heard_so_far, sdus_with}
 use Rattle.talk_laws.proofs.Passes.{from_end}
 use Rattle.talk_laws.proofs.Sdus.{sdus-more}

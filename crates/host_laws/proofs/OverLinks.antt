@@ -19,15 +19,17 @@ use Rattle.host_model.specs.Hosts.{Host, first_host, ready, driven, hears_news, 
 use Rattle.host_model.specs.Machines.{upper}
 use Rattle.host_laws.specs.Acts.{Act, Hears, Says, Does, Acting, StaysOnLink, from_news, from_act}
 use Rattle.host_laws.specs.Calls.{Asks, values_after, outer}
-use Rattle.host_laws.specs.Lives.{Mark, Occurred, Turned, news_marks, act_marks, Span, marks_on, span_marks, all_marks, Lives, on_links}
+use Rattle.host_laws.specs.Lives.{Mark, Occurred, Turned, news_marks, act_marks, Span, marks_on, span_marks, all_marks, Lives}
 use Rattle.host_laws.specs.Calm.{IsCalmAct, AreCalm, pdus_in}
-use Rattle.host_laws.specs.OverLinks.{is_up_behind, IsTimely, AreInTurn, AreTimely, parts_from, parts, talk_marks, talk_outer, GoesOut, IsTalkOf, AreGentleUp, HostsTalkOverLinks}
+use Rattle.host_laws.specs.OverLinks.{is_up_behind, IsTimely, AreInTurn, AreTimely, parts_from, parts, talk_marks, talk_outer, GoesOut, IsTalkOf, AreGentleUp, OverLinks, HostsTalkOverLinks}
 use Rattle.host_laws.specs.Seen.{pdu_of, waiting_in, IsCalm}
 use Rattle.host_laws.specs.Turning.{Deed, Learned, Spoke, deed_of, deeds_in}
 use Rattle.host_laws.proofs.Steps.{Grows}
 use Rattle.host_laws.proofs.Plain.{whole_said}
 use Rattle.host_laws.specs.Woven.{woven_list, woven_profile, Woven, turned, AreWoven, HostsTalkWoven}
-use Rattle.host_laws.proofs.Growing.{calm-both, both-on_link, woven-both, woven-last, drives_grow, readies, act_grows, without_calm}
+use Rattle.host_laws.specs.Feeds.{Feed}
+use Rattle.host_laws.specs.Fed.{woven_feeds, WovenFed, turned_feeds, FedSpan, span_feeds, behind_span, AreFed, TalksFed, HostsTalkFed}
+use Rattle.host_laws.proofs.Growing.{calm-both, both-on_link, woven-both, woven-last, fed-both, drives_grow, readies, act_grows, without_calm}
 use Rattle.host_laws.proofs.Links.{value_run, drives_told, act_told}
 use Rattle.host_laws.proofs.Living.{first_lives, goes-on, turns-on}
 use Rattle.host_laws.proofs.Moving.{pending, talk-waits}
@@ -60,55 +62,73 @@ pending_out v = both_out (waiting_in v.queue v) (whole_said (held_gives (find gi
 
 -- ---- a host that is calm over all its links
 
-all_with : {X : Type 0} (P : X → Type 0) (xs : List X) (x : X) → AllByRecursion P xs → P x → AllByRecursion P (xs ++ x ∷ [])
+pub all_with : {X : Type 0} (P : X → Type 0) (xs : List X) (x : X) → AllByRecursion P xs → P x → AllByRecursion P (xs ++ x ∷ [])
 all_with P [] x all now = (now, tt)
 all_with P (y ∷ xs) x all now = (all.0, all_with P xs x all.1 now)
 
 module _ {P : Type 0} (A : Profile P) (asks : Asks A) where
-  abbrev IsCalmSpan : Span → Type 0
+  abbrev pub IsCalmSpan : Span → Type 0
   IsCalmSpan span = IsCalm A.policy no_channels span.list
 
-  record Calmly (marks : List Mark) (host : Host P) : Type 0 where
-    lives : Lives A asks marks host
-    now_calm : IsCalm A.policy no_channels lives.now
-    spans_calm : AllByRecursion IsCalmSpan lives.spans
-    woven : AreWoven A asks lives.spans lives.now A.first host.profile
+  -- it lives, and was calm on each link
+  pub record Calmly (marks : List Mark) (host : Host P) : Type 0 where
+    pub lives : Lives A asks marks host
+    pub now_calm : IsCalm A.policy no_channels lives.now
+    pub spans_calm : AllByRecursion IsCalmSpan lives.spans
+    pub fed : AreFed A asks lives.spans lives.now lives.feeds A.first host.profile
 
-  woven_none : (p : P) → Woven A asks [] p p
+  pub woven_none : (p : P) → Woven A asks [] p p
   woven_none p = record { weave = []; list_is = refl; last_is = refl; on_link = tt }
 
+  pub fed_none : (p : P) → WovenFed A asks [] [] p p
+  unfolding woven_none
+  fed_none p = record { woven = woven_none p; feeds_are = refl }
+
   -- something more happens on the link that there is
-  woven_on : (spans : List Span) (now acted : List Occurrence) (old new : Host P) (first : P) → old.channels ≡ values_after A.policy no_channels now → (grows : Grows A asks (Unit {0}) acted old new) → AreWoven A asks spans now first old.profile
-      → AreWoven A asks spans (now ++ grows.list) first new.profile
-  woven_on [] now acted old new first value grows woven =
+  pub fed_on : (spans : List Span) (now acted : List Occurrence) (feeds : List Feed) (old new : Host P) (first : P) → old.channels ≡ values_after A.policy no_channels now → (grows : Grows A asks (Unit {0}) acted old new) → AreFed A asks spans now feeds first old.profile
+      → AreFed A asks spans (now ++ grows.list) (feeds ++ grows.feeds) first new.profile
+  fed_on [] now acted feeds old new first value grows fed =
+      let woven = fed.woven in
       let v_is : old.channels ≡ values_after A.policy no_channels (woven_list A asks woven.weave no_channels first) = value ∙ ap (values_after A.policy no_channels) woven.list_is in
       record {
-        weave = woven.weave ++ grows.weave;
-        list_is = ap₂ (λ (a b : List Occurrence). a ++ b) woven.list_is (grows.woven_is ∙ ap₂ (λ (v : Channels) (p : P). woven_list A asks grows.weave v p) v_is woven.last_is) ∙ sym (woven-both A asks woven.weave grows.weave no_channels first);
-        last_is = grows.last_is ∙ (ap₂ (λ (v : Channels) (p : P). woven_profile A asks grows.weave v p) v_is woven.last_is ∙ sym (woven-last A asks woven.weave grows.weave no_channels first));
-        on_link = both-on_link woven.weave grows.weave woven.on_link grows.on_link;
+        woven = record {
+          weave = woven.weave ++ grows.weave;
+          list_is = ap₂ (λ (a b : List Occurrence). a ++ b) woven.list_is (grows.woven_is ∙ ap₂ (λ (v : Channels) (p : P). woven_list A asks grows.weave v p) v_is woven.last_is) ∙ sym (woven-both A asks woven.weave grows.weave no_channels first);
+          last_is = grows.last_is ∙ (ap₂ (λ (v : Channels) (p : P). woven_profile A asks grows.weave v p) v_is woven.last_is ∙ sym (woven-last A asks woven.weave grows.weave no_channels first));
+          on_link = both-on_link woven.weave grows.weave woven.on_link grows.on_link;
+        };
+        feeds_are = ap₂ (λ (a b : List Feed). a ++ b) fed.feeds_are (grows.feeds_are ∙ ap₂ (λ (v : Channels) (p : P). woven_feeds A asks grows.weave v p) v_is woven.last_is) ∙ sym (fed-both A asks woven.weave grows.weave no_channels first);
       }
-  woven_on (span ∷ spans) now acted old new first value grows (mid, circumstances, here, rest) =
-      (mid, circumstances, here, woven_on spans now acted old new (turned A circumstances span.event (values_after A.policy no_channels span.list) mid) value grows rest)
+  fed_on (span ∷ spans) now acted feeds old new first value grows (here, later, is, rest) =
+      let ahead = span_feeds A asks span first here in
+      (here, later ++ grows.feeds, ap (λ (l : List Feed). l ++ grows.feeds) is ∙ append_assoc ahead later grows.feeds, fed_on spans now acted later old new (behind_span A asks span first here) value grows rest)
 
   -- the profile hears of its link
   hears_turned : (event : LinkEvent) (circumstances : List Circumstance) (host : Host P) → (hears_news A circumstances (Linked event) host).profile ≡ turned A circumstances event host.channels host.profile
   hears_turned Up circumstances host = refl
   hears_turned (Down reason) circumstances host = refl
 
-  woven_turned : (spans : List Span) (now : List Occurrence) (event : LinkEvent) (circumstances : List Circumstance) (host : Host P) (first : P) → host.channels ≡ values_after A.policy no_channels now → AreWoven A asks spans now first host.profile
-      → (let span : Span = record { list = now; event = event } in AreWoven A asks (spans ++ span ∷ []) [] first (hears_news A circumstances (Linked event) host).profile)
-  woven_turned [] now event circumstances host first value woven =
+  pub fed_turned : (spans : List Span) (now : List Occurrence) (feeds : List Feed) (event : LinkEvent) (circumstances : List Circumstance) (host : Host P) (first : P) → host.channels ≡ values_after A.policy no_channels now → AreFed A asks spans now feeds first host.profile
+      → (let span : Span = record { list = now; event = event } in AreFed A asks (spans ++ span ∷ []) [] (feeds ++ turned_feeds circumstances event host.channels) first (hears_news A circumstances (Linked event) host).profile)
+  fed_turned [] now feeds event circumstances host first value fed =
+      let span : Span = record { list = now; event = event } in
       let after = turned A circumstances event (values_after A.policy no_channels now) host.profile in
-      (host.profile, circumstances, woven, subst (λ (p : P). Woven A asks [] after p) (ap (λ (v : Channels). turned A circumstances event v host.profile) (sym value) ∙ sym (hears_turned event circumstances host)) (woven_none after))
-  woven_turned (span ∷ spans) now event circumstances host first value (mid, others, here, rest) =
-      (mid, others, here, woven_turned spans now event circumstances host (turned A others span.event (values_after A.policy no_channels span.list) mid) value rest)
+      let here : FedSpan A asks span first = record { here = feeds; mid = host.profile; circumstances = circumstances; so = fed } in (
+        here,
+        [],
+        ap (λ (v : Channels). feeds ++ turned_feeds circumstances event v) value ∙ sym (append-nil (span_feeds A asks span first here)),
+        subst (λ (p : P). WovenFed A asks [] [] after p) (ap (λ (v : Channels). turned A circumstances event v host.profile) (sym value) ∙ sym (hears_turned event circumstances host)) (fed_none after),
+      )
+  fed_turned (span ∷ spans) now feeds event circumstances host first value (here, later, is, rest) =
+      let ahead = span_feeds A asks span first here in
+      let news = turned_feeds circumstances event host.channels in
+      (here, later ++ news, ap (λ (l : List Feed). l ++ news) is ∙ append_assoc ahead later news, fed_turned spans now later event circumstances host (behind_span A asks span first here) value rest)
 
-  first_calmly : Calmly [] (first_host A)
+  unfoldable pub first_calmly : Calmly [] (first_host A)
   unfolding first_lives
-  first_calmly = record { lives = first_lives A asks; now_calm = tt; spans_calm = tt; woven = woven_none A.first }
+  first_calmly = record { lives = first_lives A asks; now_calm = tt; spans_calm = tt; fed = fed_none A.first }
 
-  goes_calmly : (marks : List Mark) (acted : List Occurrence) (old new : Host P) → Calmly marks old → Grows A asks (Unit {0}) acted old new → new.channels.events ≡ [] → Calmly (marks ++ map Occurred acted) new
+  unfoldable pub goes_calmly : (marks : List Mark) (acted : List Occurrence) (old new : Host P) → Calmly marks old → Grows A asks (Unit {0}) acted old new → new.channels.events ≡ [] → Calmly (marks ++ map Occurred acted) new
   unfolding goes-on
   goes_calmly marks acted old new so grows told =
       let value : old.channels ≡ values_after A.policy no_channels so.lives.now = so.lives.channels_run ∙ value_run A.policy so.lives.now new_link in
@@ -116,17 +136,17 @@ module _ {P : Type 0} (A : Profile P) (asks : Asks A) where
         lives = goes-on A asks marks acted old new so.lives (without_calm A asks acted old new grows) told;
         now_calm = calm-both A.policy no_channels so.lives.now grows.list so.now_calm (subst (λ (v : Channels). IsCalm A.policy v grows.list) value (grows.calm tt));
         spans_calm = so.spans_calm;
-        woven = woven_on so.lives.spans so.lives.now acted old new A.first value grows so.woven;
+        fed = fed_on so.lives.spans so.lives.now acted so.lives.feeds old new A.first value grows so.fed;
       }
 
   still_calmly : (marks : List Mark) (old new : Host P) → Calmly marks old → Grows A asks (Unit {0}) [] old new → new.channels.events ≡ [] → Calmly marks new
   still_calmly marks old new so grows told = subst (λ (m : List Mark). Calmly m new) (append-nil marks) (goes_calmly marks [] old new so grows told)
 
-  turns_calmly : (marks : List Mark) (event : LinkEvent) (circumstances : List Circumstance) (host : Host P) → Calmly marks host → Calmly (marks ++ Turned event ∷ []) (hears_news A circumstances (Linked event) host)
+  unfoldable pub turns_calmly : (marks : List Mark) (event : LinkEvent) (circumstances : List Circumstance) (host : Host P) → Calmly marks host → Calmly (marks ++ Turned event ∷ []) (hears_news A circumstances (Linked event) host)
   unfolding turns-on
   turns_calmly marks event circumstances host so =
       let span : Span = record { list = so.lives.now; event = event } in
-      record { lives = turns-on A asks marks event circumstances host so.lives; now_calm = tt; spans_calm = all_with IsCalmSpan so.lives.spans span so.spans_calm so.now_calm; woven = woven_turned so.lives.spans so.lives.now event circumstances host A.first (so.lives.channels_run ∙ value_run A.policy so.lives.now new_link) so.woven }
+      record { lives = turns-on A asks marks event circumstances host so.lives; now_calm = tt; spans_calm = all_with IsCalmSpan so.lives.spans span so.spans_calm so.now_calm; fed = fed_turned so.lives.spans so.lives.now so.lives.feeds event circumstances host A.first (so.lives.channels_run ∙ value_run A.policy so.lives.now new_link) so.fed }
 
   -- ---- one act
 
@@ -165,7 +185,7 @@ module _ {P : Type 0} (A : Profile P) (asks : Asks A) where
 
 timely_on : (up : Bool) (act : Act Circumstance) (marks : List Mark) → IsTimely up act → AreTimely (is_up_behind up act) marks → AreTimely up (act_marks act ++ marks)
 timely_on up (Hears circumstances (Linked Up)) marks timely rest = (timely, rest)
-timely_on up (Hears circumstances (Linked (Down reason))) marks timely rest = rest
+timely_on up (Hears circumstances (Linked (Down reason))) marks timely rest = (timely, rest)
 timely_on up (Hears circumstances (Failed status)) marks timely rest = rest
 timely_on up (Hears circumstances (Heard pdu)) marks timely rest = (timely, rest)
 timely_on up (Hears circumstances TimerFired) marks timely rest = rest
@@ -173,7 +193,7 @@ timely_on up (Hears circumstances Cancelled) marks timely rest = rest
 timely_on up (Hears circumstances (Opening name)) marks timely rest = rest
 timely_on up (Says pdu) marks timely rest = rest
 
-acts_timely : {S : Type 0} (U : Upper S Circumstance) (up : Bool) (acts : List (Act Circumstance)) (old new : S) → AreInTurn U up acts old → Acting U acts old new → AreTimely up (flat_map act_marks acts)
+pub acts_timely : {S : Type 0} (U : Upper S Circumstance) (up : Bool) (acts : List (Act Circumstance)) (old new : S) → AreInTurn U up acts old → Acting U acts old new → AreTimely up (flat_map act_marks acts)
 acts_timely U up [] old new turn acting = tt
 acts_timely U up (act ∷ acts) old new turn (mid, does, rest) = timely_on up act (flat_map act_marks acts) turn.0.timely (acts_timely U (is_up_behind up act) acts mid new (turn.1 mid does) rest)
 
@@ -183,7 +203,7 @@ abbrev deed_marks : Deed → List Mark
 deed_marks (Learned news) = news_marks news
 deed_marks (Spoke pdu) = Occurred (Gives pdu) ∷ []
 
-acts_marks : {G : Type 0} (acts : List (Act G)) → flat_map act_marks acts ≡ flat_map deed_marks (map deed_of acts)
+pub acts_marks : {G : Type 0} (acts : List (Act G)) → flat_map act_marks acts ≡ flat_map deed_marks (map deed_of acts)
 acts_marks [] = refl
 acts_marks (Hears gifts news ∷ acts) = ap (λ (rest : List Mark). news_marks news ++ rest) (acts_marks acts)
 acts_marks (Says pdu ∷ acts) = ap (λ (rest : List Mark). Occurred (Gives pdu) ∷ rest) (acts_marks acts)
@@ -195,13 +215,13 @@ one_marks (Unsent pdu) = refl
 one_marks (Met fate checked) = refl
 one_marks (Done outcome) = refl
 
-talks_marks : (talk : List Talk) → flat_map deed_marks (flat_map deeds_in talk) ≡ flat_map talk_marks talk
+pub talks_marks : (talk : List Talk) → flat_map deed_marks (flat_map deeds_in talk) ≡ flat_map talk_marks talk
 talks_marks [] = refl
 talks_marks (one ∷ talk) = flat_map-append deed_marks (deeds_in one) (flat_map deeds_in talk) ∙ ap₂ (λ (a b : List Mark). a ++ b) (one_marks one) (talks_marks talk)
 
 -- ---- marks fall to links
 
-cut : (now : List Occurrence) → List Mark → List (List Occurrence)
+pub cut : (now : List Occurrence) → List Mark → List (List Occurrence)
 cut now [] = now ∷ []
 cut now (Occurred one ∷ marks) = cut (now ++ one ∷ []) marks
 cut now (Turned event ∷ marks) = now ∷ cut [] marks
@@ -214,7 +234,7 @@ cut_on now (one ∷ list) marks = cut_on (now ++ one ∷ []) list marks ∙ ap (
 abbrev outer_on : List Occurrence → List Occurrence
 outer_on list = filter_map outer list
 
-cut_spans : (spans : List Span) (now : List Occurrence) → cut [] (all_marks spans now) ≡ map outer_on (map (λ (span : Span). span.list) spans ++ now ∷ [])
+pub cut_spans : (spans : List Span) (now : List Occurrence) → cut [] (all_marks spans now) ≡ map outer_on (map (λ (span : Span). span.list) spans ++ now ∷ [])
 unfolding cut
 cut_spans [] now = ap (cut []) (sym (append-nil (marks_on now))) ∙ cut_on [] (outer_on now) []
 cut_spans (span ∷ spans) now =
@@ -237,7 +257,7 @@ cut_said part talk here outers is later = ap (λ (l : List Occurrence). cut (par
 cut_aside : (part talk : List Talk) (here : Talk) → talk_outer here ≡ [] → CutsAs (part ++ here ∷ []) talk → cut (part_outer part) (flat_map talk_marks talk) ≡ map part_outer (parts_from (part ++ here ∷ []) talk)
 cut_aside part talk here is later = ap (λ (l : List Occurrence). cut l (flat_map talk_marks talk)) (sym (append-nil (part_outer part))) ∙ cut_said part talk here [] is later
 
-cut_talk : (part talk : List Talk) → CutsAs part talk
+pub cut_talk : (part talk : List Talk) → CutsAs part talk
 unfolding cut
 cut_talk part [] = refl
 cut_talk part (Told (Linked event) ∷ talk) = ap (λ (l : List (List Occurrence)). part_outer part ∷ l) (cut_talk [] talk)
@@ -279,30 +299,56 @@ one_talk policy list part calm same =
       go_out = pending_out value;
     }
 
-all_talks : (policy : Policy) (lists : List (List Occurrence)) (talks : List (List Talk)) → AllByRecursion (IsCalm policy no_channels) lists → map outer_on lists ≡ map part_outer talks → AllZip (IsTalkOf policy) lists talks
+pub all_talks : (policy : Policy) (lists : List (List Occurrence)) (talks : List (List Talk)) → AllByRecursion (IsCalm policy no_channels) lists → map outer_on lists ≡ map part_outer talks → AllZip (IsTalkOf policy) lists talks
 all_talks policy [] [] calm same = tt
 all_talks policy [] (part ∷ talks) calm same = cc
 all_talks policy (list ∷ lists) [] calm same = cc
 all_talks policy (list ∷ lists) (part ∷ talks) calm same = (one_talk policy list part calm.0 cc, all_talks policy lists talks calm.1 cc)
 
-all_spans : (policy : Policy) (spans : List Span) (now : List Occurrence) → AllByRecursion (λ (span : Span). IsCalm policy no_channels span.list) spans → IsCalm policy no_channels now → AllByRecursion (IsCalm policy no_channels) (map (λ (span : Span). span.list) spans ++ now ∷ [])
+pub all_spans : (policy : Policy) (spans : List Span) (now : List Occurrence) → AllByRecursion (λ (span : Span). IsCalm policy no_channels span.list) spans → IsCalm policy no_channels now → AllByRecursion (IsCalm policy no_channels) (map (λ (span : Span). span.list) spans ++ now ∷ [])
 all_spans policy [] now calm last = (last, tt)
 all_spans policy (span ∷ spans) now calm last = (calm.0, all_spans policy spans now calm.1 last)
 
-pub hosts_talk_woven : {P : Type 0} (A : Profile P) → HostsTalkWoven A
-hosts_talk_woven {P} A asks talk now over gentle =
-    let marks_are : flat_map act_marks over.acts ≡ flat_map talk_marks talk = acts_marks over.acts ∙ (ap (flat_map deed_marks) over.deeds_are ∙ talks_marks talk) in
-    let calmly = all_calmly A asks [] over.acts (first_host A) now (first_calmly A asks) (calm_up A asks false over.acts (first_host A) over.in_turn gentle) over.acting in
-    let so = subst (λ (m : List Mark). Calmly A asks m now) marks_are calmly in
+-- A host that lives calmly through what it was told and said talks so that its talk falls to its links, and what its profile went through
+-- stands in one order with what happened on them.
+unfoldable pub calmly_fed : {P : Type 0} (A : Profile P) (asks : Asks A) (talk : List Talk) (now : Host P) (over : OverLinks (upper A) talk now) (marks : List Mark) → Calmly A asks marks now → marks ≡ flat_map talk_marks talk → TalksFed A asks talk now
+calmly_fed {P} A asks talk now over marks calmly same =
+    let lives = calmly.lives in
+    let acts_are : flat_map act_marks over.acts ≡ flat_map talk_marks talk = acts_marks over.acts ∙ (ap (flat_map deed_marks) over.deeds_are ∙ talks_marks talk) in
     record {
       so = record {
-        lives = so.lives;
-        timely = subst (λ (m : List Mark). AreTimely false m) marks_are (acts_timely (upper A) false over.acts (first_host A) now over.in_turn over.acting);
-        talks_are = all_talks A.policy (on_links A asks (flat_map talk_marks talk) now so.lives) (parts talk) (all_spans A.policy so.lives.spans so.lives.now so.spans_calm so.now_calm)
-            (sym (cut_spans so.lives.spans so.lives.now) ∙ (ap (cut []) so.lives.marks_are ∙ cut_talk [] talk));
+        lives = record {
+          spans = lives.spans;
+          now = lives.now;
+          feeds = lives.feeds;
+          channels_run = lives.channels_run;
+          all_told = lives.all_told;
+          spans_told = lives.spans_told;
+          profile_is = lives.profile_is;
+          tidings_are = lives.tidings_are;
+          asked_are = lives.asked_are;
+          marks_are = lives.marks_are ∙ same;
+        };
+        timely = subst (λ (m : List Mark). AreTimely false m) acts_are (acts_timely (upper A) false over.acts (first_host A) now over.in_turn over.acting);
+        talks_are = all_talks A.policy (map (λ (span : Span). span.list) lives.spans ++ lives.now ∷ []) (parts talk) (all_spans A.policy lives.spans lives.now calmly.spans_calm calmly.now_calm)
+            (sym (cut_spans lives.spans lives.now) ∙ (ap (cut []) (lives.marks_are ∙ same) ∙ cut_talk [] talk));
       };
-      woven = so.woven;
+      fed = calmly.fed;
     }
+
+pub hosts_talk_fed : {P : Type 0} (A : Profile P) → HostsTalkFed A
+hosts_talk_fed {P} A asks talk now over gentle =
+    calmly_fed A asks talk now over (flat_map act_marks over.acts)
+    (all_calmly A asks [] over.acts (first_host A) now (first_calmly A asks) (calm_up A asks false over.acts (first_host A) over.in_turn gentle) over.acting)
+    (acts_marks over.acts ∙ (ap (flat_map deed_marks) over.deeds_are ∙ talks_marks talk))
+
+pub fed_woven : {P : Type 0} (A : Profile P) (asks : Asks A) (spans : List Span) (now : List Occurrence) (feeds : List Feed) (first last : P) → AreFed A asks spans now feeds first last → AreWoven A asks spans now first last
+fed_woven A asks [] now feeds first last fed = fed.woven
+fed_woven A asks (span ∷ spans) now feeds first last (here, later, is, rest) = (here.mid, here.circumstances, here.so.woven, fed_woven A asks spans now later (behind_span A asks span first here) last rest)
+
+pub hosts_talk_woven : {P : Type 0} (A : Profile P) → HostsTalkWoven A
+hosts_talk_woven A asks talk now over gentle =
+    let so = hosts_talk_fed A asks talk now over gentle in record { so = so.so; woven = fed_woven A asks so.so.lives.spans so.so.lives.now so.so.lives.feeds A.first now.profile so.fed }
 
 pub hosts_talk_over_links : {P : Type 0} (A : Profile P) → HostsTalkOverLinks A
 hosts_talk_over_links {P} A asks talk now over gentle = (hosts_talk_woven A asks talk now over gentle).so

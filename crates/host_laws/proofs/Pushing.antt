@@ -128,7 +128,7 @@ feed_so settings pushing (Sent v) = sent_so pushing.submitted v pushing
 feed_so settings pushing (Steps v) =
     let one = steps pushing.client pushing.parts in steps_so one.step v (record pushing { client = one.client; parts = one.left }) pushing pushing.parts refl
 
-all_pushed : (settings : Settings) (feeds : List Feed) (pushing : ClientProfile) → (all_fed (client_profile settings) pushing feeds).client ≡ client_behind (pushed_from settings pushing feeds) pushing.client
+pub all_pushed : (settings : Settings) (feeds : List Feed) (pushing : ClientProfile) → (all_fed (client_profile settings) pushing feeds).client ≡ client_behind (pushed_from settings pushing feeds) pushing.client
 all_pushed settings [] pushing = refl
 all_pushed settings (feed ∷ feeds) pushing =
     let next = fed (client_profile settings) pushing feed in

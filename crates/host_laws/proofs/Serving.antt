@@ -62,7 +62,7 @@ steps_done : (lent : Option Lent) (v : Channels) (serving : ServerProfile) → r
 steps_done None v serving = refl
 steps_done (Some lent) v serving = lent_done (endpoint_of lent.psm serving.endpoints) lent v serving
 
-feed_done : (settings : Settings) (content : Option Contents) (serving : ServerProfile) (feed : Feed) → reacted (fed (server_profile settings content) serving feed) ≡ all_done (served_with serving feed) (reacted serving)
+pub feed_done : (settings : Settings) (content : Option Contents) (serving : ServerProfile) (feed : Feed) → reacted (fed (server_profile settings content) serving feed) ≡ all_done (served_with serving feed) (reacted serving)
 feed_done settings content serving (Gifts circumstances) = refl
 feed_done settings content serving (Learns circumstances news) = news_done circumstances news serving
 feed_done settings content serving (Receives own psm sdu) = refl

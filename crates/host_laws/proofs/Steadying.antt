@@ -10,17 +10,16 @@ use Rattle.channel_model.specs.Value.{Request, Queued, Answer, Ask, Setup, Stage
 use Rattle.channel_model.specs.Changing.{has_own, held_at, is_copy, is_about, queued}
 use Rattle.channel_model.specs.Timing.{times_stage, times_held, times_end_at, times_end, loses_features, times_features, times_channels, timed_out}
 use Rattle.channel_model.specs.Giving.{connection_at, configuration_at, disconnection_at, on_held, command_of, features_command}
-use Rattle.channel_model.specs.Calls.{own_waits}
 use Rattle.channel_model.proofs.Lookups.{own_of, Distinct, eqb-away, found-has, not_found}
 use Rattle.channel_model.proofs.Walking.{found-own}
 use Rattle.channel_laws.specs.OwnTalk.{spoken, said_of}
 use Rattle.channel_laws.specs.Runs.{features_given_up, said_again, said_on_firing, said_by_channel, fired_channel, said_by_features, said_by_channels, run_of}
 use Rattle.channel_laws.proofs.Running.{all-sound}
 use Rattle.host_laws.specs.Seen.{spoken_of, queued_said, waiting_in, AllDue}
-use Rattle.host_laws.specs.Steady.{IsSteadyStage, IsSteadyAt, SteadyFirePlainly}
+use Rattle.host_laws.specs.Steady.{IsSteadyOwn, IsSteadyStage, IsSteadyAt, IsSteady, SteadyFirePlainly}
 use Rattle.host_laws.proofs.Moving.{spoken-both, commands-spoken}
 use Rattle.host_laws.proofs.Firing.{still-said, same-due, now-due, self-due}
-use Rattle.host_laws.proofs.Clearing.{Clear, IsOwn, Kept, Half, HalfTo, half-still, not-due, end-at, Mid, Rests, Goes, stage-mid}
+use Rattle.host_laws.proofs.Clearing.{Clear, IsOwn, Kept, Half, HalfTo, half-still, not-due, end-at, Mid, Rests, Goes, Both, Whole, stage-mid}
 
 -- ---- one channel
 
@@ -35,9 +34,6 @@ second own tries u clear lone = by (held_at own u) refl
 
 kept-both : (own : ℕ) (u between w : Channels) → Kept own u between → Kept own between w → Kept own u w
 kept-both own u between w one two = record { others = λ other apart. two.others other apart ∙ one.others other apart; features_is = two.features_is ∙ one.features_is; lone = two.lone }
-
-abbrev Whole : ℕ → ℕ → (u between : Channels) → Type 0
-Whole own tries u between = Half own u (times_end (held_at own between) tries between) (said_on_firing own u between ++ said_on_firing own between (times_end (held_at own between) tries between))
 
 rests_whole : (own tries : ℕ) (u between : Channels) → Clear own u.queue → between.identifier ≡ u.identifier → between.queue ≡ u.queue → Kept own u between → Whole own tries u between
 rests_whole own tries u between clear same queue_is kept =
@@ -64,15 +60,15 @@ goes_whole own tries u between half ends =
       kept = half.kept;
     })
 
-steady_so : (stage : Stage) → IsSteadyStage stage → (peer : ℕ) (setup : Setup) (request : Request) → stage ≡ Leaving peer setup request → own_waits setup.own ≡ false
-steady_so stage steady peer setup request is = subst IsSteadyStage is steady
+steady_so : (tries : ℕ) (stage : Stage) → IsSteadyStage tries stage → (peer : ℕ) (setup : Setup) (request : Request) → stage ≡ Leaving peer setup request → IsSteadyOwn tries request setup.own
+steady_so tries stage steady peer setup request is = subst (IsSteadyStage tries) is steady
 
-channel_whole : (own tries : ℕ) (u : Channels) → Clear own u.queue → Distinct own_of u.held → IsSteadyAt (held_at own u) → Half own u (fired_channel tries own u) (said_by_channel tries own u)
+channel_whole : (own tries : ℕ) (u : Channels) → Clear own u.queue → Distinct own_of u.held → IsSteadyAt tries (held_at own u) → Half own u (fired_channel tries own u) (said_by_channel tries own u)
 channel_whole own tries u clear lone steady = by (held_at own u) refl steady
   where
-    by : (found : Option Held) → held_at own u ≡ found → IsSteadyAt found → Whole own tries u (times_held found tries u)
+    by : (found : Option Held) → held_at own u ≡ found → IsSteadyAt tries found → Whole own tries u (times_held found tries u)
     by None is calm = rests_whole own tries u u clear refl refl (record { others = λ other apart. refl; features_is = refl; lone = lone })
-    by (Some held) is calm = on (stage-mid tries u held (found-own own u held is) lone (subst (λ n. Clear n u.queue) (sym same) clear) held.stage refl (steady_so held.stage calm))
+    by (Some held) is calm = on (stage-mid tries u held (found-own own u held is) lone (subst (λ n. Clear n u.queue) (sym same) clear) held.stage refl (steady_so tries held.stage calm))
       where
         same : held.own ≡ own
         same = found-has own_of own u.held held is
@@ -80,6 +76,7 @@ channel_whole own tries u clear lone steady = by (held_at own u) refl steady
         on : Mid tries u held (found-own own u held is) lone (subst (λ n. Clear n u.queue) (sym same) clear) (times_stage held.stage tries held u) → Whole own tries u (times_stage held.stage tries held u)
         on (Rests w identifier_is queue_is kept) = rests_whole own tries u w clear identifier_is queue_is (subst (λ n. Kept n u w) same kept)
         on (Goes w half ends) = goes_whole own tries u w (subst (λ n. HalfTo n u w) same half) (subst (λ n. times_end (held_at n w) tries w ≡ w) same ends)
+        on (Both w half) = subst (λ n. Whole n tries u w) same half
 
 -- ---- what waits of a channel stays while others fire
 
@@ -192,22 +189,22 @@ clear_rest : (own : ℕ) (owns : List ℕ) (queue asks : List Queued) → AllByR
 clear_rest own [] queue asks clear about apart = tt
 clear_rest own (other ∷ owns) queue asks clear about apart = (clear_more own other queue asks clear.0 about apart.0, clear_rest own owns queue asks clear.1 about apart.1)
 
-steady_rest : (own : ℕ) (owns : List ℕ) (u w : Channels) → Kept own u w → AllByRecursion (λ n. IsSteadyAt (held_at n u)) owns → AllByRecursion (λ other. eqb own other ≡ false) owns → AllByRecursion (λ n. IsSteadyAt (held_at n w)) owns
-steady_rest own [] u w kept steady apart = tt
-steady_rest own (other ∷ owns) u w kept steady apart = (subst IsSteadyAt (sym (kept.others other apart.0)) steady.0, steady_rest own owns u w kept steady.1 apart.1)
+steady_rest : (tries own : ℕ) (owns : List ℕ) (u w : Channels) → Kept own u w → AllByRecursion (λ n. IsSteadyAt tries (held_at n u)) owns → AllByRecursion (λ other. eqb own other ≡ false) owns → AllByRecursion (λ n. IsSteadyAt tries (held_at n w)) owns
+steady_rest tries own [] u w kept steady apart = tt
+steady_rest tries own (other ∷ owns) u w kept steady apart = (subst (IsSteadyAt tries) (sym (kept.others other apart.0)) steady.0, steady_rest tries own owns u w kept steady.1 apart.1)
 
 apart_all : (own : ℕ) (owns : List ℕ) → AllByRecursion (λ other. eqb own other ≡ false) owns → AllByRecursion (λ other. eqb other own ≡ false) owns
 apart_all own [] apart = tt
 apart_all own (other ∷ owns) apart = (eqb-away own other apart.0, apart_all own owns apart.1)
 
-all_fire : (tries : ℕ) (owns : List ℕ) (u : Channels) → Differ owns → AllByRecursion (λ n. Clear n u.queue) owns → NoFeatures u.queue → AllByRecursion (λ n. IsSteadyAt (held_at n u)) owns → Distinct own_of u.held
+all_fire : (tries : ℕ) (owns : List ℕ) (u : Channels) → Differ owns → AllByRecursion (λ n. Clear n u.queue) owns → NoFeatures u.queue → AllByRecursion (λ n. IsSteadyAt tries (held_at n u)) owns → Distinct own_of u.held
     → All owns u (fired_all tries owns u) (said_by_channels tries owns u)
 all_fire tries [] u differ clear none steady lone = features_all tries u none
 all_fire tries (own ∷ owns) u (apart, differ) (clear, clears) none (steady, steadies) lone =
     let mid = fired_channel tries own u in
     let half = channel_whole own tries u clear lone steady in
     let rest = all_fire tries owns mid differ (subst (λ (q : List Queued). AllByRecursion (λ n. Clear n q) owns) (sym half.queue_is) (clear_rest own owns u.queue half.asks clears half.about apart))
-    (subst NoFeatures (sym half.queue_is) (features_more own u.queue half.asks none half.about)) (steady_rest own owns u mid half.kept steadies apart) half.kept.lone in
+    (subst NoFeatures (sym half.queue_is) (features_more own u.queue half.asks none half.about)) (steady_rest tries own owns u mid half.kept steadies apart) half.kept.lone in
     let w = fired_all tries owns mid in
     let still : held_at own w ≡ held_at own mid = rest.others own (apart_all own owns apart) in
     record {
@@ -233,16 +230,16 @@ each_clear : (owns : List ℕ) (queue : List Queued) → queue ≡ [] → AllByR
 each_clear [] queue none = tt
 each_clear (own ∷ owns) queue none = (subst (λ (q : List Queued). Clear own q) (sym none) tt, each_clear owns queue none)
 
-each_steady : (owns : List ℕ) (v : Channels) → ((own : ℕ) → IsSteadyAt (held_at own v)) → AllByRecursion (λ n. IsSteadyAt (held_at n v)) owns
-each_steady [] v steady = tt
-each_steady (own ∷ owns) v steady = (steady own, each_steady owns v steady)
+each_steady : (tries : ℕ) (owns : List ℕ) (v : Channels) → IsSteady tries v → AllByRecursion (λ n. IsSteadyAt tries (held_at n v)) owns
+each_steady tries [] v steady = tt
+each_steady tries (own ∷ owns) v steady = (steady own, each_steady tries owns v steady)
 
 pub steady_fire_plainly : SteadyFirePlainly
-steady_fire_plainly policy list empty steady =
+steady_fire_plainly policy list steady empty =
     let v = (run_of policy list).value in
     let lone = (all-sound policy list).core.lone in
     let owns = map own_of v.held in
     let w = timed_out policy v in
-    let all = all_fire policy.tries owns v (owns_differ v.held lone) (each_clear owns v.queue empty) (subst NoFeatures (sym empty) refl) (each_steady owns v steady) lone in
+    let all = all_fire policy.tries owns v (owns_differ v.held lone) (each_clear owns v.queue empty) (subst NoFeatures (sym empty) refl) (each_steady policy.tries owns v steady) lone in
     let queue_is : w.queue ≡ all.asks = all.queue_is ∙ ap (λ (q : List Queued). q ++ all.asks) empty in
     record { waits = ap (λ (q : List Queued). waiting_in q w) queue_is ∙ sym all.told; due = subst (λ (q : List Queued). AllDue q w) (sym queue_is) all.due }

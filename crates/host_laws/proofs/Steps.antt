@@ -8,6 +8,7 @@ use Rattle.host_laws.specs.Calls.{Asks, values_after, asked, outer}
 use Rattle.host_laws.specs.Seen.{IsCalm}
 use Rattle.host_laws.specs.Feeds.{Feed, all_fed, asked_from, tidings_of, tidings_from}
 use Rattle.host_laws.specs.Woven.{Strand, IsOnLink, woven_list, woven_profile}
+use Rattle.host_laws.specs.Fed.{woven_feeds}
 
 -- What happened to the channels of a host from one moment to a later one, and what its profile went through; where `C` holds, the host was
 -- calm.
@@ -27,3 +28,4 @@ pub record Grows {P : Type 0} (A : Profile P) (asks : Asks A) (C : Type 0) (acte
   pub woven_is : list ≡ woven_list A asks weave old.channels old.profile
   pub last_is : new.profile ≡ woven_profile A asks weave old.channels old.profile
   pub on_link : AllByRecursion IsOnLink weave
+  pub feeds_are : feeds ≡ woven_feeds A asks weave old.channels old.profile

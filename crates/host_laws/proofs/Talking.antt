@@ -1,5 +1,5 @@
 -- On a link of a run of turns the own talk of a host is what it was told and said.
-use Rattle.std.proofs.Common.{◌≡◌, List, [], ◌∷◌, ◌++◌, map, filter_map, refl, ap, ap₂, ◌∙◌, subst, sym}
+use Rattle.std.proofs.Common.{◌≡◌, List, [], ◌∷◌, ◌++◌, map, None, filter_map, refl, ap, ap₂, ◌∙◌, subst, sym}
 use Rattle.std.specs.List.{flat_map}
 use Rattle.std.proofs.lemmas.List.Concat.{flat_map-append}
 use Rattle.std.proofs.lemmas.List.Elements.{filter_map-append}
@@ -12,14 +12,15 @@ use Rattle.world_model.specs.Machines.{Up, News, Linked, Failed, Heard, TimerFir
 use Rattle.world_model.specs.Talks.{Talk, Told, Said, Unsent, Met, Done}
 use Rattle.host_model.specs.Circumstances.{Circumstance}
 use Rattle.host_model.specs.Profiles.{Profile}
-use Rattle.host_model.specs.Hosts.{Host, most_steps, driven, ready, hears_news}
+use Rattle.host_model.specs.Hosts.{Host, most_steps, driven, ready, hears_news, hear, next}
 use Rattle.host_model.specs.Machines.{upper}
 use Rattle.host_laws.specs.Acts.{Act, Hears, Says, Acting, from_news, from_act, from_acts}
-use Rattle.host_laws.specs.Calls.{values_after}
+use Rattle.host_laws.specs.Calls.{Asks, values_after}
 use Rattle.host_laws.specs.Lives.{act_marks}
-use Rattle.host_laws.specs.Turning.{Deed, Learned, Spoke, deed_of, deeds_in, AreInQuiet}
+use Rattle.host_laws.specs.Turning.{Deed, Learned, Spoke, deed_of, deeds_in, AreInQuiet, OnLink}
 use Rattle.host_laws.specs.Seen.{spoken_of, pdu_of, IsQuiet, IsCalm}
-use Rattle.host_laws.specs.Calm.{IsCalmAct, AreCalm, IsGentleAct, AreGentle, pdus_in, HostsTalkInTurns}
+use Rattle.host_laws.specs.Calm.{IsCalmAct, AreCalm, IsGentleAct, AreGentle, pdus_in, HoldsNothingBack, TalksSo, HostsTalkInTurns}
+use Rattle.host_laws.specs.Woven.{woven_list, woven_profile, Woven}
 use Rattle.host_laws.proofs.Growing.{grows_then, drives_grow, readies, without_calm}
 use Rattle.host_laws.proofs.Links.{value_run, drives_told, act_told, linked_new}
 use Rattle.host_laws.proofs.Living.{still, lives_from, since-up, now-is}
@@ -85,8 +86,14 @@ acts_told : {P : Type 0} (A : Profile P) (acts : List (Act Circumstance)) (old n
 acts_told A [] old new same is = ap (λ (host : Host _). host.channels.events) same ∙ is
 acts_told A (act ∷ acts) old new (mid, does, rest) is = acts_told A acts mid new rest (act_told A act old mid does is)
 
-pub hosts_talk_in_turns : {P : Type 0} (A : Profile P) → HostsTalkInTurns A
-hosts_talk_in_turns {P} A asks talk now on gentle none back =
+-- and what happened on the link, what its profile asked for and what that was told are in one order
+pub record TalksWovenOn {P : Type 0} (A : Profile P) (asks : Asks A) (talk : List Talk) (now : Host P) (on : OnLink (upper A) talk now) : Type 0 where
+  pub so : TalksSo A asks talk now on
+  pub first : P
+  pub woven : Woven A asks so.lives.now first now.profile
+
+pub talks_woven_on : {P : Type 0} (A : Profile P) (asks : Asks A) (talk : List Talk) (now : Host P) (on : OnLink (upper A) talk now) → AreGentle A on.acts (hear A on.gifts (Linked Up) on.old) → next A now ≡ None → HoldsNothingBack A now → TalksWovenOn A asks talk now on
+talks_woven_on {P} A asks talk now on gentle none back =
     let before = flat_map act_marks on.before in
     let mid = ready A on.gifts on.old in
     let linked = hears_news A on.gifts (Linked Up) mid in
@@ -100,11 +107,24 @@ hosts_talk_in_turns {P} A asks talk now on gentle none back =
     let told = acts_told A on.acts start now on.acting (drives_told A most_steps linked (ap (λ (v : Channels). v.events) fresh)) in
     let plain = without_calm A asks (from_acts on.acts) linked now grows in
     let value : now.channels ≡ (run_of A.policy grows.list).value = grows.channels_are ∙ (ap (λ (v : Channels). values_after A.policy v grows.list) fresh ∙ sym (value_run A.policy grows.list new_link)) in
-    record {
+    let so : TalksSo A asks talk now on = record {
       lives = since-up A asks before on.gifts on.old now (from_acts on.acts) ready_lives plain told;
       talk_is = ap (λ (list : List Occurrence). spoken_of (run_of A.policy list).said) (now-is A asks before on.gifts on.old now (from_acts on.acts) ready_lives plain told)
           ∙ (own_talk_moves A.policy grows.list (subst (λ (v : Channels). IsCalm A.policy v grows.list) fresh (grows.calm tt)) (subst IsQuiet value (back none))
           ∙ (ap (flat_map said_by) (sym (outer-pdus grows.list) ∙ (ap (filter_map pdu_of) grows.acted_is ∙ (acts_pdus on.acts ∙ (ap (flat_map deed_pdus) on.deeds_are ∙ talks_pdus on.since))))));
       uttered = subst (AreUttered A.policy) (sym (now-is A asks before on.gifts on.old now (from_acts on.acts) ready_lives plain told))
           (calm-utters A.policy grows.list (subst (λ (v : Channels). IsCalm A.policy v grows.list) fresh (grows.calm tt)));
+    } in
+    record {
+      so = so;
+      first = linked.profile;
+      woven = record {
+        weave = plain.weave;
+        list_is = now-is A asks before on.gifts on.old now (from_acts on.acts) ready_lives plain told ∙ (plain.woven_is ∙ ap (λ (v : Channels). woven_list A asks plain.weave v linked.profile) fresh);
+        last_is = plain.last_is ∙ ap (λ (v : Channels). woven_profile A asks plain.weave v linked.profile) fresh;
+        on_link = plain.on_link;
+      };
     }
+
+pub hosts_talk_in_turns : {P : Type 0} (A : Profile P) → HostsTalkInTurns A
+hosts_talk_in_turns A asks talk now on gentle none back = (talks_woven_on A asks talk now on gentle none back).so

@@ -13,6 +13,7 @@ use Rattle.radio_air.specs.Fates.{meets, comes_of}
 use Rattle.world_model.specs.Machines.{Up, Down, News, Linked, Failed, Heard, TimerFired, Cancelled, Opening, Upper, said_next, drain, all_said, Breath, Whole, Short, Reaction}
 use Rattle.world_model.specs.Talks.{Talk, Told, Said, Unsent, Met, Done}
 use Rattle.world_model.specs.Turns.{Party, Pair, speaks_on, notes, hears, receives, event_heard, with_queue, with_talk, first_party, Step, Turn, Idle, Rise, Fall, Began, Ended, Hands, Acts, found, Moves, Passes, first_pair}
+use Rattle.turn_laws.proofs.Advancing.{breaks_linked}
 use Rattle.host_laws.specs.Acts.{Act, Hears, Says, Does, Acting, StaysOnLink}
 use Rattle.host_laws.specs.OverLinks.{is_up_behind, IsTimely, AreInTurn, OverLinks, AllLinksAreActs}
 use Rattle.host_laws.specs.Turning.{Deed, Spoke, deed_of, deeds_in, Behaves, IsHeardInQuiet, AreInQuiet, OnLink, TurnsAreActs, LinksAreActs}
@@ -258,11 +259,11 @@ up_linked {G = G} U link reaction p off so =
       deeds_are = refl;
     }) (λ down. cc)
 
-down_linked : {S G : Type 0} (U : Upper S G) (link : Bool) (reason : ℕ) (reaction : Reaction G) (p : Party S) → Linked_so U link p → Linked_so U false (event_heard U (Down reason) reaction p)
-down_linked {G = G} U link reason reaction p so =
+down_linked : {S G : Type 0} (U : Upper S G) (link : Bool) (reason : ℕ) (reaction : Reaction G) (p : Party S) → link ≡ true → Linked_so U link p → Linked_so U false (event_heard U (Down reason) reaction p)
+down_linked {G = G} U link reason reaction p up so =
     let news : Act G = Hears reaction.answers (Linked (Down reason)) in
     record {
-      went = goes_on U link false (news ∷ []) (Told (Linked (Down reason)) ∷ []) p.talk p.upper (U.hear reaction.answers (Linked (Down reason)) p.upper) (_, refl, refl) refl (record { timely = tt; in_quiet = λ is. tt }, λ next does. tt) refl so.went;
+      went = goes_on U link false (news ∷ []) (Told (Linked (Down reason)) ∷ []) p.talk p.upper (U.hear reaction.answers (Linked (Down reason)) p.upper) (_, refl, refl) refl (record { timely = up; in_quiet = λ is. tt }, λ next does. tt) refl so.went;
       on = λ up. cc;
       settled = λ up. cc;
       empty = λ off. refl;
@@ -289,23 +290,23 @@ meets_linked {S} {T} U V size link fate p q p' q' hands whole one other = (
     up : link ≡ true
     up = by link refl
 
-acts_linked : {S T G H : Type 0} (U : Upper S G) (V : Upper T H) (deed : air.Deed) (old new : Pair S T) → old.a.whole ≡ true → old.b.whole ≡ true → Acts U V deed old new → Both_linked U V old → Both_linked U V new
-acts_linked U V Nothing old new whole_a whole_b acts both = absurd acts
-acts_linked U V (Meets Ab fate) old new whole_a whole_b (p, q, hands, same) both = let (one, other) = meets_linked U V old.size old.link fate old.a old.b p q hands whole_b both.a both.b in rw same (record { a = one; b = other })
-acts_linked U V (Meets Ba fate) old new whole_a whole_b (p, q, hands, same) both = let (one, other) = meets_linked V U old.size old.link fate old.b old.a q p hands whole_a both.b both.a in rw same (record { a = other; b = one })
-acts_linked U V (Fires A) old new whole_a whole_b (armed, r, same) both = rw same (record { a = hears_linked U old.link r TimerFired old.a tt tt (λ up. both.a.settled up whole_a) both.a; b = both.b })
-acts_linked U V (Fires B) old new whole_a whole_b (armed, s, same) both = rw same (record { a = both.a; b = hears_linked V old.link s TimerFired old.b tt tt (λ up. both.b.settled up whole_b) both.b })
-acts_linked U V FiresBoth old new whole_a whole_b (armed, r, s, same) both =
+acts_linked : {S T G H : Type 0} (U : Upper S G) (V : Upper T H) (deed : air.Deed) (old new : Pair S T) → old.a.whole ≡ true → old.b.whole ≡ true → (deed ≡ Breaks → old.link ≡ true) → Acts U V deed old new → Both_linked U V old → Both_linked U V new
+acts_linked U V Nothing old new whole_a whole_b breaks acts both = absurd acts
+acts_linked U V (Meets Ab fate) old new whole_a whole_b breaks (p, q, hands, same) both = let (one, other) = meets_linked U V old.size old.link fate old.a old.b p q hands whole_b both.a both.b in rw same (record { a = one; b = other })
+acts_linked U V (Meets Ba fate) old new whole_a whole_b breaks (p, q, hands, same) both = let (one, other) = meets_linked V U old.size old.link fate old.b old.a q p hands whole_a both.b both.a in rw same (record { a = other; b = one })
+acts_linked U V (Fires A) old new whole_a whole_b breaks (armed, r, same) both = rw same (record { a = hears_linked U old.link r TimerFired old.a tt tt (λ up. both.a.settled up whole_a) both.a; b = both.b })
+acts_linked U V (Fires B) old new whole_a whole_b breaks (armed, s, same) both = rw same (record { a = both.a; b = hears_linked V old.link s TimerFired old.b tt tt (λ up. both.b.settled up whole_b) both.b })
+acts_linked U V FiresBoth old new whole_a whole_b breaks (armed, r, s, same) both =
     rw same (record { a = fires_linked U old.link (U.armed old.a.upper) r old.a whole_a both.a; b = fires_linked V old.link (V.armed old.b.upper) s old.b whole_b both.b })
-acts_linked U V Breaks old new whole_a whole_b (r, s, same) both = rw same (record { a = down_linked U old.link 0x08 r old.a both.a; b = down_linked V old.link 0x08 s old.b both.b })
-acts_linked U V Cancels old new whole_a whole_b (may, r, same) both = rw same (record { a = hears_linked U old.link r Cancelled old.a tt tt (λ up. tt) both.a; b = both.b })
+acts_linked U V Breaks old new whole_a whole_b breaks (r, s, same) both = rw same (record { a = down_linked U old.link 0x08 r old.a (breaks refl) both.a; b = down_linked V old.link 0x08 s old.b (breaks refl) both.b })
+acts_linked U V Cancels old new whole_a whole_b breaks (may, r, same) both = rw same (record { a = hears_linked U old.link r Cancelled old.a tt tt (λ up. tt) both.a; b = both.b })
 
 moves_linked : {S T G H : Type 0} (U : Upper S G) (V : Upper T H) (step : Step) (old new : Pair S T) → Moves U V step old new → Both_linked U V old → Both_linked U V new
-moves_linked U V (Turn word) old new (calm, acts) both = acts_linked U V (found word old) old new calm.whole_a calm.whole_b acts both
+moves_linked U V (Turn word) old new (calm, acts) both = acts_linked U V (found word old) old new calm.whole_a calm.whole_b (λ is. breaks_linked word old.served old.a.queue old.b.queue old.link is) acts both
 moves_linked U V (Idle word) old new (calm, nothing, same) both = rw same both
 moves_linked U V Rise old new (off, going, wants, r, s, same) both = rw same (record { a = up_linked U old.link r old.a off both.a; b = up_linked V old.link s old.b off both.b })
-moves_linked U V (Fall A) old new (on, leaves, whole, r, s, same) both = rw same (record { a = down_linked U old.link 0x16 r old.a both.a; b = down_linked V old.link 0x13 s old.b both.b })
-moves_linked U V (Fall B) old new (on, leaves, whole, r, s, same) both = rw same (record { a = down_linked U old.link 0x13 r old.a both.a; b = down_linked V old.link 0x16 s old.b both.b })
+moves_linked U V (Fall A) old new (on, leaves, whole, r, s, same) both = rw same (record { a = down_linked U old.link 0x16 r old.a on both.a; b = down_linked V old.link 0x13 s old.b on both.b })
+moves_linked U V (Fall B) old new (on, leaves, whole, r, s, same) both = rw same (record { a = down_linked U old.link 0x13 r old.a on both.a; b = down_linked V old.link 0x16 s old.b on both.b })
 moves_linked {G = G} U V (Began name) old new (off, idle, next, r, same) both =
     let news : Act G = Hears r.answers (Opening name) in
     let went = goes_on U old.link old.link (news ∷ []) (Told (Opening name) ∷ []) old.a.talk old.a.upper (U.hear r.answers (Opening name) old.a.upper) (_, refl, refl) refl (record { timely = tt; in_quiet = λ is. tt }, λ next does. tt) refl both.a.went in

@@ -19,3 +19,10 @@ pub mod Gaining
 pub mod GainingOver
 pub mod Carriers
 pub mod InOrder
+pub mod ClientCalls
+pub mod Free
+pub mod Fed
+pub mod Keeping
+pub mod Leaving
+pub mod Onward
+pub mod Memory

@@ -28,10 +28,10 @@ is_up_behind up (Hears gifts (Linked (Down reason))) = false
 is_up_behind up (Hears gifts news) = up
 is_up_behind up (Says pdu) = up
 
--- a PDU is heard while a link is up, and a link comes up while none is
+-- a PDU is heard while a link is up, a link comes up while none is, and goes down while it is up
 abbrev pub IsTimely : {G : Type 0} → (up : Bool) → Act G → Type 0
 IsTimely up (Hears gifts (Linked Up)) = up ≡ false
-IsTimely up (Hears gifts (Linked (Down reason))) = Unit {0}
+IsTimely up (Hears gifts (Linked (Down reason))) = up ≡ true
 IsTimely up (Hears gifts (Heard pdu)) = up ≡ true
 IsTimely up (Hears gifts news) = Unit {0}
 IsTimely up (Says pdu) = Unit {0}
@@ -89,13 +89,13 @@ talk_marks (Unsent pdu) = Occurred (Gives pdu) ∷ []
 talk_marks (Met fate checked) = []
 talk_marks (Done outcome) = []
 
--- the same of marks: a PDU comes in while a link is up, and a link comes up while none is
+-- the same of marks: a PDU comes in while a link is up, a link comes up while none is, and goes down while it is up
 abbrev pub AreTimely : (up : Bool) → List Mark → Type 0
 AreTimely up [] = Unit {0}
 AreTimely up (Occurred (Comes pdu) ∷ marks) = (up ≡ true) × AreTimely up marks
 AreTimely up (Occurred one ∷ marks) = AreTimely up marks
 AreTimely up (Turned Up ∷ marks) = (up ≡ false) × AreTimely true marks
-AreTimely up (Turned (Down reason) ∷ marks) = AreTimely false marks
+AreTimely up (Turned (Down reason) ∷ marks) = (up ≡ true) × AreTimely false marks
 
 abbrev pub GoesOut : Saying → Type 0
 GoesOut (Command Out answer) = Unit {0}

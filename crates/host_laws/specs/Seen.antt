@@ -85,11 +85,15 @@ IsDue v (Ask errand) = is_some (command_of errand v) ≡ true
 abbrev pub AllDue : List Queued → Channels → Type 0
 AllDue queue v = AllByRecursion (IsDue v) queue
 
--- What a firing says waits to be given behind it. So it is but where the end of a channel is given up whose own options are asked for
--- once more: that request is said, and not given.
-pub record FiresPlainly (policy : Policy) (v : Channels) : Type 0 where
+-- what a firing says waits to be given behind it
+pub record FiresSo (policy : Policy) (v : Channels) : Type 0 where
   pub waits : waiting_in (timed_out policy v).queue (timed_out policy v) ≡ spoken_of (said_in policy Fires v)
   pub due : AllDue (timed_out policy v).queue (timed_out policy v)
+
+-- So it is where no command waits, but where the end of a channel is given up whose own options are asked for once more: that request is
+-- said, and not given.
+abbrev pub FiresPlainly : Policy → Channels → Type 0
+FiresPlainly policy v = v.queue ≡ [] → FiresSo policy v
 
 abbrev pub IsCalmAt : Policy → Occurrence → Channels → Type 0
 IsCalmAt policy (Comes pdu) v = IsQuiet v × IsOneCommand pdu

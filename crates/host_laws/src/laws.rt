@@ -4,11 +4,18 @@ ghost use Rattle.host_laws.specs.Armed.{ArmedIsRead, ServersAreArmed};
 ghost use Rattle.host_laws.specs.Calls.{HostsAsk};
 ghost use Rattle.host_laws.specs.Carriers.{HostsGainByCarriers};
 ghost use Rattle.host_laws.specs.Calm.{CalmHostsMove, HostsTalkInTurns};
+ghost use Rattle.host_laws.specs.ClientCalls.{ClientsAskInOrder, ClientsAskOnce};
+ghost use Rattle.host_laws.specs.Free.{HostsHoldBackNothing, ServersFirePlainly};
 ghost use Rattle.host_laws.specs.Gaining.{HostsGainTalk};
 ghost use Rattle.host_laws.specs.GainingOver.{HostsGainOverLinks};
 ghost use Rattle.host_laws.specs.InOrder.{ClientsCallInOrder, ServersAreServedInOrder, ServersAskNothing};
+ghost use Rattle.host_laws.specs.Fed.{HostsTalkFed};
+ghost use Rattle.host_laws.specs.Keeping.{ClientsKeepOn, LossesAreTold, ServersAwaitNothing, ServersKeepOn, ServersSendAsTheyLend};
+ghost use Rattle.host_laws.specs.Leaving.{LeavesAtLosses};
 ghost use Rattle.host_laws.specs.Lives.{HostsRun};
+ghost use Rattle.host_laws.specs.Memory.{ClientsHaveMemory};
 ghost use Rattle.host_laws.specs.OneCarrier.{OneCarrierGains};
+ghost use Rattle.host_laws.specs.Onward.{ClientsGoOnward};
 ghost use Rattle.host_laws.specs.Pushing.{ClientsArePushed, ClientsOpen};
 ghost use Rattle.host_laws.specs.OverLinks.{AllLinksAreActs, HostsTalkOverLinks};
 ghost use Rattle.host_laws.specs.Read.{SaidIsRead};
@@ -86,8 +93,8 @@ pub fn own_talk_moves()
     ensures { OwnTalkMoves }
 {}
 
-/// Where no command waits to be given and no channel on its way out asks for its options, a firing says what waits to be
-/// given behind it.
+/// Where no command waits to be given, and no channel whose end was asked for as often as may be asks for its options more often, a firing
+/// says what waits to be given behind it.
 pub fn steady_fire_plainly()
     ensures { SteadyFirePlainly }
 {}
@@ -161,6 +168,12 @@ pub fn hosts_talk_woven<P>()
     ensures { (A : Profile P) → HostsTalkWoven A }
 {}
 
+/// And all that its profile went through on them stands in the same order: so what was heard and asked for on a channel is
+/// tied to when it was.
+pub fn hosts_talk_fed<P>()
+    ensures { (A : Profile P) → HostsTalkFed A }
+{}
+
 /// The objects of a host's own talk are those of what moved, whatever the host gave up and let wait at the end, where it asks for no
 /// channel and its peer gives each of its endpoints to one channel.
 pub fn objects_move()
@@ -194,4 +207,73 @@ pub fn servers_are_served_in_order()
 /// after the other moves on each link.
 pub fn clients_call_in_order()
     ensures { ClientsCallInOrder }
+{}
+
+/// Over L2CAP a client asks for its next channel when no other one is only asked for: for that of service discovery, and for one besides on
+/// each link, which is not RFCOMM's.
+pub fn clients_ask_in_order()
+    ensures { ClientsAskInOrder }
+{}
+
+/// So one request after the other moves on each link of a client that is gentle there, however often its timer repeats them.
+pub fn clients_ask_once()
+    ensures { ClientsAskOnce }
+{}
+
+/// Whatever a host hears and whatever its ports answer, where it says nothing next its channels have nothing to give: neither the bound on
+/// what it says nor a number that is no octet ever holds a PDU back, where each PDU on the signalling channel has one command at most, in
+/// octets.
+pub fn hosts_hold_back_nothing()
+    ensures { HostsHoldBackNothing }
+{}
+
+/// A server ends no channel of its own accord: so each firing of it says what waits behind it, where no command waited before.
+pub fn servers_fire_plainly()
+    ensures { ServersFirePlainly }
+{}
+
+/// Of each request that a host gives up it is told, but for one for a channel that it takes back: so where no loss arose and none was taken back, its
+/// own talk has no request that it gave up.
+pub fn losses_are_told()
+    ensures { LossesAreTold }
+{}
+
+/// A server asks its channels for nothing but to send what it lends.
+pub fn servers_send_as_they_lend()
+    ensures { ServersSendAsTheyLend }
+{}
+
+/// What a server gives up is the end of a channel that it closed, and then it ends its link: where it does not, its own talk has no request that it
+/// gave up.
+pub fn servers_keep_on()
+    ensures { ServersKeepOn }
+{}
+
+/// No SDU that a server lends is a request for services: it waits for none, and by its own talk none waits.
+pub fn servers_await_nothing()
+    ensures { ServersAwaitNothing }
+{}
+
+/// A client that is told that a request for its channel was given as often as may be, or that the features never came, or that a channel is closed
+/// which it closed with a cause, has nothing left but its link; and its next step ends that, unless an SDU of it still waits, or it has no memory.
+pub fn clients_leave_at_losses()
+    ensures { LeavesAtLosses }
+{}
+
+/// A client that gave up a request of its link, or took one back, ends its link, or has none: where a push of it goes on over its link, its own talk there
+/// has no request that it gave up.
+pub fn clients_keep_on()
+    ensures { ClientsKeepOn }
+{}
+
+/// A client whose push is on its link stays on it, whatever happens there; and it asks that no link be made, and that its link end where its push waits for
+/// that alone.
+pub fn clients_go_onward()
+    ensures { ClientsGoOnward }
+{}
+
+/// A client fails only where its shelf lacks memory: where that never answers so, whatever else the client goes through from its first moment on, it has not
+/// failed.
+pub fn clients_have_memory()
+    ensures { ClientsHaveMemory }
 {}

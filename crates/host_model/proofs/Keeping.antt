@@ -12,7 +12,7 @@ use Rattle.world_model.specs.Machines.{News, Linked, Up, Down, Failed, Heard, Ti
 use Rattle.host_model.specs.Circumstances.{Circumstance}
 use Rattle.host_model.specs.Pdus.{pdu_of, is_frame}
 use Rattle.host_model.specs.Profiles.{Stride, Profile}
-use Rattle.host_model.specs.Hosts.{Host, drives, driven, goes_by, strides, settles, tells_each, tells_events, handed, hears_news, told, ready, hear, after_said, says, next, with_channels, most_steps}
+use Rattle.host_model.specs.Hosts.{Host, drives, driven, goes_by, strides, settles, tells_each, tells_events, handed, hears_news, told, ready, hear, after_said, says, next, with_channels, most_steps, steps_behind}
 
 pub record Keeps {P : Type 0} (A : Profile P) (K : P → Type 0) : Type 0 where
   pub given : (circumstances : List Circumstance) (p : P) → K p → K (A.given circumstances p)
@@ -90,7 +90,7 @@ module _ {P : Type 0} (A : Profile P) (K : P → Type 0) (keeps : Keeps A K) whe
   says_on None count host kept = tt
   says_on (Some given) zero host kept = tt
   says_on (Some given) (suc count) host kept =
-      frames (is_frame (pdu_of given)) (pdu_of given) (after_said A count host) (drives_on most_steps (with_channels (after_given host.channels) host) kept)
+      frames (is_frame (pdu_of given)) (pdu_of given) (after_said A count host) (drives_on (steps_behind count) (with_channels (after_given host.channels) host) kept)
 
   pub goes_next : (host : Host P) (pdu : List ℕ) (after : Host P) → next A host ≡ Some (pdu, after) → K host.profile → K after.profile
   goes_next host pdu after same kept = subst Said same (says_on (next_given host.channels) host.may_say host kept)

@@ -31,7 +31,7 @@ both : (a b : Bool) → (a && b) ≡ true → (a ≡ true) × (b ≡ true)
 both true b holds = (refl, holds)
 both false b holds = absurd (true≢false (sym holds))
 
-octets_by : (xs : List ℕ) → are_octets xs ≡ true → IsOctets xs
+pub octets_by : (xs : List ℕ) → are_octets xs ≡ true → IsOctets xs
 octets_by [] holds = IsOctets-nil
 octets_by (x ∷ xs) holds =
     let first = both (nat_lt x 256) (are_octets xs) holds in

@@ -2,6 +2,7 @@
 use Rattle.std.specs.Prelude.{ℕ, ◌==◌, ◌&&◌, not, nat_le, Bool, false, List, ◌∷◌, length, take, filter, find, Option, Some, None, option_map}
 use Rattle.channel_model.specs.Value.{Channels}
 use Rattle.channel_model.specs.Calls.{peer_mtu, waits}
+use Rattle.host_model.specs.Pdus.{are_octets}
 
 pub record Endpoint : Type 0 where
   pub psm : ℕ
@@ -25,6 +26,7 @@ abbrev pub fits : ℕ → Option ℕ → Bool
 fits size None = false
 fits size (Some mtu) = nat_le size mtu
 
--- a channel takes an SDU where it is open, the peer takes one as long, and none waits
+-- A channel takes an SDU where it is open, the peer takes one as long, and none waits; and where it is octets, as all are that code
+-- has.
 abbrev pub takes_sdu : ℕ → List ℕ → Channels → Bool
-takes_sdu own sdu channels = fits (length sdu) (peer_mtu own channels) && not (waits own channels)
+takes_sdu own sdu channels = (fits (length sdu) (peer_mtu own channels) && not (waits own channels)) && are_octets sdu

@@ -1,7 +1,7 @@
 -- A host above its line, as a value: the channels of its link and its profile. What it hears goes to the channels first. Behind each
 -- thing that it hears or says its profile is asked for steps, until the channels have a PDU or the profile waits; what it says is the
 -- channels' next PDU (this project's own).
-use Rattle.std.specs.Prelude.{ℕ, zero, suc, ◌^◌, ◌&&◌, nat_lt, Bool, List, [], ◌∷◌, Option, Some, None, is_some, if◌then◌else◌}
+use Rattle.std.specs.Prelude.{ℕ, zero, suc, ◌^◌, ◌&&◌, nat_lt, nat_le, Bool, List, [], ◌∷◌, Option, Some, None, is_some, if◌then◌else◌}
 use Rattle.acl_fragments.specs.Pieces.{channel_of}
 use Rattle.channel_model.specs.declared.event.ChannelEvent.{ChannelEvent}
 use Rattle.channel_model.specs.Value.{Channels, no_channels}
@@ -22,9 +22,12 @@ pub record Host (P : Type 0) : Type 0 where
   pub may_say : ℕ
 
 -- Answers, windows and credits let a host say some hundreds of PDUs with each thing that it hears, and where nothing else does, the
--- octets of an object, fewer than 2 ^ 24, do so: this is far more.
+-- octets of an object, fewer than 2 ^ 24, do so: this is far more. The second half is for what waits in its channels alone.
 abbrev pub most_said : ℕ
 most_said = 2 ^ 32
+
+abbrev pub half_said : ℕ
+half_said = 2 ^ 31
 
 abbrev pub first_host : {P : Type 0} → Profile P → Host P
 first_host profile = record { channels = no_channels; profile = profile.first; may_say = 0 }
@@ -113,9 +116,13 @@ has_more host = nat_lt 0 host.may_say && is_some (next_given host.channels)
 abbrev pub says_frame : {P : Type 0} → List ℕ → Host P → Option (List ℕ × Host P)
 says_frame pdu after = if is_frame pdu then Some (pdu, after) else None
 
+-- how many steps its profile is asked for behind a PDU: in the second half none
+abbrev pub steps_behind : (may_say : ℕ) → ℕ
+steps_behind count = if nat_le half_said count then most_steps else 0
+
 -- once a PDU was said, and its channels gave it
 abbrev pub after_said : {P : Type 0} → Profile P → (may_say : ℕ) → Host P → Host P
-after_said A count host = record (driven A (with_channels (after_given host.channels) host)) { may_say = count }
+after_said A count host = record (drives A (steps_behind count) (with_channels (after_given host.channels) host)) { may_say = count }
 
 abbrev pub says : {P : Type 0} → Profile P → Option Given → (may_say : ℕ) → Host P → Option (List ℕ × Host P)
 says A None count host = None

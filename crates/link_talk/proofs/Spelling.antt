@@ -13,11 +13,9 @@ use Rattle.obex_headers.specs.Packets.{PlainPacket, fields_len}
 use Rattle.obex_headers.specs.Reading.{◌>>=◌, packet_in, front_at, behind_length, headers_in}
 use Rattle.obex_headers.specs.Runs.{put_of, put_in, objects_from, spelled}
 use Rattle.link_talk.specs.declared.party.Party.{Party}
-use Rattle.link_talk.specs.declared.readers.Saying.{Saying as LentSaying}
 use Rattle.link_talk.specs.Channels.{Entry, Reading, reading}
 use Rattle.link_talk.specs.ObjectsHeard.{put_within, spelled_within, objects_between, objects_with}
 use Rattle.link_talk.specs.Shortening.{shortened}
-use Rattle.link_talk.specs.Lent.{plain_saying, plain_sayings}
 
 abbrev Front : Type 0
 Front = Result (List ℕ × List ℕ) ObexRefusal
@@ -73,21 +71,3 @@ puts_are most (packet ∷ packets) fits =
 
 pub spelled_is : (most : ℕ) (packets short : List (List ℕ)) (objects : List Object) → most ≤ 65535 → short ≡ map (shortened most) packets → objects ≡ spelled short → objects ≡ spelled_within most packets
 spelled_is most packets short objects fits short_is is = is ∙ (ap spelled short_is ∙ sym (ap (objects_from []) (puts_are most packets fits)))
-
--- ---- one saying more
-
-pub objects_are : (party : Party) (said : List LentSaying) (i : ℕ) (d : LentSaying) (held : Reading) (entries : List Entry) (more : List Object) → i < length said
-    → entries ≡ held.entries → held ≡ reading (plain_sayings (take i said)) → more ≡ objects_between party (plain_sayings (take i said)) (plain_sayings (take (i + 1) said)) entries
-    → more ≡ objects_with party (plain_sayings (take i said)) (plain_saying (get_or said i d))
-objects_are party said i d held entries more below lent held_is is =
-    is
-    ∙ (ap (λ now. objects_between party (plain_sayings (take i said)) now entries) (front-more plain_saying said i d below)
-    ∙ ap (objects_between party (plain_sayings (take i said)) (plain_sayings (take i said) ++ plain_saying (get_or said i d) ∷ [])) (lent ∙ ap (λ (h : Reading). h.entries) held_is))
-
-pub flat_turn : {X Y Z : Type 0} (view : X → Y) (f : Y → List Z) (raw : List X) (i : ℕ) (d : X) (found after more all : List Z) → i < length raw
-    → after ≡ found ++ more → more ≡ f (view (get_or raw i d)) → found ++ flat_map f (map view (drop i raw)) ≡ all → after ++ flat_map f (map view (drop (i + 1) raw)) ≡ all
-flat_turn view f raw i d found after more all below grown is before =
-    ap (λ xs. xs ++ flat_map f (map view (drop (i + 1) raw))) (grown ∙ ap (λ xs. found ++ xs) is)
-    ∙ (append_assoc found (f (view (get_or raw i d))) (flat_map f (map view (drop (i + 1) raw)))
-    ∙ (ap (λ xs. found ++ xs) (ap (λ n. f (view (get_or raw i d)) ++ flat_map f (map view (drop n raw))) (add-one i) ∙ sym (ap (λ xs. flat_map f (map view xs)) (drop-cons raw i d below)))
-    ∙ before))

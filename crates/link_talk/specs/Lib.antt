@@ -11,17 +11,13 @@ pub mod Sdus
 pub mod Packets
 pub mod ObjectsHeard
 pub mod Exchanges
-pub mod Exchanging
 pub mod Silences
 pub mod ServiceAnswers
 pub mod Accounts
 pub mod Waits
 pub mod Captures
 pub mod Picks
-pub mod Lent
-pub mod Spans
 pub mod Frames
 pub mod Shortening
 pub mod GrowingLaws
 pub mod Examples
-pub mod Crediting

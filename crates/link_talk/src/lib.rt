@@ -8,7 +8,6 @@ mod course;
 pub mod laws;
 mod life;
 mod party;
-pub mod readers;
 mod word;
 
 pub use call::{Call, Failure, Wanted};

@@ -223,6 +223,13 @@ impl PushClient {
         matches!(self.reception.dialog.course.stage, Stage::Search) && self.query.is_awaiting()
     }
 
+    /// How many credits its multiplexer holds: so many data frames may go out.
+    pub fn credits(&self) -> u16
+        ensures { result ≡ self.now.mux.account.held }
+    {
+        self.mux.credits()
+    }
+
     /// Gives up the push, where that may be: it ends with `Outcome::Cancelled`. Else nothing is changed.
     pub fn cancel(&mut self)
         ensures { self.new ≡ cancelled self.old }

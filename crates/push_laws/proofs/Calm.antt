@@ -34,12 +34,11 @@ use Rattle.push_laws.proofs.Streams.{no_packets}
 pub record Fresh (m : Mux) : Type 0 where
   pub dlci : ℕ
   pub largest : ℕ
-  pub own : ℕ
   pub cap : ℕ
-  pub is : m ≡ new_mux Responder dlci largest own cap
+  pub is : m ≡ new_mux Responder dlci largest largest cap
 
 reset_fresh : (m : Mux) → Fresh m → Fresh (reset m.largest m)
-reset_fresh m f = record { dlci = f.dlci; largest = f.largest; own = m.largest; cap = f.cap; is = ap (reset m.largest) f.is }
+reset_fresh m f = record { dlci = f.dlci; largest = f.largest; cap = f.cap; is = ap (λ (x : Mux). reset x.largest x) f.is }
 
 says_nothing : (m : Mux) → Fresh m → next m ≡ None
 says_nothing m f = ap next f.is
@@ -59,7 +58,7 @@ abbrev pub IsCalm : List Occurrence → Server → Type 0
 IsCalm past server = Calm past server.listener server.mux server.frame
 
 pub first_calm : (settings : Settings) → IsCalm [] (new_server settings)
-first_calm settings = record { answer = refl; unbroken = refl; no_frame = refl; fresh = record { dlci = 18; largest = _; own = _; cap = _; is = refl }; idle = refl; quiet = refl }
+first_calm settings = record { answer = refl; unbroken = refl; no_frame = refl; fresh = record { dlci = 18; largest = _; cap = _; is = refl }; idle = refl; quiet = refl }
 
 -- ---- a request leaves it so
 

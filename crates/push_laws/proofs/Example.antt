@@ -273,7 +273,7 @@ module _ (settings : Settings) (low : 255 ≤ 1024) (high : 1024 ≤ 32767) (cre
     own = tt;
     answers = tt;
     requests = one_request (IsHeard set past9 at9.server.listener.service) set past9 (came example_frame) example_packet refl refl (record { taken = refl; alone = λ named. refl }) refl;
-    frame = frame_in example_frame at9.server (record { room = (refl, tt); behind = refl });
+    frame = frame_in example_frame at9.server (record { room = tt; behind = refl });
     orderly = subst IsOrderly (sym stays) tt;
   }
     where
@@ -314,7 +314,7 @@ module _ (settings : Settings) (low : 255 ≤ 1024) (high : 1024 ≤ 32767) (cre
     own = tt;
     answers = tt;
     requests = one_request (IsTaken set past10 at10.server.listener.service) set past10 (came example_frame) example_packet refl refl (record { taken = refl; alone = λ naming. refl }) refl;
-    frame = frame_in example_frame at10.server (record { room = (refl, tt); behind = refl });
+    frame = frame_in example_frame at10.server (record { room = tt; behind = refl });
     orderly = subst IsOrderly (sym stays) tt;
   }
     where

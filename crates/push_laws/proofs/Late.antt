@@ -69,7 +69,7 @@ abbrev pub Late : Anchor → Client → Type 0
 Late anchor client = IsLate client.stage × (anchor_of client ≡ anchor)
 
 -- what is so of each of these stages
-by_late : (P : Stage → Type 0) → P Object → ((point : Point) → P (ObjectEnd point)) → ((point : Point) → P (LinkEnd point)) → P Over → P Rest → (stage : Stage) → IsLate stage → P stage
+pub by_late : (P : Stage → Type 0) → P Object → ((point : Point) → P (ObjectEnd point)) → ((point : Point) → P (LinkEnd point)) → P Over → P Rest → (stage : Stage) → IsLate stage → P stage
 by_late P object leaving ending over rest Object late = object
 by_late P object leaving ending over rest (ObjectEnd point) late = leaving point
 by_late P object leaving ending over rest (LinkEnd point) late = ending point

@@ -40,3 +40,12 @@ pub mod Deeds
 pub mod Parties
 pub mod OneByOne
 pub mod Taken
+pub mod Couples
+pub mod Carrying
+pub mod Driving
+pub mod Carriage
+pub mod FramesFit
+pub mod Early
+pub mod Numbers
+pub mod Throughout
+pub mod Muxed

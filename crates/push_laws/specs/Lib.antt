@@ -14,3 +14,4 @@ pub mod Turns
 pub mod Success
 pub mod Exchanges
 pub mod Parties
+pub mod Carriage

@@ -1,5 +1,6 @@
 //! Laws of a server of Object Push, for every list of what may happen to it.
 
+ghost use Rattle.push_laws.specs.Carriage.{FramesFit, PushedFramesFit, PushesMayCome, PushesMayFail};
 ghost use Rattle.push_laws.specs.Calls.{InboxIsCalledByRuns};
 ghost use Rattle.push_laws.specs.Example.{OneFaultIsHeard, OnePushIsHeard};
 ghost use Rattle.push_laws.specs.Laws.{AnswersComeInTurn, CreditsAreRead, GainsAllButFaults, GainsWhatIsHeard, LendsFewOctets, OnePacketIsHeard};
@@ -81,4 +82,20 @@ pub fn requests_are_heard()
 /// Where calls of the inbox fail, but not for want of memory, none is ignored of a client that wants no single response mode.
 pub fn requests_are_taken()
     ensures { RequestsAreTaken }
+{}
+
+/// Over RFCOMM, where what the multiplexers of a client of this profile and of its server send comes in its order or not at
+/// all: each frame that comes to the server finds room for its answers, and its multiplexer refuses nothing. That is so from
+/// the opening of the client's channel on, and push after push from a new server on, whatever becomes of the pushes.
+pub fn frames_find_room()
+    ensures opened { FramesFit }
+    ensures pushed { PushedFramesFit }
+{}
+
+/// So of all that the laws of a server ask of what may come over RFCOMM, this is left: what goes is what the server lends, its
+/// inbox grants all calls, or fails but not for want of memory, requests come one at a time, and no frame comes while one of
+/// the server's still waits that opens or closes a connection.
+pub fn pushes_may_come()
+    ensures granted { PushesMayCome }
+    ensures failing { PushesMayFail }
 {}

@@ -93,7 +93,7 @@ begins_advances {S} {T} U V RA RB old new a a' b shelf shelf' inbox trace trace'
 
 -- ---- a push ends
 
-and_first : (a b : Bool) → (a && b) ≡ true → a ≡ true
+pub and_first : (a b : Bool) → (a && b) ≡ true → a ≡ true
 and_first true b is = refl
 and_first false b is = cc
 
@@ -105,7 +105,7 @@ empty_is : {X : Type 0} (xs : List X) → is_empty xs ≡ true → xs ≡ []
 empty_is [] is = refl
 empty_is (x ∷ xs) is = absurd cc
 
-idle_is : (c : Controller) → is_idle c ≡ true → (c.coming ≡ []) × (c.owed ≡ [])
+pub idle_is : (c : Controller) → is_idle c ≡ true → (c.coming ≡ []) × (c.owed ≡ [])
 idle_is c is = (empty_is c.coming (and_first (is_empty c.coming) (is_empty c.owed) is), empty_is c.owed (and_second (is_empty c.coming) (is_empty c.owed) is))
 
 pub ends_advances :

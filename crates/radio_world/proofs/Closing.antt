@@ -1,8 +1,8 @@
 -- The end of a script.
-use Rattle.std.proofs.Common.{◌≡◌, ℕ, Bool, true, false, List, [], ◌∷◌, Option, if◌then◌else◌, refl, sym, ap, ◌∙◌}
+use Rattle.std.proofs.Common.{◌≡◌, ℕ, Bool, true, false, List, [], ◌∷◌, Option, if◌then◌else◌, refl, sym, ap, subst, ◌∙◌}
 use Rattle.std.specs.Prelude.{unwrap_or}
 use Rattle.std.proofs.lemmas.List.{append-nil}
-use Rattle.bt_base.specs.Streams.{gained}
+use Rattle.bt_base.specs.Streams.{gained, GainedFront}
 use Rattle.bt_base.proofs.PortLaws.{gained-nil}
 use Rattle.push_terms.specs.declared.outcome.Outcome.{Outcome}
 use Rattle.push_terms.specs.declared.outcome.Outcome.TheVariants.{ScriptEnded}
@@ -49,3 +49,12 @@ one_written came pushes outcome trace trace' is outcome_is written =
     written ∙ ap (λ (o : Outcome). gained trace (entry_octets (Ended pushes.begun o))) outcome_is
     ∙ ap (gained trace) (sym (append-nil (entry_octets (Ended pushes.begun (unwrap_or came ScriptEnded)))))
     ∙ sym (ap (λ going. gained trace (capture_octets (if going then Ended pushes.begun (unwrap_or came ScriptEnded) ∷ [] else []))) is)
+
+-- its end was being written
+pub one_front :
+    (came : Option Outcome) (pushes : Pushes) (outcome : Outcome) (trace trace' : Option (List ℕ)) → pushes.going ≡ true → outcome ≡ unwrap_or came ScriptEnded
+    → GainedFront trace trace' (entry_octets (Ended pushes.begun outcome)) → GainedFront trace trace' (capture_octets (last_entries came pushes))
+one_front came pushes outcome trace trace' is outcome_is front =
+    subst (λ (xs : List ℕ). GainedFront trace trace' xs)
+    (ap (λ (o : Outcome). entry_octets (Ended pushes.begun o)) outcome_is ∙ sym (append-nil (entry_octets (Ended pushes.begun (unwrap_or came ScriptEnded))))
+    ∙ sym (ap (λ going. capture_octets (if going then Ended pushes.begun (unwrap_or came ScriptEnded) ∷ [] else [])) is)) front

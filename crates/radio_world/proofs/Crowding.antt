@@ -38,7 +38,7 @@ leave_some U side [] rest medium station are = ap (λ out. record { medium = med
 leave_some U side (order ∷ moved) rest medium station are =
     (record { medium = after_leaving side order medium; station = record station { out = moved ++ rest } }, (moved ++ rest, are, refl), leave_some U side moved rest (after_leaving side order medium) (record station { out = moved ++ rest }) refl)
 
-goes_some :
+pub goes_some :
     {S G P : Type 0} (U : Upper S G) (side : Side) (Answers : P → List G → P → Type 0) (moved rest : List Order) (medium : Medium) (host : Asking S G) (port port' : P) (trace trace' : Option (List ℕ)) → JoinAnswers Answers → host.out ≡ moved ++ rest
     → port' ≡ port → trace' ≡ gained trace (capture_octets (leaving_entries side moved)) → Goes U side Answers medium (after_all side moved medium) host (record host { out = rest }) port port' trace trace'
 goes_some {P = P} U side Answers moved rest medium host port port' trace trace' joins are same written = record {

@@ -123,7 +123,7 @@ tries {S} U side [] medium old new made = ap (λ (s : Station S). record { mediu
 tries U side (effort ∷ efforts) medium old new made =
     (record { medium = medium; station = made.0 }, (made.0, made.1, refl), tries U side efforts medium made.0 new made.2)
 
-entering_entry : (side : Side) (coming : Coming) → all_entries (happenings_of side (Entering coming ∷ [])) ≡ Moved side Into (coming_packet side coming) ∷ []
+pub entering_entry : (side : Side) (coming : Coming) → all_entries (happenings_of side (Entering coming ∷ [])) ≡ Moved side Into (coming_packet side coming) ∷ []
 entering_entry side (Part handle piece) = refl
 entering_entry side (Told answer) = refl
 

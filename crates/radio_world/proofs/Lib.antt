@@ -1,9 +1,9 @@
 mod Fed
 mod Leaving
-mod Moving
+pub mod Moving
 mod Entering
 mod Lifting
-mod Advancing
+pub mod Advancing
 mod Settling
 mod Reacting
 mod Turned
@@ -11,11 +11,13 @@ mod Starting
 pub mod Standing
 mod Hearing
 mod Blaming
-mod Runs
+pub mod Runs
 mod Closing
-mod Wanting
+pub mod Wanting
 mod Crowding
 mod Returned
 pub mod Reasons
 mod Tallying
 pub mod Overrunning
+mod Breaking
+pub mod Broken

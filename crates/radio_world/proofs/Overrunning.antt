@@ -42,7 +42,7 @@ overruns_are_crowded {S} {T} {G} {H} U V RA RB hosts size count names s t words 
 some_octets : (entry : Entry) → 1 ≤ length (entry_octets entry)
 some_octets entry = omega arith
 
-all_octets : (entries : List Entry) → length entries ≤ length (capture_octets entries)
+pub all_octets : (entries : List Entry) → length entries ≤ length (capture_octets entries)
 all_octets [] = omega arith
 all_octets (entry ∷ entries) =
     let one = some_octets entry in

@@ -10,3 +10,4 @@ pub mod Causes
 pub mod Counting
 pub mod Shortages
 pub mod Crowds
+pub mod Breaking

@@ -8,6 +8,7 @@ ghost use Rattle.radio_world.specs.Counting.{one_if, GoesBy};
 ghost use Rattle.radio_world.specs.Halves.{IsStillIn, IsSaidFirst, MayAllBeHeard, StaysPut, comes_count};
 ghost use Rattle.radio_world.specs.Causes.{Blames};
 ghost use Rattle.radio_world.specs.Shortages.{Lacks, Shortage};
+ghost use Rattle.radio_world.specs.Breaking.{GoesBroken};
 
 use crate::fault::WorldFault;
 use crate::feeding::hand_over;
@@ -40,6 +41,7 @@ impl Medium {
         ensures sound { OnOk result (H.is_sound host.new port.new) }
         ensures blames { Blames (T.faults trace.old) (T.faults trace.new) result }
         ensures lacks { Lacks (T.shortages trace.old) (T.shortages trace.new) (Shortage H.lacked side (H.station host.old port.old).out self.old port.old port.new (T.content trace.old) (T.content trace.new)) result }
+        ensures breaks { OnErr result (GoesBroken H.machine side H.answers H.lacked H.station self.old (H.station host.old port.old) port.old port.new (T.content trace.old) (T.content trace.new)) }
     {
         let offered = host.out();
         let count = offered.len();
@@ -71,6 +73,7 @@ impl Medium {
         ensures sound { OnOk result (H.is_sound host.new port.new) }
         ensures blames { Blames (T.faults trace.old) (T.faults trace.new) result }
         ensures lacks { Lacks (T.shortages trace.old) (T.shortages trace.new) (H.lacked port.old port.new) result }
+        ensures breaks { OnErr result (GoesBroken H.machine side H.answers H.lacked H.station self.old (H.station host.old port.old) port.old port.new (T.content trace.old) (T.content trace.new)) }
     {
         let mut room = [0; LONGEST_UNIT];
         let Some(n) = self.radio.hand(side, &mut room) else {
@@ -109,6 +112,7 @@ impl Medium {
         ensures sound { OnOk result (H.is_sound host.new port.new) }
         ensures blames { Blames (T.faults trace.old) (T.faults trace.new) result }
         ensures lacks { Lacks (T.shortages trace.old) (T.shortages trace.new) (H.lacked port.old port.new) result }
+        ensures breaks { OnErr result (GoesBroken H.machine side H.answers H.lacked H.station self.old (H.station host.old port.old) port.old port.new (T.content trace.old) (T.content trace.new)) }
     {
         let mut moved = false;
         while self.move_into(side, host, port, trace)? {
@@ -146,6 +150,7 @@ impl Medium {
         ensures sound { OnOk result (H.is_sound host.new port.new) }
         ensures blames { Blames (T.faults trace.old) (T.faults trace.new) result }
         ensures lacks { Lacks (T.shortages trace.old) (T.shortages trace.new) (Shortage H.lacked side (H.station host.old port.old).out self.old port.old port.new (T.content trace.old) (T.content trace.new)) result }
+        ensures breaks { OnErr result (GoesBroken H.machine side H.answers H.lacked H.station self.old (H.station host.old port.old) port.old port.new (T.content trace.old) (T.content trace.new)) }
     {
         let left = self.move_out(side, host, port, trace)?;
         self.give_back(side)?;

@@ -1,7 +1,7 @@
 //! A script, word by word.
 
 ghost use Rattle.std.specs.Prelude.{◌≡◌, ◌≤◌, ◌+◌, ◌^◌, ◌∷◌, [], true, false, ◌<◌, List, replicate, length, OnOk, OnErr};
-ghost use Rattle.bt_base.specs.Streams.{gained};
+ghost use Rattle.bt_base.specs.Streams.{gained, GainedFront};
 ghost use Rattle.push_script.specs.Runs.{IsWord};
 ghost use Rattle.push_terms.specs.declared.word.Side.TheVariants as sides;
 ghost use Rattle.capture.specs.Entries.{capture_octets};
@@ -15,6 +15,7 @@ ghost use Rattle.radio_world.specs.Standing.{IsReached, Stands, last_ended, last
 ghost use Rattle.room_laws.specs.Rooms.{OwesNoneBack};
 ghost use Rattle.radio_world.specs.Causes.{Blames};
 ghost use Rattle.radio_world.specs.Shortages.{Lacks, LacksByTrace, Wants};
+ghost use Rattle.radio_world.specs.Breaking.{Broken};
 
 use crate::fault::WorldFault;
 use crate::host::{Client, Host};
@@ -48,6 +49,7 @@ impl Scene {
         ensures sound { OnOk result (A.Host.is_sound a.new shelf.new × B.is_sound b.new inbox.new) }
         ensures blames { Blames (T.faults trace.old) (T.faults trace.new) result }
         ensures lacks { Lacks (T.shortages trace.old) (T.shortages trace.new) (Wants A.Host.machine B.machine A.Host.answers B.answers A.Host.lacked B.lacked [] (stage self.old (A.Host.station a.old shelf.old) (B.station b.old inbox.old) shelf.old inbox.old (T.content trace.old)) shelf.new inbox.new (T.content trace.new)) result }
+        ensures breaks { OnErr result (Broken A.Host.machine B.machine A.Host.answers B.answers A.Host.lacked B.lacked B.station [] (stage self.old (A.Host.station a.old shelf.old) (B.station b.old inbox.old) shelf.old inbox.old (T.content trace.old)) shelf.new inbox.new (T.content trace.new)) }
     {
         self.settle(a, shelf, b, inbox, trace)?;
         Ok(())
@@ -100,6 +102,7 @@ impl Scene {
         ensures sound { OnOk result (A.Host.is_sound a.new shelf.new × B.is_sound b.new inbox.new) }
         ensures blames { Blames (T.faults trace.old) (T.faults trace.new) result }
         ensures lacks { Lacks (T.shortages trace.old) (T.shortages trace.new) (Wants A.Host.machine B.machine A.Host.answers B.answers A.Host.lacked B.lacked (word ∷ []) (stage self.old (A.Host.station a.old shelf.old) (B.station b.old inbox.old) shelf.old inbox.old (T.content trace.old)) shelf.new inbox.new (T.content trace.new)) result }
+        ensures breaks { OnErr result (Broken A.Host.machine B.machine A.Host.answers B.answers A.Host.lacked B.lacked B.station (word ∷ []) (stage self.old (A.Host.station a.old shelf.old) (B.station b.old inbox.old) shelf.old inbox.old (T.content trace.old)) shelf.new inbox.new (T.content trace.new)) }
     {
         if self.is_count_full() {
             return Err(WorldFault::NoMemory);
@@ -137,6 +140,7 @@ impl Scene {
         ensures sound { OnOk result (A.Host.is_sound a.new shelf.new × B.is_sound b.new inbox.new) }
         ensures blames { Blames (T.faults trace.old) (T.faults trace.new) result }
         ensures lacks { Lacks (T.shortages trace.old) (T.shortages trace.new) (Wants A.Host.machine B.machine A.Host.answers B.answers A.Host.lacked B.lacked (replicate count word) (stage self.old (A.Host.station a.old shelf.old) (B.station b.old inbox.old) shelf.old inbox.old (T.content trace.old)) shelf.new inbox.new (T.content trace.new)) result }
+        ensures breaks { OnErr result (Broken A.Host.machine B.machine A.Host.answers B.answers A.Host.lacked B.lacked B.station (replicate count word) (stage self.old (A.Host.station a.old shelf.old) (B.station b.old inbox.old) shelf.old inbox.old (T.content trace.old)) shelf.new inbox.new (T.content trace.new)) }
     {
         for done in 0..count {
             if !self.finds(word, a, b) {
@@ -169,6 +173,7 @@ impl Scene {
         ensures sound { OnOk result (A.Host.is_sound a.new shelf.new × B.is_sound b.new inbox.new) }
         ensures blames { Blames (T.faults trace.old) (T.faults trace.new) result }
         ensures lacks { Lacks (T.shortages trace.old) (T.shortages trace.new) (Wants A.Host.machine B.machine A.Host.answers B.answers A.Host.lacked B.lacked (words_of script.now) (stage self.old (A.Host.station a.old shelf.old) (B.station b.old inbox.old) shelf.old inbox.old (T.content trace.old)) shelf.new inbox.new (T.content trace.new)) result }
+        ensures breaks { OnErr result (Broken A.Host.machine B.machine A.Host.answers B.answers A.Host.lacked B.lacked B.station (words_of script.now) (stage self.old (A.Host.station a.old shelf.old) (B.station b.old inbox.old) shelf.old inbox.old (T.content trace.old)) shelf.new inbox.new (T.content trace.new)) }
     {
         for i in 0..script.len() {
             let Some((count, word)) = script.at(i) else {
@@ -185,6 +190,7 @@ impl Scene {
         ensures written { OnOk result (T.content trace.new ≡ gained (T.content trace.old) (capture_octets (last_entries came self.old.pushes))) }
         ensures blames { Blames (T.faults trace.old) (T.faults trace.new) result }
         ensures lacks { LacksByTrace (T.shortages trace.old) (T.shortages trace.new) result }
+        ensures front { GainedFront (T.content trace.old) (T.content trace.new) (capture_octets (last_entries came self.old.pushes)) }
     {
         if !self.pushes.going() {
             return Ok(());
@@ -207,6 +213,7 @@ impl Scene {
         ensures written { OnOk result (T.content trace.new ≡ gained (T.content trace.old) (capture_octets (last_entries came self.old.pushes))) }
         ensures blames { Blames (T.faults trace.old) (T.faults trace.new) result }
         ensures lacks { LacksByTrace (T.shortages trace.old) (T.shortages trace.new) result }
+        ensures front { GainedFront (T.content trace.old) (T.content trace.new) (capture_octets (last_entries came self.old.pushes)) }
     {
         self.end_last(came, trace)?;
         self.pushes.close();

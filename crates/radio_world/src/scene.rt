@@ -1,7 +1,7 @@
 //! What goes on between the two hosts.
 
-ghost use Rattle.std.specs.Prelude.{◌≡◌, ◌+◌, ◌<◌, ◌&&◌, ◌∷◌, [], true, false, List, None, Ok, IfOk, OnOk};
-ghost use Rattle.bt_base.specs.Streams.{gained};
+ghost use Rattle.std.specs.Prelude.{◌≡◌, ◌+◌, ◌<◌, ◌&&◌, ◌∷◌, [], true, false, List, None, Ok, IfOk, OnOk, OnErr};
+ghost use Rattle.bt_base.specs.Streams.{gained, GainedFront};
 ghost use Rattle.push_terms.specs.declared.word.Side.TheVariants as sides;
 ghost use Rattle.capture.specs.Entries.{Ended, entry_octets};
 ghost use Rattle.radio_air.specs.Radio.{is_apart, is_quiet};
@@ -16,6 +16,7 @@ ghost use Rattle.rest_laws.specs.Premises.{AreOrderly};
 ghost use Rattle.room_laws.specs.Rooms.{OwesNoneBack};
 ghost use Rattle.radio_world.specs.Causes.{Blames};
 ghost use Rattle.radio_world.specs.Shortages.{Lacks, LacksByTrace, Shortage, Wants};
+ghost use Rattle.radio_world.specs.Breaking.{BeginBroken, Broken, EndBroken, GoesBroken};
 
 use crate::fault::WorldFault;
 use crate::host::{Client, Host};
@@ -64,6 +65,7 @@ impl Scene {
         ensures medium { OnOk result (self.new.medium ≡ self.old.medium) }
         ensures blames { Blames (T.faults trace.old) (T.faults trace.new) result }
         ensures lacks { Lacks (T.shortages trace.old) (T.shortages trace.new) (A.Host.lacked shelf.old shelf.new) result }
+        ensures breaks { OnErr result (BeginBroken A.Host.machine A.Host.lacked self.old (A.Host.station a.old shelf.old) shelf.old shelf.new (T.content trace.old) (T.content trace.new)) }
     {
         if !a.idle() {
             return Ok(false);
@@ -84,6 +86,7 @@ impl Scene {
         ensures written { OnOk result (T.content trace.new ≡ gained (T.content trace.old) (entry_octets (Ended self.old.pushes.begun outcome))) }
         ensures blames { Blames (T.faults trace.old) (T.faults trace.new) result }
         ensures lacks { LacksByTrace (T.shortages trace.old) (T.shortages trace.new) result }
+        ensures front { GainedFront (T.content trace.old) (T.content trace.new) (entry_octets (Ended self.old.pushes.begun outcome)) }
     {
         record(&Entry::Ended(self.pushes.begun(), outcome), trace)?;
         self.pushes.end(outcome);
@@ -110,6 +113,7 @@ impl Scene {
         ensures medium { OnOk result (self.new.medium ≡ self.old.medium) }
         ensures blames { Blames (T.faults trace.old) (T.faults trace.new) result }
         ensures lacks { LacksByTrace (T.shortages trace.old) (T.shortages trace.new) result }
+        ensures breaks { OnErr result ((shelf : P) → EndBroken A.Host.machine self.old (A.Host.station a.now shelf) (T.content trace.old) (T.content trace.new)) }
     {
         if !self.may_end() || !a.idle() {
             return Ok(false);
@@ -141,6 +145,7 @@ impl Scene {
         ensures sound { OnOk result (H.is_sound host.new port.new) }
         ensures blames { Blames (T.faults trace.old) (T.faults trace.new) result }
         ensures lacks { Lacks (T.shortages trace.old) (T.shortages trace.new) (Shortage H.lacked side (H.station host.old port.old).out self.old.medium port.old port.new (T.content trace.old) (T.content trace.new)) result }
+        ensures breaks { OnErr result (GoesBroken H.machine side H.answers H.lacked H.station self.old.medium (H.station host.old port.old) port.old port.new (T.content trace.old) (T.content trace.new)) }
     {
         let moved = self.medium.exchange(side, host, port, trace)?;
         Ok(moved)
@@ -169,6 +174,7 @@ impl Scene {
         ensures blames { Blames (T.faults trace.old) (T.faults trace.new) result }
         ensures none_back { OnOk result (OwesNoneBack self.new.medium.radio) }
         ensures lacks { Lacks (T.shortages trace.old) (T.shortages trace.new) (Wants A.Host.machine B.machine A.Host.answers B.answers A.Host.lacked B.lacked [] (stage self.old (A.Host.station a.old shelf.old) (B.station b.old inbox.old) shelf.old inbox.old (T.content trace.old)) shelf.new inbox.new (T.content trace.new)) result }
+        ensures breaks { OnErr result (Broken A.Host.machine B.machine A.Host.answers B.answers A.Host.lacked B.lacked B.station [] (stage self.old (A.Host.station a.old shelf.old) (B.station b.old inbox.old) shelf.old inbox.old (T.content trace.old)) shelf.new inbox.new (T.content trace.new)) }
     {
         let began = self.begin(a, shelf, trace)?;
         let moved_a = self.exchange(Side::A, a, shelf, trace)?;
@@ -199,6 +205,7 @@ impl Scene {
         ensures blames { Blames (T.faults trace.old) (T.faults trace.new) result }
         ensures none_back { OnOk result (OwesNoneBack self.new.medium.radio) }
         ensures lacks { Lacks (T.shortages trace.old) (T.shortages trace.new) (Wants A.Host.machine B.machine A.Host.answers B.answers A.Host.lacked B.lacked [] (stage self.old (A.Host.station a.old shelf.old) (B.station b.old inbox.old) shelf.old inbox.old (T.content trace.old)) shelf.new inbox.new (T.content trace.new)) result }
+        ensures breaks { OnErr result (Broken A.Host.machine B.machine A.Host.answers B.answers A.Host.lacked B.lacked B.station [] (stage self.old (A.Host.station a.old shelf.old) (B.station b.old inbox.old) shelf.old inbox.old (T.content trace.old)) shelf.new inbox.new (T.content trace.new)) }
     {
         for done in 0..MOST_ROUNDS {
             if !self.round(a, shelf, b, inbox, trace)? {

@@ -1,7 +1,7 @@
 //! Words of a script, turned where all is at rest.
 
 ghost use Rattle.std.specs.Prelude.{◌≡◌, ◌+◌, ◌<◌, ◌^◌, ◌∷◌, [], ◌⊎◌, true, List, OnErr, OnOk};
-ghost use Rattle.bt_base.specs.Streams.{gained};
+ghost use Rattle.bt_base.specs.Streams.{gained, GainedFront};
 ghost use Rattle.push_script.specs.Runs.{IsWord};
 ghost use Rattle.capture.specs.Entries.{Acted, entry_octets};
 ghost use Rattle.radio_air.specs.Owed.{IsMet};
@@ -15,6 +15,7 @@ ghost use Rattle.radio_world.specs.Turning.{can_be_done, fires, cancels, done_by
 ghost use Rattle.room_laws.specs.Rooms.{OwesNoneBack};
 ghost use Rattle.radio_world.specs.Causes.{Blames};
 ghost use Rattle.radio_world.specs.Shortages.{Lacks, LacksByTrace};
+ghost use Rattle.radio_world.specs.Breaking.{Broken};
 
 use crate::fault::WorldFault;
 use crate::host::{Client, Host};
@@ -181,6 +182,7 @@ impl Scene {
         ensures written { OnOk result (T.content trace.new ≡ gained (T.content trace.old) (entry_octets (Acted (self.old.turned + 1) word))) }
         ensures blames { Blames (T.faults trace.old) (T.faults trace.new) result }
         ensures lacks { LacksByTrace (T.shortages trace.old) (T.shortages trace.new) result }
+        ensures front { GainedFront (T.content trace.old) (T.content trace.new) (entry_octets (Acted (self.old.turned + 1) word)) }
     {
         let ordinal = self.turned + 1;
         record(&Entry::Acted { ordinal, word }, trace)?;
@@ -214,6 +216,7 @@ impl Scene {
         ensures blames { Blames (T.faults trace.old) (T.faults trace.new) result }
         ensures none_back { OnOk result (OwesNoneBack self.new.medium.radio) }
         ensures lacks { Lacks (T.shortages trace.old) (T.shortages trace.new) (A.Host.lacked shelf.old shelf.new ⊎ B.lacked inbox.old inbox.new) result }
+        ensures breaks { OnErr result (Broken A.Host.machine B.machine A.Host.answers B.answers A.Host.lacked B.lacked B.station (word ∷ []) (stage self.old (A.Host.station a.old shelf.old) (B.station b.old inbox.old) shelf.old inbox.old (T.content trace.old)) shelf.new inbox.new (T.content trace.new)) }
     {
         let deed = self.found(word);
         let checked = self.is_checked(deed, a, b);

@@ -1,9 +1,9 @@
 //! The simulated world: two hosts, their controllers and the air between them.
 
-ghost use Rattle.std.specs.Prelude.{◌≡◌, ◌∷◌, ◌++◌, [], List, length, min, slice_get, IfOk, OnOk};
+ghost use Rattle.std.specs.Prelude.{◌≡◌, ◌∷◌, ◌++◌, [], List, length, min, slice_get, IfOk, OnErr, OnOk};
 ghost use Rattle.std.specs.Option.{option_map};
 ghost use Rattle.radio_air.specs.Radio.{frames};
-ghost use Rattle.bt_base.specs.Streams.{gained};
+ghost use Rattle.bt_base.specs.Streams.{gained, GainedFront};
 ghost use Rattle.push_script.specs.Runs.{IsWord};
 ghost use Rattle.capture.specs.Air.{words_of};
 ghost use Rattle.capture.specs.Entries.{capture_octets};
@@ -15,6 +15,7 @@ ghost use Rattle.radio_world.specs.Standing.{IsReached, Stands, last_ended, last
 ghost use Rattle.room_laws.specs.Rooms.{OwesNoneBack};
 ghost use Rattle.radio_world.specs.Causes.{Blames};
 ghost use Rattle.radio_world.specs.Shortages.{Lacks, LacksByTrace, Wants};
+ghost use Rattle.radio_world.specs.Breaking.{Broken};
 
 use crate::fault::WorldFault;
 use crate::host::{Client, Host, Keeps, Measured};
@@ -142,6 +143,7 @@ impl<A: Drop, B: Drop> World<A, B> {
         ensures sound { OnOk result (A.Host.is_sound self.new.a shelf.new × B.is_sound self.new.b inbox.new) }
         ensures blames { Blames (T.faults trace.old) (T.faults trace.new) result }
         ensures lacks { Lacks (T.shortages trace.old) (T.shortages trace.new) (Wants A.Host.machine B.machine A.Host.answers B.answers A.Host.lacked B.lacked [] (stage self.old.scene (A.Host.station self.old.a shelf.old) (B.station self.old.b inbox.old) shelf.old inbox.old (T.content trace.old)) shelf.new inbox.new (T.content trace.new)) result }
+        ensures breaks { OnErr result (Broken A.Host.machine B.machine A.Host.answers B.answers A.Host.lacked B.lacked B.station [] (stage self.old.scene (A.Host.station self.old.a shelf.old) (B.station self.old.b inbox.old) shelf.old inbox.old (T.content trace.old)) shelf.new inbox.new (T.content trace.new)) }
     {
         self.scene
             .start(&mut self.a, shelf, &mut self.b, inbox, trace)?;
@@ -177,6 +179,7 @@ impl<A: Drop, B: Drop> World<A, B> {
         ensures sound { OnOk result (A.Host.is_sound self.new.a shelf.new × B.is_sound self.new.b inbox.new) }
         ensures blames { Blames (T.faults trace.old) (T.faults trace.new) result }
         ensures lacks { Lacks (T.shortages trace.old) (T.shortages trace.new) (Wants A.Host.machine B.machine A.Host.answers B.answers A.Host.lacked B.lacked (word ∷ []) (stage self.old.scene (A.Host.station self.old.a shelf.old) (B.station self.old.b inbox.old) shelf.old inbox.old (T.content trace.old)) shelf.new inbox.new (T.content trace.new)) result }
+        ensures breaks { OnErr result (Broken A.Host.machine B.machine A.Host.answers B.answers A.Host.lacked B.lacked B.station (word ∷ []) (stage self.old.scene (A.Host.station self.old.a shelf.old) (B.station self.old.b inbox.old) shelf.old inbox.old (T.content trace.old)) shelf.new inbox.new (T.content trace.new)) }
     {
         self.scene
             .turn_times(1, word, &mut self.a, shelf, &mut self.b, inbox, trace)?;
@@ -206,6 +209,7 @@ impl<A: Drop, B: Drop> World<A, B> {
         ensures sound { OnOk result (A.Host.is_sound self.new.a shelf.new × B.is_sound self.new.b inbox.new) }
         ensures blames { Blames (T.faults trace.old) (T.faults trace.new) result }
         ensures lacks { Lacks (T.shortages trace.old) (T.shortages trace.new) (Wants A.Host.machine B.machine A.Host.answers B.answers A.Host.lacked B.lacked (words_of script.now) (stage self.old.scene (A.Host.station self.old.a shelf.old) (B.station self.old.b inbox.old) shelf.old inbox.old (T.content trace.old)) shelf.new inbox.new (T.content trace.new)) result }
+        ensures breaks { OnErr result (Broken A.Host.machine B.machine A.Host.answers B.answers A.Host.lacked B.lacked B.station (words_of script.now) (stage self.old.scene (A.Host.station self.old.a shelf.old) (B.station self.old.b inbox.old) shelf.old inbox.old (T.content trace.old)) shelf.new inbox.new (T.content trace.new)) }
     {
         self.scene
             .turn_all(script, &mut self.a, shelf, &mut self.b, inbox, trace)?;
@@ -225,6 +229,7 @@ impl<A: Drop, B: Drop> World<A, B> {
         ensures medium { OnOk result (self.new.scene.medium ≡ self.old.scene.medium) }
         ensures blames { Blames (T.faults trace.old) (T.faults trace.new) result }
         ensures lacks { LacksByTrace (T.shortages trace.old) (T.shortages trace.new) result }
+        ensures front { (rest : List A.Host.Answer) → GainedFront (T.content trace.old) (T.content trace.new) (capture_octets (last_entries (A.Host.machine.outcome ((A.Host.station self.old.a _shelf.now).upper rest)) self.old.scene.pushes)) }
     {
         let came = self.a.outcome();
         self.scene.finish(came, trace)?;

@@ -16,10 +16,10 @@ use Rattle.rfcomm_model.specs.declared.state.Command.TheVariants.{LeaveUser}
 use Rattle.rfcomm_model.specs.declared.state.Asks.{Asks}
 use Rattle.rfcomm_model.specs.declared.state.Asks.TheVariants.{Due}
 use Rattle.rfcomm_model.specs.declared.state.MuxReason.{MuxReason}
-use Rattle.rfcomm_model.specs.Machine.{Mux, first_credits, may_pass, is_leaving, taken_count, sends, leaves}
+use Rattle.rfcomm_model.specs.Machine.{Mux, new_mux, first_credits, may_pass, is_leaving, taken_count, sends, leaves}
 use Rattle.rfcomm_model.specs.Hearing.{own_credits, hears_answer}
 use Rattle.rfcomm_model.specs.Saying.{Said, next}
-use Rattle.rfcomm_laws.specs.Pairs.{End, Speak, Give, Deliver, spoken, taking, without_first, hearing, Pair, ByInitiator, ByResponder, Terms, new_pair}
+use Rattle.rfcomm_laws.specs.Pairs.{End, new_end, Speak, Give, Deliver, spoken, taking, without_first, hearing, Pair, ByInitiator, ByResponder, Terms, new_pair}
 use Rattle.rfcomm_laws.specs.Happenings.{Happening, Moves, Closes, happens, all_happen}
 use Rattle.rfcomm_laws.specs.Closings.{ClosingsAreOrderly}
 use Rattle.rfcomm_laws.proofs.Running.{both_true}
@@ -389,8 +389,12 @@ few_first cap most = few_if (nat_le cap 7)
     few_if true = most
     few_if false = omega arith
 
-pub first : (t : Terms) → Crossing t.dlci (new_pair t)
-first t = record {
+-- a new pair whose initiator had room for larger frames than it offers
+abbrev pub offering : Terms → ℕ → Pair
+offering t largest = record { initiator = new_end (new_mux Initiator t.dlci largest t.own t.cap); responder = new_end (new_mux Responder t.dlci t.own_peer t.own_peer t.cap_peer) }
+
+pub first_offering : (t : Terms) (largest : ℕ) → Crossing t.dlci (offering t largest)
+first_offering t largest = record {
   forth = record {
     fit = record { some = t.some; dlci = refl; least = t.least; most = t.most };
     role = refl;
@@ -417,6 +421,9 @@ first t = record {
   };
   knows = record { idle = λ e. (refl, refl); opened = λ o. let never : false ≡ true = o in cc };
 }
+
+pub first : (t : Terms) → Crossing t.dlci (new_pair t)
+first t = first_offering t t.own
 
 pub closings-are_orderly : ClosingsAreOrderly
 closings-are_orderly t hs =

@@ -16,3 +16,5 @@ pub mod Crossings
 pub mod Summing
 pub mod Turning
 pub mod Coming
+pub mod Duties
+pub mod Rooms

@@ -6,3 +6,4 @@ pub mod Assembling
 pub mod Links
 pub mod Closings
 pub mod Totals
+pub mod Rooms

@@ -8,6 +8,7 @@ ghost use Rattle.rfcomm_laws.specs.Happenings.{FramesAreFew};
 ghost use Rattle.rfcomm_laws.specs.Links.{SdusAreFrames, LinksArePipes, StillLinksAreDone, LinksCloseInOrder};
 ghost use Rattle.rfcomm_laws.specs.Pairs.{PairsArePipes};
 ghost use Rattle.rfcomm_laws.specs.Rests.{OctetsCome, StillIsDone};
+ghost use Rattle.rfcomm_laws.specs.Rooms.{FramesFindRoom, SdusFindRoom};
 ghost use Rattle.rfcomm_laws.specs.Totals.{NoneIsOverdrawn};
 
 /// The two sides are a pipe of octets each way, and neither closes, whatever frames are under way.
@@ -68,4 +69,11 @@ pub fn closings_are_orderly()
 /// credits, by PN and in credit octets.
 pub fn none_is_overdrawn()
     ensures { NoneIsOverdrawn }
+{}
+
+/// Each frame that comes to a side finds room for its answers, also where either side, or both, are told to close at any
+/// moment: no more than nine answers wait, so none is ignored. Over SDUs too.
+pub fn answers_find_room()
+    ensures frames { FramesFindRoom }
+    ensures sdus { SdusFindRoom }
 {}

@@ -23,12 +23,12 @@ use Rattle.rfcomm_model.specs.Machine.{Mux, closes, may_pass, is_ready, is_leavi
 use Rattle.rfcomm_model.specs.Written.{response_frame, control_frame}
 use Rattle.rfcomm_model.specs.Hearing.{has_room, answering, says_dm, tells, signals_next, opens_control, opens_user, hears_sabm, control_answered, user_answered, hears_ua, control_refused, user_refused, hears_dm, ends, hears_disc, credited, charged, if_stands, with_credits, hears_data, counts, pn_credited, lesser, own_credits, hears_offer, terms_agreed, hears_acceptance, hears_other_offer, hears_pn, peer_answered, signals_answered, hears_msc, settings_of, hears_control, hears_message, hears_messages, hears_kind, hears_settled, hears_frame, hears_answer}
 use Rattle.rfcomm_model.specs.Saying.{Said, says_grant, says_data, first_of, says_command, says_answer, next}
-use Rattle.rfcomm_model.specs.Sides.{Deed, Hears, Says, Sends, Leaves, Side, said_by, given, done, new_side, FindRoom, FindsRoom, AnswerFindsRoom, AlwaysRoom, asks_of, asked_by, NoFlood, UnfloodedSidesRead}
+use Rattle.rfcomm_model.specs.Sides.{Deed, Hears, Says, Sends, Leaves, Side, said_by, given, done, new_side, FindRoom, FindRoomOn, FindsRoom, AnswerFindsRoom, AlwaysRoom, asks_of, asked_by, NoFlood, UnfloodedSidesRead}
 use Rattle.rfcomm_model.proofs.Reading.{sides-read}
 
 -- ---- answers that wait
 
-abbrev waiting : Mux → ℕ
+abbrev pub waiting : Mux → ℕ
 waiting m = length m.answers
 
 answering_waits : (frame : PlainFrame) (m : Mux) → waiting (answering frame m) ≡ waiting m + 1
@@ -223,16 +223,17 @@ messages_wait (message ∷ rest) m =
 
 -- ---- a frame
 
+uih_waits : (control : Bool) (list : List MessageAnswer) (frame : PlainFrame) (m : Mux)
+    → waiting (cond control (hears_messages list m) (cond ((frame.dlci == m.dlci) && may_pass m) (hears_data frame m) m)) ≤ waiting m + cond control (length list) 0
+uih_waits true list frame m = messages_wait list m
+uih_waits false list frame m = let less = data_waits frame m in waits_if (waiting m + 0) ((frame.dlci == m.dlci) && may_pass m) (hears_data frame m) m (omega (arith, less)) (omega arith)
+
 kind_waits : (kind : MuxKind) (frame : PlainFrame) (m : Mux) → waiting (hears_kind kind frame m) ≤ waiting m + asks_of kind frame
 kind_waits Sabm frame m = waits_if (waiting m + 1) frame.pf (hears_sabm m.role frame.dlci m) m (sabm_waits m.role frame.dlci m) (omega arith)
 kind_waits Ua frame m = let less = ua_waits frame.dlci m in waits_if (waiting m + 0) frame.pf (hears_ua frame.dlci m) m (omega (arith, less)) (omega arith)
 kind_waits Dm frame m = let less = heard_dm_waits frame.dlci m in omega (arith, less)
 kind_waits Disc frame m = waits_if (waiting m + 1) frame.pf (hears_disc frame.dlci m) m (disc_waits frame.dlci m) (omega arith)
-kind_waits Uih frame m =
-    let most : ℕ = waiting m + length (messages frame.octets) in
-    let less = data_waits frame m in
-    waits_if most (frame.dlci == 0) (hears_messages (messages frame.octets) m) (cond ((frame.dlci == m.dlci) && may_pass m) (hears_data frame m) m) (messages_wait (messages frame.octets) m)
-    (waits_if most ((frame.dlci == m.dlci) && may_pass m) (hears_data frame m) m (omega (arith, less)) (omega arith))
+kind_waits Uih frame m = uih_waits (frame.dlci == 0) (messages frame.octets) frame m
 
 settled_waits : (kind : MuxKind) (frame : PlainFrame) (m : Mux) → waiting (hears_settled kind frame m) ≤ waiting m + asks_of kind frame
 settled_waits Sabm frame m = waits_if (waiting m + 1) frame.pf (says_dm frame.dlci m) m (dm_waits frame.dlci m) (omega arith)
@@ -250,13 +251,13 @@ frame_waits (Some reasons.Overdrawn) frame m = omega arith
 frame_waits (Some reasons.BadFrame) frame m = omega arith
 frame_waits (Some reasons.CreditOverflow) frame m = omega arith
 
-answer_waits : (a : Answer) (m : Mux) → waiting (hears_answer a m) ≤ waiting m + asked_by a
+pub answer_waits : (a : Answer) (m : Mux) → waiting (hears_answer a m) ≤ waiting m + asked_by a
 answer_waits (Ok frame) m = frame_waits m.closed frame m
 answer_waits (Err refusal) m = stands_waits (waiting m + 0) (closes reasons.BadFrame) m.closed m (omega arith) (omega arith)
 
 -- ---- a frame that is sent
 
-abbrev SaysWaits : ℕ → Mux → Option Said → Type 0
+abbrev pub SaysWaits : ℕ → Mux → Option Said → Type 0
 SaysWaits n m None = waiting m ≤ n
 SaysWaits n m (Some said) = waiting said.after ≤ n
 
@@ -282,7 +283,7 @@ command_waits n (Due Signal) m few = few
 command_waits n (Due LeaveUser) m few = few
 command_waits n (Due LeaveControl) m few = few
 
-says_waits : (n : ℕ) (answers : List PlainFrame) (m : Mux) → m.answers ≡ answers → waiting m ≤ n → SaysWaits (n - 1) m (says_answer answers m)
+pub says_waits : (n : ℕ) (answers : List PlainFrame) (m : Mux) → m.answers ≡ answers → waiting m ≤ n → SaysWaits (n - 1) m (says_answer answers m)
 says_waits n [] m is few = let none = ap length is in command_waits (n - 1) m.asks m (omega (arith, none))
 says_waits n (answer ∷ rest) m is few = let more = ap length is in omega (arith, more, few)
 
@@ -301,22 +302,26 @@ messages_find (message ∷ rest) m few =
     let one = message_waits message m in
     (room_of m (omega (arith, few)), messages_find rest (if_stands (hears_message message) m.closed m) (omega (arith, few, one)))
 
+find_on : (control : Bool) (list : List MessageAnswer) (m : Mux) → waiting m + cond control (length list) 0 ≤ 16 → FindRoomOn control list m
+find_on true list m few = messages_find list m few
+find_on false list m few = tt
+
 kind_finds : (kind : MuxKind) (frame : PlainFrame) (m : Mux) → waiting m + asks_of kind frame ≤ 16 → FindsRoom kind frame m
 kind_finds Sabm frame m few = room_of m (omega (arith, few))
 kind_finds Ua frame m few = tt
 kind_finds Dm frame m few = tt
 kind_finds Disc frame m few = room_of m (omega (arith, few))
-kind_finds Uih frame m few = messages_find (messages frame.octets) m few
+kind_finds Uih frame m few = find_on (frame.dlci == 0) (messages frame.octets) m few
 
-answer_finds : (a : Answer) (m : Mux) → waiting m + asked_by a ≤ 16 → AnswerFindsRoom a m
+pub answer_finds : (a : Answer) (m : Mux) → waiting m + asked_by a ≤ 16 → AnswerFindsRoom a m
 answer_finds (Ok frame) m few = kind_finds frame.kind frame m few
 answer_finds (Err refusal) m few = tt
 
-given_waits : (octets : List ℕ) (m : Mux) → waiting (given octets m) ≤ waiting m
+pub given_waits : (octets : List ℕ) (m : Mux) → waiting (given octets m) ≤ waiting m
 given_waits octets m =
     waits_if (waiting m) (may_pass m) (sends octets m) m (waits_if (waiting m) (is_empty m.waiting && nat_lt 0 m.account.held) (record m { waiting = take (taken_count (length octets) m) octets }) m (omega arith) (omega arith)) (omega arith)
 
-leaves_waits : (m : Mux) → waiting (leaves m) ≤ waiting m
+pub leaves_waits : (m : Mux) → waiting (leaves m) ≤ waiting m
 leaves_waits m = waits_if (waiting m) (is_none m.closed && not (is_leaving m.asks)) (record m { asks = Due LeaveUser }) m (omega arith) (omega arith)
 
 pub all_find : (n : ℕ) (deeds : List Deed) (side : Side) → waiting side.mux ≤ n → NoFlood n deeds → AlwaysRoom deeds side

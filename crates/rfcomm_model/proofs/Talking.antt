@@ -19,7 +19,7 @@ use Rattle.rfcomm_model.specs.declared.state.Asks.TheVariants.{Nothing, Due, Awa
 use Rattle.rfcomm_model.specs.Machine.{Mux, may_pass, closes}
 use Rattle.rfcomm_model.specs.Written.{control_frame}
 use Rattle.rfcomm_model.specs.Hearing.{has_room, answering, says_dm, tells, counts, lesser, own_credits, terms_agreed, peer_answered, settings_of, credited, charged, with_credits, hears_data, pn_credited, hears_offer, hears_acceptance, hears_other_offer, hears_pn, signals_answered, hears_msc, hears_message, hears_messages, if_stands, hears_uih}
-use Rattle.rfcomm_model.specs.Sides.{FindRoom}
+use Rattle.rfcomm_model.specs.Sides.{FindRoom, FindRoomOn}
 use Rattle.rfcomm_model.proofs.Keeping.{message_keeps}
 use Rattle.rfcomm_model.proofs.Stepping.{Turns, AllQuiet, IsReply, cond_same, unless_closed, unchanged, answered, turns_cond, dm_turns}
 
@@ -231,23 +231,27 @@ at_held : (m x : Mux) (h k : ℕ) → h ≡ k → Turns m m.control m.user h x �
 at_held m x h k is t = subst (λ (n : ℕ). Turns m m.control m.user n x) is t
 
 uih_by : (m : Mux) (a b pass : Bool) (s k : ℕ) (x y : Mux) → (a ≡ true → b ≡ false)
-    → (x.closed ≡ None → Turns m m.control m.user (m.account.held + cond (counts m) s 0) x)
+    → (a ≡ true → x.closed ≡ None → Turns m m.control m.user (m.account.held + cond (counts m) s 0) x)
     → (y.closed ≡ None → Turns m m.control m.user (m.account.held + k) y)
     → (cond a x (cond (b && pass) y m)).closed ≡ None
     → Turns m m.control m.user (m.account.held + (cond (a && counts m) s 0 + cond (b && pass) k 0)) (cond a x (cond (b && pass) y m))
 uih_by m true true pass s k x y one tx ty stands = let never : true ≡ false = one refl in cc
-uih_by m true false pass s k x y one tx ty stands = at_held m x (m.account.held + cond (counts m) s 0) (m.account.held + (cond (counts m) s 0 + 0)) (ap (λ (n : ℕ). m.account.held + n) (sym (add-zero (cond (counts m) s 0)))) (tx stands)
+uih_by m true false pass s k x y one tx ty stands = at_held m x (m.account.held + cond (counts m) s 0) (m.account.held + (cond (counts m) s 0 + 0)) (ap (λ (n : ℕ). m.account.held + n) (sym (add-zero (cond (counts m) s 0)))) (tx refl stands)
 uih_by m false true true s k x y one tx ty stands = at_held m y (m.account.held + k) (m.account.held + (0 + k)) (omega arith) (ty stands)
 uih_by m false true false s k x y one tx ty stands = at_held m m m.account.held (m.account.held + (0 + 0)) (omega arith) (unchanged m)
 uih_by m false false pass s k x y one tx ty stands = at_held m m m.account.held (m.account.held + (0 + 0)) (omega arith) (unchanged m)
 
-pub uih_turns : (m : Mux) (f : PlainFrame) → carries f.kind ≡ true → (apart : (f.dlci == 0) ≡ true → (f.dlci == m.dlci) ≡ false) → 0 < m.dlci → m.closed ≡ None → FindRoom (messages f.octets) m → (hears_uih f m).closed ≡ None
+room_on : (list : List MessageAnswer) (m : Mux) (control : Bool) → control ≡ true → FindRoomOn control list m → FindRoom list m
+room_on list m true is room = room
+room_on list m false is room = let never : false ≡ true = is in cc
+
+pub uih_turns : (m : Mux) (f : PlainFrame) → carries f.kind ≡ true → (apart : (f.dlci == 0) ≡ true → (f.dlci == m.dlci) ≡ false) → 0 < m.dlci → m.closed ≡ None → FindRoomOn (f.dlci == 0) (messages f.octets) m → (hears_uih f m).closed ≡ None
     → Turns m m.control m.user (m.account.held + granted_by m.dlci m.role (lines_of m) (record { from = other_role m.role; frame = f })) (hears_uih f m)
 uih_turns m f carries_is apart some standing room stands =
     let pass_is : may_pass m ≡ carries_on (lines_of m) = ap (λ (closed : Option MuxReason). is_none closed && carries_on (lines_of m)) standing in
     let stated : ℕ = sum_by (stated_by m.dlci) (messages f.octets) in
     let moved = uih_by m (f.dlci == 0) (f.dlci == m.dlci) (may_pass m) stated (credit_octet f.credits) (hears_messages (messages f.octets) m) (hears_data f m) apart
-    (messages_turn (messages f.octets) m some standing room) (data_turns m f) stands in
+    (λ is. messages_turn (messages f.octets) m some standing (room_on (messages f.octets) m (f.dlci == 0) is room)) (data_turns m f) stands in
     at_held m (hears_uih f m) (m.account.held + (cond ((f.dlci == 0) && counts m) stated 0 + cond ((f.dlci == m.dlci) && may_pass m) (credit_octet f.credits) 0))
     (m.account.held + granted_by m.dlci m.role (lines_of m) (record { from = other_role m.role; frame = f }))
     (ap (λ (n : ℕ). m.account.held + n)

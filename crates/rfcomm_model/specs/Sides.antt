@@ -1,5 +1,5 @@
 -- One side of a multiplexer over time: what is done to it, and what it hears and sends.
-use Rattle.std.specs.Prelude.{ℕ, ◌+◌, ◌-◌, ◌≤◌, ◌<◌, ◌≡◌, true, List, [], length, ◌∷◌, ◌++◌, Option, Some, None, if◌then◌else◌, Ok, Err}
+use Rattle.std.specs.Prelude.{ℕ, ◌+◌, ◌-◌, ◌==◌, ◌≤◌, ◌<◌, ◌≡◌, Bool, true, false, List, [], length, ◌∷◌, ◌++◌, Option, Some, None, if◌then◌else◌, Ok, Err}
 use Rattle.rfcomm_frames.specs.declared.frame.MuxKind.{MuxKind}
 use Rattle.rfcomm_frames.specs.declared.frame.MuxKind.TheVariants.{Sabm, Ua, Dm, Disc, Uih}
 use Rattle.rfcomm_frames.specs.declared.connection.Role.{Role}
@@ -68,13 +68,18 @@ abbrev pub FindRoom : List MessageAnswer → Mux → Type 0
 FindRoom [] m = Unit {0}
 FindRoom (message ∷ rest) m = (has_room m ≡ true) × FindRoom rest (if_stands (hears_message message) m.closed m)
 
+-- the messages on the control channel do; information on the user channel needs no answer, whatever octets it has
+abbrev pub FindRoomOn : Bool → List MessageAnswer → Mux → Type 0
+FindRoomOn true list m = FindRoom list m
+FindRoomOn false list m = Unit {0}
+
 -- a frame that may need an answer finds room for it
 abbrev pub FindsRoom : MuxKind → PlainFrame → Mux → Type 0
 FindsRoom Sabm frame m = has_room m ≡ true
 FindsRoom Ua frame m = Unit {0}
 FindsRoom Dm frame m = Unit {0}
 FindsRoom Disc frame m = has_room m ≡ true
-FindsRoom Uih frame m = FindRoom (messages frame.octets) m
+FindsRoom Uih frame m = FindRoomOn (frame.dlci == 0) (messages frame.octets) m
 
 abbrev pub AnswerFindsRoom : Answer → Mux → Type 0
 AnswerFindsRoom (Ok frame) m = FindsRoom frame.kind frame m
@@ -98,7 +103,7 @@ asks_of Sabm frame = 1
 asks_of Ua frame = 0
 asks_of Dm frame = 0
 asks_of Disc frame = 1
-asks_of Uih frame = length (messages frame.octets)
+asks_of Uih frame = if frame.dlci == 0 then length (messages frame.octets) else 0
 
 abbrev pub asked_by : Answer → ℕ
 asked_by (Ok frame) = asks_of frame.kind frame

@@ -6,6 +6,7 @@ mod answers;
 mod message;
 mod mux;
 mod pending;
+mod purse;
 mod reading;
 mod writing;
 

@@ -11,9 +11,9 @@ mod saying;
 
 use crate::answers::Answers;
 use crate::pending::Pending;
+use crate::purse::Purse;
 use bt_base::NoMemory;
 pub use hearing::MuxUp;
-use rfcomm_credits::Account;
 use rfcomm_frames::{Dlc, Role};
 use rfcomm_model::{Asks, Command, MuxReason, Readiness};
 use std::alloc::Global;
@@ -36,7 +36,7 @@ pub struct Mux {
     asks: Asks,
     ready: Readiness,
     cap: u8,
-    account: Account,
+    account: Purse,
     answers: Answers,
     pending: Pending,
     closed: Option<MuxReason>,
@@ -114,7 +114,7 @@ impl Mux {
             asks: first_asks(role),
             ready: Readiness::Neither,
             cap: credits,
-            account: Account::new(credits, first_credits(credits)),
+            account: Purse::new(credits, first_credits(credits)),
             answers: Answers::new(role),
             pending,
             closed: None,
@@ -136,7 +136,7 @@ impl Mux {
         self.user = Dlc::Idle;
         self.asks = first_asks(self.answers.role());
         self.ready = Readiness::Neither;
-        self.account = Account::new(self.cap, first_credits(self.cap));
+        self.account = Purse::new(self.cap, first_credits(self.cap));
         self.answers.clear();
         self.pending.clear();
         self.closed = None;

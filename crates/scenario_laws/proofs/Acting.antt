@@ -300,18 +300,18 @@ pub went_all : {S G : Type 0} (U : Upper S G) (W : Bool → S → Type 0) (linke
 went_all {S} {G} U W linked now waiting talk acted =
     so_goes_on U W linked linked (map Says waiting) (map Unsent waiting) talk acted.mid now acted.says (unsent_deeds G waiting) (turns_said U linked waiting acted.mid) (up_said G linked waiting) (so_said U W linked waiting acted.mid) acted.went
 
-told_went : {S G : Type 0} (U : Upper S G) (W : Bool → S → Type 0) (linked : Bool) (gifts : List G) (event : LinkEvent) (old : S) (waiting : List (List ℕ)) (talk : List Talk) → (event ≡ Up → linked ≡ false) → ActedSo U W linked old waiting talk
+told_went : {S G : Type 0} (U : Upper S G) (W : Bool → S → Type 0) (linked : Bool) (gifts : List G) (event : LinkEvent) (old : S) (waiting : List (List ℕ)) (talk : List Talk) → (event ≡ Up → linked ≡ false) → (event ≢ Up → linked ≡ true) → ActedSo U W linked old waiting talk
     → WentSo U W (linked_by event) (talk ++ (map Unsent waiting ++ Told (Linked event) ∷ [])) (U.hear gifts (Linked event) old)
-told_went {S} {G} U W linked gifts event old waiting talk fresh acted =
+told_went {S} {G} U W linked gifts event old waiting talk fresh held acted =
     let now = U.hear gifts (Linked event) old in
     let one : Act G = Hears gifts (Linked event) in
-    let turn = by event fresh in
+    let turn = by event fresh held in
     subst (λ (l : List Talk). WentSo U W (linked_by event) l now) (append_assoc talk (map Unsent waiting) (Told (Linked event) ∷ []))
     (so_goes_on U W linked (linked_by event) (one ∷ []) (Told (Linked event) ∷ []) (talk ++ map Unsent waiting) old now (_, refl, refl) refl (record { timely = turn.0; in_quiet = λ on. tt }, λ later does. tt) turn.1 (λ on. tt, λ later does. tt) (went_all U W linked old waiting talk acted))
   where
-    by : (which : LinkEvent) → (which ≡ Up → linked ≡ false) → (let one : Act G = Hears gifts (Linked which) in IsTimely linked one × (up_behind linked (one ∷ []) ≡ linked_by which))
-    by Up fresh = (fresh refl, refl)
-    by (Down reason) fresh = (tt, refl)
+    by : (which : LinkEvent) → (which ≡ Up → linked ≡ false) → (which ≢ Up → linked ≡ true) → (let one : Act G = Hears gifts (Linked which) in IsTimely linked one × (up_behind linked (one ∷ []) ≡ linked_by which))
+    by Up fresh held = (fresh refl, refl)
+    by (Down reason) fresh held = (held (λ is. cc), refl)
 
 pub tells_acted : {S G : Type 0} (U : Upper S G) (W : Bool → S → Type 0) (linked : Bool) (gifts : List G) (event : LinkEvent) (old : S) (waiting : List (List ℕ)) (talk : List Talk) → (event ≡ Up → linked ≡ false) → (event ≢ Up → linked ≡ true) → ActedSo U W linked old waiting talk
     → ActedSo U W (linked_by event) (U.hear gifts (Linked event) old) [] (talk ++ (map Unsent waiting ++ Told (Linked event) ∷ []))
@@ -321,7 +321,7 @@ tells_acted {S} U W linked gifts Up old waiting talk fresh held acted =
     let talk_is : talk ++ (map Unsent waiting ++ Told (Linked Up) ∷ []) ≡ talk ++ Told (Linked Up) ∷ [] = ap (λ (w : List (List ℕ)). talk ++ (map Unsent w ++ Told (Linked Up) ∷ [])) none in
     record {
       mid = U.hear gifts (Linked Up) old;
-      went = told_went U W linked gifts Up old waiting talk fresh acted;
+      went = told_went U W linked gifts Up old waiting talk fresh held acted;
       says = refl;
       up = λ on. record {
         on = record {
@@ -347,7 +347,7 @@ tells_acted {S} U W linked gifts Up old waiting talk fresh held acted =
     }
 tells_acted U W linked gifts (Down reason) old waiting talk fresh held acted = record {
   mid = U.hear gifts (Linked (Down reason)) old;
-  went = told_went U W linked gifts (Down reason) old waiting talk fresh acted;
+  went = told_went U W linked gifts (Down reason) old waiting talk fresh held acted;
   says = refl;
   up = λ on. cc;
   down = λ off. refl;

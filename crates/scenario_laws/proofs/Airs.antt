@@ -49,7 +49,7 @@ agrees asks scenario content happenings front world plain is happened rests =
     (plain.b front world is happened rests) (none_told (server_profile scenario.settings content) KnowsNone (servers_keep scenario.settings content) (party_of scenario.settings B) world.b.upper both.b.talk) in
     record { armed_a = sym one.armed_is; armed_b = sym other.armed_is; checks_a = λ own. sym (one.checks_are own); checks_b = λ own. sym (other.checks_are own) }
 
-tells_hosts : (asks : HostsAsk) (scenario : Scenario) (content : Option Contents) (happenings : List Happening) → ArePlain asks scenario content happenings
+pub tells_hosts : (asks : HostsAsk) (scenario : Scenario) (content : Option Contents) (happenings : List Happening) → ArePlain asks scenario content happenings
     → TellsHosts (client_of scenario) (server_of scenario content) (hosts_of scenario.settings) happenings (beginning scenario content)
 tells_hosts asks scenario content happenings plain = record {
   ends = passes_ends scenario.settings;

@@ -166,7 +166,7 @@ deeds_acted U V W X Cancels old new rest ready (may, g, same) both = rw same (re
 
 -- ---- all that happens
 
-done_both : {S T G H : Type 0} (U : Upper S G) (V : Upper T H) (W : Bool → S → Type 0) (X : Bool → T → Type 0) (doing : Doing) (old new : Carriage S T) → IsDone U V doing old new → RestsIn (AreReady U V W X) doing old → Both U V old → ActedBoth U V W X old → ActedBoth U V W X new
+pub done_both : {S T G H : Type 0} (U : Upper S G) (V : Upper T H) (W : Bool → S → Type 0) (X : Bool → T → Type 0) (doing : Doing) (old new : Carriage S T) → IsDone U V doing old new → RestsIn (AreReady U V W X) doing old → Both U V old → ActedBoth U V W X old → ActedBoth U V W X new
 done_both U V W X (Moved A motion) old new (e, does, same) ready sound both = rw same (record { a = motion_acted U W old.link motion old.a e does sound.a both.a; b = both.b })
 done_both U V W X (Moved B motion) old new (f, does, same) ready sound both = rw same (record { a = both.a; b = motion_acted V X old.link motion old.b f does sound.b both.b })
 done_both U V W X (Deeds word) old new (rest, acts) ready sound both = deeds_acted U V W X (finds word old) old new rest ready acts both

@@ -67,15 +67,15 @@ came_over A W side past capture linked now waiting talk acted known same =
       so = all.so;
     }
 
+pub came_over-talk : {P : Type 0} (A : Profile P) (W : Bool → Host P → Type 0) (side : Side) (past capture : List Entry) (linked : Bool) (now : Host P) (waiting : List (List ℕ)) (talk : List Talk) (acted : ActedSo (upper A) W linked now waiting talk) (known : linkage talk ≡ captured side past)
+    (same : linking (moves side capture) ≡ linking (moves side past)) → (came_over A W side past capture linked now waiting talk acted known same).came.talk ≡ talk ++ map Unsent waiting
+unfolding came_over
+came_over-talk A W side past capture linked now waiting talk acted known same = refl
+
 -- of any host, by its talk
 unfoldable pub came-over : {P : Type 0} (A : Profile P) (side : Side) (past capture : List Entry) (linked : Bool) (now : Host P) (waiting : List (List ℕ)) (talk : List Talk) → ActedSo (upper A) Anyhow linked now waiting talk → linkage talk ≡ captured side past
     → linking (moves side capture) ≡ linking (moves side past) → CameOver A side capture now
 came-over A side past capture linked now waiting talk acted known same = (came_over A Anyhow side past capture linked now waiting talk acted known same).came
-
-pub came-talk : {P : Type 0} (A : Profile P) (side : Side) (past capture : List Entry) (linked : Bool) (now : Host P) (waiting : List (List ℕ)) (talk : List Talk) (acted : ActedSo (upper A) Anyhow linked now waiting talk) (known : linkage talk ≡ captured side past)
-    (same : linking (moves side capture) ≡ linking (moves side past)) → (came-over A side past capture linked now waiting talk acted known same).talk ≡ talk ++ map Unsent waiting
-unfolding came-over came_over
-came-talk A side past capture linked now waiting talk acted known same = refl
 
 pub runs_have_talks : RunsHaveTalks
 runs_have_talks scenario content capture ran =

@@ -30,23 +30,24 @@ use Rattle.host_laws.specs.OverLinks.{is_up_behind}
 use Rattle.host_laws.specs.Seen.{FiresPlainly}
 use Rattle.scenario_laws.specs.Captures.{client_of, server_of, beginning}
 use Rattle.scenario_laws.specs.Coming.{CameUp}
-use Rattle.scenario_laws.specs.Gentle.{IsFreeAct, AreFreeUp, LivesThrough, IsFreeAt, RestsAreFree, FreeRunsAreGentle, CameSoAt, FreeRestsAreLived}
+use Rattle.scenario_laws.specs.Gentle.{IsFreeAct, AreFreeUp, LivesThrough, IsFreeAt, HostsAreFree, RestsAreFree, FreeRunsAreGentle, CameSoAt, FreeRestsAreLived}
 use Rattle.scenario_laws.specs.Parties.{party_of}
 use Rattle.scenario_laws.specs.Plain.{IsPlainAt, KeepsOn, FreeHostsArePlain}
 use Rattle.scenario_laws.proofs.Acting.{Anyhow, IsActSo, AreSo, Acted, ActedSo, SinceSo, since_up}
 use Rattle.scenario_laws.proofs.Both.{AreReady, idle_acted, both_acted}
 use Rattle.scenario_laws.proofs.Carrying.{carried, carried_so}
 use Rattle.scenario_laws.proofs.Coming.{ended_all, CameOverSo, came_over}
+use Rattle.scenario_laws.proofs.Freeing.{runs_are_free}
 use Rattle.scenario_laws.proofs.Fronts.{fits}
 use Rattle.scenario_laws.proofs.Gentle.{hosts_are_gentle, rests_are_lived}
 use Rattle.turn_laws.proofs.Recounting.{HoldsAtRests}
 
 -- where a PDU comes in, and where the timer fires
-abbrev free_where : {P : Type 0} → Profile P → Bool → Host P → Type 0
+abbrev pub free_where : {P : Type 0} → Profile P → Bool → Host P → Type 0
 free_where A false now = HoldsNothingBack A now
 free_where A true now = HoldsNothingBack A now × FiresPlainly A.policy now.channels
 
-free_acts : {P : Type 0} (A : Profile P) (acts : List (Act Circumstance)) (up : Bool) (now : Host P) → AreSo (upper A) (free_where A) up acts now → AreFreeUp A up acts now
+pub free_acts : {P : Type 0} (A : Profile P) (acts : List (Act Circumstance)) (up : Bool) (now : Host P) → AreSo (upper A) (free_where A) up acts now → AreFreeUp A up acts now
 free_acts A [] up now so = tt
 free_acts A (act ∷ acts) up now so = (λ on. by act (so.0 on), λ mid does. free_acts A acts (is_up_behind up act) mid (so.1 mid does))
   where
@@ -61,7 +62,7 @@ free_acts A (act ∷ acts) up now so = (λ on. by act (so.0 on), λ mid does. fr
 
 -- ---- wherever a run is at rest
 
-ready : {P : Type 0} (A : Profile P) (side : Side) (past : List Entry) (linked : Bool) (now : Host P) (talk : List Talk) → Acted (upper A) linked now [] talk → linkage talk ≡ captured side past → IsFreeAt A (link_up side past) now → linked ≡ true
+pub ready : {P : Type 0} (A : Profile P) (side : Side) (past : List Entry) (linked : Bool) (now : Host P) (talk : List Talk) → Acted (upper A) linked now [] talk → linkage talk ≡ captured side past → IsFreeAt A (link_up side past) now → linked ≡ true
     → free_where A false now × ((upper A).armed now ≡ true → free_where A true now)
 ready A side past linked now talk acted known free on = by (link_up side past) (ap (λ (l : Linkage). l.up) (sym known) ∙ (acted.up on).links_are) free
   where
@@ -69,7 +70,7 @@ ready A side past linked now talk acted known free on = by (link_up side past) (
     by None is free = cc
     by (Some link) is free = (free.back, λ armed. (free.back, free.fires armed))
 
-rests_hold : (scenario : Scenario) (content : Option Contents) (happenings : List Happening) → RestsAreFree scenario content happenings
+pub rests_hold : (scenario : Scenario) (content : Option Contents) (happenings : List Happening) → HostsAreFree scenario content happenings
     → HoldsAtRests (client_of scenario) (server_of scenario content) (AreReady (client_of scenario) (server_of scenario content) (free_where (client_profile scenario.settings)) (free_where (server_profile scenario.settings content))) happenings (beginning scenario content)
 rests_hold scenario content happenings free front mid talk_a talk_b is there rest =
     let U = client_of scenario in
@@ -85,7 +86,8 @@ rests_hold scenario content happenings free front mid talk_a talk_b is there res
 -- ---- at each moment
 
 pub free_runs_are_gentle : FreeRunsAreGentle
-free_runs_are_gentle scenario content capture ran free =
+free_runs_are_gentle scenario content capture ran fires =
+    let free = runs_are_free scenario content ran.happenings fires in
     let client = client_profile scenario.settings in
     let server = server_profile scenario.settings content in
     let U = client_of scenario in
@@ -106,7 +108,7 @@ free_runs_are_gentle scenario content capture ran free =
 
 -- ---- at rest
 
-came_so : {P : Type 0} (A : Profile P) (asks : Asks A) (side : Side) (past : List Entry) (linked : Bool) (now : Host P) (talk : List Talk) → ActedSo (upper A) (free_where A) linked now [] talk → linkage talk ≡ captured side past → LivesThrough A asks (link_up side past) now
+pub came_so : {P : Type 0} (A : Profile P) (asks : Asks A) (side : Side) (past : List Entry) (linked : Bool) (now : Host P) (talk : List Talk) → ActedSo (upper A) (free_where A) linked now [] talk → linkage talk ≡ captured side past → LivesThrough A asks (link_up side past) now
     → IsFreeAt A (link_up side past) now → CameSoAt A asks (link_up side past) now
 came_so {P} A asks side past true now talk acted known lives free =
     let up : SinceSo (upper A) (free_where A) talk now = since_up (upper A) (free_where A) now talk acted in
@@ -127,7 +129,8 @@ came_so A asks side past false now talk acted known lives free = by (link_up sid
     by (Some link) is = cc
 
 pub free_rests_are_lived : FreeRestsAreLived
-free_rests_are_lived asks scenario content happenings world happened rests free =
+free_rests_are_lived asks scenario content happenings world happened rests fires =
+    let free = runs_are_free scenario content happenings fires in
     let client = client_profile scenario.settings in
     let server = server_profile scenario.settings content in
     let U = client_of scenario in
@@ -150,13 +153,12 @@ free_rests_are_lived asks scenario content happenings world happened rests free 
 front_of : {X : Type 0} (one two all : List X) → IsFront one two → IsFront two all → IsFront one all
 front_of one two all (rest, is) (more, so) = (rest ++ more, so ∙ (ap (λ (l : List _). l ++ more) is ∙ append_assoc one rest more))
 
-free_front : (scenario : Scenario) (content : Option Contents) (front happenings : List Happening) → IsFront front happenings → RestsAreFree scenario content happenings → RestsAreFree scenario content front
+pub free_front : (scenario : Scenario) (content : Option Contents) (front happenings : List Happening) → IsFront front happenings → RestsAreFree scenario content happenings → RestsAreFree scenario content front
 free_front scenario content front happenings is free = record {
   a = λ one world before. free.a one world (front_of one front happenings before is);
-  b = λ one world before. free.b one world (front_of one front happenings before is);
 }
 
-plain_at : {P : Type 0} (A : Profile P) (asks : Asks A) (party : Party) (link : Option Link) (now : Host P) → CameSoAt A asks link now → KeepsOn A asks party link now → IsPlainAt A asks party link now
+pub plain_at : {P : Type 0} (A : Profile P) (asks : Asks A) (party : Party) (link : Option Link) (now : Host P) → CameSoAt A asks link now → KeepsOn A asks party link now → IsPlainAt A asks party link now
 plain_at A asks party None now came keeps = tt
 plain_at A asks party (Some link) now came keeps = let on = keeps came in record { came = came.came; so = came.so; keeps_on = on.0; awaits = on.1 }
 

@@ -30,7 +30,7 @@ use Rattle.channel_laws.proofs.Fitted.{IsLowPsm, FittedLow}
 use Rattle.world_model.specs.Machines.{Up, Down, News, Linked, Failed, Heard, TimerFired, Cancelled, Opening}
 use Rattle.world_model.specs.Talks.{Talk, Told, Said, Unsent, Met, Done}
 use Rattle.world_model.specs.PerLink.{Linkage, no_linkage, pdus_of, linkage_after, linkage_from, linkage, captured}
-use Rattle.world_model.specs.Worlds.{all_entries}
+use Rattle.world_model.specs.Worlds.{Happening, IsAtRest, all_entries}
 use Rattle.host_model.specs.Circumstances.{Circumstance}
 use Rattle.host_model.specs.Hosts.{Host, first_host, hear, next}
 use Rattle.host_model.specs.Profiles.{Profile}
@@ -39,7 +39,7 @@ use Rattle.host_model.specs.Servers.{server_profile}
 use Rattle.host_model.specs.Machines.{upper}
 use Rattle.host_model.proofs.Orderly.{says_octets}
 use Rattle.host_laws.specs.Acts.{Act, Hears, Says, Does, Acting, StaysOnLink}
-use Rattle.host_laws.specs.Calls.{Asks}
+use Rattle.host_laws.specs.Calls.{Asks, HostsAsk}
 use Rattle.host_laws.specs.Calm.{AreGentle, pdus_in, TalksSo}
 use Rattle.host_laws.specs.OverLinks.{is_up_behind, AreInTurn, turns_link, parts_from, parts, IsTimely, AreGentleUp, IsGentleUp}
 use Rattle.host_laws.specs.Read.{IsSoberPdu, IsHeardSo, IsSoberAct}
@@ -47,10 +47,10 @@ use Rattle.host_laws.specs.Seen.{FiresPlainly, saying_of}
 use Rattle.host_laws.specs.Turning.{deed_of, deeds_in}
 use Rattle.host_laws.proofs.Fitting.{IsProper, proper-holds, any-holds, up-fits, KeepsFit, FitHost, first-fits, hears-fit, said-fits, AnyServer, servers-keep_fit, IsLowClient, clients-keep_fit}
 use Rattle.host_laws.proofs.ReadSo.{spoke, reads-so, act-fits, profile-so}
-use Rattle.host_laws.proofs.Talking.{deed_pdus, talks_pdus, hosts_talk_in_turns}
+use Rattle.host_laws.proofs.Talking.{deed_pdus, talks_pdus, TalksWovenOn, talks_woven_on}
 use Rattle.host_laws.proofs.Turning.{does_one}
-use Rattle.scenario_laws.specs.Captures.{client_of, server_of, Ran}
-use Rattle.scenario_laws.specs.Coming.{out_of, FallTo, CameUp}
+use Rattle.scenario_laws.specs.Captures.{client_of, server_of, BothHosts, Happened, Ran}
+use Rattle.scenario_laws.specs.Coming.{out_of, FallTo, CameOver, CameUp}
 use Rattle.scenario_laws.specs.Gentle.{HasOneCommand, PdusHaveOneCommand, AreFreeUp, IsFreeAct, ComesGently, HostsAreGentle, IsFreeOn, LivesThrough, RestsAreLived}
 use Rattle.scenario_laws.proofs.Acting.{Anyhow, Acted}
 use Rattle.scenario_laws.proofs.Both.{idle_acted, both_acted}
@@ -99,10 +99,10 @@ host-tames A Q keeps = record {
 
 -- ---- what moved
 
-abbrev AreTamePdus : List Pdu → Type 0
+abbrev pub AreTamePdus : List Pdu → Type 0
 AreTamePdus list = AllByRecursion IsTamePdu list
 
-abbrev AreTameLinks : List (List Pdu) → Type 0
+abbrev pub AreTameLinks : List (List Pdu) → Type 0
 AreTameLinks all = AllByRecursion AreTamePdus all
 
 both_all : {X : Type 0} (P : X → Type 0) (one two : List X) → AllByRecursion P one → AllByRecursion P two → AllByRecursion P (one ++ two)
@@ -159,11 +159,11 @@ client-keeps settings = clients-keep_fit settings IsSoberPdu (IsProper (policy s
 pub server-keeps : (settings : Settings) (content : Option Contents) → KeepsFit (server_profile settings content) IsSoberPdu (IsProper (policy settings true)) AnyServer
 server-keeps settings content = servers-keep_fit settings content IsSoberPdu (IsProper (policy settings true)) (proper-holds (policy settings true))
 
-record BothTame (capture : List Entry) : Type 0 where
-  a : AreTameLinks (map pdus (links sides.A capture))
-  b : AreTameLinks (map pdus (links sides.B capture))
+pub record BothTame (capture : List Entry) : Type 0 where
+  pub a : AreTameLinks (map pdus (links sides.A capture))
+  pub b : AreTameLinks (map pdus (links sides.B capture))
 
-both_tame : (scenario : Scenario) (content : Option Contents) (capture : List Entry) → Ran scenario content capture → BothTame capture
+pub both_tame : (scenario : Scenario) (content : Option Contents) (capture : List Entry) → Ran scenario content capture → BothTame capture
 both_tame scenario content capture ran =
     let U = client_of scenario in
     let V = server_of scenario content in
@@ -233,7 +233,7 @@ of_parts part (one ∷ talk) all = by (turns_link one) refl all (of_parts [] tal
         (both_all IsTameInto (flat_map pdus_in part) (pdus_in one ++ flat_map pdus_in talk) all.0 (subst (λ (l : List Pdu). AllByRecursion IsTameInto (l ++ flat_map pdus_in talk)) (sym (turn_silent one is)) (new all.1)))
     by false is all new more = subst IsTamePart (append_assoc part (one ∷ []) talk) (more all)
 
-abbrev IsTameAct : Act Circumstance → Type 0
+abbrev pub IsTameAct : Act Circumstance → Type 0
 IsTameAct (Hears circumstances news) = IsTameNews news
 IsTameAct (Says pdu) = Unit {0}
 
@@ -250,11 +250,15 @@ deeds_tame (Says pdu ∷ acts) all = (tt, deeds_tame acts all.1)
 acts_tame : (acts : List (Act Circumstance)) (talk : List Talk) → map deed_of acts ≡ flat_map deeds_in talk → IsTamePart talk → AllByRecursion IsTameAct acts
 acts_tame acts talk deeds tame = deeds_tame acts (subst (AllByRecursion IsTameInto) (sym (ap (flat_map deed_pdus) deeds ∙ talks_pdus talk)) tame)
 
+-- however it came to its links
+pub heard_tame : {P : Type 0} (A : Profile P) (side : Side) (capture : List Entry) (now : Host P) (came : CameOver A side capture now) → AreTameLinks (map pdus (links side capture)) → AllByRecursion IsTameAct came.over.acts
+heard_tame A side capture now came tame = acts_tame came.over.acts came.talk came.over.deeds_are (of_parts [] came.talk (fallen (parts came.talk) (map pdus (links side capture)) came.fall tame))
+
 -- ---- so it is gentle
 
 -- without channels a firing says nothing
 none_fires : (policy : Policy) → FiresPlainly policy no_channels
-none_fires policy = record { waits = refl; due = tt }
+none_fires policy empty = record { waits = refl; due = tt }
 
 module _ {P : Type 0} (A : Profile P) (Q R : P → Type 0) (keeps : KeepsFit A IsSoberPdu (IsProper A.policy) Q) (away : Keeps A R) where
   sober_act : (act : Act Circumstance) → IsTameAct act → IsSoberAct act
@@ -297,7 +301,7 @@ module _ {P : Type 0} (A : Profile P) (Q R : P → Type 0) (keeps : KeepsFit A I
   pub comes_gently : (side : Side) (capture : List Entry) (now : Host P) → AreTameLinks (map pdus (links side capture)) → ComesGently A side capture now
   comes_gently side capture now tame came free =
       let over = came.over in
-      let heard = acts_tame over.acts came.talk over.deeds_are (of_parts [] came.talk (fallen (parts came.talk) (map pdus (links side capture)) came.fall tame)) in
+      let heard = heard_tame A side capture now came tame in
       acts_gentle over.acts false (first_host A) now over.acting heard over.in_turn (first-fits A IsSoberPdu (IsProper A.policy) Q keeps) (λ down. record { channels_are = refl; profile_is = away.first }) free
 
   -- ---- at rest
@@ -320,13 +324,17 @@ module _ {P : Type 0} (A : Profile P) (Q R : P → Type 0) (keeps : KeepsFit A I
       stays_up (Hears circumstances (Opening name)) stays = refl
       stays_up (Says pdu) stays = refl
 
-  pub lives_through : (asks : Asks A) (moved : List Pdu) (now : Host P) → KeepsFit A (λ pdu. Unit {0}) (λ v. Unit {0}) Q → AreTamePdus moved → next A now ≡ None → (came : CameUp A moved now) → IsFreeOn A moved now came → TalksSo A asks came.talk now came.on
-  lives_through asks moved now whatever tame none came free =
+  -- and what happened on it is in one order with what its profile went through
+  pub lives_woven : (asks : Asks A) (moved : List Pdu) (now : Host P) → KeepsFit A (λ pdu. Unit {0}) (λ v. Unit {0}) Q → AreTamePdus moved → next A now ≡ None → (came : CameUp A moved now) → IsFreeOn A moved now came → TalksWovenOn A asks came.talk now came.on
+  lives_woven asks moved now whatever tame none came free =
       let on = came.on in
       let start = hear A on.gifts (Linked Up) on.old in
       let heard = deeds_tame on.acts (subst (AllByRecursion IsTameInto) (sym (ap (flat_map deed_pdus) on.deeds_are ∙ (talks_pdus on.since ∙ came.moved_is))) (into_all moved tame)) in
-      hosts_talk_in_turns A asks came.talk now on
+      talks_woven_on A asks came.talk now on
       (on_gentle on.acts start now on.acting on.stays heard (up-fits A IsSoberPdu (IsProper A.policy) Q keeps on.gifts on.old (profile-so A Q whatever on.before on.old on.acting_before)) free.free) none free.back
+
+  pub lives_through : (asks : Asks A) (moved : List Pdu) (now : Host P) → KeepsFit A (λ pdu. Unit {0}) (λ v. Unit {0}) Q → AreTamePdus moved → next A now ≡ None → (came : CameUp A moved now) → IsFreeOn A moved now came → TalksSo A asks came.talk now came.on
+  lives_through asks moved now whatever tame none came free = (lives_woven asks moved now whatever tame none came free).so
 
 pub hosts_are_gentle : HostsAreGentle
 hosts_are_gentle scenario content capture ran =
@@ -337,7 +345,7 @@ hosts_are_gentle scenario content capture ran =
     }
 
 -- what moved on the link that is up
-last_tame : (list : List Link) (up : Option Link) → AreTameLinks (map pdus (list ++ option_to_list up)) → IsTameUp (option_map pdus up)
+pub last_tame : (list : List Link) (up : Option Link) → AreTameLinks (map pdus (list ++ option_to_list up)) → IsTameUp (option_map pdus up)
 last_tame list None all = tt
 last_tame [] (Some link) all = all.0
 last_tame (one ∷ list) (Some link) all = last_tame list (Some link) all.1
@@ -375,3 +383,18 @@ rests_are_lived asks scenario content happenings world happened rests =
           (λ moved tame none came free. lives_through server AnyServer KnowsNone (server-keeps scenario.settings content) (servers_keep scenario.settings content) (asks.servers scenario.settings content) moved world.b.upper
           (servers-keep_fit scenario.settings content (λ pdu. Unit {0}) (λ v. Unit {0}) (any-holds (policy scenario.settings true))) tame none came free) tame.b;
     }
+
+-- The client of a run at rest, with what happened on its link and what its profile went through in one order.
+pub client_woven : (asks : HostsAsk) (scenario : Scenario) (content : Option Contents) (happenings : List Happening) (world : BothHosts) → Happened scenario content happenings world → IsAtRest (client_of scenario) (server_of scenario content) world → world.radio.a.up ≡ true
+    → (link : Link) → link_up sides.A (all_entries happenings) ≡ Some link → (came : CameUp (client_profile scenario.settings) (pdus link) world.a.upper) → IsFreeOn (client_profile scenario.settings) (pdus link) world.a.upper came
+    → TalksWovenOn (client_profile scenario.settings) (asks.clients scenario.settings) came.talk world.a.upper came.on
+client_woven asks scenario content happenings world happened rests on link is came free =
+    let U = client_of scenario in
+    let V = server_of scenario content in
+    let past = all_entries happenings in
+    let all = carried U V scenario.acl_length scenario.acl_count scenario.names happenings world (fits scenario content) happened in
+    let rest = all.rests rests in
+    let tame = both_tame scenario content past (record { happenings = happenings; world = world; happened = happened; ends = []; last = tt; capture_is = sym (append-nil past) }) in
+    let pdus_tame = subst (λ (up : Option Link). IsTameUp (option_map pdus up)) is (last_tame (linking (moves sides.A past)).past (link_up sides.A past) tame.a) in
+    lives_woven (client_profile scenario.settings) IsLowClient HasNoLink (client-keeps scenario.settings) (clients_keep scenario.settings) (asks.clients scenario.settings) (pdus link) world.a.upper
+    (clients-keep_fit scenario.settings (λ pdu. Unit {0}) (λ v. Unit {0}) (any-holds (policy scenario.settings false))) pdus_tame (rest.idle_a.said_all on).none_next came free

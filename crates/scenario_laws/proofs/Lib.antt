@@ -13,6 +13,7 @@ pub mod UnlinkedServers
 pub mod UnlinkedClients
 pub mod Taming
 pub mod Gentle
+pub mod Freeing
 pub mod Free
 pub mod Airs
 pub mod Windows
@@ -26,3 +27,7 @@ pub mod SetHosts
 pub mod Clauses
 pub mod Reaching
 pub mod Orderly
+pub mod FreeServers
+pub mod Keeping
+pub mod Broken
+pub mod Onward

@@ -7,6 +7,9 @@ use Rattle.std.proofs.lemmas.List.{map-append}
 use Rattle.std.proofs.lemmas.List.Concat.{flat_map-append}
 use Rattle.std.proofs.lemmas.List.Folds.{list_any-append}
 use Rattle.acl_fragments.specs.Pieces.{channel_of}
+use Rattle.bt_base.specs.Objects.{Object}
+use Rattle.bt_base.specs.declared.settings.Transport.TheVariants.{L2cap}
+use Rattle.push_script.specs.declared.scenario.Scenario.{Scenario}
 use Rattle.capture.specs.declared.flow.Flow.{Flow}
 use Rattle.capture.specs.declared.flow.Flow.TheVariants.{Out, Into}
 use Rattle.capture.specs.Entries.{Entry}
@@ -31,24 +34,29 @@ use Rattle.channel_laws.proofs.OneByOne.{other-way}
 use Rattle.channel_laws.proofs.Singling.{calls-more, tail-single}
 use Rattle.world_model.specs.Machines.{Linked, Failed, Heard, TimerFired, Cancelled, Opening}
 use Rattle.world_model.specs.Talks.{Talk, Told, Said, Unsent, Met, Done}
+use Rattle.host_model.specs.Hosts.{first_host}
 use Rattle.host_model.specs.Clients.{client_profile}
 use Rattle.host_model.specs.Servers.{server_profile}
 use Rattle.host_laws.specs.Calm.{pdus_in}
 use Rattle.host_laws.specs.InOrder.{seeks_object, may_ask, AsksForOneObject}
 use Rattle.host_laws.specs.OverLinks.{turns_link, parts_from, parts, moved_in}
 use Rattle.host_laws.proofs.Fitting.{IsProper, FitHost, AnyServer, IsLowClient}
-use Rattle.host_laws.proofs.InOrder.{servers-are_served_in_order}
+use Rattle.host_laws.proofs.Asking.{hosts_ask}
+use Rattle.host_laws.proofs.ClientCalls.{clients-ask_once as asked_once}
+use Rattle.host_laws.proofs.InOrder.{asks-nothing, servers-are_served_in_order}
 use Rattle.host_laws.proofs.OverLinks.{hosts_talk_over_links}
 use Rattle.host_laws.proofs.Seeking.{out-calls}
-use Rattle.scenario_laws.specs.Captures.{client_of, server_of}
+use Rattle.scenario_laws.specs.Captures.{client_of, server_of, Ran}
 use Rattle.scenario_laws.specs.Coming.{out_of, FallTo}
-use Rattle.scenario_laws.specs.Gains.{holding, asked_by}
-use Rattle.scenario_laws.specs.Orderly.{AsksOnce, ServersAreAskedOnce, HostsLiveOverLinks, ServersAreOrderly}
+use Rattle.scenario_laws.specs.Gains.{holding, asked_by, OrderlyServer}
+use Rattle.scenario_laws.specs.Gentle.{RestsAreFree}
+use Rattle.scenario_laws.specs.Orderly.{AsksOnce, ClientsAskOnce, ServersAreAskedOnce, HostsLiveOverLinks, ServesSo, ServersAreOrderly}
 use Rattle.scenario_laws.specs.Reaching.{calls_by, heard_of, said_of, turn_of, turns, at_turn}
-use Rattle.scenario_laws.proofs.Acting.{Anyhow}
-use Rattle.scenario_laws.proofs.Both.{both_acted}
-use Rattle.scenario_laws.proofs.Carrying.{carried}
-use Rattle.scenario_laws.proofs.Coming.{ended_all, came-over, came-talk}
+use Rattle.scenario_laws.proofs.Both.{AreReady, both_acted}
+use Rattle.scenario_laws.proofs.Carrying.{carried_so}
+use Rattle.scenario_laws.proofs.Coming.{ended_all, CameOverSo, came_over, came_over-talk}
+use Rattle.scenario_laws.proofs.Free.{free_where, free_acts, rests_hold}
+use Rattle.scenario_laws.proofs.Freeing.{runs_are_free}
 use Rattle.scenario_laws.proofs.Fronts.{fits}
 use Rattle.scenario_laws.proofs.Gaining.{all-out}
 use Rattle.scenario_laws.proofs.Gentle.{host-tames, client-keeps, server-keeps, hosts_are_gentle}
@@ -436,7 +444,7 @@ part_asked part link unsent moved =
     ∙ (calls-more Into (flat_map said_by link) more ∙ ap (λ (l : List Call). l ++ calls_that_went Into (flat_map said_by link)) (out-calls more (all-out unsent))))
 
 -- what all links have
-abbrev AllAsk : List (List Pdu) → Type 0
+abbrev pub AllAsk : List (List Pdu) → Type 0
 AllAsk links = AllByRecursion (λ (link : List Pdu). AsksForOneObject (flat_map said_by link)) links
 
 links_asked : (ps : List (List Talk)) (links : List (List Pdu)) → FallTo ps links → AllByRecursion (λ (part : List Talk). AsksForOneObject (moved_in part)) ps → AllAsk links
@@ -447,7 +455,7 @@ links_asked (part ∷ ps) links fall all =
       | inr (link, rest, unsent, is, moved, more) ↦ subst AllAsk (sym is) (subst (AreOneByOne may_ask) (part_asked part link unsent moved) all.0, links_asked ps rest more all.1)
     ]
 
-parts_asked : (ps : List (List Talk)) (links : List (List Pdu)) → FallTo ps links → AllAsk links → AllByRecursion (λ (part : List Talk). AsksForOneObject (moved_in part)) ps
+pub parts_asked : (ps : List (List Talk)) (links : List (List Pdu)) → FallTo ps links → AllAsk links → AllByRecursion (λ (part : List Talk). AsksForOneObject (moved_in part)) ps
 parts_asked [] links none all = tt
 parts_asked (part ∷ ps) links fall all =
     elim fall [
@@ -461,41 +469,56 @@ talks_asked : (list : List Link) → AllAsk (map pdus list) → AllByRecursion A
 talks_asked [] all = tt
 talks_asked (link ∷ list) all = (all.0, talks_asked list all.1)
 
-asked_talks : (list : List Link) → AllByRecursion AsksForOneObject (map talk list) → AllAsk (map pdus list)
+pub asked_talks : (list : List Link) → AllByRecursion AsksForOneObject (map talk list) → AllAsk (map pdus list)
 asked_talks [] all = tt
 asked_talks (link ∷ list) all = (all.0, asked_talks list all.1)
 
+-- what host a said by then, and what of it host b heard
+said_once : (talk : List Talk) (waiting : List (List ℕ)) → AsksOnce (talk ++ map Unsent waiting) → (j : ℕ) → AreOneByOne may_ask (said_at j talk)
+said_once talk waiting once j = subst (AreOneByOne may_ask) (all-still said_of j talk (map Unsent waiting) (unsent_silent said_of (λ pdu. refl) waiting)) (each_said (talk ++ map Unsent waiting) once j)
+
+heard_once : (talk : List Talk) (waiting coming : List (List ℕ)) → ((j : ℕ) → AreOneByOne may_ask (heard_at j talk coming)) → (j : ℕ) → AreOneByOne may_ask (at_turn heard_of 0 j (talk ++ map Unsent waiting))
+heard_once talk waiting coming heard j =
+    subst (AreOneByOne may_ask) (sym (all-still heard_of j talk (map Unsent waiting) (unsent_silent heard_of (λ pdu. refl) waiting)))
+    (tail-single may_ask (cond (eqb (turns talk) j) (queue_calls coming) []) (at_turn heard_of 0 j talk) (heard j))
+
+pub clients-ask_once : ClientsAskOnce
+clients-ask_once scenario content capture ran came direct free =
+    asked_once scenario.settings came.talk ran.world.a.upper came.over direct ((hosts_are_gentle scenario content capture ran).a came free)
+
 pub servers-are_asked_once : ServersAreAskedOnce
-servers-are_asked_once scenario content capture ran asks =
+servers-are_asked_once scenario content capture ran direct free =
+    let client = client_profile scenario.settings in
+    let server = server_profile scenario.settings content in
     let U = client_of scenario in
     let V = server_of scenario content in
+    let W = free_where client in
+    let X = free_where server in
     let past = all_entries ran.happenings in
-    let all = carried U V scenario.acl_length scenario.acl_count scenario.names ran.happenings ran.world (fits scenario content) ran.happened in
-    let acted = (both_acted U V Anyhow Anyhow scenario.acl_length scenario.names all.doings _ all.so).0 in
+    let all = carried_so U V (AreReady U V W X) scenario.acl_length scenario.acl_count scenario.names ran.happenings ran.world (fits scenario content) ran.happened (rests_hold scenario content ran.happenings (runs_are_free scenario content ran.happenings free)) in
+    let acted = (both_acted U V W X scenario.acl_length scenario.names all.doings _ all.so).0 in
     let same : (side : Side) → linking (moves side capture) ≡ linking (moves side past) = λ side. ap (λ (es : List Entry). linking (moves side es)) ran.capture_is ∙ ended_all side ran.world.pushes past ran.ends ran.last in
-    let one = host-tames (client_profile scenario.settings) IsLowClient (client-keeps scenario.settings) in
-    let other = host-tames (server_profile scenario.settings content) AnyServer (server-keeps scenario.settings content) in
-    let came_a = came-over (client_profile scenario.settings) sides.A past capture _ ran.world.a.upper _ all.talk_a acted.a.acted all.links_a (same sides.A) in
-    let came_b = came-over (server_profile scenario.settings content) sides.B past capture _ ran.world.b.upper _ all.talk_b acted.b.acted all.links_b (same sides.B) in
-    let waiting_a = (at ran.world all.talk_a all.talk_b).a.waiting in
-    let waiting_b = (at ran.world all.talk_a all.talk_b).b.waiting in
-    let said : (j : ℕ) → AreOneByOne may_ask (said_at j all.talk_a) = λ j.
-    subst (AreOneByOne may_ask) (all-still said_of j all.talk_a (map Unsent waiting_a) (unsent_silent said_of (λ pdu. refl) waiting_a))
-    (each_said (all.talk_a ++ map Unsent waiting_a) (subst AsksOnce (came-talk (client_profile scenario.settings) sides.A past capture _ ran.world.a.upper _ all.talk_a acted.a.acted all.links_a (same sides.A)) (asks came_a)) j) in
+    let one = host-tames client IsLowClient (client-keeps scenario.settings) in
+    let other = host-tames server AnyServer (server-keeps scenario.settings content) in
+    let a : CameOverSo client W sides.A capture ran.world.a.upper = came_over client W sides.A past capture _ ran.world.a.upper _ all.talk_a acted.a.acted all.links_a (same sides.A) in
+    let b : CameOverSo server X sides.B capture ran.world.b.upper = came_over server X sides.B past capture _ ran.world.b.upper _ all.talk_b acted.b.acted all.links_b (same sides.B) in
+    let ends = at ran.world all.talk_a all.talk_b in
+    let once = subst AsksOnce (came_over-talk client W sides.A past capture _ ran.world.a.upper _ all.talk_a acted.a.acted all.links_a (same sides.A))
+    (clients-ask_once scenario content capture ran a.came direct (free_acts client a.came.over.acts false (first_host client) a.so)) in
     let reached = all-reach U V (FitHost (IsProper (policy scenario.settings false)) IsLowClient) (FitHost (IsProper (policy scenario.settings true)) AnyServer) one other scenario.acl_length scenario.names all.doings _ all.of_script all.carries in
-    let coming = (at ran.world all.talk_a all.talk_b).b.coming in
-    let heard : (j : ℕ) → AreOneByOne may_ask (at_turn heard_of 0 j (all.talk_b ++ map Unsent waiting_b)) = λ j.
-    subst (AreOneByOne may_ask) (sym (all-still heard_of j all.talk_b (map Unsent waiting_b) (unsent_silent heard_of (λ pdu. refl) waiting_b)))
-    (tail-single may_ask (cond (eqb (turns all.talk_b) j) (queue_calls coming) []) (at_turn heard_of 0 j all.talk_b) (came-one_by_one (heard_at j all.talk_b coming) (said_at j all.talk_a) (reached j) (said j))) in
-    let sought = subst (λ (t : List Talk). AllByRecursion (λ (part : List Talk). AsksForOneObject (moved_in part)) (parts t)) (sym (came-talk (server_profile scenario.settings content) sides.B past capture _ ran.world.b.upper _ all.talk_b acted.b.acted all.links_b (same sides.B)))
-    (all_sought (all.talk_b ++ map Unsent waiting_b) heard) in
-    talks_asked (links sides.B capture) (links_asked (parts came_b.talk) (map pdus (links sides.B capture)) came_b.fall sought)
+    let heard = heard_once all.talk_b ends.b.waiting ends.b.coming (λ j. came-one_by_one (heard_at j all.talk_b ends.b.coming) (said_at j all.talk_a) (reached j) (said_once all.talk_a ends.a.waiting once j)) in
+    let sought = subst (λ (t : List Talk). AllByRecursion (λ (part : List Talk). AsksForOneObject (moved_in part)) (parts t)) (sym (came_over-talk server X sides.B past capture _ ran.world.b.upper _ all.talk_b acted.b.acted all.links_b (same sides.B)))
+    (all_sought (all.talk_b ++ map Unsent ends.b.waiting) heard) in
+    talks_asked (links sides.B capture) (links_asked (parts b.came.talk) (map pdus (links sides.B capture)) b.came.fall sought)
 
-pub servers-are_orderly : ServersAreOrderly
-servers-are_orderly asks scenario before capture ran nothing client serves =
-    let asked = servers-are_asked_once scenario (holding before) capture ran client in
+-- ---- host b serves in order
+
+pub serves-in_order : (scenario : Scenario) (before : List Object) (capture : List Entry) (ran : Ran scenario (holding before) capture) → scenario.settings.transport ≡ L2cap → RestsAreFree scenario (holding before) ran.happenings
+    → ServesSo hosts_ask scenario.settings before capture ran.world.b.upper → OrderlyServer hosts_ask scenario.settings before capture ran.world.b.upper
+serves-in_order scenario before capture ran direct free serves =
+    let asked = servers-are_asked_once scenario (holding before) capture ran direct free in
     let sought = parts_asked (parts serves.came.talk) (map pdus (links sides.B capture)) serves.came.fall (asked_talks (links sides.B capture) asked) in
-    let order = servers-are_served_in_order scenario.settings (holding before) (asked_by asks scenario.settings before) serves.came.talk ran.world.b.upper serves.so (nothing scenario.settings (holding before)) sought serves.whole in
+    let order = servers-are_served_in_order scenario.settings (holding before) (asked_by hosts_ask scenario.settings before) serves.came.talk ran.world.b.upper serves.so (asks-nothing scenario.settings (holding before)) sought serves.whole in
     record {
       came = serves.came;
       so = serves.so;
@@ -505,6 +528,9 @@ servers-are_orderly asks scenario before capture ran nothing client serves =
       carries = order.carries;
       granted = order.granted;
     }
+
+pub servers-are_orderly : ServersAreOrderly
+servers-are_orderly = record { asks = hosts_ask; orderly = serves-in_order }
 
 pub hosts-live_over_links : HostsLiveOverLinks
 hosts-live_over_links asks scenario content capture ran =

@@ -33,10 +33,10 @@ acts_pushes {S} {T} U V Breaks old new same = ap (λ (w : World S T). w.pushes) 
 acts_pushes {S} {T} U V Cancels old new (may, g, same) = ap (λ (w : World S T). w.pushes) same
 
 -- the pushes behind some entries
-record After (old : Pushes) (entries : List Entry) (new : Pushes) : Type 0 where
+pub record After (old : Pushes) (entries : List Entry) (new : Pushes) : Type 0 where
   begun_is : new.begun ≡ old.begun + pushes_begun entries
   outcomes_are : new.outcomes ≡ old.outcomes ++ outcomes_in entries
-  names_are : new.names ≡ old.names
+  pub names_are : new.names ≡ old.names
   few : old.begun ≤ length old.names → new.begun ≤ length new.names
 
 stays : (old new : Pushes) (entries : List Entry) → pushes_begun entries ≡ 0 → outcomes_in entries ≡ [] → new ≡ old → After old entries new
@@ -74,7 +74,7 @@ does_pushes {S} {T} U V (Closes push outcome) old new (going, count, idle, is, a
 begun_more : (one two : List Entry) → pushes_begun (one ++ two) ≡ pushes_begun one + pushes_begun two
 begun_more one two = ap length (flat_map-append push_begun one two) ∙ length-append (flat_map push_begun one) (flat_map push_begun two)
 
-runs_pushes : {S T G H : Type 0} (U : Upper S G) (V : Upper T H) (happenings : List Happening) (old new : World S T) → Runs U V happenings old new → After old.pushes (all_entries happenings) new.pushes
+pub runs_pushes : {S T G H : Type 0} (U : Upper S G) (V : Upper T H) (happenings : List Happening) (old new : World S T) → Runs U V happenings old new → After old.pushes (all_entries happenings) new.pushes
 runs_pushes {S} {T} U V [] old new same = stays old.pushes new.pushes [] refl refl (ap (λ (w : World S T). w.pushes) same)
 runs_pushes U V (happening ∷ happenings) old new (mid, does, runs) =
     let one = does_pushes U V happening old mid does in

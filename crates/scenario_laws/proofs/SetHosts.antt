@@ -14,7 +14,7 @@ use Rattle.run_laws.specs.Embedding.{Embeds, said_as}
 use Rattle.host_model.specs.Circumstances.{Circumstance}
 use Rattle.host_model.specs.Pdus.{pdu_of}
 use Rattle.host_model.specs.Profiles.{Stride, Profile}
-use Rattle.host_model.specs.Hosts.{Host, drives, most_steps, driven, goes_by, strides, settles, tells_each, tells_events, handed, hears_news, told, ready, hear, says_frame, says, with_channels}
+use Rattle.host_model.specs.Hosts.{Host, drives, most_steps, steps_behind, driven, goes_by, strides, settles, tells_each, tells_events, handed, hears_news, told, ready, hear, says_frame, says, with_channels}
 use Rattle.host_model.specs.Machines.{upper}
 use Rattle.host_model.specs.Clients.{client_profile}
 use Rattle.host_model.specs.Servers.{server_profile}
@@ -68,7 +68,7 @@ module _ {P : Type 0} (A : Profile P) (first : P) where
   says_same None count host = refl
   says_same (Some given) zero host = refl
   says_same (Some given) (suc count) host =
-      ap (λ (h : Host P). says_frame (pdu_of given) (record h { may_say = count })) (drives_same most_steps (with_channels (after_given host.channels) host))
+      ap (λ (h : Host P). says_frame (pdu_of given) (record h { may_say = count })) (drives_same (steps_behind count) (with_channels (after_given host.channels) host))
 
 -- ---- the machines
 

@@ -108,7 +108,7 @@ module _ {P : Type 0} (A : Profile P) (Q : P → Type 0) (keeps : Keeps A Q) whe
   act_off (Hears gifts Cancelled) up old mid does timely off down = subst Off (sym does) (hear_off gifts Cancelled old (tt, refl) (off down))
   act_off (Hears gifts (Opening name)) up old mid does timely off down = subst Off (sym does) (hear_off gifts (Opening name) old (tt, refl) (off down))
 
-  acts_off : (acts : List (Act Circumstance)) (up : Bool) (old now : Host P) → Acting (upper A) acts old now → AreInTurn (upper A) up acts old → (up ≡ false → Off old) → up_behind up acts ≡ false → Off now
+  pub acts_off : (acts : List (Act Circumstance)) (up : Bool) (old now : Host P) → Acting (upper A) acts old now → AreInTurn (upper A) up acts old → (up ≡ false → Off old) → up_behind up acts ≡ false → Off now
   acts_off [] up old now same turn off down = subst Off (sym same) (off down)
   acts_off (act ∷ acts) up old now (mid, does, rest) turn off down =
       acts_off acts (is_up_behind up act) mid now rest (turn.1 mid does) (λ still. act_off act up old mid does turn.0.timely off still) down

@@ -26,6 +26,7 @@ use Rattle.host_laws.specs.Calls.{Asks, HostsAsk}
 use Rattle.host_laws.specs.Calm.{HoldsNothingBack, TalksSo}
 use Rattle.host_laws.specs.OverLinks.{is_up_behind, AreGentleUp}
 use Rattle.host_laws.specs.Seen.{FiresPlainly}
+use Rattle.host_laws.specs.Steady.{IsSteady}
 use Rattle.scenario_laws.specs.Captures.{client_of, server_of, BothHosts, Happened, Ran}
 use Rattle.scenario_laws.specs.Coming.{CameOver, CameUp}
 
@@ -109,11 +110,35 @@ IsFreeAt A None now = Unit {0}
 IsFreeAt A (Some link) now = IsFree A now
 
 -- both hosts, wherever a run is at rest on its way
-pub record RestsAreFree (scenario : Scenario) (content : Option Contents) (happenings : List Happening) : Type 0 where
+pub record HostsAreFree (scenario : Scenario) (content : Option Contents) (happenings : List Happening) : Type 0 where
   pub a : (front : List Happening) (world : BothHosts) → IsFront front happenings → Happened scenario content front world → IsAtRest (client_of scenario) (server_of scenario content) world
       → IsFreeAt (client_profile scenario.settings) (link_up sides.A (all_entries front)) world.a.upper
   pub b : (front : List Happening) (world : BothHosts) → IsFront front happenings → Happened scenario content front world → IsAtRest (client_of scenario) (server_of scenario content) world
       → IsFreeAt (server_profile scenario.settings content) (link_up sides.B (all_entries front)) world.b.upper
+
+-- At each moment of every run, whatever the ports answer: a host that says nothing next has nothing to give. No bound on what it says, and no
+-- number that is no octet, holds a PDU back.
+pub record BothHoldBackNothing (scenario : Scenario) (content : Option Contents) (world : BothHosts) : Type 0 where
+  pub a : HoldsNothingBack (client_profile scenario.settings) world.a.upper
+  pub b : HoldsNothingBack (server_profile scenario.settings content) world.b.upper
+
+abbrev pub RunsHoldBackNothing : Type 0
+RunsHoldBackNothing = (scenario : Scenario) (content : Option Contents) (happenings : List Happening) (world : BothHosts) → Happened scenario content happenings world → BothHoldBackNothing scenario content world
+
+-- On the link that is up, if there is one: where its timer is armed, each channel whose end was asked for as often as may be asks for its
+-- options no more often.
+abbrev pub IsSteadyOn : {P : Type 0} → Profile P → Option Link → Host P → Type 0
+IsSteadyOn A None now = Unit {0}
+IsSteadyOn A (Some link) now = (upper A).armed now ≡ true → IsSteady A.policy.tries now.channels
+
+-- This is asked of a run: host a is so wherever it is at rest on its way.
+pub record RestsAreFree (scenario : Scenario) (content : Option Contents) (happenings : List Happening) : Type 0 where
+  pub a : (front : List Happening) (world : BothHosts) → IsFront front happenings → Happened scenario content front world → IsAtRest (client_of scenario) (server_of scenario content) world
+      → IsSteadyOn (client_profile scenario.settings) (link_up sides.A (all_entries front)) world.a.upper
+
+-- All else holds of every run: so both hosts are free.
+abbrev pub RunsAreFree : Type 0
+RunsAreFree = (scenario : Scenario) (content : Option Contents) (happenings : List Happening) → RestsAreFree scenario content happenings → HostsAreFree scenario content happenings
 
 -- Then each host came gently to what the capture has of its links, at each moment.
 pub record CameGently {P : Type 0} (A : Profile P) (side : Side) (capture : List Entry) (now : Host P) : Type 0 where

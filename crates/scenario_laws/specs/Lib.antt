@@ -12,3 +12,7 @@ pub mod Outcomes
 pub mod Clauses
 pub mod Reaching
 pub mod Orderly
+pub mod FreeServers
+pub mod Keeping
+pub mod Broken
+pub mod Onward

@@ -1,7 +1,8 @@
 -- The server of a run is orderly (Object Push Profile 1.2, 4.3; Core 5.1, Volume 3 Part A, 4.2 and 4.3).
-use Rattle.std.specs.Prelude.{true, false, List, [], Option}
+use Rattle.std.specs.Prelude.{◌≡◌, true, false, List, [], Option}
 use Rattle.std.specs.List.{AllByRecursion, flat_map}
 use Rattle.bt_base.specs.declared.settings.Settings.{Settings}
+use Rattle.bt_base.specs.declared.settings.Transport.TheVariants.{L2cap}
 use Rattle.bt_base.specs.Objects.{Object, Contents}
 use Rattle.push_terms.specs.declared.word.Side.{Side}
 use Rattle.push_terms.specs.declared.word.Side.TheVariants as sides
@@ -19,12 +20,12 @@ use Rattle.host_model.specs.Profiles.{Profile}
 use Rattle.host_model.specs.Clients.{client_profile}
 use Rattle.host_model.specs.Servers.{ServerProfile, server_profile}
 use Rattle.host_laws.specs.Calls.{Asks, HostsAsk}
-use Rattle.host_laws.specs.InOrder.{may_ask, AsksForOneObject, AsksNoChannels, IsWhole}
+use Rattle.host_laws.specs.InOrder.{may_ask, AsksForOneObject, IsWhole}
 use Rattle.host_laws.specs.Lives.{on_links}
 use Rattle.host_laws.specs.OverLinks.{parts, moved_in, talk_marks, TalksOverLinks}
 use Rattle.scenario_laws.specs.Captures.{Ran}
 use Rattle.scenario_laws.specs.Coming.{CameOver}
-use Rattle.scenario_laws.specs.Gentle.{AreFreeUp}
+use Rattle.scenario_laws.specs.Gentle.{AreFreeUp, RestsAreFree}
 use Rattle.scenario_laws.specs.Gains.{holding, serving, asked_by, all_served, OrderlyServer}
 
 -- ---- requests for channels
@@ -33,13 +34,14 @@ use Rattle.scenario_laws.specs.Gains.{holding, serving, asked_by, all_served, Or
 abbrev pub AsksOnce : List Talk → Type 0
 AsksOnce talk = AllByRecursion (λ part. AreOneByOne may_ask (calls_that_went Out (moved_in part))) (parts talk)
 
--- However it came to what the capture has of its links, it does.
-abbrev pub ClientAsksOnce : (scenario : Scenario) (content : Option Contents) (capture : List Entry) → Ran scenario content capture → Type 0
-ClientAsksOnce scenario content capture ran = (came : CameOver (client_profile scenario.settings) sides.A capture ran.world.a.upper) → AsksOnce came.talk
+-- Over L2CAP it does, however it came to what the capture has of its links, where it was free.
+abbrev pub ClientsAskOnce : Type 0
+ClientsAskOnce = (scenario : Scenario) (content : Option Contents) (capture : List Entry) (ran : Ran scenario content capture) (came : CameOver (client_profile scenario.settings) sides.A capture ran.world.a.upper)
+    → scenario.settings.transport ≡ L2cap → AreFreeUp (client_profile scenario.settings) false came.over.acts (first_host (client_profile scenario.settings)) → AsksOnce came.talk
 
--- Then so it comes to host b on each link of the capture, whatever the air left out and repeated.
+-- So it comes to host b on each link of the capture, whatever the air left out and repeated, where the client's channels are steady at rest.
 abbrev pub ServersAreAskedOnce : Type 0
-ServersAreAskedOnce = (scenario : Scenario) (content : Option Contents) (capture : List Entry) (ran : Ran scenario content capture) → ClientAsksOnce scenario content capture ran → AllByRecursion AsksForOneObject (talks sides.B capture)
+ServersAreAskedOnce = (scenario : Scenario) (content : Option Contents) (capture : List Entry) (ran : Ran scenario content capture) → scenario.settings.transport ≡ L2cap → RestsAreFree scenario content ran.happenings → AllByRecursion AsksForOneObject (talks sides.B capture)
 
 -- ---- how both live
 
@@ -66,9 +68,9 @@ pub record ServesSo (asks : HostsAsk) (settings : Settings) (before : List Objec
 
 -- ---- the law
 
--- At each moment of each run, wherever it broke off, host b serves in order: it asks for no channel, its client gives each of its endpoints
--- to one channel, one channel carries packets on each link, and nothing comes over RFCOMM.
-abbrev pub ServersAreOrderly : Type 0
-ServersAreOrderly = (asks : HostsAsk) (scenario : Scenario) (before : List Object) (capture : List Entry) (ran : Ran scenario (holding before) capture)
-    → ((settings : Settings) (content : Option Contents) → AsksNoChannels (server_profile settings content) (asks.servers settings content)) → ClientAsksOnce scenario (holding before) capture ran → ServesSo asks scenario.settings before capture ran.world.b.upper
-    → OrderlyServer asks scenario.settings before capture ran.world.b.upper
+-- At each moment of each run over L2CAP, wherever it broke off, host b serves in order, where the client's channels are steady at rest: it asks for no
+-- channel, its client gives each of its endpoints to one channel, one channel carries packets on each link, and nothing comes over RFCOMM.
+pub record ServersAreOrderly : Type 0 where
+  pub asks : HostsAsk
+  pub orderly : (scenario : Scenario) (before : List Object) (capture : List Entry) (ran : Ran scenario (holding before) capture) → scenario.settings.transport ≡ L2cap → RestsAreFree scenario (holding before) ran.happenings
+      → ServesSo asks scenario.settings before capture ran.world.b.upper → OrderlyServer asks scenario.settings before capture ran.world.b.upper

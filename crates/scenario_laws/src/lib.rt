@@ -4,13 +4,17 @@
 
 ghost use Rattle.scenario_laws.specs.Accounts.{BuffersAreKept, ControllersAreHonest, PushesAreInTurn, WindowsAreKept};
 ghost use Rattle.scenario_laws.specs.Air.{AirIsKept, AirIsObeyed};
+ghost use Rattle.scenario_laws.specs.Broken.{CrowdsAreTold, ScenariosBreakOff};
 ghost use Rattle.scenario_laws.specs.Captures.{FrontsRan};
 ghost use Rattle.scenario_laws.specs.Clauses.{ScenariosEnd};
 ghost use Rattle.scenario_laws.specs.Coming.{RestsHaveTalks, RunsHaveTalks};
 ghost use Rattle.scenario_laws.specs.Early.{BrokenGoesOn, EarlyEndsGain, FrontsSpellFronts};
-ghost use Rattle.scenario_laws.specs.Gentle.{FreeRestsAreLived, FreeRunsAreGentle, HostsAreGentle, PdusHaveOneCommand, RestsAreLived};
+ghost use Rattle.scenario_laws.specs.FreeServers.{ServersAreFree, ServersLiveOverLinks, ServersRestSo, ServersServeSo};
+ghost use Rattle.scenario_laws.specs.Gentle.{FreeRestsAreLived, FreeRunsAreGentle, HostsAreGentle, PdusHaveOneCommand, RestsAreLived, RunsAreFree, RunsHoldBackNothing};
 ghost use Rattle.scenario_laws.specs.Gains.{FirstServersAreOrderly, GainsExactly, GainsOverEither};
-ghost use Rattle.scenario_laws.specs.Orderly.{HostsLiveOverLinks, ServersAreAskedOnce, ServersAreOrderly};
+ghost use Rattle.scenario_laws.specs.Orderly.{ClientsAskOnce, HostsLiveOverLinks, ServersAreAskedOnce, ServersAreOrderly};
+ghost use Rattle.scenario_laws.specs.Keeping.{FreeServersKeepOn, PushesArePlain};
+ghost use Rattle.scenario_laws.specs.Onward.{AskedPushesArePlain, PushesGoOnward};
 ghost use Rattle.scenario_laws.specs.Outcomes.{OutcomesAreStated};
 ghost use Rattle.scenario_laws.specs.Plain.{FreeHostsArePlain};
 ghost use Rattle.scenario_laws.specs.Played.{CallsArePlayed, PlaysAreFinished, SetHostsAreHosts};
@@ -95,8 +99,19 @@ pub fn rests_are_lived()
     ensures { RestsAreLived }
 {}
 
-/// Where nothing of what a host has to give is held back wherever a run is at rest, and a firing would say what waits behind it, both
-/// hosts came gently to what the capture has of their links.
+/// At each moment of every run, whatever the ports answer, a host that says nothing next has nothing to give: no bound on what it says, and no
+/// number that is no octet, holds a PDU back.
+pub fn runs_hold_back_nothing()
+    ensures { RunsHoldBackNothing }
+{}
+
+/// So both hosts are free wherever a run is at rest, where host a's channels are steady there: none whose end was asked for as often as may be
+/// asks for its options more often.
+pub fn runs_are_free()
+    ensures { RunsAreFree }
+{}
+
+/// Where host a's channels are steady wherever a run is at rest, both hosts came gently to what the capture has of their links.
 pub fn free_runs_are_gentle()
     ensures { FreeRunsAreGentle }
 {}
@@ -123,13 +138,19 @@ pub fn hosts_live_over_links()
     ensures { HostsLiveOverLinks }
 {}
 
-/// Where host a asks for one channel of objects on each link, so it comes to host b, whatever the air left out and repeated.
+/// Over L2CAP, however host a of a run came to what the capture has, it asked for one channel of objects on each link, where no bound on
+/// what it says held a PDU back and its firings said what waits behind them.
+pub fn clients_ask_once()
+    ensures { ClientsAskOnce }
+{}
+
+/// So it comes to host b, whatever the air left out and repeated, where the client's channels are steady wherever the run is at rest.
 pub fn servers_are_asked_once()
     ensures { ServersAreAskedOnce }
 {}
 
-/// At each moment of each run host b serves in order, where its client asks for one channel of objects on each link, no call of its inbox
-/// fails, no request is ignored and all that comes on its channels is handed up.
+/// At each moment of each run over L2CAP host b serves in order, where the client's channels are steady at rest, no call of its inbox fails, no request
+/// is ignored and all that comes on its channels is handed up.
 pub fn servers_are_orderly()
     ensures { ServersAreOrderly }
 {}
@@ -176,4 +197,63 @@ pub fn early_ends_gain()
 /// hosts, the pushes and how they ended, and that the air obeyed the script; where both hosts are orderly.
 pub fn scenarios_end()
     ensures { ScenariosEnd }
+{}
+
+/// However host b of a run came to what the capture has, nothing was held back where it heard something, and its firings said what waits
+/// behind them.
+pub fn servers_are_free()
+    ensures { ServersAreFree }
+{}
+
+/// So host b of every run lives through its talk so that on each of its links its own talk is what moved there, but for what it gave up.
+pub fn servers_live_over_links()
+    ensures { ServersLiveOverLinks }
+{}
+
+/// Wherever a run is at rest, host b came by a talk to what moved on the link that is up, and lives so that what its channels said and heard
+/// is that, but for what it gave up.
+pub fn servers_rest_so()
+    ensures { ServersRestSo }
+{}
+
+/// Where host b serves, however it came to what the capture has and lived through it, it came to it and lived so, which servers in order are
+/// asked for.
+pub fn servers_serve_so()
+    ensures { ServersServeSo }
+{}
+
+/// Where the client's channels are steady at rest, the server gives up no request while its link goes on, and waits for no services: what
+/// is asked of both hosts so that they are plain is asked of the client alone.
+pub fn free_servers_keep_on()
+    ensures { FreeServersKeepOn }
+{}
+
+/// Where a run is free at rest, and there a push of host a goes on over each link that is up, neither host gave up a request: so both are plain, where the
+/// profile of host a waits for services as its own talk says.
+pub fn pushes_are_plain()
+    ensures { PushesArePlain }
+{}
+
+/// What is so of every scenario over L2CAP that broke off, over its capture so far alone: what the inbox gained by then, the buffers, the
+/// pushes, honest controllers, and that each entry keeps to the script; where host b is orderly and both hosts are plain.
+pub fn scenarios_break_off()
+    ensures { ScenariosBreakOff }
+{}
+
+/// Where more frames wait in a direction of the air, or more octets of them, than memory is reserved for, the capture says so, where
+/// both hosts are plain.
+pub fn crowds_are_told()
+    ensures { CrowdsAreTold }
+{}
+
+/// A link comes up only for a push of host a that waits for it: wherever a run is at rest with a link up, a push goes on over it, where host a has asked
+/// for the end of its link wherever nothing else is left to its push.
+pub fn pushes_go_onward()
+    ensures { PushesGoOnward }
+{}
+
+/// So both hosts are plain where a run is free at rest, where host a has asked there for the end of its link wherever nothing else is left to its push,
+/// and its profile waits for services as its own talk says.
+pub fn asked_pushes_are_plain()
+    ensures { AskedPushesArePlain }
 {}

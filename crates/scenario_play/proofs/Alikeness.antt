@@ -6,15 +6,14 @@ use Rattle.push_terms.specs.declared.outcome.Outcome.{Outcome}
 use Rattle.capture.specs.Air.{words_of}
 use Rattle.world_model.specs.Machines.{Upper}
 use Rattle.world_model.specs.Pushes.{Pushes}
-use Rattle.world_model.specs.Worlds.{World, Happening, IsAtRest, all_entries, all_words}
+use Rattle.world_model.specs.Worlds.{World, Happening, Runs, IsAtRest, all_entries, all_words}
 use Rattle.air_laws.specs.AirLaws.{IsLastEnd}
 use Rattle.run_laws.specs.Embedding.{world_as}
 use Rattle.run_laws.proofs.Embedding.{runs_are_of_less, rest_is_of_less}
 use Rattle.alike_laws.specs.Twins.{AreTwins, IsOther, WorldsAlike}
 use Rattle.alike_laws.proofs.Twins.{runs_are_of_twins, rest_is_of_twins}
-use Rattle.radio_world.specs.Scenes.{Moment, world_at, Plays}
+use Rattle.radio_world.specs.Scenes.{world_at}
 use Rattle.radio_world.specs.Standing.{starting, first_moment, last_ended, last_entries, all_outcomes}
-use Rattle.radio_world.proofs.Standing.{runs_of}
 use Rattle.host_model.specs.Circumstances.{Circumstance}
 use Rattle.host_model.specs.Hosts.{Host}
 use Rattle.host_model.specs.Clients.{ClientProfile}
@@ -41,6 +40,7 @@ pub record IsWhole {S T : Type 0} (scenario : Scenario) (content : Option Conten
     (like : IsLike scenario content as_a as_b s t happenings at) (came : Option Outcome) : Type 0 where
   pub finished : Finished scenario content (all_entries happenings ++ last_entries came at.pushes)
   pub world_is : finished.ran.world ≡ like.world
+  pub happenings_are : finished.ran.happenings ≡ happenings
   pub ends : finished.ran.ends ≡ last_entries ((client_of scenario).outcome finished.ran.world.a.upper) finished.ran.world.pushes
   pub outcomes_are : all_outcomes (last_ended came at.pushes) ≡ outcomes_of scenario (all_entries happenings ++ last_entries came at.pushes)
 
@@ -49,14 +49,14 @@ module _ {S T : Type 0} (U : Upper S Circumstance) (V : Upper T Circumstance) (s
   abbrev Like : List Happening → World S T → Type 0
   Like happenings at = IsLike scenario content as_a as_b s t happenings at
 
-  pub like_plays : (happenings : List Happening) (at : Moment S T) → Plays U V happenings (first_moment (starting s U) (starting t V) scenario.acl_length scenario.acl_count scenario.names) at → Like happenings (world_at at)
-  like_plays happenings at plays =
+  pub like_runs : (happenings : List Happening) (at : World S T) → Runs U V happenings (world_at (first_moment (starting s U) (starting t V) scenario.acl_length scenario.acl_count scenario.names)) at → Like happenings at
+  like_runs happenings at ran =
       let first = first_moment (starting s U) (starting t V) scenario.acl_length scenario.acl_count scenario.names in
       let other_a = as_a (client_of scenario).first in
       let other_b = as_b (server_of scenario content).first in
-      let (new, alike, runs) = runs_are_of_twins U V s other_a t other_b twins_a twins_b happenings (world_at first) (world_at at) refl refl (runs_of U V happenings first at plays) in
+      let (new, alike, runs) = runs_are_of_twins U V s other_a t other_b twins_a twins_b happenings (world_at first) at refl refl ran in
       let (world, same, happened) = runs_are_of_less as_a as_b (client_of scenario) U (server_of scenario content) V hosts.a hosts.b happenings (beginning scenario content) new runs in
-      record { world = world; happened = happened; alike = subst (λ (w : World S T). WorldsAlike (IsOther s other_a) (IsOther t other_b) (world_at at) w) same alike }
+      record { world = world; happened = happened; alike = subst (λ (w : World S T). WorldsAlike (IsOther s other_a) (IsOther t other_b) at w) same alike }
 
   module _ (happenings : List Happening) (at : World S T) (like : Like happenings at) where
     -- what is told of the machines that have heard nothing is told of all
@@ -92,6 +92,7 @@ module _ {S T : Type 0} (U : Upper S Circumstance) (V : Upper T Circumstance) (s
                 (rest_is_of_twins U V s (as_a (client_of scenario).first) t (as_b (server_of scenario content).first) twins_a twins_b at (world_as as_a as_b like.world) like.alike rest);
           };
           world_is = refl;
+          happenings_are = refl;
           ends = ap₂ (λ (c : Option Outcome) (p : Pushes). last_entries c p) (sym came_is) (sym pushes_are);
           outcomes_are = subst (λ (p : Pushes). all_outcomes (last_ended came p) ≡ outcomes_of scenario (all_entries happenings ++ last_entries came p)) pushes_are ((outcomes_stated scenario content (all_entries happenings ++ ends) ran).all came);
         }

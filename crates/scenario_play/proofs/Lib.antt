@@ -1,3 +1,9 @@
+mod Embedded
+mod Forgetting
+mod Plainness
 mod Newness
 mod Alikeness
 mod Course
+mod Breaking
+mod Names
+mod Ended

@@ -17,27 +17,29 @@ use Rattle.line_laws.specs.Laws.{GoesAsSeen}
 use Rattle.line_laws.proofs.Seeing.{stations_are_seen}
 use Rattle.host_model.specs.Circumstances.{Circumstance}
 use Rattle.host_model.specs.Profiles.{Profile}
-use Rattle.host_model.specs.Clients.{ClientProfile, client_profile}
-use Rattle.host_model.specs.Servers.{ServerProfile}
+use Rattle.host_model.specs.Clients.{ClientProfile}
+use Rattle.host_model.specs.Hosts.{first_host}
+use Rattle.host_model.specs.Servers.{ServerProfile, server_profile}
 use Rattle.host_model.specs.Machines.{client_host, server_host}
 use Rattle.host_model.specs.Settings.{SetHost, set_to, with_settings, client_machine, server_machine}
 use Rattle.host_model.proofs.Setting.{hosts_say_octets}
 use Rattle.bt_host.specs.Newness as served
 use Rattle.bt_host.specs.Pushing as pushed
-use Rattle.bt_host.specs.Pushing.{pushed_by}
-use Rattle.bt_host.specs.Serving.{profile_of, served_by}
+use Rattle.bt_host.specs.Noting.{Noted, noting}
+use Rattle.bt_host.specs.NotedHosts.{credits_of_server, noted_client, client_noting, noted_client_machine, noted_server, server_noting, noted_server_machine}
 use Rattle.bt_host.specs.Playing.{set_host, playing}
+use Rattle.scenario_play.specs.Noting.{plain_set}
 
 -- ---- what stands above their lines
 
-abbrev pub new_client : {P : Type 0} → P → Settings → List Circumstance → SetHost ClientProfile
-new_client shelf settings rest = set_host pushed_by shelf (pushed.new_stack settings) rest
+abbrev pub new_client : {P : Type 0} → P → Settings → List Circumstance → SetHost (Noted ClientProfile)
+new_client shelf settings rest = set_host client_noting shelf (pushed.new_stack settings) rest
 
-abbrev pub new_server : {Q : Type 0} → (Q → Option Contents) → Q → Settings → List Circumstance → SetHost ServerProfile
-new_server content inbox settings rest = set_host (served_by content) inbox (served.new_stack settings) rest
+abbrev pub new_server : {Q : Type 0} → (Q → Option Contents) → Q → Settings → List Circumstance → SetHost (Noted ServerProfile)
+new_server content inbox settings rest = set_host (server_noting content) inbox (served.new_stack settings) rest
 
 -- with the first news they hear, what their ports were to answer is forgotten
-pub client_twins : {P : Type 0} (shelf : P) (settings : Settings) (rest : List Circumstance) → AreTwins client_machine (new_client shelf settings rest) (set_to settings (client_host settings).first)
+pub client_twins : {P : Type 0} (shelf : P) (settings : Settings) (rest : List Circumstance) → AreTwins client_machine (plain_set (new_client shelf settings rest)) (set_to settings (client_host settings).first)
 client_twins shelf settings rest = record {
   hear = λ answers news. refl;
   next = refl;
@@ -51,8 +53,36 @@ client_twins shelf settings rest = record {
 }
 
 pub server_twins : {Q : Type 0} (content : Q → Option Contents) (inbox : Q) (settings : Settings) (rest : List Circumstance)
-    → AreTwins server_machine (new_server content inbox settings rest) (set_to settings (server_host settings (content inbox)).first)
+    → AreTwins server_machine (plain_set (new_server content inbox settings rest)) (set_to settings (server_host settings (content inbox)).first)
 server_twins content inbox settings rest = record {
+  hear = λ answers news. refl;
+  next = refl;
+  wants_link = refl;
+  leaves_link = refl;
+  is_idle = refl;
+  outcome = refl;
+  armed = refl;
+  may_cancel = refl;
+  has_check = λ own. refl;
+}
+
+-- and no more do those that note what they hold
+pub noted_client_twins : {P : Type 0} (shelf : P) (settings : Settings) (rest : List Circumstance) → AreTwins noted_client_machine (new_client shelf settings rest) (set_to settings (first_host (noted_client settings)))
+noted_client_twins shelf settings rest = record {
+  hear = λ answers news. refl;
+  next = refl;
+  wants_link = refl;
+  leaves_link = refl;
+  is_idle = refl;
+  outcome = refl;
+  armed = refl;
+  may_cancel = refl;
+  has_check = λ own. refl;
+}
+
+pub noted_server_twins : {Q : Type 0} (content : Q → Option Contents) (inbox : Q) (settings : Settings) (rest : List Circumstance)
+    → AreTwins noted_server_machine (new_server content inbox settings rest) (set_to settings (first_host (noting credits_of_server (server_profile settings (content inbox)))))
+noted_server_twins content inbox settings rest = record {
   hear = λ answers news. refl;
   next = refl;
   wants_link = refl;
@@ -75,19 +105,19 @@ begins : {S : Type 0} (profile : Settings → Profile S) (side : Side) (first : 
 begins profile side first = stations_are_seen (starting first (with_settings profile)) side (hosts_say_octets profile)
 
 pub hosts_begin : {P Q : Type 0} (content : Q → Option Contents) (scenario : Scenario) (shelf : P) (inbox : Q) (rest_a rest_b : List Circumstance)
-    → Plays client_machine server_machine beginning
-    (first_moment (starting (new_client shelf scenario.settings rest_a) client_machine) (starting (new_server content inbox scenario.settings rest_b) server_machine) scenario.acl_length scenario.acl_count scenario.names)
-    (moment (first_scene scenario.acl_length scenario.acl_count scenario.names) (answering rest_a (playing pushed_by shelf (pushed.new_stack scenario.settings))) (answering rest_b (playing (served_by content) inbox (served.new_stack scenario.settings))))
+    → Plays noted_client_machine noted_server_machine beginning
+    (first_moment (starting (new_client shelf scenario.settings rest_a) noted_client_machine) (starting (new_server content inbox scenario.settings rest_b) noted_server_machine) scenario.acl_length scenario.acl_count scenario.names)
+    (moment (first_scene scenario.acl_length scenario.acl_count scenario.names) (answering rest_a (playing client_noting shelf (pushed.new_stack scenario.settings))) (answering rest_b (playing (server_noting content) inbox (served.new_stack scenario.settings))))
 hosts_begin content scenario shelf inbox rest_a rest_b =
     let scene = first_scene scenario.acl_length scenario.acl_count scenario.names in
     let first_b = new_server content inbox scenario.settings rest_b in
-    let (station_a, commands_a, same_a) = (begins client_profile A (new_client shelf scenario.settings rest_a)).makes in
-    let (station_b, commands_b, same_b) = (begins profile_of B first_b).makes in (
-      moment scene station_a (first_station (starting first_b server_machine) B),
+    let (station_a, commands_a, same_a) = (begins noted_client A (new_client shelf scenario.settings rest_a)).makes in
+    let (station_b, commands_b, same_b) = (begins noted_server B first_b).makes in (
+      moment scene station_a (first_station (starting first_b noted_server_machine) B),
       record { does = (station_a, commands_a, refl); notes = refl },
       (
         moment scene station_a station_b,
         record { does = (station_b, commands_b, refl); notes = refl },
-        ap₂ (λ (a : Station (SetHost ClientProfile)) (b : Station (SetHost ServerProfile)). moment scene a b) same_a same_b,
+        ap₂ (λ (a : Station (SetHost (Noted ClientProfile))) (b : Station (SetHost (Noted ServerProfile))). moment scene a b) same_a same_b,
       ),
     )

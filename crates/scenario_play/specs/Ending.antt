@@ -1,17 +1,44 @@
 -- What the capture of a played scenario says (this project's own).
-use Rattle.std.specs.Prelude.{ℕ, ◌≡◌, List, Option}
+use Rattle.std.specs.Prelude.{ℕ, ◌≡◌, ◌≤◌, ◌<◌, ◌⊎◌, ◌^◌, List, ◌++◌, length, Option, Some}
+use Rattle.std.specs.List.{AllByRecursion}
+use Rattle.bt_base.specs.Counts.{HasRisen}
 use Rattle.bt_base.specs.Objects.{Object, Contents}
 use Rattle.bt_base.specs.declared.settings.Transport.TheVariants.{L2cap}
+use Rattle.push_script.specs.Runs.{IsRun}
 use Rattle.push_script.specs.declared.scenario.Scenario.{Scenario}
 use Rattle.push_terms.specs.declared.outcome.Outcome.{Outcome}
+use Rattle.push_terms.specs.declared.peaks.Peaks.{Peaks}
+use Rattle.capture.specs.Entries.{Entry, capture_octets}
+use Rattle.air_laws.specs.Crowded.{IsCrowded}
+use Rattle.world_model.specs.Worlds.{Happening, all_entries}
+use Rattle.radio_world.specs.Shortages.{most_rounds}
 use Rattle.push_laws.specs.Laws.{stored_in}
 use Rattle.host_laws.specs.Calls.{HostsAsk}
 use Rattle.scenario_laws.specs.Clauses.{Orderly, Ends}
-use Rattle.scenario_laws.specs.Gains.{holding}
+use Rattle.scenario_laws.specs.Air.{hosts_of}
+use Rattle.scenario_laws.specs.Broken.{BrokeOff}
+use Rattle.scenario_laws.specs.Gains.{holding, OrderlyServer}
+use Rattle.scenario_laws.specs.Plain.{ArePlain}
+use Rattle.scenario_play.specs.Breaking.{IsBroken, IsWanting}
 use Rattle.scenario_play.specs.Playing.{IsPlayed}
 
 -- Over L2CAP, where both hosts are orderly: what the inbox gained, the accounts, the pushes and their outcomes, and that the air obeyed the
 -- script, over the capture alone.
-abbrev pub PlaysEnd : Type 0
-PlaysEnd = (asks : HostsAsk) (scenario : Scenario) (before : List Object) (after : Option Contents) (trace trace' : Option (List ℕ)) (outcomes : List Outcome) (played : IsPlayed scenario (holding before) after trace trace' outcomes)
-    → scenario.settings.transport ≡ L2cap → Orderly asks scenario before played.capture played.finished.ran → Ends scenario before (stored_in after) outcomes played.capture
+pub record PlaysEnd : Type 0 where
+  pub asks : HostsAsk
+  pub ends : (scenario : Scenario) (before : List Object) (after : Option Contents) (trace trace' : Option (List ℕ)) (outcomes : List Outcome) (peaks : Peaks) (played : IsPlayed scenario (holding before) after trace trace' outcomes peaks)
+      → scenario.settings.transport ≡ L2cap → Orderly asks scenario before played.capture played.finished.ran → Ends scenario before (stored_in after) outcomes played.capture
+
+-- Where it broke off over L2CAP, and the count of shortages of the inbox did not rise: what the inbox gained by then, the buffers, honest controllers, the
+-- pushes, and that each entry keeps to the script, over the capture so far; where host b is orderly and both hosts are plain.
+abbrev pub PlaysBreakOff : Type 0
+PlaysBreakOff = (asks : HostsAsk) (scenario : Scenario) (before : List Object) (after : Option Contents) (trace trace' : Option (List ℕ)) (shortages shortages' : ℕ) (broken : IsBroken scenario (holding before) after trace trace' (HasRisen shortages shortages')) → (HasRisen shortages shortages' → ⊥)
+    → scenario.settings.transport ≡ L2cap → OrderlyServer asks scenario.settings before (all_entries broken.happenings) broken.world.b.upper → ArePlain asks scenario (holding before) broken.ran.happenings
+    → BrokeOff scenario before (stored_in after) (all_entries broken.happenings) (all_entries broken.happenings ++ broken.next)
+
+-- With a script of at most 2^32 lines and a trace that is told and that memory holds, a scenario wants memory only before anything happened,
+-- where a port lacked some, or where the capture so far is crowded; where both hosts are plain.
+abbrev pub WantsAreTold : Type 0
+WantsAreTold = (asks : HostsAsk) (scenario : Scenario) (content after : Option Contents) (before octets : List ℕ) (of_shelf of_shelf' of_inbox of_inbox' : ℕ) → AllByRecursion IsRun scenario.script → length scenario.script ≤ 2 ^ 32 → length octets < most_rounds
+    → ((happenings : List Happening) → ArePlain asks scenario content happenings) → IsWanting scenario content after (Some before) (Some octets) (HasRisen of_shelf of_shelf') (HasRisen of_inbox of_inbox')
+    → ((after ≡ content) × (octets ≡ before)) ⊎ ((HasRisen of_shelf of_shelf' ⊎ HasRisen of_inbox of_inbox') ⊎ ((entries : List Entry) × (octets ≡ before ++ capture_octets entries) × IsCrowded (hosts_of scenario.settings) scenario.acl_length entries))

@@ -1,3 +1,6 @@
+pub mod Noting
+pub mod Peaks
 pub mod Playing
 pub mod Ending
 pub mod Running
+pub mod Breaking

@@ -4,21 +4,24 @@ use Rattle.bt_base.specs.Objects.{Object, Contents}
 use Rattle.bt_base.specs.Streams.{gained}
 use Rattle.push_script.specs.declared.scenario.Scenario.{Scenario}
 use Rattle.push_terms.specs.declared.outcome.Outcome.{Outcome}
+use Rattle.push_terms.specs.declared.peaks.Peaks.{Peaks}
 use Rattle.capture.specs.Entries.{Entry, capture_octets}
 use Rattle.radio_world.specs.Both.{Both}
 use Rattle.radio_world.specs.Scenes.{first_scene}
 use Rattle.radio_world.specs.Standing.{last_entries}
 use Rattle.host_model.specs.Clients.{ClientProfile}
 use Rattle.bt_host.specs.Newness as served
+use Rattle.bt_host.specs.Noting.{Noted}
 use Rattle.bt_host.specs.Pushing as pushed
 use Rattle.bt_host.specs.Refusals.{fresh_framing}
 use Rattle.bt_host.specs.Serving.{Served}
 use Rattle.bt_host.specs.Shells.{Shelled}
 use Rattle.scenario_laws.specs.Captures.{client_of, Finished}
 use Rattle.scenario_laws.specs.Outcomes.{outcomes_of}
+use Rattle.scenario_play.specs.Peaks.{AreReached}
 
 -- two new hosts with the settings of a scenario, and its air, to which nothing has happened
-abbrev pub fresh_world : Scenario → Both (Shelled ClientProfile) (Shelled Served)
+abbrev pub fresh_world : Scenario → Both (Shelled (Noted ClientProfile)) (Shelled (Noted Served))
 fresh_world scenario = record {
   a = record { framing = fresh_framing; stack = pushed.new_stack scenario.settings; refusal = None };
   b = record { framing = fresh_framing; stack = served.new_stack scenario.settings; refusal = None };
@@ -33,11 +36,12 @@ pub record KeepsShelf (content content' : Option (List Object)) (faults faults' 
 
 -- The scenario ran to its end, as the trace gained it: from an inbox that held `before` both hosts came to where all words were turned and
 -- all is at rest. The push that went on then ended with what had come of it, or else with the script; the outcomes are those that the
--- capture states, and the inbox holds what host b made of it.
-pub record IsPlayed (scenario : Scenario) (before after : Option Contents) (trace trace' : Option (List ℕ)) (outcomes : List Outcome) : Type 0 where
+-- capture states, the peaks are those that the hosts noted on their way, and the inbox holds what host b made of it.
+pub record IsPlayed (scenario : Scenario) (before after : Option Contents) (trace trace' : Option (List ℕ)) (outcomes : List Outcome) (peaks : Peaks) : Type 0 where
   pub capture : List Entry
   pub finished : Finished scenario before capture
   pub ends : finished.ran.ends ≡ last_entries ((client_of scenario).outcome finished.ran.world.a.upper) finished.ran.world.pushes
   pub outcomes_are : outcomes ≡ outcomes_of scenario capture
+  pub reached : AreReached scenario before finished.ran.happenings peaks
   pub stored : after ≡ finished.ran.world.b.upper.profile.inbox.content
   pub written : trace' ≡ gained trace (capture_octets capture)

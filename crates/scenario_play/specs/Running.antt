@@ -18,14 +18,6 @@ pub record RunsThrough {S T G H P Q : Type 0} (U : Upper S G) (V : Upper T H) (A
   pub starts : Advances U V AnswersA AnswersB [] old mid
   pub turns : Advances U V AnswersA AnswersB words mid (stage last new.a new.b new.shelf new.inbox trace)
   pub stands : Stands U V last new.a new.b
+  pub medium_stays : new.scene.medium ≡ last.medium
   pub outcomes_are : new.scene.pushes.outcomes ≡ all_outcomes (last_ended (U.outcome (new.a.upper [])) last.pushes)
   pub written : new.trace ≡ gained trace (capture_octets (last_entries (U.outcome (new.a.upper [])) last.pushes))
-
--- The same of a world that is let go then: these hosts were in it, and these outcomes.
-pub record PlaysOut {S T G H P Q X Y : Type 0} (U : Upper S G) (V : Upper T H) (AnswersA : P → List G → P → Type 0) (AnswersB : Q → List H → Q → Type 0) (station_a : X → P → Asking S G) (station_b : Y → Q → Asking T H) (words : List Word)
-    (old : Stage S T G H P Q) (shelf : P) (inbox : Q) (trace : Option (List ℕ)) (outcomes : List Outcome) : Type 0 where
-  pub a : X
-  pub b : Y
-  pub scene : Scene
-  pub runs : RunsThrough U V AnswersA AnswersB words old (stage scene (station_a a shelf) (station_b b inbox) shelf inbox trace)
-  pub outcomes_are : outcomes ≡ scene.pushes.outcomes

@@ -5,7 +5,7 @@ mod ending;
 mod playing;
 mod running;
 
-pub use ending::plays_end;
+pub use ending::{plays_break_off, plays_end, wants_are_told};
 pub use playing::{Played, play};
 
 #[cfg(test)]

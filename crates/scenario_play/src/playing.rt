@@ -1,14 +1,17 @@
 //! A scenario is played to its end.
 
-ghost use Rattle.std.specs.Prelude.{◌≡◌, ◌≤◌, false, IfOk, OnOk};
+ghost use Rattle.std.specs.Prelude.{◌≡◌, ◌≤◌, ◌⊎◌, false, IfOk, OnErr, OnOk};
+ghost use Rattle.bt_base.specs.Counts.{HasRisen};
 ghost use Rattle.radio_world.specs.Causes.{Blames};
+ghost use Rattle.radio_world.specs.Shortages.{Lacks};
+ghost use Rattle.scenario_play.specs.Breaking.{IsBroken, IsWanting};
 ghost use Rattle.scenario_play.specs.Playing.{fresh_world, KeepsShelf, IsPlayed};
 
-use crate::running::play_out;
+use crate::running::{peaks_of, play_out};
 use bt_base::{Inbox, NoMemory, Shelf, Sink};
 use bt_host::{ClientHost, ServerHost};
 use push_script::Scenario;
-use push_terms::Outcome;
+use push_terms::{Outcome, Peaks};
 use radio_world::{World, WorldFault};
 use std::alloc::Global;
 
@@ -20,6 +23,8 @@ type HostsWorld = World<ClientHost, ServerHost>;
 pub struct Played {
     /// What came of its objects, in their order.
     pub outcomes: Vec<Outcome>,
+    /// The greatest numbers that were reached. Those of the buffers stand still at 65,535.
+    pub peaks: Peaks,
 }
 
 /// A world of two new hosts with the settings of a scenario, to which nothing has happened.
@@ -31,7 +36,7 @@ fn new_world(alloc: Global, scenario: &Scenario) -> Result<HostsWorld, NoMemory>
     World::new(alloc, scenario, a, b)
 }
 
-/// Plays a scenario in the world of two new hosts, and answers what came of its objects.
+/// Plays a scenario in the world of two new hosts, and answers what it came to.
 fn play_in<F: Shelf, I: Inbox, T: Sink>(
     alloc: Global,
     world: HostsWorld,
@@ -39,21 +44,28 @@ fn play_in<F: Shelf, I: Inbox, T: Sink>(
     shelf: &mut F,
     inbox: &mut I,
     trace: &mut T,
-) -> Result<Vec<Outcome>, WorldFault>
+) -> Result<Played, WorldFault>
     requires fresh { world ≡ fresh_world scenario.now }
     requires none_pending { I.is_pending inbox.old ≡ false }
-    ensures plays { IfOk result (λ outcomes. IsPlayed scenario.now (I.content inbox.old) (I.content inbox.new) (T.content trace.old) (T.content trace.new) outcomes.items) }
+    ensures plays { IfOk result (λ played. IsPlayed scenario.now (I.content inbox.old) (I.content inbox.new) (T.content trace.old) (T.content trace.new) played.outcomes.items played.peaks) }
     ensures shelf { OnOk result (KeepsShelf (F.content shelf.old) (F.content shelf.new) (F.faults shelf.old) (F.faults shelf.new) (F.shortages shelf.old) (F.shortages shelf.new)) }
-    ensures inbox { OnOk result (I.shortages inbox.old ≤ I.shortages inbox.new) }
+    ensures breaks { OnErr result (IsBroken scenario.now (I.content inbox.old) (I.content inbox.new) (T.content trace.old) (T.content trace.new) (HasRisen (I.shortages inbox.old) (I.shortages inbox.new))) }
+    ensures left { OnErr result (KeepsShelf (F.content shelf.old) (F.content shelf.new) (F.faults shelf.old) (F.faults shelf.new) (F.shortages shelf.old) (F.shortages shelf.new) ⊎ HasRisen (F.shortages shelf.old) (F.shortages shelf.new)) }
+    ensures inbox { I.shortages inbox.old ≤ I.shortages inbox.new }
     ensures blames { Blames (T.faults trace.old) (T.faults trace.new) result }
+    ensures lacks { Lacks (T.shortages trace.old) (T.shortages trace.new) (IsWanting scenario.now (I.content inbox.old) (I.content inbox.new) (T.content trace.old) (T.content trace.new) (HasRisen (F.shortages shelf.old) (F.shortages shelf.new)) (HasRisen (I.shortages inbox.old) (I.shortages inbox.new))) result }
 {
-    play_out(alloc, world, &scenario.script, shelf, inbox, trace)
+    let count = scenario.names.len();
+    let (outcomes, world) = play_out(alloc, count, world, &scenario.script, shelf, inbox, trace)?;
+    let peaks = peaks_of(world, shelf, inbox);
+    Ok(Played { outcomes, peaks })
 }
 
 /// Plays a scenario: host a pushes its objects, which lie on the shelf, and host b stores in the inbox what arrives, while the
 /// words of the script are turned. What happens stands in the trace.
 ///
-/// The inbox may have no object pending. `TraceFault` where the trace fails, and `NoMemory` where none could be had.
+/// The inbox may have no object pending. `TraceFault` where the trace fails, and `NoMemory` where none could be had: `lacks` says why.
+/// Then `breaks` says how far it came: what the trace gained is the capture of a run so far, and a front of its next entry.
 pub fn play<F: Shelf, I: Inbox, T: Sink>(
     alloc: Global,
     scenario: &Scenario,
@@ -62,12 +74,14 @@ pub fn play<F: Shelf, I: Inbox, T: Sink>(
     trace: &mut T,
 ) -> Result<Played, WorldFault>
     requires none_pending { I.is_pending inbox.old ≡ false }
-    ensures plays { IfOk result (λ played. IsPlayed scenario.now (I.content inbox.old) (I.content inbox.new) (T.content trace.old) (T.content trace.new) played.outcomes.items) }
+    ensures plays { IfOk result (λ played. IsPlayed scenario.now (I.content inbox.old) (I.content inbox.new) (T.content trace.old) (T.content trace.new) played.outcomes.items played.peaks) }
     ensures shelf { OnOk result (KeepsShelf (F.content shelf.old) (F.content shelf.new) (F.faults shelf.old) (F.faults shelf.new) (F.shortages shelf.old) (F.shortages shelf.new)) }
-    ensures inbox { OnOk result (I.shortages inbox.old ≤ I.shortages inbox.new) }
+    ensures breaks { OnErr result (IsBroken scenario.now (I.content inbox.old) (I.content inbox.new) (T.content trace.old) (T.content trace.new) (HasRisen (I.shortages inbox.old) (I.shortages inbox.new))) }
+    ensures left { OnErr result (KeepsShelf (F.content shelf.old) (F.content shelf.new) (F.faults shelf.old) (F.faults shelf.new) (F.shortages shelf.old) (F.shortages shelf.new) ⊎ HasRisen (F.shortages shelf.old) (F.shortages shelf.new)) }
+    ensures inbox { I.shortages inbox.old ≤ I.shortages inbox.new }
     ensures blames { Blames (T.faults trace.old) (T.faults trace.new) result }
+    ensures lacks { Lacks (T.shortages trace.old) (T.shortages trace.new) (IsWanting scenario.now (I.content inbox.old) (I.content inbox.new) (T.content trace.old) (T.content trace.new) (HasRisen (F.shortages shelf.old) (F.shortages shelf.new)) (HasRisen (I.shortages inbox.old) (I.shortages inbox.new))) result }
 {
     let world = new_world(alloc, scenario)?;
-    let outcomes = play_in(alloc, world, scenario, shelf, inbox, trace)?;
-    Ok(Played { outcomes })
+    play_in(alloc, world, scenario, shelf, inbox, trace)
 }

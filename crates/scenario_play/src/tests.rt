@@ -5,7 +5,7 @@ use bt_base::{MemInbox, MemShelf, MemSink};
 use capture::{Entry, Flow, entries_of};
 use h4_framing::Unit;
 use push_script::{Scenario, scenario_without};
-use push_terms::{Outcome, Side};
+use push_terms::{Outcome, Peaks, Side};
 use radio_world::WorldFault;
 use std::alloc::Global;
 use std::test::*;
@@ -20,6 +20,9 @@ struct Row {
     stored: &'static [u8],
     /// How many links come up.
     links: usize,
+    /// The greatest windows of both hosts, and their greatest credits.
+    windows: (u8, u8),
+    credits: (u16, u16),
 }
 
 const ROWS: &[Row] = &[
@@ -29,6 +32,8 @@ const ROWS: &[Row] = &[
         outcomes: &[Outcome::Done],
         stored: b"a",
         links: 1,
+        windows: (1, 1),
+        credits: (0, 0),
     },
     Row {
         text: "transport rfcomm\nobject a\nradio\n1216 pass\n",
@@ -36,6 +41,8 @@ const ROWS: &[Row] = &[
         outcomes: &[Outcome::Done],
         stored: b"a",
         links: 1,
+        windows: (0, 0),
+        credits: (7, 7),
     },
     Row {
         text: "transport l2cap\nacl 27 1\nchunk 1\nmtu 255\nmps 48\nobex 255\nobject a\nobject b\nradio\n20000 pass\n",
@@ -43,6 +50,8 @@ const ROWS: &[Row] = &[
         outcomes: &[Outcome::Done, Outcome::Done],
         stored: b"ab",
         links: 2,
+        windows: (6, 1),
+        credits: (0, 0),
     },
     Row {
         text: "transport l2cap\nsrm on\nwindow 32\nmps 100\nobject a\nobject b\nradio\n40 pass\n1 lose ab\n7 pass\n1 lose ba\n2 damage ab 9 0101\n1 repeat ab\n40 pass\n2 cut ab 1\n90000 pass\n",
@@ -50,6 +59,8 @@ const ROWS: &[Row] = &[
         outcomes: &[Outcome::Done, Outcome::Done],
         stored: b"ab",
         links: 2,
+        windows: (32, 1),
+        credits: (0, 0),
     },
     Row {
         text: "transport l2cap\nobject a\nobject b\nradio\n20 pass\n1 drop\n9000 pass\n",
@@ -57,6 +68,8 @@ const ROWS: &[Row] = &[
         outcomes: &[Outcome::LinkLost, Outcome::Done],
         stored: b"b",
         links: 2,
+        windows: (2, 1),
+        credits: (0, 0),
     },
     Row {
         text: "transport rfcomm\ncredits 1\nobject a\nobject b\nradio\n40 pass\n1 cancel\n90000 pass\n",
@@ -64,6 +77,8 @@ const ROWS: &[Row] = &[
         outcomes: &[Outcome::Cancelled, Outcome::Done],
         stored: b"b",
         links: 2,
+        windows: (0, 0),
+        credits: (1, 1),
     },
     Row {
         text: "transport l2cap\ntries 2\nobject a\nradio\n1 lose ab\n1 pass\n1 lose ab\n1216 pass\n",
@@ -71,6 +86,8 @@ const ROWS: &[Row] = &[
         outcomes: &[Outcome::RetryLimit],
         stored: b"",
         links: 1,
+        windows: (0, 0),
+        credits: (0, 0),
     },
     Row {
         text: "transport rfcomm\nserves l2cap\nobject a\nradio\n1216 pass\n",
@@ -78,6 +95,8 @@ const ROWS: &[Row] = &[
         outcomes: &[Outcome::NoService],
         stored: b"",
         links: 1,
+        windows: (0, 0),
+        credits: (0, 0),
     },
     Row {
         text: "transport l2cap\nobject c\nobject b\nradio\n1216 pass\n",
@@ -85,6 +104,8 @@ const ROWS: &[Row] = &[
         outcomes: &[Outcome::ShelfFault, Outcome::Done],
         stored: b"b",
         links: 1,
+        windows: (1, 1),
+        credits: (0, 0),
     },
     Row {
         text: "transport l2cap\nobject a\nobject b\nradio\n1 pass\n",
@@ -92,6 +113,8 @@ const ROWS: &[Row] = &[
         outcomes: &[Outcome::ScriptEnded, Outcome::ScriptEnded],
         stored: b"",
         links: 1,
+        windows: (0, 0),
+        credits: (0, 0),
     },
 ];
 
@@ -171,6 +194,8 @@ fn comes_true(alloc: Global, row: &Row) -> Result<bool, Fail> {
     };
     Ok(
         played.outcomes.as_slice() == row.outcomes
+            && (played.peaks.window_a, played.peaks.window_b) == row.windows
+            && (played.peaks.credits_a, played.peaks.credits_b) == row.credits
             && is_kept(&inbox, row)
             && is_stated(alloc, &trace, row)?,
     )
@@ -197,6 +222,35 @@ fn fault_at(alloc: Global, call: u32) -> Result<Option<WorldFault>, Fail> {
 fn a_trace_that_fails_is_told(rt: HostRuntime) -> Result<(), Fail> {
     for call in [1, 20, 60] {
         assert_eq!(rt; fault_at(rt.alloc(), call)?, Some(WorldFault::TraceFault));
+    }
+    Ok(())
+}
+
+/// The peaks of a scenario with one small object; nothing where it is not played.
+fn peaks_of(alloc: Global, text: &str) -> Result<Option<Peaks>, Fail> {
+    let scenario = scenario_of(alloc, text)?;
+    let mut shelf = shelf_of(alloc, 2)?;
+    let mut inbox = empty_inbox(alloc)?;
+    let mut trace = MemSink::new(alloc, &[])?;
+    let played = play(alloc, &scenario, &mut shelf, &mut inbox, &mut trace).ok();
+    Ok(played.map(|played| played.peaks))
+}
+
+#[test]
+fn little_is_held_where_nothing_is_answered(rt: HostRuntime) -> Result<(), Fail> {
+    let one_packet = Peaks {
+        buffers_a: 1,
+        buffers_b: 0,
+        window_a: 0,
+        window_b: 0,
+        credits_a: 0,
+        credits_b: 0,
+    };
+    for text in [
+        "transport l2cap\nobject a\nradio\n1 drop\n1216 pass\n",
+        "transport l2cap\ntries 2\nobject a\nradio\n2 timer a\n2000 pass\n",
+    ] {
+        assert_eq!(rt; peaks_of(rt.alloc(), text)?, Some(one_packet));
     }
     Ok(())
 }

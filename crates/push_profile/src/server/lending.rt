@@ -11,6 +11,13 @@ use bt_base::Psm;
 use push_model::Outlet;
 
 impl PushServer {
+    /// How many credits its multiplexer holds: so many data frames may go out.
+    pub fn credits(&self) -> u16
+        ensures { result ≡ self.now.mux.account.held }
+    {
+        self.mux.credits()
+    }
+
     /// Lends the SDU that is to be sent next, and answers the PSM of its channel: that of a reply to a search, then that of a
     /// response over L2CAP, then that of a frame of the multiplexer. None where nothing waits. `sdu` has its octets. The same
     /// SDU is lent until `stepped` or until its channel is closed.

@@ -14,6 +14,13 @@ impl Mux {
         !self.pending.is_empty()
     }
 
+    /// How many credits are held: so many data frames may go out.
+    pub fn credits(&self) -> u16
+        ensures { result ≡ self.now.account.held }
+    {
+        self.account.held()
+    }
+
     /// Whether a credit is held.
     pub fn has_credit(&self) -> bool
         ensures { result ≡ nat_lt 0 self.now.account.held }

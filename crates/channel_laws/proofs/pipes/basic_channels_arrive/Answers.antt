@@ -1,4 +1,4 @@
-use Rattle.channel_laws.proofs.Ferried.{basic-arrive}
+use Rattle.channel_laws.proofs.Arrived.{basic-arrive}
 use Rattle.channel_laws.proofs.pipes.basic_channels_arrive.Goals as goal
 
 pub returns : goal.returns

@@ -5,17 +5,20 @@ use Rattle.scenario_laws.proofs.Clauses.{scenarios_end}
 use Rattle.scenario_play.proofs.ending.plays_end.Goals as goal
 
 pub returns : goal.returns
-returns c asks scenario before after trace trace' outcomes played transport orderly =
-    let world = played.finished.ran.world in
-    let ends = scenarios_end asks scenario before played.capture played.finished ((client_of scenario).outcome world.a.upper) played.ends transport orderly in
-    record {
-      gained = ap stored_in played.stored ∙ ends.gained;
-      within_a = ends.within_a;
-      within_b = ends.within_b;
-      window_a = ends.window_a;
-      window_b = ends.window_b;
-      honest = ends.honest;
-      in_turn = ends.in_turn;
-      outcomes_are = played.outcomes_are;
-      obeys = ends.obeys;
-    }
+returns c = record {
+  asks = scenarios_end.asks;
+  ends = λ scenario before after trace trace' outcomes peaks played transport orderly.
+      let world = played.finished.ran.world in
+      let ends = scenarios_end.ends scenario before played.capture played.finished ((client_of scenario).outcome world.a.upper) played.ends transport orderly in
+      record {
+        gained = ap stored_in played.stored ∙ ends.gained;
+        within_a = ends.within_a;
+        within_b = ends.within_b;
+        window_a = ends.window_a;
+        window_b = ends.window_b;
+        honest = ends.honest;
+        in_turn = ends.in_turn;
+        outcomes_are = played.outcomes_are;
+        obeys = ends.obeys;
+      };
+}

@@ -1,7 +1,14 @@
-use Rattle.std.proofs.Common.{[], sym, subst}
+use Rattle.std.proofs.Common.{[], ◌++◌, refl, sym, ap, subst, ◌∙◌, length, arith}
+use Rattle.std.proofs.lemmas.List.{append-nil}
 use Rattle.capture.specs.Air.{words_of}
 use Rattle.radio_world.specs.Scenes.{stage}
 use Rattle.scenario_play.specs.Running.{RunsThrough}
+use Rattle.radio_world.proofs.Advancing.{advances_none, advances_then}
+use Rattle.radio_world.proofs.Broken.{broken_then}
+use Rattle.radio_world.proofs.Reasons.{wants_behind}
+use Rattle.radio_world.proofs.Wanting.{any_err, lacks_on, lacks_by_trace}
+use Rattle.scenario_play.specs.Breaking.{OnItsWay, AtItsEnd}
+use Rattle.scenario_play.proofs.Names.{names_stay}
 use Rattle.scenario_play.proofs.running.run_through.Goals as goal
 
 pub returns-clause-runs : goal.returns-clause-runs
@@ -25,6 +32,84 @@ returns-clause-runs g c =
       starts = c.in_ok-start.ensures.advances;
       turns = c.in_ok-turn_all.ensures.turns;
       stands = c.in_ok-turn_all.ensures.stands;
+      medium_stays = c.in_ok-finish.ensures.medium;
       outcomes_are = c.in_ok-finish.ensures.outcomes [];
       written = c.in_ok-finish.ensures.written [];
     }))
+
+pub returns-clause-each : goal.returns-clause-each
+returns-clause-each g c =
+    let one = g.A.Host in
+    let two = g.B.Host in
+    c.in_ok-finish.ensures.each
+    ∙ ap length (names_stay one.machine two.machine one.answers two.answers (words_of c.args.script.now) _ _ c.in_ok-turn_all.ensures.turns ∙ names_stay one.machine two.machine one.answers two.answers [] _ _ c.in_ok-start.ensures.advances)
+
+pub returns-in_err-start-clause-breaks : goal.returns-in_err-start-clause-breaks
+returns-in_err-start-clause-breaks g c =
+    let one = g.A.Host in
+    let two = g.B.Host in
+    let joins_a = g.met.A.Host.joins in
+    let joins_b = g.met.B.Host.joins in
+    let content = g.T.Sink.content in
+    let words = words_of c.args.script.now in
+    let world = c.args.world.now in
+    let first = stage world.scene (one.station world.a c.args.shelf.now) (two.station world.b c.args.inbox.now) c.args.shelf.now c.args.inbox.now (content c.args.trace.now) in
+    any_err c.from_residual.result (OnItsWay (broken_then one.machine two.machine one.answers two.answers one.lacked two.lacked two.station joins_a joins_b words [] [] words first first _ _ _ refl (advances_none one.machine two.machine one.answers two.answers first joins_a joins_b) c.in_err-start.ensures.breaks))
+
+pub returns-in_err-start-clause-lacks : goal.returns-in_err-start-clause-lacks
+returns-in_err-start-clause-lacks g c =
+    let one = g.A.Host in
+    let two = g.B.Host in
+    let joins_a = g.met.A.Host.joins in
+    let joins_b = g.met.B.Host.joins in
+    let content = g.T.Sink.content in
+    let words = words_of c.args.script.now in
+    let world = c.args.world.now in
+    let first = stage world.scene (one.station world.a c.args.shelf.now) (two.station world.b c.args.inbox.now) c.args.shelf.now c.args.inbox.now (content c.args.trace.now) in
+    lacks_on _ _ _ _ _ c.start.result c.from_residual.result c.in_err-start.field-0.0 c.from_residual.ensures.1 c.in_err-start.was (omega arith)
+    (λ cause. wants_behind one.machine two.machine one.answers two.answers one.lacked two.lacked words [] [] words first first _ _ _ joins_a joins_b g.met.A.Host.lacks g.met.B.Host.lacks refl (advances_none one.machine two.machine one.answers two.answers first joins_a joins_b) cause) c.start.ensures.lacks
+
+pub returns-in_err-turn_all-clause-breaks : goal.returns-in_err-turn_all-clause-breaks
+returns-in_err-turn_all-clause-breaks g c =
+    let one = g.A.Host in
+    let two = g.B.Host in
+    let joins_a = g.met.A.Host.joins in
+    let joins_b = g.met.B.Host.joins in
+    let content = g.T.Sink.content in
+    let words = words_of c.args.script.now in
+    let world = c.args.world.now in
+    let first = stage world.scene (one.station world.a c.args.shelf.now) (two.station world.b c.args.inbox.now) c.args.shelf.now c.args.inbox.now (content c.args.trace.now) in
+    any_err c.from_residual-in_err-turn_all.result (OnItsWay (broken_then one.machine two.machine one.answers two.answers one.lacked two.lacked two.station joins_a joins_b words [] words [] first _ _ _ _ (sym (append-nil words)) c.in_ok-start.ensures.advances c.in_err-turn_all.ensures.breaks))
+
+pub returns-in_err-turn_all-clause-lacks : goal.returns-in_err-turn_all-clause-lacks
+returns-in_err-turn_all-clause-lacks g c =
+    let one = g.A.Host in
+    let two = g.B.Host in
+    let joins_a = g.met.A.Host.joins in
+    let joins_b = g.met.B.Host.joins in
+    let content = g.T.Sink.content in
+    let words = words_of c.args.script.now in
+    let world = c.args.world.now in
+    let first = stage world.scene (one.station world.a c.args.shelf.now) (two.station world.b c.args.inbox.now) c.args.shelf.now c.args.inbox.now (content c.args.trace.now) in
+    lacks_on _ _ _ _ _ c.turn_all.result c.from_residual-in_err-turn_all.result c.in_err-turn_all.field-0.0 c.from_residual-in_err-turn_all.ensures.1 c.in_err-turn_all.was c.start.ensures.lacks.stays
+    (λ cause. wants_behind one.machine two.machine one.answers two.answers one.lacked two.lacked words [] words [] first _ _ _ _ joins_a joins_b g.met.A.Host.lacks g.met.B.Host.lacks (sym (append-nil words)) c.in_ok-start.ensures.advances cause) c.turn_all.ensures.lacks
+
+pub returns-in_err-finish-clause-breaks : goal.returns-in_err-finish-clause-breaks
+returns-in_err-finish-clause-breaks g c =
+    let one = g.A.Host in
+    let two = g.B.Host in
+    let joins_a = g.met.A.Host.joins in
+    let joins_b = g.met.B.Host.joins in
+    let content = g.T.Sink.content in
+    let words = words_of c.args.script.now in
+    let world = c.args.world.now in
+    let first = stage world.scene (one.station world.a c.args.shelf.now) (two.station world.b c.args.inbox.now) c.args.shelf.now c.args.inbox.now (content c.args.trace.now) in
+    let last = c.turn_all.new.self in
+    let mid = stage last.scene (one.station last.a c.turn_all.new.shelf) (two.station last.b c.turn_all.new.inbox) c.turn_all.new.shelf c.turn_all.new.inbox (content c.turn_all.new.trace) in
+    any_err c.from_residual-in_err-finish.result
+    (AtItsEnd mid (advances_then one.machine two.machine one.answers two.answers [] words first _ mid joins_a joins_b c.in_ok-start.ensures.advances c.in_ok-turn_all.ensures.turns) (last.b, refl) (c.finish.ensures.front []) refl refl)
+
+pub returns-in_err-finish-clause-lacks : goal.returns-in_err-finish-clause-lacks
+returns-in_err-finish-clause-lacks g c =
+    lacks_by_trace _ _ _ _ c.finish.result c.from_residual-in_err-finish.result c.in_err-finish.field-0.0 c.from_residual-in_err-finish.ensures.1 c.in_err-finish.was
+    (omega (arith, c.start.ensures.lacks.stays, c.turn_all.ensures.lacks.stays)) c.finish.ensures.lacks

@@ -1,9 +1,16 @@
-use Rattle.host_model.specs.Clients.{client_profile}
-use Rattle.bt_host.specs.Pushing.{pushed_by}
+use Rattle.world_model.specs.Machines.{TimerFired}
+use Rattle.bt_host.specs.PushingLaws.{Answers}
+use Rattle.bt_host.specs.NotedHosts.{noted_client, client_noting}
 use Rattle.bt_host.proofs.Feeding.{rests_noted}
+use Rattle.bt_host.proofs.ToldNews.{told_noted}
 use Rattle.bt_host.proofs.client_host.ClientHost.on_timer.Goals as goal
 
 pub returns-clause-rests : goal.returns-clause-rests
 returns-clause-rests g c =
-    rests_noted client_profile pushed_by c.self.inside.framer c.self.inside.stack c.fire.new.self c.self.inside.refusal c.noted.new.refusal c.args.self.now c.fire.new.port c.noted.result c.fire.result
+    rests_noted noted_client client_noting c.self.inside.framer c.self.inside.stack c.fire.new.self c.self.inside.refusal c.noted.new.refusal c.args.self.now c.fire.new.port c.noted.result c.fire.result
     c.self.view_is c.noted.ensures.answer c.fire.ensures.machine c.fire.ensures.paged c.fire.ensures.rests
+
+pub returns-clause-hears : goal.returns-clause-hears
+returns-clause-hears g c =
+    told_noted noted_client (Answers g.F.Shelf.content g.F.Shelf.faults g.F.Shelf.shortages) client_noting TimerFired c.self.inside.framer c.self.inside.framer c.self.inside.stack c.fire.new.self c.self.inside.refusal c.noted.new.refusal c.args.self.now
+    c.args.shelf.now c.fire.new.port c.noted.result c.fire.result c.self.view_is c.noted.ensures.answer c.fire.ensures.hears

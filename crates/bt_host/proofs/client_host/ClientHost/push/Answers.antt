@@ -1,9 +1,8 @@
-use Rattle.host_model.specs.Clients.{client_profile}
-use Rattle.bt_host.specs.Pushing.{pushed_by}
+use Rattle.bt_host.specs.NotedHosts.{noted_client, client_noting}
 use Rattle.bt_host.proofs.Feeding.{rests_noted}
 use Rattle.bt_host.proofs.client_host.ClientHost.push.Goals as goal
 
 pub returns-clause-rests : goal.returns-clause-rests
 returns-clause-rests g c =
-    rests_noted client_profile pushed_by c.self.inside.framer c.self.inside.stack c.begin.new.self c.self.inside.refusal c.noted.new.refusal c.args.self.now c.begin.new.shelf c.noted.result c.begin.result
+    rests_noted noted_client client_noting c.self.inside.framer c.self.inside.stack c.begin.new.self c.self.inside.refusal c.noted.new.refusal c.args.self.now c.begin.new.shelf c.noted.result c.begin.result
     c.self.view_is c.noted.ensures.answer c.begin.ensures.machine c.begin.ensures.paged c.begin.ensures.rests

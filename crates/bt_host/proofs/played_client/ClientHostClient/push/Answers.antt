@@ -1,8 +1,9 @@
 use Rattle.std.proofs.Common.{[], ◌∙◌, ap, arith}
 use Rattle.push_terms.specs.declared.word.Side.TheVariants.{A}
 use Rattle.world_model.specs.Machines.{Opening}
-use Rattle.host_model.specs.Clients.{ClientProfile, client_profile}
-use Rattle.bt_host.specs.Pushing.{pushed_by}
+use Rattle.host_model.specs.Clients.{ClientProfile}
+use Rattle.bt_host.specs.Noting.{Noted}
+use Rattle.bt_host.specs.NotedHosts.{noted_client, client_noting}
 use Rattle.bt_host.specs.PushingLaws.{Answers}
 use Rattle.bt_host.specs.Shells.{Shelled}
 use Rattle.bt_host.proofs.Naming.{same_units}
@@ -19,18 +20,18 @@ push-requires-clause-few g c = let same = same_units c.args.name.now c.utf8.name
 pub returns-clause-reacts : goal.returns-clause-reacts
 returns-clause-reacts g c =
     both_ok c.push.result c.push.ensures.hears c.push.ensures.rests
-    (λ hears rests. (told_host client_profile (Answers g.F.Shelf.content g.F.Shelf.faults g.F.Shelf.shortages) pushed_by A (Opening c.args.name.now) c.args.self.now c.push.new.self c.args.port.now c.push.new.shelf
+    (λ hears rests. (told_host noted_client (Answers g.F.Shelf.content g.F.Shelf.faults g.F.Shelf.shortages) client_noting A (Opening c.args.name.now) c.args.self.now c.push.new.self c.args.port.now c.push.new.shelf
     (client_pages c.args.self.now.stack.paged c.requires.sound.1.1) c.requires.sound.2 hears rests).0)
 
 pub returns-clause-held : goal.returns-clause-held
-returns-clause-held g c = both_ok c.push.result c.push.ensures.stays c.push.ensures.stays (λ stays again. ap (λ (h : Shelled ClientProfile). h.framing.held) stays)
+returns-clause-held g c = both_ok c.push.result c.push.ensures.stays c.push.ensures.stays (λ stays again. ap (λ (h : Shelled (Noted ClientProfile)). h.framing.held) stays)
 
 pub returns-clause-sound : goal.returns-clause-sound
 returns-clause-sound g c =
     four_ok c.push.result c.push.ensures.stays c.push.ensures.works c.push.ensures.hears c.push.ensures.rests
     (λ stays works went rests. (
-      ap (λ (h : Shelled ClientProfile). h.refusal) stays ∙ c.requires.sound.0,
+      ap (λ (h : Shelled (Noted ClientProfile)). h.refusal) stays ∙ c.requires.sound.0,
       (works, rests.paged ∙ c.requires.sound.1.1),
-      (told_host client_profile (Answers g.F.Shelf.content g.F.Shelf.faults g.F.Shelf.shortages) pushed_by A (Opening c.args.name.now) c.args.self.now c.push.new.self c.args.port.now c.push.new.shelf
+      (told_host noted_client (Answers g.F.Shelf.content g.F.Shelf.faults g.F.Shelf.shortages) client_noting A (Opening c.args.name.now) c.args.self.now c.push.new.self c.args.port.now c.push.new.shelf
           (client_pages c.args.self.now.stack.paged c.requires.sound.1.1) c.requires.sound.2 went rests).1,
     ))

@@ -17,12 +17,12 @@ returns-then-not-takes-clause-sound g c =
 pub returns-then-not-takes-clause-does : goal.returns-then-not-takes-clause-does
 returns-then-not-takes-clause-does g c =
     waits_does g.B.Inbox.content g.B.Inbox.shortages c.self.inside.server c.next_sdu.new.self c.self.inside.endpoints c.self.inside.breaks c.takes.result c.args.self.now c.args.channels.now.channels c.in-Some.psm c.in-Some-of.own c.sdu-sdu.result.now c.args._port.now
-    c.self.view_is c.next_sdu.ensures.server c.in-Some.ensures.psm c.sdu-sdu.ensures (search rules) (sym c.takes.ensures) (search rules)
+    c.self.view_is c.next_sdu.ensures.server c.in-Some.ensures.psm c.sdu-sdu.ensures c.are_octets.ensures (search rules) (sym c.takes.ensures) (search rules)
 
 pub returns-clause-does : goal.returns-clause-does
 returns-clause-does g c =
     submits_does g.B.Inbox.content g.B.Inbox.shortages c.self.inside.server c.next_sdu.new.self c.stepped.new.self c.self.inside.endpoints c.self.inside.breaks c.takes.result c.args.self.now c.args.channels.now c.put_sdu.new.self c.in-Some.psm c.in-Some-of.own c.sdu-sdu.result.now c.args._port.now
-    c.self.view_is c.next_sdu.ensures.server c.in-Some.ensures.psm c.sdu-sdu.ensures (search rules) (sym c.takes.ensures) (search rules) c.put_sdu.ensures c.stepped.ensures.server
+    c.self.view_is c.next_sdu.ensures.server c.in-Some.ensures.psm c.sdu-sdu.ensures c.are_octets.ensures (search rules) (sym c.takes.ensures) (search rules) c.put_sdu.ensures c.stepped.ensures.server
 
 pub returns-clause-sound : goal.returns-clause-sound
 returns-clause-sound g c =

@@ -1,4 +1,4 @@
-use Rattle.std.proofs.Common.{◌≡◌, ◌||◌, Bool, true, false, Result, Ok, refl, ap, subst, ◌∙◌, arith}
+use Rattle.std.proofs.Common.{◌≡◌, ◌||◌, Bool, true, false, Result, Ok, inl, refl, ap, subst, ◌∙◌, arith}
 use Rattle.push_terms.specs.declared.word.Side.{Side}
 use Rattle.push_terms.specs.declared.word.Side.TheVariants.{A, B}
 use Rattle.radio_air.specs.Controllers.{other_side}
@@ -10,7 +10,8 @@ use Rattle.radio_world.proofs.Tallying.{either_one, goes_by_any, goes_by_then}
 use Rattle.radio_world.proofs.Hearing.{heard_then}
 use Rattle.radio_air.specs.Owed.{owes_many}
 use Rattle.radio_world.specs.Shortages.{PortLacked, ReturnWants}
-use Rattle.radio_world.proofs.Wanting.{lacks_for, lacks_on}
+use Rattle.radio_world.proofs.Wanting.{any_err, lacks_for, lacks_on}
+use Rattle.radio_world.proofs.Breaking.{goes_no_more, goes_broken_then}
 use Rattle.radio_world.proofs.medium.Medium.exchange.Goals as goal
 
 pub move_all_into-requires-clause-heard : goal.move_all_into-requires-clause-heard
@@ -71,3 +72,23 @@ pub returns-in_err-came-clause-lacks : goal.returns-in_err-came-clause-lacks
 returns-in_err-came-clause-lacks g c =
     lacks_on _ _ _ _ _ c.move_all_into.result c.from_residual-in_err-came.result c.in_err-came.field-0.0 c.from_residual-in_err-came.ensures.1 c.in_err-came.was c.move_out.ensures.lacks.stays
     (λ cause. PortLacked (g.met.H.Host.lacks c.args.port.now c.move_out.new.port c.move_all_into.new.port c.in_ok-left.ensures.goes.goes.used c.in_ok-left.ensures.goes.goes.answered cause)) c.move_all_into.ensures.lacks
+
+pub returns-in_err-give_back-clause-breaks : goal.returns-in_err-give_back-clause-breaks
+returns-in_err-give_back-clause-breaks g c =
+    let host = g.H.Host in
+    let content = g.T.Sink.content in
+    any_err c.from_residual-in_err-give_back.result
+    (goes_no_more host.machine c.args.side host.answers host.lacked host.station g.met.H.Host.joins c.args.self.now c.move_out.new.self (host.station c.args.host.now c.args.port.now) (host.station c.move_out.new.host c.move_out.new.port)
+    c.args.port.now c.move_out.new.port c.move_out.new.port (content c.args.trace.now) (content c.move_out.new.trace) c.in_ok-left.ensures.goes.goes (c.move_out.new.host, refl) (inl refl))
+
+pub returns-in_err-came-clause-breaks : goal.returns-in_err-came-clause-breaks
+returns-in_err-came-clause-breaks g c =
+    let host = g.H.Host in
+    let content = g.T.Sink.content in
+    let joins = g.met.H.Host.joins in
+    let back = goes_back host.machine c.args.side host.answers c.move_out.new.self c.give_back.new.self (host.station c.move_out.new.host c.move_out.new.port) c.move_out.new.port (content c.move_out.new.trace) joins c.in_ok-give_back.ensures.ok in
+    any_err c.from_residual-in_err-came.result
+    (goes_broken_then host.machine c.args.side host.answers host.lacked host.station joins c.args.self.now c.move_out.new.self (host.station c.args.host.now c.args.port.now) (host.station c.move_out.new.host c.move_out.new.port)
+    c.args.port.now c.move_out.new.port c.move_all_into.new.port (content c.args.trace.now) (content c.move_out.new.trace) (content c.move_all_into.new.trace) c.in_ok-left.ensures.goes.goes
+    (goes_broken_then host.machine c.args.side host.answers host.lacked host.station joins c.move_out.new.self c.give_back.new.self (host.station c.move_out.new.host c.move_out.new.port) (host.station c.move_out.new.host c.move_out.new.port)
+    c.move_out.new.port c.move_out.new.port c.move_all_into.new.port (content c.move_out.new.trace) (content c.move_out.new.trace) (content c.move_all_into.new.trace) back c.in_err-came.ensures.breaks))

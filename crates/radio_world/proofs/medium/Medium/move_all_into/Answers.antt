@@ -3,7 +3,8 @@ use Rattle.radio_world.proofs.Moving.{goes_none}
 use Rattle.radio_world.specs.Counting.{one_if}
 use Rattle.radio_world.proofs.Tallying.{goes_by_any, goes_by_then}
 use Rattle.radio_world.proofs.Hearing.{heard_then}
-use Rattle.radio_world.proofs.Wanting.{lacks_on}
+use Rattle.radio_world.proofs.Wanting.{any_err, lacks_on}
+use Rattle.radio_world.proofs.Breaking.{goes_broken_then}
 use Rattle.radio_world.proofs.medium.Medium.move_all_into.Goals as goal
 
 pub loop-moved-init : goal.loop-moved-init
@@ -49,3 +50,11 @@ pub returns-in_err-move_into-clause-lacks : goal.returns-in_err-move_into-clause
 returns-in_err-move_into-clause-lacks g c =
     lacks_on _ _ _ _ _ c.move_into.result c.from_residual.result c.in_err-move_into.field-0.0 c.from_residual.ensures.1 c.in_err-move_into.was c.loop-moved.invariant.5
     (λ cause. g.met.H.Host.lacks c.args.port.now c.loop-moved.port c.move_into.new.port c.loop-moved.invariant.0.goes.used c.loop-moved.invariant.0.goes.answered cause) c.move_into.ensures.lacks
+
+pub returns-in_err-move_into-clause-breaks : goal.returns-in_err-move_into-clause-breaks
+returns-in_err-move_into-clause-breaks g c =
+    let host = g.H.Host in
+    let content = g.T.Sink.content in
+    any_err c.from_residual.result
+    (goes_broken_then host.machine c.args.side host.answers host.lacked host.station g.met.H.Host.joins c.args.self.now c.loop-moved.self (host.station c.args.host.now c.args.port.now) (host.station c.loop-moved.host c.loop-moved.port)
+    c.args.port.now c.loop-moved.port c.move_into.new.port (content c.args.trace.now) (content c.loop-moved.trace) (content c.move_into.new.trace) c.loop-moved.invariant.0.goes c.in_err-move_into.ensures.breaks)

@@ -14,6 +14,7 @@ use Rattle.radio_world.proofs.Entering.{none_comes, stays_as_it_is, IsHanded, ha
 use Rattle.radio_world.specs.Counting.{GoesBy}
 use Rattle.radio_world.proofs.Tallying.{goes_in_by}
 use Rattle.radio_world.proofs.Hearing.{may_next}
+use Rattle.radio_world.proofs.Breaking.{entering_broken}
 use Rattle.radio_world.proofs.medium.Medium.move_into.Goals as goal
 
 abbrev mk : Radio → ℕ → ℕ → Medium
@@ -113,3 +114,27 @@ returns-clause-sound g c =
     let comes : ComesFirst c.args.side handed.coming c.args.self.now.radio = subst (λ (m : Medium). ComesFirst c.args.side handed.coming m.radio) c.self.view_is handed.comes in
     let heard = at_side g.H.Host.side c.args.side handed.coming (take c.in-Some.n c.hand.new.into) c.requires.side handed.is handed.front in
     (c.in_ok-hand_over.ensures.hears handed.coming (may_next g.H.Host.machine c.args.side c.args.self.now (g.H.Host.station c.args.host.now c.args.port.now) c.requires.heard handed.coming comes) heard.0 heard.1).2
+
+pub returns-in_err-record-clause-breaks : goal.returns-in_err-record-clause-breaks
+returns-in_err-record-clause-breaks g c =
+    let host = g.H.Host in
+    let content = g.T.Sink.content in
+    let medium = mk c.self.inside.radio c.self.inside.peak_a c.self.inside.peak_b in
+    let handed : IsHanded c.args.side c.self.inside.radio c.in-Some.n c.hand.new.into = handed_first c.args.side medium c.hand.result c.in-Some.n _ c.hand.new.into c.hand.ensures.handed c.in-Some.is in
+    let read = reads_same c.args.side c.self.inside.radio c.in-Some.n c.hand.new.into (take c.in-Some.n c.hand.new.into) c.in-Whole.unit c.in-Whole.field-1 handed refl c.in-Whole.ensures in
+    let comes : ComesFirst c.args.side handed.coming c.args.self.now.radio = subst (λ (m : Medium). ComesFirst c.args.side handed.coming m.radio) c.self.view_is handed.comes in
+    any_err c.from_residual.result
+    (entering_broken host.machine c.args.side host.answers host.lacked host.station g.met.H.Host.joins handed.coming (packet c.in-Whole.unit) c.args.self.now (host.station c.args.host.now c.args.port.now) c.args.port.now c.args.port.now
+    (content c.args.trace.now) (content c.record.new.trace) (c.args.host.now, refl) comes read c.record.ensures.front (inl refl))
+
+pub returns-in_err-hand_over-clause-breaks : goal.returns-in_err-hand_over-clause-breaks
+returns-in_err-hand_over-clause-breaks g c =
+    let host = g.H.Host in
+    let content = g.T.Sink.content in
+    let medium = mk c.self.inside.radio c.self.inside.peak_a c.self.inside.peak_b in
+    let handed : IsHanded c.args.side c.self.inside.radio c.in-Some.n c.hand.new.into = handed_first c.args.side medium c.hand.result c.in-Some.n _ c.hand.new.into c.hand.ensures.handed c.in-Some.is in
+    let read = reads_same c.args.side c.self.inside.radio c.in-Some.n c.hand.new.into (take c.in-Some.n c.hand.new.into) c.in-Whole.unit c.in-Whole.field-1 handed refl c.in-Whole.ensures in
+    let comes : ComesFirst c.args.side handed.coming c.args.self.now.radio = subst (λ (m : Medium). ComesFirst c.args.side handed.coming m.radio) c.self.view_is handed.comes in
+    any_err c.from_residual-in_err-hand_over.result
+    (entering_broken host.machine c.args.side host.answers host.lacked host.station g.met.H.Host.joins handed.coming (packet c.in-Whole.unit) c.args.self.now (host.station c.args.host.now c.args.port.now) c.args.port.now c.hand_over.new.port
+    (content c.args.trace.now) (content c.record.new.trace) (c.args.host.now, refl) comes read c.record.ensures.front (inr c.in_err-hand_over.ensures.lacked))

@@ -7,7 +7,8 @@ use Rattle.radio_world.proofs.Tallying.{goes_out_by}
 use Rattle.radio_world.proofs.Leaving.{none_offered}
 use Rattle.radio_world.specs.Leaving.{after_all}
 use Rattle.radio_world.specs.Shortages.{OrderWants}
-use Rattle.radio_world.proofs.Wanting.{lacks_on}
+use Rattle.radio_world.proofs.Wanting.{any_err, lacks_on}
+use Rattle.radio_world.proofs.Breaking.{leaving_broken, taking_broken}
 use Rattle.radio_world.proofs.medium.Medium.move_out.Goals as goal
 
 pub returns-then-count-eq0-clause-goes : goal.returns-then-count-eq0-clause-goes
@@ -58,3 +59,25 @@ returns-in_err-take_all-clause-lacks g c =
     let octets : c.out-offered.result.now ≡ order_octets c.args.side orders = c.out-offered.ensures.octets c.args.port.now c.requires.sound ∙ ap (λ s. order_octets s orders) c.requires.side in
     lacks_on _ _ _ _ _ c.take_all.result c.from_residual.result c.in_err-take_all.field-0.0 c.from_residual.ensures.1 c.in_err-take_all.was (omega arith)
     (λ cause. OrderWants refl (cause orders sent octets)) c.take_all.ensures.lacks
+
+pub returns-in_err-take_all-clause-breaks : goal.returns-in_err-take_all-clause-breaks
+returns-in_err-take_all-clause-breaks g c =
+    let host = g.H.Host in
+    let content = g.T.Sink.content in
+    let orders : List Order = (host.station c.args.host.now c.args.port.now).out in
+    let sent : AreSent c.args.side orders = subst (λ (s : Side). AreSent s orders) c.requires.side (c.out-offered.ensures.sent c.args.port.now c.requires.sound) in
+    let octets : c.out-offered.result.now ≡ order_octets c.args.side orders = c.out-offered.ensures.octets c.args.port.now c.requires.sound ∙ ap (λ s. order_octets s orders) c.requires.side in
+    any_err c.from_residual.result
+    (leaving_broken host.machine c.args.side host.answers host.lacked host.station g.met.H.Host.joins c.args.self.now (host.station c.args.host.now c.args.port.now) c.args.port.now (content c.args.trace.now) (content c.take_all.new.trace)
+    (c.args.host.now, refl) (c.in_err-take_all.ensures.broken orders sent octets))
+
+pub returns-in_err-taken-clause-breaks : goal.returns-in_err-taken-clause-breaks
+returns-in_err-taken-clause-breaks g c =
+    let host = g.H.Host in
+    let content = g.T.Sink.content in
+    let orders : List Order = (host.station c.args.host.now c.args.port.now).out in
+    let sent : AreSent c.args.side orders = subst (λ (s : Side). AreSent s orders) c.requires.side (c.out-offered.ensures.sent c.args.port.now c.requires.sound) in
+    let octets : c.out-offered.result.now ≡ order_octets c.args.side orders = c.out-offered.ensures.octets c.args.port.now c.requires.sound ∙ ap (λ s. order_octets s orders) c.requires.side in
+    any_err c.from_residual-in_err-taken.result
+    (taking_broken host.machine c.args.side host.answers host.lacked host.station g.met.H.Host.joins c.args.self.now (host.station c.args.host.now c.args.port.now) c.args.port.now c.taken.new.port (content c.args.trace.now) (content c.take_all.new.trace)
+    (c.args.host.now, refl) (c.in_ok-take_all.ensures.moved orders sent octets).1 c.in_err-taken.ensures.lacked)

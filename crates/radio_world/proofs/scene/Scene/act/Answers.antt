@@ -1,5 +1,5 @@
-use Rattle.std.proofs.Common.{ℕ, suc, ◌+◌, ◌≤◌, length, ap, ◌∙◌, arith}
-use Rattle.bt_base.specs.Streams.{gained}
+use Rattle.std.proofs.Common.{ℕ, suc, ◌+◌, ◌≤◌, length, ap, subst, ◌∙◌, arith}
+use Rattle.bt_base.specs.Streams.{gained, GainedFront}
 use Rattle.push_terms.specs.Words.{word_text}
 use Rattle.push_script.proofs.Lengths.{word_short}
 use Rattle.capture.specs.Entries.{Acted, entry_octets}
@@ -16,3 +16,7 @@ record-requires-clause-short g c = fits (length (word_text c.args.word)) (word_s
 pub returns-clause-written : goal.returns-clause-written
 returns-clause-written g c =
     c.in_ok-record.ensures.ok ∙ ap (λ (s : Scene). gained (g.T.Sink.content c.args.trace.now) (entry_octets (Acted (s.turned + 1) c.args.word))) c.self.view_is
+
+pub returns-clause-front : goal.returns-clause-front
+returns-clause-front g c =
+    subst (λ (s : Scene). GainedFront (g.T.Sink.content c.args.trace.now) (g.T.Sink.content c.record.new.trace) (entry_octets (Acted (s.turned + 1) c.args.word))) c.self.view_is c.record.ensures.front

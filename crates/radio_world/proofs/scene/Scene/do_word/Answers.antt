@@ -1,4 +1,4 @@
-use Rattle.std.proofs.Common.{◌≡◌, [], sym, ap, subst, ◌∙◌}
+use Rattle.std.proofs.Common.{◌≡◌, [], inl, inr, refl, sym, ap, subst, ◌∙◌}
 use Rattle.push_terms.specs.declared.word.Side.{Side}
 use Rattle.push_terms.specs.declared.word.Side.TheVariants.{A, B}
 use Rattle.radio_air.specs.declared.deed.Deed.{Deed}
@@ -10,6 +10,8 @@ use Rattle.room_laws.specs.Rooms.{OwesNoneBack}
 use Rattle.radio_world.specs.Scenes.{Scene}
 use Rattle.radio_world.proofs.Returned.{deeds_give_none}
 use Rattle.radio_world.proofs.Turned.{asked_right, asked_for, word_advances, cancels_may}
+use Rattle.radio_world.proofs.Wanting.{any_err}
+use Rattle.radio_world.proofs.Broken.{went_left, word_broken}
 use Rattle.radio_world.proofs.scene.Scene.do_word.Goals as goal
 
 pub client_acts-requires-clause-cancelled : goal.client_acts-requires-clause-cancelled
@@ -47,3 +49,37 @@ returns-clause-none_back g c =
     let radio = c.args.self.now.medium.radio in
     let rest = c.requires.rest [] [] in
     subst (λ (s : Scene). OwesNoneBack s.medium.radio) (sym c.in_ok-act.ensures.scene) (deeds_give_none c.is_checked-checked.result (found c.args.word radio) radio rest.still_a.none_owed rest.still_b.none_owed)
+
+pub returns-in_err-act-clause-breaks : goal.returns-in_err-act-clause-breaks
+returns-in_err-act-clause-breaks g c =
+    let one = g.A.Host in
+    let two = g.B.Host in
+    let joins_a = g.met.A.Host.joins in
+    let joins_b = g.met.B.Host.joins in
+    let content = g.T.Sink.content in
+    any_err c.from_residual.result
+    (word_broken one.machine two.machine one.answers two.answers one.lacked two.lacked two.station joins_a joins_b c.args.word c.args.self.now (one.station c.args.a.now c.args.shelf.now) (two.station c.args.b.now c.args.inbox.now) c.args.shelf.now c.args.shelf.now c.args.inbox.now c.args.inbox.now (content c.args.trace.now) (content c.act.new.trace)
+    (c.args.b.now, refl) c.requires.rest c.requires.word c.requires.finds c.act.ensures.front (went_left one.machine two.machine one.answers two.answers one.lacked two.lacked two.station joins_a joins_b c.args.shelf.now c.args.shelf.now (inl refl)) (inl refl))
+
+pub returns-in_err-client_acts-clause-breaks : goal.returns-in_err-client_acts-clause-breaks
+returns-in_err-client_acts-clause-breaks g c =
+    let one = g.A.Host in
+    let two = g.B.Host in
+    let joins_a = g.met.A.Host.joins in
+    let joins_b = g.met.B.Host.joins in
+    let content = g.T.Sink.content in
+    any_err c.from_residual-in_err-client_acts.result
+    (word_broken one.machine two.machine one.answers two.answers one.lacked two.lacked two.station joins_a joins_b c.args.word c.args.self.now (one.station c.args.a.now c.args.shelf.now) (two.station c.args.b.now c.args.inbox.now) c.args.shelf.now c.client_acts.new.shelf c.args.inbox.now c.args.inbox.now (content c.args.trace.now) (content c.act.new.trace)
+    (c.args.b.now, refl) c.requires.rest c.requires.word c.requires.finds c.act.ensures.front (inr c.in_err-client_acts.ensures.lacked) (inl refl))
+
+pub returns-in_err-server_acts-clause-breaks : goal.returns-in_err-server_acts-clause-breaks
+returns-in_err-server_acts-clause-breaks g c =
+    let one = g.A.Host in
+    let two = g.B.Host in
+    let joins_a = g.met.A.Host.joins in
+    let joins_b = g.met.B.Host.joins in
+    let content = g.T.Sink.content in
+    let acted = c.in_ok-client_acts.ensures.reacts in
+    any_err c.from_residual-in_err-server_acts.result
+    (word_broken one.machine two.machine one.answers two.answers one.lacked two.lacked two.station joins_a joins_b c.args.word c.args.self.now (one.station c.args.a.now c.args.shelf.now) (two.station c.args.b.now c.args.inbox.now) c.args.shelf.now c.client_acts.new.shelf c.args.inbox.now c.server_acts.new.inbox (content c.args.trace.now) (content c.act.new.trace)
+    (c.args.b.now, refl) c.requires.rest c.requires.word c.requires.finds c.act.ensures.front (inl (acted.used, acted.answered)) (inr c.in_err-server_acts.ensures.lacked))

@@ -1,5 +1,6 @@
 use Rattle.std.proofs.Common.{rules, ◌≡◌, true, false}
-use Rattle.radio_world.proofs.Closing.{none_ends, none_written, one_ends, one_written}
+use Rattle.bt_base.proofs.PortLaws.{front_none}
+use Rattle.radio_world.proofs.Closing.{none_ends, none_written, one_ends, one_front, one_written}
 use Rattle.radio_world.proofs.scene.Scene.end_last.Goals as goal
 
 pub returns-then-not-going-clause-scene : goal.returns-then-not-going-clause-scene
@@ -21,3 +22,16 @@ pub returns-clause-written : goal.returns-clause-written
 returns-clause-written g c =
     let going : c.args.self.now.pushes.going ≡ true = search rules in
     one_written c.args.came c.args.self.now.pushes c.unwrap_or-outcome.result (g.T.Sink.content c.args.trace.now) (g.T.Sink.content c.end.new.trace) going c.unwrap_or-outcome.ensures c.in_ok-end.ensures.written
+
+pub returns-then-not-going-clause-front : goal.returns-then-not-going-clause-front
+returns-then-not-going-clause-front g c = front_none _ _
+
+pub returns-clause-front : goal.returns-clause-front
+returns-clause-front g c =
+    let going : c.args.self.now.pushes.going ≡ true = search rules in
+    one_front c.args.came c.args.self.now.pushes c.unwrap_or-outcome.result (g.T.Sink.content c.args.trace.now) (g.T.Sink.content c.end.new.trace) going c.unwrap_or-outcome.ensures c.end.ensures.front
+
+pub returns-in_err-end-clause-front : goal.returns-in_err-end-clause-front
+returns-in_err-end-clause-front g c =
+    let going : c.args.self.now.pushes.going ≡ true = search rules in
+    one_front c.args.came c.args.self.now.pushes c.unwrap_or-outcome.result (g.T.Sink.content c.args.trace.now) (g.T.Sink.content c.end.new.trace) going c.unwrap_or-outcome.ensures c.end.ensures.front

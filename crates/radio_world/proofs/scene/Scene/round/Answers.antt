@@ -5,7 +5,7 @@ use Rattle.room_laws.specs.Rooms.{OwesNoneBack}
 use Rattle.radio_world.specs.Leaving.{Medium}
 use Rattle.radio_world.specs.Counting.{one_if}
 use Rattle.radio_world.specs.Shortages.{ShelfLacked}
-use Rattle.radio_world.proofs.Wanting.{lacks_on, lacks_by_trace}
+use Rattle.radio_world.proofs.Wanting.{any_err, lacks_on, lacks_by_trace}
 use Rattle.radio_world.proofs.Reasons.{wants_behind}
 use Rattle.radio_world.proofs.Crowding.{exchange_wants_a, exchange_wants_b}
 use Rattle.radio_world.proofs.Returned.{exchange_gives_none}
@@ -19,6 +19,7 @@ use Rattle.radio_world.proofs.Advancing.{advances_then, begun_or_not, exchanged_
 use Rattle.radio_world.proofs.Settling.{settles}
 use Rattle.radio_world.proofs.Standing.{reached_then}
 use Rattle.radio_world.proofs.Hearing.{a_hears, b_hears}
+use Rattle.radio_world.proofs.Broken.{broken_then, broken_a, broken_b, begin_broken, end_broken}
 use Rattle.radio_world.proofs.scene.Scene.round.Goals as goal
 
 pub exchange-requires-clause-heard : goal.exchange-requires-clause-heard
@@ -177,3 +178,77 @@ returns-clause-none_back g c =
     let none_back_b = exchange_gives_none two.machine B two.answers c.exchange.new.self.medium c.exchange-2.new.self.medium (two.station c.args.b.now c.args.inbox.now) (two.station c.exchange-2.new.host c.exchange-2.new.port) c.args.inbox.now c.exchange-2.new.port
     (content c.exchange.new.trace) (content c.exchange-2.new.trace) c.in_ok-moved_b.ensures.goes.goes c.in_ok-moved_b.ensures.still none_back_a in
     subst (λ (m : Medium). OwesNoneBack m.radio) (sym c.in_ok-ended.ensures.medium) none_back_b
+
+pub returns-in_err-began-clause-breaks : goal.returns-in_err-began-clause-breaks
+returns-in_err-began-clause-breaks g c =
+    let one = g.A.Host in
+    let two = g.B.Host in
+    let joins_a = g.met.A.Host.joins in
+    let joins_b = g.met.B.Host.joins in
+    let content = g.T.Sink.content in
+    any_err c.from_residual.result
+    (begin_broken one.machine two.machine one.answers two.answers one.lacked two.lacked two.station joins_a joins_b c.args.self.now (one.station c.args.a.now c.args.shelf.now) (two.station c.args.b.now c.args.inbox.now) c.args.shelf.now c.begin.new.shelf c.args.inbox.now (content c.args.trace.now) (content c.begin.new.trace)
+    (c.args.b.now, refl) c.in_err-began.ensures.breaks)
+
+pub returns-in_err-moved_a-clause-breaks : goal.returns-in_err-moved_a-clause-breaks
+returns-in_err-moved_a-clause-breaks g c =
+    let one = g.A.Host in
+    let two = g.B.Host in
+    let joins_a = g.met.A.Host.joins in
+    let joins_b = g.met.B.Host.joins in
+    let content = g.T.Sink.content in
+    let begins : c.in_ok-began.began ≡ true → Begins one.machine A one.answers c.args.self.now c.begin.new.self (one.station c.args.a.now c.args.shelf.now) (one.station c.begin.new.a c.begin.new.shelf) c.args.shelf.now c.begin.new.shelf (content c.args.trace.now) (content c.begin.new.trace) =
+    λ is. subst (λ (side : Side). Begins one.machine side one.answers c.args.self.now c.begin.new.self (one.station c.args.a.now c.args.shelf.now) (one.station c.begin.new.a c.begin.new.shelf) c.args.shelf.now c.begin.new.shelf (content c.args.trace.now) (content c.begin.new.trace))
+    c.requires.sides.0 (c.in_ok-began.ensures.begins (ap Ok is)) in
+    let began = begun_or_not one.machine two.machine one.answers two.answers c.in_ok-began.began c.args.self.now c.begin.new.self (one.station c.args.a.now c.args.shelf.now) (one.station c.begin.new.a c.begin.new.shelf) (two.station c.args.b.now c.args.inbox.now)
+    c.args.shelf.now c.begin.new.shelf c.args.inbox.now (content c.args.trace.now) (content c.begin.new.trace) joins_a joins_b begins
+    (λ is. let same = c.in_ok-began.ensures.none (ap Ok is) in (same.0, ap₂ one.station same.1 same.2, same.2, same.3)) in
+    any_err c.from_residual-in_err-moved_a.result
+    (broken_then one.machine two.machine one.answers two.answers one.lacked two.lacked two.station joins_a joins_b [] [] [] [] _ _ _ _ _ refl began.advances
+    (broken_a one.machine two.machine one.answers two.answers one.lacked two.lacked two.station joins_a joins_b one.station c.begin.new.self (one.station c.begin.new.a c.begin.new.shelf) (two.station c.args.b.now c.args.inbox.now) c.begin.new.shelf c.exchange.new.port c.args.inbox.now (content c.begin.new.trace) (content c.exchange.new.trace)
+    (c.args.b.now, refl) c.in_err-moved_a.ensures.breaks))
+
+pub returns-in_err-moved_b-clause-breaks : goal.returns-in_err-moved_b-clause-breaks
+returns-in_err-moved_b-clause-breaks g c =
+    let one = g.A.Host in
+    let two = g.B.Host in
+    let joins_a = g.met.A.Host.joins in
+    let joins_b = g.met.B.Host.joins in
+    let content = g.T.Sink.content in
+    let begins : c.in_ok-began.began ≡ true → Begins one.machine A one.answers c.args.self.now c.begin.new.self (one.station c.args.a.now c.args.shelf.now) (one.station c.begin.new.a c.begin.new.shelf) c.args.shelf.now c.begin.new.shelf (content c.args.trace.now) (content c.begin.new.trace) =
+    λ is. subst (λ (side : Side). Begins one.machine side one.answers c.args.self.now c.begin.new.self (one.station c.args.a.now c.args.shelf.now) (one.station c.begin.new.a c.begin.new.shelf) c.args.shelf.now c.begin.new.shelf (content c.args.trace.now) (content c.begin.new.trace))
+    c.requires.sides.0 (c.in_ok-began.ensures.begins (ap Ok is)) in
+    let began = begun_or_not one.machine two.machine one.answers two.answers c.in_ok-began.began c.args.self.now c.begin.new.self (one.station c.args.a.now c.args.shelf.now) (one.station c.begin.new.a c.begin.new.shelf) (two.station c.args.b.now c.args.inbox.now)
+    c.args.shelf.now c.begin.new.shelf c.args.inbox.now (content c.args.trace.now) (content c.begin.new.trace) joins_a joins_b begins
+    (λ is. let same = c.in_ok-began.ensures.none (ap Ok is) in (same.0, ap₂ one.station same.1 same.2, same.2, same.3)) in
+    let moved_a = exchanged_a (one_if c.in_ok-moved_a.moved_a) one.machine two.machine one.answers two.answers c.begin.new.self c.exchange.new.self (one.station c.begin.new.a c.begin.new.shelf) (one.station c.exchange.new.host c.exchange.new.port) (two.station c.args.b.now c.args.inbox.now)
+    c.begin.new.shelf c.exchange.new.port c.args.inbox.now (content c.begin.new.trace) (content c.exchange.new.trace) joins_b c.in_ok-moved_a.ensures.scene c.in_ok-moved_a.ensures.goes in
+    let before = advances_then one.machine two.machine one.answers two.answers [] [] _ _ _ joins_a joins_b began.advances moved_a.advances in
+    any_err c.from_residual-in_err-moved_b.result
+    (broken_then one.machine two.machine one.answers two.answers one.lacked two.lacked two.station joins_a joins_b [] [] [] [] _ _ _ _ _ refl before
+    (broken_b one.machine two.machine one.answers two.answers one.lacked two.lacked two.station joins_a joins_b c.exchange.new.self (one.station c.exchange.new.host c.exchange.new.port) (two.station c.args.b.now c.args.inbox.now) c.exchange.new.port c.args.inbox.now c.exchange-2.new.port (content c.exchange.new.trace)
+    (content c.exchange-2.new.trace) c.in_err-moved_b.ensures.breaks))
+
+pub returns-in_err-ended-clause-breaks : goal.returns-in_err-ended-clause-breaks
+returns-in_err-ended-clause-breaks g c =
+    let one = g.A.Host in
+    let two = g.B.Host in
+    let joins_a = g.met.A.Host.joins in
+    let joins_b = g.met.B.Host.joins in
+    let content = g.T.Sink.content in
+    let begins : c.in_ok-began.began ≡ true → Begins one.machine A one.answers c.args.self.now c.begin.new.self (one.station c.args.a.now c.args.shelf.now) (one.station c.begin.new.a c.begin.new.shelf) c.args.shelf.now c.begin.new.shelf (content c.args.trace.now) (content c.begin.new.trace) =
+    λ is. subst (λ (side : Side). Begins one.machine side one.answers c.args.self.now c.begin.new.self (one.station c.args.a.now c.args.shelf.now) (one.station c.begin.new.a c.begin.new.shelf) c.args.shelf.now c.begin.new.shelf (content c.args.trace.now) (content c.begin.new.trace))
+    c.requires.sides.0 (c.in_ok-began.ensures.begins (ap Ok is)) in
+    let began = begun_or_not one.machine two.machine one.answers two.answers c.in_ok-began.began c.args.self.now c.begin.new.self (one.station c.args.a.now c.args.shelf.now) (one.station c.begin.new.a c.begin.new.shelf) (two.station c.args.b.now c.args.inbox.now)
+    c.args.shelf.now c.begin.new.shelf c.args.inbox.now (content c.args.trace.now) (content c.begin.new.trace) joins_a joins_b begins
+    (λ is. let same = c.in_ok-began.ensures.none (ap Ok is) in (same.0, ap₂ one.station same.1 same.2, same.2, same.3)) in
+    let moved_a = exchanged_a (one_if c.in_ok-moved_a.moved_a) one.machine two.machine one.answers two.answers c.begin.new.self c.exchange.new.self (one.station c.begin.new.a c.begin.new.shelf) (one.station c.exchange.new.host c.exchange.new.port) (two.station c.args.b.now c.args.inbox.now)
+    c.begin.new.shelf c.exchange.new.port c.args.inbox.now (content c.begin.new.trace) (content c.exchange.new.trace) joins_b c.in_ok-moved_a.ensures.scene c.in_ok-moved_a.ensures.goes in
+    let moved_b = exchanged_b (one_if c.in_ok-moved_b.moved_b) one.machine two.machine one.answers two.answers c.exchange.new.self c.exchange-2.new.self (one.station c.exchange.new.host c.exchange.new.port) (two.station c.args.b.now c.args.inbox.now) (two.station c.exchange-2.new.host c.exchange-2.new.port)
+    c.exchange.new.port c.args.inbox.now c.exchange-2.new.port (content c.exchange.new.trace) (content c.exchange-2.new.trace) joins_a c.in_ok-moved_b.ensures.scene c.in_ok-moved_b.ensures.goes in
+    let before = advances_then one.machine two.machine one.answers two.answers [] [] _ _ _ joins_a joins_b
+    (advances_then one.machine two.machine one.answers two.answers [] [] _ _ _ joins_a joins_b began.advances moved_a.advances) moved_b.advances in
+    any_err c.from_residual-in_err-ended.result
+    (broken_then one.machine two.machine one.answers two.answers one.lacked two.lacked two.station joins_a joins_b [] [] [] [] _ _ _ _ _ refl before
+    (end_broken one.machine two.machine one.answers two.answers one.lacked two.lacked two.station joins_a joins_b c.exchange-2.new.self (one.station c.exchange.new.host c.exchange.new.port) (two.station c.exchange-2.new.host c.exchange-2.new.port) c.exchange.new.port c.exchange-2.new.port (content c.exchange-2.new.trace)
+    (content c.end_idle.new.trace) (c.exchange-2.new.host, refl) (c.in_err-ended.ensures.breaks c.exchange.new.port)))

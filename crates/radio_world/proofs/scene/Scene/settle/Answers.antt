@@ -6,7 +6,8 @@ use Rattle.radio_world.proofs.Advancing.{advances_none, advances_then}
 use Rattle.radio_world.proofs.Reasons.{wants_behind}
 use Rattle.radio_world.proofs.Standing.{reached_then}
 use Rattle.radio_world.proofs.Tallying.{advances_by_then}
-use Rattle.radio_world.proofs.Wanting.{lacks_for, lacks_on}
+use Rattle.radio_world.proofs.Wanting.{any_err, lacks_for, lacks_on}
+use Rattle.radio_world.proofs.Broken.{advances_no_more, broken_then}
 use Rattle.radio_world.proofs.scene.Scene.settle.Goals as goal
 
 pub loop-done-init : goal.loop-done-init
@@ -77,3 +78,16 @@ returns-clause-lacks g c =
       inbox_is = refl;
       trace_is = refl;
     }))
+
+pub returns-in_err-round-clause-breaks : goal.returns-in_err-round-clause-breaks
+returns-in_err-round-clause-breaks g c =
+    let one = g.A.Host in
+    let two = g.B.Host in
+    any_err c.from_residual.result
+    (broken_then one.machine two.machine one.answers two.answers one.lacked two.lacked two.station g.met.A.Host.joins g.met.B.Host.joins [] [] [] [] _ _ _ _ _ refl c.loop-done.invariant.0.advances c.in_err-round.ensures.breaks)
+
+pub returns-clause-breaks : goal.returns-clause-breaks
+returns-clause-breaks g c =
+    let one = g.A.Host in
+    let two = g.B.Host in
+    advances_no_more one.machine two.machine one.answers two.answers one.lacked two.lacked two.station g.met.A.Host.joins g.met.B.Host.joins [] [] [] _ _ refl c.loop-done.invariant.0.advances (c.loop-done.b, refl)

@@ -1,9 +1,11 @@
 use Rattle.std.proofs.Common.{[], ◌∷◌, inl, inr, refl, ◌∙◌, arith}
 use Rattle.radio_world.specs.Shortages.{ShelfLacked, InboxLacked, WordsFull}
-use Rattle.radio_world.proofs.Wanting.{lacks_for, lacks_on}
+use Rattle.radio_world.proofs.Wanting.{any_err, lacks_for, lacks_on}
 use Rattle.radio_world.proofs.Reasons.{wants_behind}
-use Rattle.radio_world.proofs.Advancing.{advances_then}
+use Rattle.radio_world.specs.Scenes.{stage}
+use Rattle.radio_world.proofs.Advancing.{advances_none, advances_then}
 use Rattle.radio_world.proofs.Standing.{at_rest, reached_then, stands_quiet, stands_then}
+use Rattle.radio_world.proofs.Broken.{advances_no_more, broken_then}
 use Rattle.radio_world.proofs.scene.Scene.turn_found.Goals as goal
 
 pub do_word-requires-clause-rest : goal.do_word-requires-clause-rest
@@ -61,3 +63,19 @@ returns-in_err-settle-clause-lacks g c =
     lacks_on _ _ _ _ _ c.settle.result c.from_residual-in_err-settle.result c.in_err-settle.field-0.0 c.from_residual-in_err-settle.ensures.1 c.in_err-settle.was c.do_word.ensures.lacks.stays
     (λ cause. wants_behind one.machine two.machine one.answers two.answers one.lacked two.lacked (c.args.word ∷ []) (c.args.word ∷ []) [] [] _ _ _ _ _ g.met.A.Host.joins g.met.B.Host.joins g.met.A.Host.lacks g.met.B.Host.lacks refl
     c.in_ok-do_word.ensures.advances cause) c.settle.ensures.lacks
+
+pub returns-then-is_count_full-clause-breaks : goal.returns-then-is_count_full-clause-breaks
+returns-then-is_count_full-clause-breaks g c =
+    let one = g.A.Host in
+    let two = g.B.Host in
+    let content = g.T.Sink.content in
+    let first = stage c.args.self.now (one.station c.args.a.now c.args.shelf.now) (two.station c.args.b.now c.args.inbox.now) c.args.shelf.now c.args.inbox.now (content c.args.trace.now) in
+    advances_no_more one.machine two.machine one.answers two.answers one.lacked two.lacked two.station g.met.A.Host.joins g.met.B.Host.joins (c.args.word ∷ []) [] (c.args.word ∷ []) first first refl
+    (advances_none one.machine two.machine one.answers two.answers first g.met.A.Host.joins g.met.B.Host.joins) (c.args.b.now, refl)
+
+pub returns-in_err-settle-clause-breaks : goal.returns-in_err-settle-clause-breaks
+returns-in_err-settle-clause-breaks g c =
+    let one = g.A.Host in
+    let two = g.B.Host in
+    any_err c.from_residual-in_err-settle.result
+    (broken_then one.machine two.machine one.answers two.answers one.lacked two.lacked two.station g.met.A.Host.joins g.met.B.Host.joins (c.args.word ∷ []) (c.args.word ∷ []) [] [] _ _ _ _ _ refl c.in_ok-do_word.ensures.advances c.in_err-settle.ensures.breaks)

@@ -1,13 +1,14 @@
-use Rattle.std.proofs.Common.{rules, ℕ, ◌≡◌, ◌<◌, ◌+◌, ◌-◌, List, [], ◌∷◌, ◌++◌, length, replicate, sym, ap, subst, ◌∙◌, arith}
+use Rattle.std.proofs.Common.{rules, ℕ, ◌≡◌, ◌<◌, ◌+◌, ◌-◌, List, [], ◌∷◌, ◌++◌, length, replicate, refl, sym, ap, subst, ◌∙◌, arith}
 use Rattle.std.proofs.lemmas.List.{append-nil, length-replicate}
 use Rattle.radio_world.specs.Shortages.{WordsFull}
-use Rattle.radio_world.proofs.Wanting.{lacks_for, lacks_on}
+use Rattle.radio_world.proofs.Wanting.{any_err, lacks_for, lacks_on}
 use Rattle.radio_world.proofs.Reasons.{wants_behind}
 use Rattle.push_terms.specs.declared.word.Word.{Word}
 use Rattle.radio_world.specs.Scenes.{stage, Advances}
 use Rattle.radio_world.proofs.Advancing.{advances_none, advances_then}
 use Rattle.radio_world.proofs.Runs.{once_more, times_and_one, times_and_rest}
 use Rattle.radio_world.proofs.Standing.{at_rest, stands_quiet, reached_then, misses_advance, misses_stand}
+use Rattle.radio_world.proofs.Broken.{advances_no_more, broken_then}
 use Rattle.radio_world.proofs.scene.Scene.turn_times.Goals as goal
 
 pub loop-done-init : goal.loop-done-init
@@ -94,3 +95,21 @@ returns-in_err-turn_found-clause-lacks g c =
     lacks_on _ _ _ _ _ c.turn_found.result c.from_residual-in_err-turn_found.result c.in_err-turn_found.field-0.0 c.from_residual-in_err-turn_found.ensures.1 c.in_err-turn_found.was c.loop-done.invariant.5
     (λ cause. wants_behind one.machine two.machine one.answers two.answers one.lacked two.lacked (replicate c.args.count c.args.word) (replicate c.loop-done.done c.args.word) (c.args.word ∷ []) (replicate (c.args.count - (c.loop-done.done + 1)) c.args.word) _ _ _ _ _
     g.met.A.Host.joins g.met.B.Host.joins g.met.A.Host.lacks g.met.B.Host.lacks (times_and_one c.loop-done.done c.args.count c.args.word below) c.loop-done.invariant.0 cause) c.turn_found.ensures.lacks
+
+pub returns-in_err-pass_over-clause-breaks : goal.returns-in_err-pass_over-clause-breaks
+returns-in_err-pass_over-clause-breaks g c =
+    let one = g.A.Host in
+    let two = g.B.Host in
+    let below : c.loop-done.done < c.args.count = search rules in
+    any_err c.from_residual.result
+    (advances_no_more one.machine two.machine one.answers two.answers one.lacked two.lacked two.station g.met.A.Host.joins g.met.B.Host.joins (replicate c.args.count c.args.word) (replicate c.loop-done.done c.args.word) (replicate (c.args.count - c.loop-done.done) c.args.word) _ _
+    (sym (times_and_rest c.loop-done.done c.args.count c.args.word below)) c.loop-done.invariant.0 (c.loop-done.b, refl))
+
+pub returns-in_err-turn_found-clause-breaks : goal.returns-in_err-turn_found-clause-breaks
+returns-in_err-turn_found-clause-breaks g c =
+    let one = g.A.Host in
+    let two = g.B.Host in
+    let below : c.loop-done.done < c.args.count = search rules in
+    any_err c.from_residual-in_err-turn_found.result
+    (broken_then one.machine two.machine one.answers two.answers one.lacked two.lacked two.station g.met.A.Host.joins g.met.B.Host.joins (replicate c.args.count c.args.word) (replicate c.loop-done.done c.args.word) (c.args.word ∷ []) (replicate (c.args.count - (c.loop-done.done + 1)) c.args.word) _ _ _ _ _
+    (times_and_one c.loop-done.done c.args.count c.args.word below) c.loop-done.invariant.0 c.in_err-turn_found.ensures.breaks)

@@ -1,0 +1,14 @@
+pub mod Totals
+pub mod Replies
+pub mod Grants
+pub mod InPlace
+pub mod Multiplexed
+pub mod Picking
+pub mod Runs
+pub mod PassedOver
+pub mod Speaking
+pub mod Turns
+pub mod Pendings
+pub mod Wants
+pub mod Unacknowledged
+pub mod Spelling

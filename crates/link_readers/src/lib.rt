@@ -1,0 +1,96 @@
+//! Plain readers of talk, for tests and tools: each computes a definition as it stands.
+#![tactic(auto)]
+
+mod accounting;
+mod answering;
+mod carrying;
+mod crediting;
+mod demanding;
+#[cfg(test)]
+mod enhanced_samples;
+mod entries;
+mod exchanging;
+mod holding;
+mod joining;
+mod meaning;
+#[cfg(test)]
+mod mixed_samples;
+mod moments;
+mod multiplexing;
+mod objects;
+mod packing;
+mod polling;
+mod reading;
+#[cfg(test)]
+mod rfcomm_samples;
+#[cfg(test)]
+mod samples;
+mod sayings;
+mod sdus;
+mod sensing;
+mod silencing;
+#[cfg(test)]
+mod tests;
+mod waiting;
+#[cfg(test)]
+mod waiting_samples;
+#[cfg(test)]
+mod waiting_tests;
+mod windows;
+
+pub use accounting::{widest, window_peak};
+pub use answering::{answers_in, channel_answers, service_answers};
+use capture::Flow;
+pub use carrying::{mode_of, passages, stretch};
+pub use crediting::{Credits, link_credits};
+pub use entries::{Entry, Setup};
+pub use exchanging::{Exchange, Pending, exchanges};
+pub use holding::credits_peak;
+use l2cap_signal::{Signal, SignalRefusal};
+pub use meaning::Requests;
+pub use moments::{is_armed, is_checked_at};
+pub use objects::{channel_objects, link_objects, objects_heard, spelled_within};
+pub use packing::{packets, packets_heard, packets_spoken};
+pub use reading::{Reading, reading_of};
+pub use sayings::sayings_of;
+pub use sdus::{sdus_of, sdus_spoken};
+pub use silencing::{answered, channel_exchanges};
+pub use waiting::{has_check_word, waits};
+pub use windows::window_used;
+
+/// A request that a host waits for no longer, without a word to its peer.
+#[derive(Clone, Copy, Debug)]
+pub enum Forgone {
+    /// For a channel, with the host's endpoint of it.
+    Connection { identifier: u8, own: u16 },
+    /// For the end of a channel, with both its endpoints.
+    Disconnection { own: u16, peer: u16 },
+    /// For information.
+    Information { identifier: u8 },
+}
+
+/// What is said on a link, as one of its hosts says and hears it
+/// (Core 5.1, Volume 3 Part A, 3.1 and 4).
+#[derive(Clone, Copy, Debug)]
+pub enum Saying<'a> {
+    /// A command on the signalling channel, or why it is refused.
+    Command(Flow, Result<Signal<'a>, SignalRefusal>),
+    /// A PDU of another channel, whole.
+    Carried(Flow, &'a [u8]),
+    /// What the host gave up, which nobody hears.
+    GaveUp(Forgone),
+}
+
+/// A PDU on a channel, whole, and which way it went.
+#[derive(Clone, Copy, Debug)]
+pub struct Carriage<'a> {
+    pub flow: Flow,
+    pub pdu: &'a [u8],
+}
+
+/// Octets that a host sent or heard on a channel: an SDU, or a packet.
+#[derive(Debug, Drop)]
+pub struct Spoken {
+    pub flow: Flow,
+    pub octets: Vec<u8>,
+}

@@ -1,0 +1,303 @@
+-- A host of a run, with what happened to its channels on each of its links, and what it does as turns of the pair that it is in.
+use Rattle.std.proofs.Common.{◌≡◌, ℕ, suc, ◌+◌, List, [], ◌∷◌, ◌++◌, map, length, Some, refl, sym, ap, subst, ◌∙◌, append-nil, append_assoc, arith, length-append}
+use Rattle.std.specs.List.{AllByRecursion, flat_map}
+use Rattle.std.proofs.lemmas.List.{map-append}
+use Rattle.std.proofs.lemmas.List.Concat.{flat_map-append}
+use Rattle.acl_fragments.specs.Pieces.{channel_of}
+use Rattle.channel_model.specs.Carrying.{Up as Handed, Nothing, Received}
+use Rattle.channel_model.specs.Hearing as channels
+use Rattle.channel_model.specs.Policies.{Policy}
+use Rattle.channel_model.specs.Value.{Channels, no_channels}
+use Rattle.channel_laws.specs.Pairs.{Side}
+use Rattle.channel_laws.specs.Runs.{Occurrence, Comes, Gives, Fires, new_link}
+use Rattle.world_model.specs.Machines.{LinkEvent, News, Linked, Failed, Heard, TimerFired, Cancelled, Opening}
+use Rattle.world_model.specs.Talks.{Talk, Told, Said, Unsent}
+use Rattle.world_model.specs.Carriages.{is_told, landed, linked_by, told}
+use Rattle.world_model.specs.Carriages as carriages
+use Rattle.host_model.specs.Circumstances.{Circumstance}
+use Rattle.host_model.specs.Hosts.{Host, ready, hears_news, driven, most_steps, handed, tells_events, hear}
+use Rattle.host_model.specs.Profiles.{Profile}
+use Rattle.host_model.specs.Machines.{upper}
+use Rattle.host_laws.specs.Acts.{Act, Hears, Says}
+use Rattle.host_laws.specs.Calls.{Asks, values_after}
+use Rattle.host_laws.specs.Calm.{IsCalmNews, IsReadFrom}
+use Rattle.host_laws.specs.Feeds.{Feed, Gifts, Receives, all_fed, asked_from, tidings_of, brought_by}
+use Rattle.host_laws.specs.Lives.{Mark, Occurred, Turned}
+use Rattle.host_laws.specs.OverLinks.{talk_marks}
+use Rattle.host_laws.specs.Seen.{IsCalmAt, IsCalm}
+use Rattle.host_laws.specs.Fed.{feeds_up}
+use Rattle.host_laws.specs.Woven.{Gifting, Hearing}
+use Rattle.host_laws.proofs.Draining.{tells_grow}
+use Rattle.host_laws.proofs.Growing.{calm-both, grows_then, drives_grow, readies, act_grows}
+use Rattle.host_laws.proofs.Links.{value_run, drives_told, act_told}
+use Rattle.host_laws.proofs.Living.{goes-on, turns-on}
+use Rattle.host_laws.proofs.OverLinks.{Calmly, goes_calmly, turns_calmly}
+use Rattle.host_laws.proofs.Steps.{Grows}
+use Rattle.pair_laws.proofs.Facing.{PairFrom, each_split, comes-in}
+use Rattle.pair_laws.proofs.Walking.{AreMeant, calm-meant, ComesNot, gives_in, outer-gives, outer-comes_not, all_on}
+use Rattle.pair_laws.proofs.Numbered.{ended, Links, DoesMore, does-more, turns-to}
+
+-- ---- marks
+
+abbrev pub marks_of : List Talk → List Mark
+marks_of talk = flat_map talk_marks talk
+
+abbrev pub talk_of : {S : Type 0} → carriages.End S → List Talk
+talk_of e = e.talk ++ map Unsent e.waiting
+
+marks_more : (talk more : List Talk) → marks_of (talk ++ more) ≡ marks_of talk ++ marks_of more
+marks_more talk more = flat_map-append talk_marks talk more
+
+-- ---- a host
+
+-- it lived calmly through what it was told and said, also of what waits
+pub record HostAt {P : Type 0} (A : Profile P) (asks : Asks A) (e : carriages.End (Host P)) : Type 0 where
+  pub marks : List Mark
+  pub so : Calmly A asks marks e.upper
+  pub marks_are : marks ≡ marks_of (talk_of e)
+
+-- and is one end of a pair on each link; the other is on its link of number j
+pub record Held {P T : Type 0} (side : Side) (A : Profile P) (asks : Asks A) (theirs : Policy) (number : ℕ) (e : carriages.End (Host P)) (other : ℕ → List Occurrence) (j : ℕ) (f : carriages.End T) : Type 0 where
+  pub host : HostAt A asks e
+  pub level : length host.so.lives.spans + length e.owed ≡ number
+  pub links : Links side A.policy theirs host.so.lives.spans host.so.lives.now e other j f
+
+-- ---- what a host does
+
+module _ {P : Type 0} (A : Profile P) (asks : Asks A) where
+  abbrev Calm : Type 0
+  Calm = Unit {0}
+
+  fed_up : (up : Handed) (p : P) → handed A up p ≡ all_fed A p (feeds_up up)
+  fed_up Nothing p = refl
+  fed_up (Received own psm sdu) p = refl
+
+  told_up : (up : Handed) → tidings_of (feeds_up up) ≡ (brought_by up ++ []) ++ []
+  told_up Nothing = refl
+  told_up (Received own psm sdu) = refl
+
+  asked_up : (up : Handed) (p : P) → asked_from A asks p (feeds_up up) ≡ []
+  asked_up Nothing p = refl
+  asked_up (Received own psm sdu) p = refl
+
+  abbrev heard_by : List Circumstance → List ℕ → Host P → Host P
+  heard_by gifts pdu host =
+      let mid = ready A gifts host in record mid { channels = channels.hears A.policy (channel_of pdu) pdu host.channels; profile = handed A (channels.up (channel_of pdu) pdu host.channels) mid.profile }
+
+  abbrev first_heard : (gifts : List Circumstance) (pdu : List ℕ) (host : Host P) → IsCalmAt A.policy (Comes pdu) host.channels → Grows A asks Calm (Comes pdu ∷ []) host (heard_by gifts pdu host)
+  first_heard gifts pdu host calm =
+      let up = channels.up (channel_of pdu) pdu host.channels in
+      record {
+        list = Comes pdu ∷ [];
+        feeds = Gifts gifts ∷ feeds_up up;
+        channels_are = refl;
+        profile_is = fed_up up (A.given gifts host.profile);
+        tidings_are = told_up up;
+        asked_is = sym (asked_up up (A.given gifts host.profile));
+        acted_is = refl;
+        calm = λ c. (calm, tt);
+        weave = Gifting gifts ∷ Hearing pdu ∷ [];
+        woven_is = refl;
+        last_is = refl;
+        on_link = (tt, (tt, tt));
+        feeds_are = ap (λ (l : List Feed). Gifts gifts ∷ l) (sym (append-nil (feeds_up up)));
+      }
+
+  abbrev then_heard : (gifts : List Circumstance) (pdu : List ℕ) (host : Host P) → Grows A asks Calm [] (heard_by gifts pdu host) (hear A gifts (Heard pdu) host)
+  then_heard gifts pdu host = let mid = heard_by gifts pdu host in grows_then A asks Calm [] [] mid (tells_events A mid) (hear A gifts (Heard pdu) host) (tells_grow A asks Calm mid) (drives_grow A asks Calm most_steps (tells_events A mid))
+
+  -- a PDU comes in, and then it does what it does by itself
+  abbrev all_heard : (gifts : List Circumstance) (pdu : List ℕ) (host : Host P) → IsCalmAt A.policy (Comes pdu) host.channels → Grows A asks Calm (Comes pdu ∷ []) host (hear A gifts (Heard pdu) host)
+  all_heard gifts pdu host calm = grows_then A asks Calm (Comes pdu ∷ []) [] host (heard_by gifts pdu host) (hear A gifts (Heard pdu) host) (first_heard gifts pdu host calm) (then_heard gifts pdu host)
+
+  heard_list : (gifts : List Circumstance) (pdu : List ℕ) (host : Host P) (calm : IsCalmAt A.policy (Comes pdu) host.channels) → (all_heard gifts pdu host calm).list ≡ Comes pdu ∷ (then_heard gifts pdu host).list
+  unfolding grows_then
+  heard_list gifts pdu host calm = refl
+
+  -- ---- what happens is meant
+
+  grown_meant : (marks : List Mark) (acted : List Occurrence) (old new : Host P) (so : Calmly A asks marks old) (grows : Grows A asks Calm acted old new) → AreMeant A.policy so.lives.now grows.list
+  grown_meant marks acted old new so grows =
+      let value : old.channels ≡ values_after A.policy no_channels so.lives.now = so.lives.channels_run ∙ value_run A.policy so.lives.now new_link in
+      let calm : IsCalm A.policy no_channels (so.lives.now ++ grows.list) = calm-both A.policy no_channels so.lives.now grows.list so.now_calm (subst (λ (v : Channels). IsCalm A.policy v grows.list) value (grows.calm tt)) in
+      (each_split _ [] so.lives.now grows.list (calm-meant A.policy (so.lives.now ++ grows.list) calm)).1
+
+  -- nothing comes in
+  walks : (side : Side) (theirs : Policy) (there : List Occurrence) (marks : List Mark) (acted : List Occurrence) (e e' : carriages.End (Host P)) (so : Calmly A asks marks e.upper) (grows : Grows A asks Calm acted e.upper e'.upper) → AllByRecursion ComesNot acted → e.coming ≡ [] → e'.coming ≡ []
+      → ((far_rest : List (List ℕ)) → (e.owed ≡ [] → far_rest ≡ e.queue ++ e.waiting) → e'.owed ≡ [] → far_rest ++ gives_in acted ≡ e'.queue ++ e'.waiting) → DoesMore side A.policy theirs there so.lives.now (so.lives.now ++ grows.list) e e'
+  walks side theirs there marks acted e e' so grows not before none put rest far_coming far_rest p =
+      let given : gives_in grows.list ≡ gives_in acted = sym (outer-gives grows.list) ∙ ap gives_in grows.acted_is in
+      let all = all_on side A.policy theirs there rest far_coming so.lives.now grows.list far_rest (outer-comes_not grows.list (subst (AllByRecursion ComesNot) (sym grows.acted_is) not)) (grown_meant marks acted e.upper e'.upper so grows)
+      (subst (λ (c : List (List ℕ)). PairFrom side A.policy theirs so.lives.now there c rest far_coming far_rest) before p) in
+      record {
+        after = far_rest ++ gives_in grows.list;
+        pair = subst (λ (c : List (List ℕ)). PairFrom side A.policy theirs (so.lives.now ++ grows.list) there c rest far_coming (far_rest ++ gives_in grows.list)) (sym none) all;
+        put = λ was owed. ap (λ (l : List (List ℕ)). far_rest ++ l) given ∙ put far_rest was owed;
+      }
+
+  abbrev grown : (marks : List Mark) (acted : List Occurrence) (e e' : carriages.End (Host P)) → Calmly A asks marks e.upper → Grows A asks Calm acted e.upper e'.upper → e'.upper.channels.events ≡ [] → Calmly A asks (marks ++ map Occurred acted) e'.upper
+  grown marks acted e e' so grows told = goes_calmly A asks marks acted e.upper e'.upper so grows told
+
+  -- something happens on its link
+  grows_held : {T : Type 0} (side : Side) (theirs : Policy) (number : ℕ) (e e' : carriages.End (Host P)) (other : ℕ → List Occurrence) (j : ℕ) (f : carriages.End T) (acted : List Occurrence) (held : Held side A asks theirs number e other j f) (grows : Grows A asks Calm acted e.upper e'.upper)
+      → e'.upper.channels.events ≡ [] → e'.owed ≡ e.owed → held.host.marks ++ map Occurred acted ≡ marks_of (talk_of e')
+      → DoesMore side A.policy theirs (other (length held.host.so.lives.spans)) held.host.so.lives.now (held.host.so.lives.now ++ grows.list) e e' → Held side A asks theirs number e' other j f
+  unfolding goes_calmly goes-on
+  grows_held side theirs number e e' other j f acted held grows told owed marks does =
+      let so = held.host.so in
+      record {
+        host = record { marks = held.host.marks ++ map Occurred acted; so = goes_calmly A asks held.host.marks acted e.upper e'.upper so grows told; marks_are = marks };
+        level = ap (λ (l : List LinkEvent). length so.lives.spans + length l) owed ∙ held.level;
+        links = does-more side A.policy theirs so.lives.spans so.lives.now other j f (so.lives.now ++ grows.list) e e' does held.links;
+      }
+
+  -- ---- it says a PDU, which waits; the first that waits moves
+
+  said_marks : (talk : List Talk) (waiting : List (List ℕ)) (pdu : List ℕ) → marks_of (talk ++ map Unsent waiting) ++ Occurred (Gives pdu) ∷ [] ≡ marks_of (talk ++ map Unsent (waiting ++ pdu ∷ []))
+  said_marks talk waiting pdu =
+      sym (marks_more (talk ++ map Unsent waiting) (Unsent pdu ∷ []))
+      ∙ (ap marks_of (append_assoc talk (map Unsent waiting) (Unsent pdu ∷ [])) ∙ ap (λ (l : List Talk). marks_of (talk ++ l)) (sym (map-append Unsent waiting (pdu ∷ []))))
+
+  pub says-held : {T : Type 0} (side : Side) (theirs : Policy) (number : ℕ) (e : carriages.End (Host P)) (other : ℕ → List Occurrence) (j : ℕ) (f : carriages.End T) (pdu : List ℕ) (after : Host P) → (upper A).next e.upper ≡ Some (pdu, after) → IsReadFrom pdu e.upper → e.coming ≡ []
+      → Held side A asks theirs number e other j f → Held side A asks theirs number (record e { upper = after; waiting = e.waiting ++ pdu ∷ [] }) other j f
+  says-held side theirs number e other j f pdu after next calm none held =
+      let e' : carriages.End (Host P) = record e { upper = after; waiting = e.waiting ++ pdu ∷ [] } in
+      let act : Act Circumstance = Says pdu in
+      let so = held.host.so in
+      let grows : Grows A asks Calm (Gives pdu ∷ []) e.upper after = act_grows A asks Calm act e.upper after tt (λ c. calm) next in
+      grows_held side theirs number e e' other j f (Gives pdu ∷ []) held grows (act_told A act e.upper after next so.lives.all_told) refl
+      (ap (λ (m : List Mark). m ++ Occurred (Gives pdu) ∷ []) held.host.marks_are ∙ said_marks e.talk e.waiting pdu)
+      (walks side theirs (other (length so.lives.spans)) held.host.marks (Gives pdu ∷ []) e e' so grows (tt, tt) none none
+      (λ far_rest was owed. ap (λ (l : List (List ℕ)). l ++ pdu ∷ []) (was owed) ∙ append_assoc e.queue e.waiting (pdu ∷ [])))
+
+  moved_marks : (talk : List Talk) (pdu : List ℕ) (left : List (List ℕ)) → marks_of (talk ++ map Unsent (pdu ∷ left)) ≡ marks_of ((talk ++ Said pdu ∷ []) ++ map Unsent left)
+  moved_marks talk pdu left = marks_more talk (Unsent pdu ∷ map Unsent left) ∙ (sym (marks_more talk (Said pdu ∷ map Unsent left)) ∙ ap marks_of (sym (append_assoc talk (Said pdu ∷ []) (map Unsent left))))
+
+  pub moves-held : {T : Type 0} (side : Side) (theirs : Policy) (number : ℕ) (e : carriages.End (Host P)) (other : ℕ → List Occurrence) (j : ℕ) (f : carriages.End T) (pdu : List ℕ) (left : List (List ℕ)) → e.waiting ≡ pdu ∷ left
+      → Held side A asks theirs number e other j f → Held side A asks theirs number (record e { waiting = left; queue = landed e.owed e.queue pdu; talk = e.talk ++ Said pdu ∷ [] }) other j f
+  moves-held side theirs number e other j f pdu left first held =
+      let e' : carriages.End (Host P) = record e { waiting = left; queue = landed e.owed e.queue pdu; talk = e.talk ++ Said pdu ∷ [] } in
+      let so = held.host.so in
+      record {
+        host = record { marks = held.host.marks; so = so; marks_are = held.host.marks_are ∙ (ap (λ (w : List (List ℕ)). marks_of (e.talk ++ map Unsent w)) first ∙ moved_marks e.talk pdu left) };
+        level = held.level;
+        links = does-more side A.policy theirs so.lives.spans so.lives.now other j f so.lives.now e e' (λ rest far_coming far_rest p. record {
+          after = far_rest;
+          pair = p;
+          put = λ was owed. was owed ∙ (ap (λ (l : List (List ℕ)). e.queue ++ l) first ∙ (sym (append_assoc e.queue (pdu ∷ []) left) ∙ ap (λ (o : List LinkEvent). landed o e.queue pdu ++ left) (sym owed)));
+        }) held.links;
+      }
+
+  -- ---- it is told something that is no PDU
+
+  still_marks : (marks : List Mark) (talk : List Talk) (waiting : List (List ℕ)) (one : Talk) (more : List Mark) → waiting ≡ [] → talk_marks one ≡ more → marks ≡ marks_of (talk ++ map Unsent waiting) → marks ++ more ≡ marks_of ((talk ++ one ∷ []) ++ map Unsent waiting)
+  still_marks marks talk waiting one more none is same =
+      let here : marks ≡ marks_of talk = same ∙ (ap (λ (w : List (List ℕ)). marks_of (talk ++ map Unsent w)) none ∙ ap marks_of (append-nil talk)) in
+      ap (λ (m : List Mark). m ++ more) here
+      ∙ (ap (λ (m : List Mark). marks_of talk ++ m) (sym is ∙ sym (append-nil (talk_marks one)))
+      ∙ (sym (marks_more talk (one ∷ [])) ∙ (ap marks_of (sym (append-nil (talk ++ one ∷ []))) ∙ ap (λ (w : List (List ℕ)). marks_of ((talk ++ one ∷ []) ++ map Unsent w)) (sym none))))
+
+  news_held : {T : Type 0} (side : Side) (theirs : Policy) (number : ℕ) (e : carriages.End (Host P)) (other : ℕ → List Occurrence) (j : ℕ) (f : carriages.End T) (gifts : List Circumstance) (news : News) (acted : List Occurrence) → Grows A asks Calm acted e.upper (hear A gifts news e.upper)
+      → AllByRecursion ComesNot acted → gives_in acted ≡ [] → talk_marks (Told news) ≡ map Occurred acted → e.waiting ≡ [] → e.coming ≡ [] → Held side A asks theirs number e other j f → Held side A asks theirs number (told (upper A) gifts news e) other j f
+  news_held side theirs number e other j f gifts news acted grows not none is waits coming held =
+      let e' = told (upper A) gifts news e in
+      let so = held.host.so in
+      let act : Act Circumstance = Hears gifts news in
+      grows_held side theirs number e e' other j f acted held grows (act_told A act e.upper e'.upper refl so.lives.all_told) refl
+      (still_marks held.host.marks e.talk e.waiting (Told news) (map Occurred acted) waits is held.host.marks_are)
+      (walks side theirs (other (length so.lives.spans)) held.host.marks acted e e' so grows not coming coming
+      (λ far_rest was owed. ap (λ (l : List (List ℕ)). far_rest ++ l) none ∙ (append-nil far_rest ∙ was owed)))
+
+  -- a word, or that a push begins
+  abbrev pub IsWord : News → Type 0
+  IsWord TimerFired = Unit {0}
+  IsWord Cancelled = Unit {0}
+  IsWord (Opening name) = Unit {0}
+  IsWord news = ⊥
+
+  pub told-held : {T : Type 0} (side : Side) (theirs : Policy) (number : ℕ) (e : carriages.End (Host P)) (other : ℕ → List Occurrence) (j : ℕ) (f : carriages.End T) (gifts : List Circumstance) (news : News) → IsWord news → IsCalmNews A.policy news e.upper.channels → e.waiting ≡ [] → e.coming ≡ []
+      → Held side A asks theirs number e other j f → Held side A asks theirs number (told (upper A) gifts news e) other j f
+  told-held side theirs number e other j f gifts TimerFired word calm waits coming held =
+      news_held side theirs number e other j f gifts TimerFired (Fires ∷ []) (act_grows A asks Calm (Hears gifts TimerFired) e.upper (hear A gifts TimerFired e.upper) tt (λ c. calm) refl) (tt, tt) refl refl waits coming held
+  told-held side theirs number e other j f gifts Cancelled word calm waits coming held =
+      news_held side theirs number e other j f gifts Cancelled [] (act_grows A asks Calm (Hears gifts Cancelled) e.upper (hear A gifts Cancelled e.upper) tt (λ c. calm) refl) tt refl refl waits coming held
+  told-held side theirs number e other j f gifts (Opening name) word calm waits coming held =
+      news_held side theirs number e other j f gifts (Opening name) [] (act_grows A asks Calm (Hears gifts (Opening name)) e.upper (hear A gifts (Opening name) e.upper) tt (λ c. calm) refl) tt refl refl waits coming held
+  told-held side theirs number e other j f gifts (Linked event) word calm waits coming held = absurd word
+  told-held side theirs number e other j f gifts (Failed status) word calm waits coming held = absurd word
+  told-held side theirs number e other j f gifts (Heard pdu) word calm waits coming held = absurd word
+
+  -- ---- a PDU comes in
+
+  pub hears-held : {T : Type 0} (side : Side) (theirs : Policy) (number : ℕ) (e : carriages.End (Host P)) (other : ℕ → List Occurrence) (j : ℕ) (f : carriages.End T) (gifts : List Circumstance) (pdu : List ℕ) → IsCalmNews A.policy (Heard pdu) e.upper.channels → e.waiting ≡ [] → e.coming ≡ pdu ∷ []
+      → Held side A asks theirs number e other j f → Held side A asks theirs number (record e { upper = (upper A).hear gifts (Heard pdu) e.upper; coming = []; talk = e.talk ++ Told (Heard pdu) ∷ [] }) other j f
+  hears-held side theirs number e other j f gifts pdu calm waits coming held =
+      let e' : carriages.End (Host P) = record e { upper = (upper A).hear gifts (Heard pdu) e.upper; coming = []; talk = e.talk ++ Told (Heard pdu) ∷ [] } in
+      let so = held.host.so in
+      let now = so.lives.now in
+      let there = other (length so.lives.spans) in
+      let act : Act Circumstance = Hears gifts (Heard pdu) in
+      let grows = all_heard gifts pdu e.upper calm in
+      let then' = then_heard gifts pdu e.upper in
+      let list_is : grows.list ≡ Comes pdu ∷ then'.list = heard_list gifts pdu e.upper calm in
+      let meant : AreMeant A.policy now (Comes pdu ∷ then'.list) = subst (λ (l : List Occurrence). AreMeant A.policy now l) list_is (grown_meant held.host.marks (Comes pdu ∷ []) e.upper e'.upper so grows) in
+      let none : gives_in then'.list ≡ [] = sym (outer-gives then'.list) ∙ ap gives_in then'.acted_is in
+      grows_held side theirs number e e' other j f (Comes pdu ∷ []) held grows (act_told A act e.upper e'.upper refl so.lives.all_told) refl
+      (still_marks held.host.marks e.talk e.waiting (Told (Heard pdu)) (Occurred (Comes pdu) ∷ []) waits refl held.host.marks_are)
+      (λ rest far_coming far_rest p.
+      let heard = comes-in side A.policy theirs now there far_coming far_rest pdu rest (subst (λ (c : List (List ℕ)). PairFrom side A.policy theirs now there c rest far_coming far_rest) coming p) in
+      let all = all_on side A.policy theirs there rest far_coming (now ++ Comes pdu ∷ []) then'.list far_rest (outer-comes_not then'.list (subst (AllByRecursion ComesNot) (sym then'.acted_is) tt)) meant.1 heard in
+      record {
+        after = far_rest ++ gives_in then'.list;
+        pair = subst (λ (l : List Occurrence). PairFrom side A.policy theirs l there [] rest far_coming (far_rest ++ gives_in then'.list)) (append_assoc now (Comes pdu ∷ []) then'.list ∙ ap (λ (l : List Occurrence). now ++ l) (sym list_is)) all;
+        put = λ was owed. ap (λ (l : List (List ℕ)). far_rest ++ l) none ∙ (append-nil far_rest ∙ was owed);
+      })
+
+  -- ---- it is told of its link
+
+  turned_marks : (marks : List Mark) (talk : List Talk) (waiting : List (List ℕ)) (event : LinkEvent) → marks ≡ marks_of (talk ++ map Unsent waiting) → ((marks ++ []) ++ Turned event ∷ []) ++ [] ≡ marks_of ((talk ++ (map Unsent waiting ++ Told (Linked event) ∷ [])) ++ [])
+  turned_marks marks talk waiting event same =
+      append-nil ((marks ++ []) ++ Turned event ∷ [])
+      ∙ (ap (λ (m : List Mark). m ++ Turned event ∷ []) (append-nil marks ∙ same)
+      ∙ (sym (marks_more (talk ++ map Unsent waiting) (Told (Linked event) ∷ []))
+      ∙ (ap marks_of (append_assoc talk (map Unsent waiting) (Told (Linked event) ∷ [])) ∙ ap marks_of (sym (append-nil (talk ++ (map Unsent waiting ++ Told (Linked event) ∷ [])))))))
+
+  pub turns-held : {T : Type 0} (side : Side) (theirs : Policy) (number : ℕ) (e : carriages.End (Host P)) (other : ℕ → List Occurrence) (j : ℕ) (f : carriages.End T) (gifts : List Circumstance) (event : LinkEvent) (more : List LinkEvent) → e.owed ≡ event ∷ more → e.coming ≡ [] → e.queue ≡ []
+      → Held side A asks theirs number e other j f → Held side A asks theirs number (is_told (upper A) gifts event more e) other j f
+  unfolding goes_calmly goes-on turns_calmly turns-on
+  turns-held {T} side theirs number e other j f gifts event more owed coming queue held =
+      let marks = held.host.marks in
+      let so = held.host.so in
+      let mid = ready A gifts e.upper in
+      let after = hears_news A gifts (Linked event) mid in
+      let one = readies A asks Calm gifts e.upper in
+      let two = drives_grow A asks Calm most_steps after in
+      let readied = goes_calmly A asks marks [] e.upper mid so one so.lives.all_told in
+      let turned = turns_calmly A asks (marks ++ []) event gifts mid readied in
+      let last = goes_calmly A asks ((marks ++ []) ++ Turned event ∷ []) [] after (driven A after) turned two (drives_told A most_steps after turned.lives.all_told) in
+      let e1 : carriages.End (Host P) = record e { upper = mid } in
+      let e3 = is_told (upper A) gifts event more e in
+      let e2 : carriages.End (Host P) = record e3 { upper = after } in
+      let spans = so.lives.spans in
+      let now = so.lives.now ++ one.list in
+      let spans' = spans ++ ended now event ∷ [] in
+      let ready_links : Links side A.policy theirs spans now e1 other j f =
+      does-more side A.policy theirs spans so.lives.now other j f now e e1
+      (walks side theirs (other (length spans)) marks [] e e1 so one tt coming coming (λ far_rest was owed. append-nil far_rest ∙ was owed)) held.links in
+      let turned_links : Links side A.policy theirs spans' [] e2 other j f = turns-to side A.policy theirs spans now other j f event e1 e2 coming coming (ap (λ (l : List (List ℕ)). l ++ []) queue) ready_links in
+      let last_links : Links side A.policy theirs spans' two.list e3 other j f =
+      does-more side A.policy theirs spans' [] other j f two.list e2 e3
+      (walks side theirs (other (length spans')) ((marks ++ []) ++ Turned event ∷ []) [] e2 e3 turned two tt coming coming (λ far_rest was owed. append-nil far_rest ∙ was owed)) turned_links in
+      let longer : length spans' ≡ length spans + 1 = length-append spans (ended now event ∷ []) in
+      let before : length spans + length e.owed ≡ number = held.level in
+      let owes : length e.owed ≡ suc (length more) = ap length owed in
+      record {
+        host = record { marks = ((marks ++ []) ++ Turned event ∷ []) ++ []; so = last; marks_are = turned_marks marks e.talk e.waiting event held.host.marks_are };
+        level = omega arith;
+        links = last_links;
+      }
+
+  -- ---- nothing that it does
+
+  abbrev pub besides : (e : carriages.End (Host P)) (talk : List Talk) (queue coming : List (List ℕ)) (owed : List LinkEvent) → marks_of (talk_of e) ≡ marks_of (talk ++ map Unsent e.waiting) → HostAt A asks e → HostAt A asks (record e { talk = talk; queue = queue; coming = coming; owed = owed })
+  besides e talk queue coming owed same host = record { marks = host.marks; so = host.so; marks_are = host.marks_are ∙ same }

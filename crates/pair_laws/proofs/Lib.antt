@@ -1,0 +1,11 @@
+pub mod Facing
+pub mod Walking
+pub mod Numbered
+pub mod Hosting
+pub mod Meeting
+pub mod Carrying
+pub mod Pairing
+pub mod Taking
+pub mod Damaging
+pub mod Seeing
+pub mod Whole

@@ -1,0 +1,40 @@
+//! Laws of both hosts of a scenario together, on each of their links.
+#![tactic(auto)]
+
+ghost use Rattle.pair_laws.specs.Changes.{ChangesAreSeen};
+ghost use Rattle.pair_laws.specs.OnLinks.{HostsArePairs};
+ghost use Rattle.pair_laws.specs.Seen.{AllDamageIsSeen};
+ghost use Rattle.pair_laws.specs.Whole.{PairsAreWhole};
+ghost use Rattle.pair_laws.specs.Within.{HostsSendWithin, PairsAreCarried};
+
+/// At each moment of a run, wherever it broke off, the channels of both hosts on each link are the two ends of a pair: what came into one
+/// is what the air made of what the other gave, and each SDU, frame and command is what it is read as; where no bound on what a host says
+/// held a PDU back and its firings said what waits behind them.
+pub fn hosts_are_pairs()
+    ensures { HostsArePairs }
+{}
+
+/// A client and a server ask for no SDU to be sent that is longer than the peer takes on its channel.
+pub fn hosts_send_within()
+    ensures { HostsSendWithin }
+{}
+
+/// So each SDU of such a pair is one that the other end takes, and all damage is seen.
+pub fn pairs_are_carried()
+    ensures { PairsAreCarried }
+{}
+
+/// A frame of an enhanced channel that the air changes leaves its endpoint, and its check word does not hold.
+pub fn changes_are_seen()
+    ensures { ChangesAreSeen }
+{}
+
+/// Where both hosts wish the same modes, all damage is seen: what comes to an endpoint with a check word was given as a frame of it.
+pub fn all_damage_is_seen()
+    ensures { AllDamageIsSeen }
+{}
+
+/// So all that comes on the channels of both hosts of such a run is handed up, also of a channel that its retransmission machine closed.
+pub fn pairs_are_whole()
+    ensures { PairsAreWhole }
+{}

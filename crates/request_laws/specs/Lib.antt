@@ -1,0 +1,10 @@
+pub mod Twists
+pub mod Joined
+pub mod BothFed
+pub mod Runs
+pub mod HandedUp
+pub mod Paired
+pub mod Firsts
+pub mod Together
+pub mod Behind
+pub mod Alternating
