@@ -90,9 +90,9 @@ const COMMANDS: &[Row<'static>] = &[
 /// A server takes octets.
 fn takes(host: &mut ServerHost, inbox: &mut MemInbox, octets: &[u8]) -> Result<(), Fail>
     requires sound { host.old.refusal ≡ None }
-    requires works { Works host.old.stack.upper.end (is_some inbox.old.contents.pending) }
+    requires works { Works host.old.stack.upper.end.end (is_some inbox.old.contents.pending) }
     ensures sound { OnOk result (host.new.refusal ≡ None) }
-    ensures works { OnOk result (Works host.new.stack.upper.end (is_some inbox.new.contents.pending)) }
+    ensures works { OnOk result (Works host.new.stack.upper.end.end (is_some inbox.new.contents.pending)) }
 {
     let Ok(()) = host.feed(octets, inbox) else {
         return Err(Fail::from("the octets are taken"));
@@ -121,9 +121,9 @@ fn answers(
     row: Row<'_>,
 ) -> Result<(), Fail>
     requires sound { host.old.refusal ≡ None }
-    requires works { Works host.old.stack.upper.end (is_some inbox.old.contents.pending) }
+    requires works { Works host.old.stack.upper.end.end (is_some inbox.old.contents.pending) }
     ensures sound { OnOk result (host.new.refusal ≡ None) }
-    ensures works { OnOk result (Works host.new.stack.upper.end (is_some inbox.new.contents.pending)) }
+    ensures works { OnOk result (Works host.new.stack.upper.end.end (is_some inbox.new.contents.pending)) }
 {
     let (octets, out) = row;
     let (first, second) = octets.split_at(cut.min(octets.len()));
@@ -140,9 +140,9 @@ fn follows(
     rows: &[Row<'_>],
 ) -> Result<(), Fail>
     requires sound { host.old.refusal ≡ None }
-    requires works { Works host.old.stack.upper.end (is_some inbox.old.contents.pending) }
+    requires works { Works host.old.stack.upper.end.end (is_some inbox.old.contents.pending) }
     ensures sound { OnOk result (host.new.refusal ≡ None) }
-    ensures works { OnOk result (Works host.new.stack.upper.end (is_some inbox.new.contents.pending)) }
+    ensures works { OnOk result (Works host.new.stack.upper.end.end (is_some inbox.new.contents.pending)) }
 {
     for row in rows {
         answers(host, inbox, cut, *row)?;
@@ -153,7 +153,7 @@ fn follows(
 /// The timer fires, and then these octets stand in `out`.
 fn fires(host: &mut ServerHost, inbox: &mut MemInbox, out: &[u8]) -> Result<(), Fail>
     requires sound { host.old.refusal ≡ None }
-    requires works { Works host.old.stack.upper.end (is_some inbox.old.contents.pending) }
+    requires works { Works host.old.stack.upper.end.end (is_some inbox.old.contents.pending) }
 {
     if host.end().is_err() || host.armed() == out.is_empty() {
         return Err(Fail::from("what is still to come"));
@@ -171,7 +171,7 @@ fn plays(
     late: &[u8],
 ) -> Result<(), Fail>
     requires sound { host.old.refusal ≡ None }
-    requires works { Works host.old.stack.upper.end (is_some inbox.old.contents.pending) }
+    requires works { Works host.old.stack.upper.end.end (is_some inbox.old.contents.pending) }
 {
     puts_out(host, RESET)?;
     follows(host, inbox, cut, START)?;
@@ -194,7 +194,7 @@ fn is_refused(
     refusal: FeedRefusal,
 ) -> bool
     requires sound { host.old.refusal ≡ None }
-    requires works { Works host.old.stack.upper.end (is_some inbox.old.contents.pending) }
+    requires works { Works host.old.stack.upper.end.end (is_some inbox.old.contents.pending) }
 {
     let Err(found) = host.feed(octets, inbox) else {
         return false;
