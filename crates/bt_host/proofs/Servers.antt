@@ -11,6 +11,7 @@ use Rattle.channel_model.specs.declared.event.ChannelEvent.TheVariants.{Closed}
 use Rattle.channel_model.specs.declared.event.CloseReason.{CloseReason}
 use Rattle.channel_model.specs.Value.{Channels}
 use Rattle.channel_model.specs.Calls.{sends}
+use Rattle.obex_session.specs.Counting.{AreCounted, counts_of}
 use Rattle.obex_session.specs.InboxCalls.{Answer}
 use Rattle.rfcomm_frames.specs.Frames.{PlainFrame}
 use Rattle.rfcomm_frames.specs.FrameReading.{is_empty}
@@ -49,6 +50,10 @@ answers_stored (answer ∷ used) rest = ap (λ xs. answer ∷ xs) (answers_store
 abbrev served : Server → List Endpoint → Bool → Served
 served server endpoints breaks = record { server = server; endpoints = endpoints; breaks = breaks }
 
+all_stored : (used : List Answer) → answers_in (map Stored used) ≡ used
+all_stored [] = refl
+all_stored (answer ∷ used) = ap (λ xs. answer ∷ xs) (all_stored used)
+
 -- ---- an SDU in code is octets
 
 octets_of : (xs : List ℕ) → IsOctets xs → are_octets xs ≡ true
@@ -65,20 +70,20 @@ takes-octets own sdu v octets = ap (λ (b : Bool). takes own (length sdu) v && b
     and_on true = refl
     and_on false = refl
 
-module _ {P : Type 0} (content : P → Option Contents) (shortages : P → ℕ) where
+module _ {P : Type 0} (content : P → Option Contents) (faults shortages : P → ℕ) where
   abbrev Asks : P → List Circumstance → P → Type 0
-  Asks first used last = shortages first ≤ shortages last
+  Asks first used last = AreCounted (answers_in used) (counts_of faults shortages first) (counts_of faults shortages last)
 
-  comes_does : (reaction : Gift → Reacted) (server : Server) (lacks : Bool) (f : Reacted → ServerProfile) (first last : P) → Comes reaction (reacted server) (content first) (content last) (shortages first) (shortages last) lacks
+  comes_does : (reaction : Gift → Reacted) (server : Server) (lacks : Bool) (f : Reacted → ServerProfile) (first last : P) → Comes reaction (reacted server) (content first) (content last) (counts_of faults shortages first) (counts_of faults shortages last) lacks
       → Does Asks (λ rest. f (reaction (record { content = content first; answers = answers_in rest }))) (λ rest. f (reacted server (record { content = content last; answers = answers_in rest }))) first last
   comes_does reaction server lacks f first last k = record {
     used = map Stored k.used;
-    answered = k.stays;
+    answered = subst (λ (xs : List Answer). AreCounted xs (counts_of faults shortages first) (counts_of faults shortages last)) (sym (all_stored k.used)) k.counted;
     does = λ rest. ap (λ (xs : List Answer). f (reaction (record { content = content first; answers = xs }))) (answers_stored k.used rest) ∙ ap f (k.comes (answers_in rest));
   }
 
   pub link_down_does : (old new : Server) (endpoints : List Endpoint) (breaks lacks : Bool) (now after : Served) (reason : ℕ) (first last : P) → served old endpoints breaks ≡ now → after ≡ served new [] false
-      → Comes (link_down old) (reacted new) (content first) (content last) (shortages first) (shortages last) lacks
+      → Comes (link_down old) (reacted new) (content first) (content last) (counts_of faults shortages first) (counts_of faults shortages last) lacks
       → (settings : Settings) → Does Asks (λ rest. (profile_of settings).told [] (Linked (Down reason)) (serving now (content first) rest)) (λ rest. serving after (content last) rest) first last
   link_down_does old new endpoints breaks lacks now after reason first last view is k settings =
       subst (λ (n : Served). Does Asks (λ rest. (profile_of settings).told [] (Linked (Down reason)) (serving n (content first) rest)) (λ rest. serving after (content last) rest) first last) view
@@ -87,7 +92,7 @@ module _ {P : Type 0} (content : P → Option Contents) (shortages : P → ℕ) 
 
   pub closed_does : (old new : Server) (endpoints : List Endpoint) (breaks lacks : Bool) (now : Served) (event : ChannelEvent) (own psm : ℕ) (reason : CloseReason) (channels : Channels) (first last : P) → served old endpoints breaks ≡ now
       → event ≡ Closed own psm reason → is_told reason ≡ true
-      → Comes (channel_down psm old) (reacted new) (content first) (content last) (shortages first) (shortages last) lacks
+      → Comes (channel_down psm old) (reacted new) (content first) (content last) (counts_of faults shortages first) (counts_of faults shortages last) lacks
       → (settings : Settings) → Does Asks (λ rest. (profile_of settings).happened event channels (serving now (content first) rest)) (λ rest. serving (served new endpoints breaks) (content last) rest) first last
   closed_does old new endpoints breaks lacks now event own psm reason channels first last view is told k settings =
       subst (λ (n : Served). Does Asks (λ rest. (profile_of settings).happened event channels (serving n (content first) rest)) (λ rest. serving (served new endpoints breaks) (content last) rest) first last) view
@@ -98,7 +103,7 @@ module _ {P : Type 0} (content : P → Option Contents) (shortages : P → ℕ) 
 
   pub received_does : (old new : Server) (endpoints put : List Endpoint) (breaks lacks : Bool) (now : Served) (own psm raw : ℕ) (sdu : List ℕ) (first last : P) → served old endpoints breaks ≡ now
       → put ≡ with_endpoint raw own endpoints → psm ≡ raw
-      → Comes (on_sdu psm sdu old) (reacted new) (content first) (content last) (shortages first) (shortages last) lacks
+      → Comes (on_sdu psm sdu old) (reacted new) (content first) (content last) (counts_of faults shortages first) (counts_of faults shortages last) lacks
       → (settings : Settings) → Does Asks (λ rest. (profile_of settings).received own raw sdu (serving now (content first) rest)) (λ rest. serving (served new put breaks) (content last) rest) first last
   received_does old new endpoints put breaks lacks now own psm raw sdu first last view put_is same k settings =
       subst (λ (n : Served). Does Asks (λ rest. (profile_of settings).received own raw sdu (serving n (content first) rest)) (λ rest. serving (served new put breaks) (content last) rest) first last) view
@@ -126,7 +131,7 @@ module _ {P : Type 0} (content : P → Option Contents) (shortages : P → ℕ) 
   passed_does old endpoints put breaks now own raw sdu port view put_is none settings =
       subst (λ (n : Served). Does Asks (λ rest. (profile_of settings).received own raw sdu (serving n (content port) rest)) (λ rest. serving (served old put breaks) (content port) rest) port port) view
       (subst (λ (es : List Endpoint). Does Asks (λ rest. (profile_of settings).received own raw sdu (serving (served old endpoints breaks) (content port) rest)) (λ rest. serving (served old es breaks) (content port) rest) port port) (sym put_is)
-      (does_none Asks (joins shortages) _ _ port (λ rest. ap (λ (r : Reacted). model.reacts r (record (serving (served old endpoints breaks) (content port) rest) { endpoints = with_endpoint raw own endpoints })) (passes raw sdu old (record { content = content port; answers = answers_in rest }) none))))
+      (does_none Asks (joins faults shortages) _ _ port (λ rest. ap (λ (r : Reacted). model.reacts r (record (serving (served old endpoints breaks) (content port) rest) { endpoints = with_endpoint raw own endpoints })) (passes raw sdu old (record { content = content port; answers = answers_in rest }) none))))
 
   -- ---- a step
 
@@ -160,12 +165,33 @@ module _ {P : Type 0} (content : P → Option Contents) (shortages : P → ℕ) 
       ∙ ap (λ (xs : List ℕ). strided v new own payload s (takes_sdu own xs v)) (sym sdu_is)
       ∙ ap (λ (b : Bool). strided v new own payload s b) (takes-octets own sdu v octets ∙ may)
 
+  -- an SDU of a PSM that has no channel waits
+  placed : (lent : Option Lent) (psm : ℕ) → IsPsmOf lent (Some psm) → (payload : Payload) × (lent ≡ Some (record { psm = psm; payload = payload }))
+  placed None psm is = cc
+  placed (Some one) psm is = let same : psm ≡ one.psm = cc in (one.payload, ap (λ (n : ℕ). Some (record { psm = n; payload = one.payload })) (sym same))
+
+  no_step : (old new : Server) (endpoints : List Endpoint) (breaks : Bool) (v : Channels) (psm : ℕ) (payload : Payload) (content_now : Option Contents) (rest : List Circumstance)
+      → new ≡ lends old → lent_sdu new ≡ Some (record { psm = psm; payload = payload }) → endpoint_of psm endpoints ≡ None
+      → model.next_stride v (serving (served old endpoints breaks) content_now rest) ≡ model.waiting v new (serving (served old endpoints breaks) content_now rest)
+  no_step old new endpoints breaks v psm payload content_now rest is lent none =
+      let s = serving (served old endpoints breaks) content_now rest in
+      ap (λ (one : Server). model.takes (lent_sdu one) v one s) (sym is)
+      ∙ ap (λ (one : Option Lent). model.takes one v new s) lent
+      ∙ ap (λ (at : Option ℕ). model.submits at (record { psm = psm; payload = payload }) v new s) none
+
+  pub unplaced_does : (old new : Server) (endpoints : List Endpoint) (breaks : Bool) (now : Served) (v : Channels) (psm : ℕ) (port : P) → served old endpoints breaks ≡ now
+      → new ≡ lends old → IsPsmOf (lent_sdu new) (Some psm) → endpoint_of psm endpoints ≡ None → steps_to v v new endpoints breaks false now port
+  unplaced_does old new endpoints breaks now v psm port view is psm_is none settings =
+      let found = placed (lent_sdu new) psm psm_is in
+      subst (λ (n : Served). Does Asks (λ rest. (profile_of settings).steps v (serving n (content port) rest)) (λ rest. record { channels = v; profile = serving (served new endpoints breaks) (content port) rest; more = false }) port port) view
+      (does_none Asks (joins faults shortages) _ _ port (λ rest. no_step old new endpoints breaks v psm found.0 (content port) rest is found.1 none))
+
   pub waits_does : (old new : Server) (endpoints : List Endpoint) (breaks test : Bool) (now : Served) (v : Channels) (psm own : ℕ) (sdu : List ℕ) (port : P) → served old endpoints breaks ≡ now
       → new ≡ lends old → IsPsmOf (lent_sdu new) (Some psm) → AreLent (lent_sdu new) sdu → IsOctets sdu → endpoint_of psm endpoints ≡ Some own → takes own (length sdu) v ≡ test → test ≡ false → steps_to v v new endpoints breaks false now port
   waits_does old new endpoints breaks test now v psm own sdu port view is psm_is said octets endpoint may off settings =
       let found = finds (lent_sdu new) psm sdu psm_is said in
       subst (λ (n : Served). Does Asks (λ rest. (profile_of settings).steps v (serving n (content port) rest)) (λ rest. record { channels = v; profile = serving (served new endpoints breaks) (content port) rest; more = false }) port port) view
-      (does_none Asks (joins shortages) _ _ port (λ rest. one_step old new endpoints breaks false v psm own sdu found.0 (content port) rest is found.1 found.2 octets endpoint (may ∙ off)))
+      (does_none Asks (joins faults shortages) _ _ port (λ rest. one_step old new endpoints breaks false v psm own sdu found.0 (content port) rest is found.1 found.2 octets endpoint (may ∙ off)))
 
   pub submits_does : (old new after : Server) (endpoints : List Endpoint) (breaks test : Bool) (now : Served) (machine machine' : Machine) (psm own : ℕ) (sdu : List ℕ) (port : P) → served old endpoints breaks ≡ now
       → new ≡ lends old → IsPsmOf (lent_sdu new) (Some psm) → AreLent (lent_sdu new) sdu → IsOctets sdu → endpoint_of psm endpoints ≡ Some own → takes own (length sdu) machine.channels ≡ test → test ≡ true
@@ -174,7 +200,7 @@ module _ {P : Type 0} (content : P → Option Contents) (shortages : P → ℕ) 
       let v = machine.channels in
       let found = finds (lent_sdu new) psm sdu psm_is said in
       subst (λ (n : Served). Does Asks (λ rest. (profile_of settings).steps v (serving n (content port) rest)) (λ rest. record { channels = machine'.channels; profile = serving (served after endpoints breaks) (content port) rest; more = true }) port port) view
-      (does_none Asks (joins shortages) _ _ port (λ rest. one_step old new endpoints breaks true v psm own sdu found.0 (content port) rest is found.1 found.2 octets endpoint (may ∙ on)
+      (does_none Asks (joins faults shortages) _ _ port (λ rest. one_step old new endpoints breaks true v psm own sdu found.0 (content port) rest is found.1 found.2 octets endpoint (may ∙ on)
       ∙ ap (λ (w : Channels). record { channels = w; profile = serving (served (stepped new) endpoints breaks) (content port) rest; more = true }) (ap (λ xs. sends own xs v) (sym found.2) ∙ ap (λ (m : Machine). m.channels) (sym machine_is))
       ∙ ap (λ (s : Server). record { channels = machine'.channels; profile = serving (served s endpoints breaks) (content port) rest; more = true }) (sym after_is)))
 

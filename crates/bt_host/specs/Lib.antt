@@ -16,3 +16,4 @@ pub mod Playing
 pub mod Stopping
 pub mod PlayingLaws
 pub mod NotingLaws
+pub mod SpeakingLaws

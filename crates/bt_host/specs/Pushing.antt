@@ -21,12 +21,11 @@ use Rattle.host_model.specs.Endpoints.{Endpoint}
 use Rattle.bt_host.specs.Noting.{Noted, unnoted}
 use Rattle.bt_host.specs.Stacks.{Stacked, usual_peer}
 use Rattle.bt_host.specs.declared.client_end.Bid.{Bid}
-use Rattle.bt_host.specs.declared.client_end.Bid.TheVariants.{Nothing, Paging, Parting}
+use Rattle.bt_host.specs.declared.client_end.Bid.TheVariants.{Nothing, Paging}
 
 abbrev pub bid_of : Bid → model.Bid
 bid_of Nothing = model.NoBid
 bid_of Paging = model.Paging
-bid_of Parting = model.Parting
 
 -- with what its shelf is to answer
 abbrev pub pushing : ClientProfile → List Circumstance → ClientProfile

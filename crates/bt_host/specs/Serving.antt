@@ -4,6 +4,7 @@ use Rattle.bt_base.specs.Counts.{HasRisen}
 use Rattle.bt_base.specs.Objects.{Contents}
 use Rattle.bt_base.specs.declared.settings.Settings.{Settings}
 use Rattle.std.specs.Prelude.{Option, None, ℕ}
+use Rattle.obex_session.specs.Counting.{AreCounted, counts_of}
 use Rattle.push_model.specs.Server.{Server}
 use Rattle.push_model.specs.Sessions.{is_pending}
 use Rattle.push_profile.specs.Serving.{has_failed}
@@ -36,11 +37,11 @@ pub record Works (end : Served) (pending : Bool) : Type 0 where
   pub under_way : pending ≡ is_pending end.server.listener.service.sessions
   pub sound : has_failed end.server ≡ false
 
--- ---- a server as a host, by what its inbox holds, and how often it found no memory
+-- ---- a server as a host, by what its inbox holds, and by its counts
 
--- answers leave that count as it is, or let it rise
-abbrev pub Asks : {P : Type 0} → (P → ℕ) → P → List Circumstance → P → Type 0
-Asks shortages first used last = shortages first ≤ shortages last
+-- both counts say what the inbox answered: where neither rose it granted all calls
+abbrev pub Asks : {P : Type 0} → (faults shortages : P → ℕ) → P → List Circumstance → P → Type 0
+Asks faults shortages first used last = AreCounted (answers_in used) (counts_of faults shortages first) (counts_of faults shortages last)
 
 abbrev pub Lacks : {P : Type 0} → (P → ℕ) → P → P → Type 0
 Lacks shortages first last = HasRisen (shortages first) (shortages last) × (shortages first ≤ shortages last)

@@ -11,7 +11,7 @@ ghost use Rattle.obex_session.specs.PutPackets.{units_in};
 ghost use Rattle.push_client.specs.Pushing.{payload_in, step_of};
 ghost use Rattle.world_model.specs.Machines.{Linked, Up, Down, Failed, TimerFired, Cancelled, Opening};
 ghost use Rattle.host_model.specs.Endpoints.{endpoint_of, with_answer};
-ghost use Rattle.host_model.specs.Clients.{client_profile, unlinked, told, happened, received, sent, done, submits, closes, takes, cause_of, calls};
+ghost use Rattle.host_model.specs.Clients.{client_profile, is_at_end, unlinked, told, happened, received, sent, done, submits, closes, takes, cause_of, calls};
 ghost use Rattle.push_model.specs.Client.{is_idle, may_cancel};
 ghost use Rattle.push_model.specs.Events.{armed};
 ghost use Rattle.bt_host.specs.Calls.{Does};
@@ -25,6 +25,7 @@ use bt_base::{Cid, NoMemory, Psm, Settings, Shelf};
 use channel_model::{ChannelEvent, CloseReason};
 use l2cap_channels::Channels;
 use push_client::{CloseCause, ProfileEvent, PushClient, Step};
+use push_model::Stage;
 use push_terms::Outcome;
 use std::alloc::Global;
 use std::marker::Model;
@@ -36,8 +37,6 @@ enum Bid {
     Nothing,
     /// That a link be made.
     Paging,
-    /// That the link end.
-    Parting,
 }
 
 /// A client of Object Push, the channels that it asked for, the one that took its SDU until that is sent, and what it asks of its
@@ -73,6 +72,13 @@ fn cause_of(reason: CloseReason) -> Option<CloseCause>
         CloseReason::LinkDown => None,
         CloseReason::OwnClosed => Some(CloseCause::Own),
     }
+}
+
+/// Whether nothing is left to a push but the end of its link.
+fn is_at_end(stage: Stage) -> bool
+    ensures { result ≡ is_at_end stage }
+{
+    matches!(stage, Stage::LinkEnd(_))
 }
 
 impl ClientEnd {
@@ -269,7 +275,7 @@ impl ClientEnd {
                 true
             }
             Step::BreakLink => {
-                self.bid = Bid::Parting;
+                self.bid = Bid::Nothing;
                 self.client.stepped();
                 false
             }
@@ -402,7 +408,7 @@ impl<F: Shelf> End<F> for ClientEnd {
     }
 
     fn leaves_link(&self) -> bool {
-        matches!(self.bid, Bid::Parting)
+        is_at_end(self.client.stage())
     }
 
     fn wants_link(&self) -> bool {

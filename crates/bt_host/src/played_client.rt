@@ -19,10 +19,14 @@ impl<F: Shelf> Host<F> for ClientHost {
     ghost use Rattle.bt_host.specs.PushingLaws.{Answers};
     ghost use Rattle.bt_host.specs.Playing.{playing, PushesSoundly};
     ghost use Rattle.bt_host.specs.PlayingLaws.{joined, stops};
+    ghost use Rattle.bt_host.specs.SpeakingLaws.{speaks};
+    ghost use Rattle.host_model.specs.Hosts.{most_said};
 
     ghost State = { SetHost (Noted ClientProfile) };
 
     ghost Answer = { Circumstance };
+
+    ghost most_more = { most_said };
 
     ghost machine = { noted_client_machine };
 
@@ -68,6 +72,8 @@ impl<F: Shelf> Host<F> for ClientHost {
     ghost lacks = { laws.lacks F.content F.faults F.shortages };
 
     ghost joins = { joined (Answers F.content F.faults F.shortages) (laws.joins F.content F.faults F.shortages) };
+
+    ghost speaks = { speaks noted_client client_noting };
 
     ghost stops = { λ host shelf is. stops noted_client A client_noting host.stack shelf is.2 };
 }

@@ -17,10 +17,14 @@ impl<I: Inbox> Host<I> for ServerHost {
     ghost use Rattle.bt_host.specs.ServingLaws as laws;
     ghost use Rattle.bt_host.specs.Playing.{playing, ServesSoundly};
     ghost use Rattle.bt_host.specs.PlayingLaws.{joined, stops};
+    ghost use Rattle.bt_host.specs.SpeakingLaws.{speaks};
+    ghost use Rattle.host_model.specs.Hosts.{most_said};
 
     ghost State = { SetHost (Noted ServerProfile) };
 
     ghost Answer = { Circumstance };
+
+    ghost most_more = { most_said };
 
     ghost machine = { noted_server_machine };
 
@@ -32,7 +36,7 @@ impl<I: Inbox> Host<I> for ServerHost {
 
     ghost is_sound = { ServesSoundly I.content I.is_pending };
 
-    ghost answers = { Asks I.shortages };
+    ghost answers = { Asks I.faults I.shortages };
 
     ghost lacked = { Lacks I.shortages };
 
@@ -63,9 +67,11 @@ impl<I: Inbox> Host<I> for ServerHost {
         ServerHost::has_fcs(self, channel)
     }
 
-    ghost lacks = { laws.lacks I.shortages };
+    ghost lacks = { laws.lacks I.faults I.shortages };
 
-    ghost joins = { joined (Asks I.shortages) (laws.joins I.shortages) };
+    ghost joins = { joined (Asks I.faults I.shortages) (laws.joins I.faults I.shortages) };
+
+    ghost speaks = { speaks noted_server (server_noting I.content) };
 
     ghost stops = { λ host inbox is. stops noted_server B (server_noting I.content) host.stack inbox is.2 };
 }

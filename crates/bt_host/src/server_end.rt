@@ -60,11 +60,10 @@ impl ServerEnd {
 }
 
 impl<B: Inbox> End<B> for ServerEnd {
-    ghost use Rattle.std.specs.Prelude.{◌≡◌, ◌≤◌, Bool, true, refl};
-    ghost use Rattle.bt_base.specs.Counts.{HasRisen};
+    ghost use Rattle.std.specs.Prelude.{◌≡◌, Bool, true, refl};
     ghost use Rattle.host_model.specs.Servers.{ServerProfile};
     ghost use Rattle.bt_host.specs.NotedHosts.{credits_of_server};
-    ghost use Rattle.bt_host.specs.Serving.{serving, profile_of, Works};
+    ghost use Rattle.bt_host.specs.Serving.{serving, profile_of, Works, Asks, Lacks};
     ghost use Rattle.bt_host.specs.ServingLaws.{joins, lacks, told_alone};
 
     ghost State = { ServerProfile };
@@ -77,9 +76,9 @@ impl<B: Inbox> End<B> for ServerEnd {
 
     ghost is_sound = { λ end inbox. Works end (B.is_pending inbox) };
 
-    ghost answers = { λ inbox used inbox'. B.shortages inbox ≤ B.shortages inbox' };
+    ghost answers = { Asks B.faults B.shortages };
 
-    ghost lacked = { λ inbox inbox'. HasRisen (B.shortages inbox) (B.shortages inbox') × (B.shortages inbox ≤ B.shortages inbox') };
+    ghost lacked = { Lacks B.shortages };
 
     fn link_up(&mut self, _port: &B) {
         self.unlink();
@@ -158,9 +157,9 @@ impl<B: Inbox> End<B> for ServerEnd {
         self.server.credits()
     }
 
-    ghost joins = { joins B.shortages };
+    ghost joins = { joins B.faults B.shortages };
 
-    ghost lacks = { lacks B.shortages };
+    ghost lacks = { lacks B.faults B.shortages };
 
     ghost policy_is = { λ settings. refl };
 

@@ -95,7 +95,7 @@ impl ServerHost {
     /// It needs an inbox that has an object pending exactly where one is under way.
     pub fn feed<B: Inbox>(&mut self, piece: &[u8], inbox: &mut B) -> Result<(), FeedRefusal>
         requires works { self.old.refusal ≡ None → Works self.old.stack.upper.end.end (B.is_pending inbox.old) }
-        ensures feeds { Feeds (noted_server (settings_of self.old)) (Asks B.shortages) (Lacks B.shortages) (server_noting B.content) piece.now self.old self.new inbox.old inbox.new result }
+        ensures feeds { Feeds (noted_server (settings_of self.old)) (Asks B.faults B.shortages) (Lacks B.shortages) (server_noting B.content) piece.now self.old self.new inbox.old inbox.new result }
         ensures rests { OnOk result (ComesToRest noted_server (server_noting B.content) self.old self.new inbox.new) }
         ensures works { OnOk result (Works self.new.stack.upper.end.end (B.is_pending inbox.new)) }
     {
@@ -112,7 +112,7 @@ impl ServerHost {
     pub fn on_timer<B: Inbox>(&mut self, inbox: &mut B) -> Result<(), NoMemory>
         requires sound { self.old.refusal ≡ None }
         requires works { Works self.old.stack.upper.end.end (B.is_pending inbox.old) }
-        ensures hears { OnOk result (HearsNews (noted_server (settings_of self.old)) (Asks B.shortages) (server_noting B.content) TimerFired (moment_of self.old inbox.old) (moment_of self.new inbox.new)) }
+        ensures hears { OnOk result (HearsNews (noted_server (settings_of self.old)) (Asks B.faults B.shortages) (server_noting B.content) TimerFired (moment_of self.old inbox.old) (moment_of self.new inbox.new)) }
         ensures rests { OnOk result (ComesToRest noted_server (server_noting B.content) self.old self.new inbox.new) }
         ensures stays { OnOk result (self.new ≡ record self.old { stack = self.new.stack }) }
         ensures works { OnOk result (Works self.new.stack.upper.end.end (B.is_pending inbox.new)) }
@@ -127,7 +127,7 @@ impl ServerHost {
     pub fn put_out<B: Inbox>(&mut self, inbox: &mut B) -> Result<(), NoMemory>
         requires sound { self.old.refusal ≡ None }
         requires works { Works self.old.stack.upper.end.end (B.is_pending inbox.old) }
-        ensures goes { OnOk result (GoesOn (noted_server (settings_of self.old)) (Asks B.shortages) (server_noting B.content) (moment_of self.old inbox.old) (moment_of self.new inbox.new)) }
+        ensures goes { OnOk result (GoesOn (noted_server (settings_of self.old)) (Asks B.faults B.shortages) (server_noting B.content) (moment_of self.old inbox.old) (moment_of self.new inbox.new)) }
         ensures rests { OnOk result (ComesToRest noted_server (server_noting B.content) self.old self.new inbox.new) }
         ensures stays { OnOk result (self.new ≡ record self.old { stack = self.new.stack }) }
         ensures works { OnOk result (Works self.new.stack.upper.end.end (B.is_pending inbox.new)) }

@@ -3,8 +3,10 @@
 //! `btpush decode` reads a stream of H4 packets from the standard input and writes a line for each
 //! to the standard output; `decode --tagged` does so for a capture of two hosts, and `decode --snoop`
 //! for a btsnoop file. `btpush snoop --side a` reads a capture and writes the btsnoop file of its host
-//! a to the standard output. `btpush push` reads a scenario from the standard input, pushes files of
-//! the current folder over a simulated radio, keeps what arrives in the folder `inbox`, and writes a
+//! a to the standard output. `btpush receive` is a host that receives objects: it reads what its
+//! controller says from the standard input, writes what it says to the standard output, and keeps what
+//! arrives in the folder `inbox`. `btpush push` reads a scenario from the standard input, pushes files
+//! of the current folder over a simulated radio, keeps what arrives in the folder `inbox`, and writes a
 //! report to the standard output and the capture to the standard error. `btpush wire` carries the
 //! packets of the standard input over a simulated three-wire line to the standard output, and writes
 //! each packet on the line to the standard error.

@@ -1,6 +1,6 @@
 //! The top call: what the program does, over ports.
 
-ghost use Rattle.std.specs.Prelude.{◌≡◌, ◌≤◌, ℕ, Option, false, [], map, string_bytes, IfSome, None};
+ghost use Rattle.std.specs.Prelude.{◌≡◌, ◌≤◌, ◌⊎◌, ℕ, Option, false, [], map, string_bytes, IfSome, None};
 ghost use Rattle.bt_base.specs.Counts.{HasRisen};
 ghost use Rattle.btpush_forms.specs.Run.{Decodes, RefusesWords, HasCauses, HasEnded};
 ghost use Rattle.small_push.specs.Plays.{stocked};
@@ -9,13 +9,15 @@ ghost use Rattle.btpush_forms.specs.Words.{AskForNone, AskForTrace};
 ghost use Rattle.btpush_forms.specs.Snooping.{Snoops};
 ghost use Rattle.btpush_forms.specs.Carrying.{Wires, IsWell};
 ghost use Rattle.command_words.specs.Forms.{AsksFor};
+ghost use Rattle.receiving.specs.Receiving.{Receives, IsUntouched, AnyShort};
 ghost use Rattle.three_wire.specs.Carrying.{AnyRose, WriteRose, IsWholeInput};
 ghost use Rattle.h4_view.specs.View.{IsAnswered};
 
 use bt_base::{Inbox, Shelf, Sink, Source};
-use btpush_forms::{Status, Viewing, run_alone};
+use btpush_forms::{Hosted, Status, Viewing, run_alone};
 use command_words::Form;
 use push_terms::Side;
+use receiving::receive;
 use small_push::push;
 use std::alloc::Global;
 
@@ -25,7 +27,9 @@ use std::alloc::Global;
 /// `decode` shows the packets of the source in the sink, `decode --tagged` the entries of a capture of
 /// two hosts, and `decode --snoop` the records of a btsnoop file. `push` reads a scenario from the
 /// source and runs it: the objects of the shelf are pushed, the inbox keeps what arrives, the trace gets
-/// the capture and the sink the report. `snoop --side a` or `b` writes the packets of one host of a
+/// the capture and the sink the report. `receive` feeds the source to a host that receives objects, whose
+/// octets go to the sink: the inbox keeps what arrives, and where the source is refused the trace gets the
+/// line that tells where and why. `snoop --side a` or `b` writes the packets of one host of a
 /// capture to the sink as a btsnoop file, and where the source is no capture the trace gets the line
 /// that tells where and why. `wire` carries the packets of the source over a three-wire line to
 /// the sink, and the trace gets an entry for each packet on the line; `wire --number N` loses some by
@@ -48,6 +52,10 @@ pub fn run<S: Source, K: Sink, T: Sink, F: Shelf, B: Inbox>(
     // `push` runs the scenario that the input is, or tells why it is none. Where it stops short, the whole entries in the
     // trace are those of a run so far: both hosts kept within the buffers, and the air to the script.
     ensures push { AsksFor (map string_bytes words.now.items) Form.Push → IfSome (S.content source.old) (λ input. Pushes input (stocked (F.content shelf.old) (F.faults shelf.old) (F.absences shelf.old) (B.content inbox.old) (B.faults inbox.old) (B.shortages inbox.old)) (stocked (F.content shelf.new) (F.faults shelf.new) (F.absences shelf.new) (B.content inbox.new) (B.faults inbox.new) (B.shortages inbox.new)) (S.content source.new) (K.content sink.old) (K.content sink.new) (T.content trace.old) (T.content trace.new) (HasRisen (T.faults trace.old) (T.faults trace.new)) ((trace.new ≡ trace.old) × (shelf.new ≡ shelf.old) × (inbox.new ≡ inbox.old)) result) }
+    // `receive` feeds the input to a host: the sink gains what this says, and the inbox what it stores. It wants memory before
+    // anything happens, or where a port found none.
+    ensures receive { AsksFor (map string_bytes words.now.items) Form.Receive → Receives (S.content source.old) (S.content source.new) (K.content sink.old) (K.content sink.new) (T.content trace.old) (T.content trace.new) (B.content inbox.old) (B.content inbox.new) result }
+    ensures receive_memory { AsksFor (map string_bytes words.now.items) Form.Receive → result ≡ Status.NoMemory → IsUntouched (S.content source.old) (S.content source.new) (K.content sink.old) (K.content sink.new) (T.content trace.old) (T.content trace.new) (B.content inbox.old) (B.content inbox.new) ⊎ AnyShort (S.shortages source.old) (S.shortages source.new) (K.shortages sink.old) (K.shortages sink.new) (T.shortages trace.old) (T.shortages trace.new) (B.shortages inbox.old) (B.shortages inbox.new) }
     // `snoop` writes the packets of a host to the sink as a btsnoop file, or tells where the input is no capture.
     ensures snoop { (side : Side) → AsksFor (map string_bytes words.now.items) (Form.Snoop side) → IfSome (S.content source.old) (λ input. Snoops side input (S.content source.new) (K.content sink.old) (K.content sink.new) (T.content trace.old) (T.content trace.new) result) }
     // `wire` carries the units of the input to the sink, or the units up to where it stops, and the trace tells each packet on
@@ -67,19 +75,20 @@ pub fn run<S: Source, K: Sink, T: Sink, F: Shelf, B: Inbox>(
     ensures sink_short { IsAnswered (K.shortages sink.old) (K.shortages sink.new) (result ≡ Status.NoMemory) }
     ensures trace_short { IsAnswered (T.shortages trace.old) (T.shortages trace.new) (result ≡ Status.NoMemory) }
     ensures shelf_short { IsAnswered (F.shortages shelf.old) (F.shortages shelf.new) (result ≡ Status.NoMemory) }
-    ensures inbox_short { IsAnswered (B.shortages inbox.old) (B.shortages inbox.new) (result ≡ Status.NoMemory) }
-    // The objects on the shelf stay, and no count of shelf and inbox falls.
+    ensures inbox_short { (AsksFor (map string_bytes words.now.items) Form.Receive → ⊥) → IsAnswered (B.shortages inbox.old) (B.shortages inbox.new) (result ≡ Status.NoMemory) }
+    ensures inbox_stays { B.shortages inbox.old ≤ B.shortages inbox.new }
+    // The objects on the shelf stay, and no count of shelf and inbox falls (of the inbox's faults, but for `receive`).
     ensures shelf_content { F.content shelf.new ≡ F.content shelf.old }
     ensures shelf_faults { F.faults shelf.old ≤ F.faults shelf.new }
-    ensures inbox_faults { B.faults inbox.old ≤ B.faults inbox.new }
-    // Only `push`, `snoop` and `wire` touch the trace, and only `push` the shelf and the inbox.
+    ensures inbox_faults { (AsksFor (map string_bytes words.now.items) Form.Receive → ⊥) → B.faults inbox.old ≤ B.faults inbox.new }
+    // Only `push`, `receive`, `snoop` and `wire` touch the trace, only `push` the shelf, and only `push` and `receive` the inbox.
     ensures trace { (AskForTrace (map string_bytes words.now.items) → ⊥) → trace.new ≡ trace.old }
     ensures shelf { (AsksFor (map string_bytes words.now.items) Form.Push → ⊥) → shelf.new ≡ shelf.old }
-    ensures inbox { (AsksFor (map string_bytes words.now.items) Form.Push → ⊥) → inbox.new ≡ inbox.old }
+    ensures inbox { (AsksFor (map string_bytes words.now.items) Form.Push → ⊥) → (AsksFor (map string_bytes words.now.items) Form.Receive → ⊥) → inbox.new ≡ inbox.old }
 {
     match run_alone(alloc, words, source, sink, trace) {
-        Some(status) => status,
-        // Only a push needs hosts.
-        None => push(alloc, source, sink, trace, shelf, inbox),
+        Ok(status) => status,
+        Err(Hosted::Push) => push(alloc, source, sink, trace, shelf, inbox),
+        Err(Hosted::Receive) => receive(alloc, source, sink, trace, inbox),
     }
 }

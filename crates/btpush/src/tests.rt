@@ -314,6 +314,50 @@ fn scenarios_come_to_their_ends(rt: HostRuntime) -> Result<(), Fail> {
     Ok(())
 }
 
+/// What `decode --tagged` says of a capture.
+fn decoded(rt: &HostRuntime, capture: &[u8]) -> Result<Vec<u8>, Fail> {
+    let mut words = Vec::new(rt.alloc());
+    for word in ["btpush", "decode", "--tagged"] {
+        words.push(String::from_str(rt.alloc(), word)?)?;
+    }
+    let mut source = MemSource::new(rt.alloc(), capture, 65_536, &[])?;
+    let mut sink = MemSink::new(rt.alloc(), &[])?;
+    let mut trace = MemSink::new(rt.alloc(), &[])?;
+    let mut shelf = MemShelf::new(rt.alloc(), &[])?;
+    let mut inbox = MemInbox::new(rt.alloc(), &[])?;
+    let status = run(
+        rt.alloc(),
+        &words,
+        &mut source,
+        &mut sink,
+        &mut trace,
+        &mut shelf,
+        &mut inbox,
+    );
+    let text = Vec::from_slice(rt.alloc(), sink.octets())?;
+    drop(shelf);
+    drop(inbox);
+    drop(words);
+    if status != Status::Ok {
+        return Err(Fail::from("a capture is decoded"));
+    }
+    Ok(text)
+}
+
+#[test]
+fn capture_of_a_push_tells_its_object(rt: HostRuntime) -> Result<(), Fail> {
+    let mut inbox = MemInbox::new(rt.alloc(), &[])?;
+    let text = b"transport l2cap\nobject a\nradio\n10 pass\n";
+    let mut ports = ports_of(&rt, text, 7, &[], b"hi")?;
+    let status = pushed(&rt, &mut ports, &mut inbox);
+    drop(inbox);
+    assert!(rt; status? == Status::Ok);
+    let said = decoded(&rt, ports.trace.octets())?;
+    drop(ports);
+    assert!(rt; said.ends_with(b"object 0061 2\n"));
+    Ok(())
+}
+
 /// Lengths of an object, and what comes of it: the longest that is carried, and one more.
 const LENGTHS: [(usize, End); 2] = [
     (

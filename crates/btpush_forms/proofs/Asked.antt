@@ -1,5 +1,5 @@
 -- What the words ask for, and what is left where they could not be read.
-use Rattle.std.proofs.Common.{◌≡◌, ℕ, List, [], Option, Some, None, IfSome, IfOk, Result, Ok, Err, refl, sym, subst, arith}
+use Rattle.std.proofs.Common.{◌≡◌, ℕ, List, [], Option, Some, None, IfSome, IfOk, IfErr, Result, Ok, Err, refl, sym, subst, arith, inl}
 use Rattle.bt_base.proofs.PortLaws.{front_none}
 use Rattle.clap.specs.Words.{Text}
 use Rattle.command_words.specs.Forms.{AsksFor, IsAnswered}
@@ -22,7 +22,9 @@ use Rattle.btpush_forms.specs.Carrying.{Wires}
 use Rattle.btpush_forms.specs.Doing.{Does}
 use Rattle.btpush_forms.specs.Run.{Decodes}
 use Rattle.btpush_forms.specs.Snooping.{Snoops}
-use Rattle.btpush_forms.specs.Words.{IsBuilt, WritesTrace, AskForNone, AskForTrace}
+use Rattle.btpush_forms.specs.Words.{IsBuilt, WritesTrace, AskForNone, AskForTrace, hosted_form}
+use Rattle.btpush_forms.specs.declared.hosted.Hosted.{Hosted}
+use Rattle.btpush_forms.specs.declared.status.Status.{Status}
 
 -- ---- the form that was found
 
@@ -42,12 +44,20 @@ is_unbuilt words form asks none built = none form built asks
 pub not_written : (words : List Text) (form : Form) → AsksFor words form → (AskForTrace words → ⊥) → WritesTrace form → ⊥
 not_written words form asks none writes = none (form, writes, asks)
 
+-- a form that needs hosts is not done here
+pub hosted_short : (result : Result Status Hosted) (hosted : Hosted) → result ≡ Err hosted → IfOk result (λ s. s ≡ status.NoMemory)
+hosted_short result hosted is = rw is tt
+
+pub asked_so : (result : Result Status Hosted) (words : List Text) (form : Form) → AsksFor words form → IfErr result (λ hosted. form ≡ hosted_form hosted) → IfErr result (λ hosted. AsksFor words (hosted_form hosted))
+asked_so (Ok done) words form asks is = tt
+asked_so (Err hosted) words form asks is = subst (λ (f : Form). AsksFor words f) is asks
+
 -- ---- there was no memory to read the words
 
 nothing_decoded : (viewing : Viewing) (content sink : Option (List ℕ)) → IfSome content (λ input. Decodes viewing input content sink sink status.NoMemory)
 nothing_decoded viewing None sink = tt
 nothing_decoded Raw (Some input) sink = (Err view.NoMemory, OfLines [] (record { each = tt; within = omega arith; rest = input; whole = refl }) (front_none sink _), refl)
-nothing_decoded Tagged (Some input) sink = (Err view.NoMemory, ShownLines [] (none_tagged input) (front_none sink _), refl)
+nothing_decoded Tagged (Some input) sink = (Err view.NoMemory, inl (ShownLines [] (none_tagged input) (front_none sink _)), refl)
 nothing_decoded Snoop (Some input) sink = (Err view.NoMemory, ShownLines [] (none_snooped input) (front_none sink _), refl)
 
 nothing_snooped : (side : Side) (content sink trace : Option (List ℕ)) → IfSome content (λ input. Snoops side input content sink sink trace trace status.NoMemory)

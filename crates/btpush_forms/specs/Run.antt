@@ -5,8 +5,8 @@ use Rattle.bt_base.specs.Streams.{gained, GainedFront}
 use Rattle.h4_view.specs.declared.refusal.ViewFault.{ViewFault}
 use Rattle.h4_view.specs.declared.refusal.ViewFault.TheVariants as view
 use Rattle.h4_view.specs.View.{Views}
-use Rattle.h4_view.specs.Tagged.{TaggedViews}
 use Rattle.h4_view.specs.Snoop.{SnoopViews}
+use Rattle.object_lines.specs.Viewing.{CaptureViews}
 use Rattle.btpush_forms.specs.declared.viewing.Viewing.{Viewing}
 use Rattle.btpush_forms.specs.declared.viewing.Viewing.TheVariants.{Raw, Tagged, Snoop}
 use Rattle.btpush_forms.specs.declared.status.Status.{Status}
@@ -16,7 +16,7 @@ use Rattle.btpush_forms.specs.Words.{usage_line}
 -- what a sink gains from the view of an input of that kind
 abbrev pub ViewsBy : Viewing → List ℕ → Option (List ℕ) → Option (List ℕ) → Option (List ℕ) → Result (Unit {0}) ViewFault → Type 0
 ViewsBy Raw input left old new end = Views input left old new end
-ViewsBy Tagged input left old new end = TaggedViews input left old new end
+ViewsBy Tagged input left old new end = CaptureViews input left old new end
 ViewsBy Snoop input left old new end = SnoopViews input left old new end
 
 -- the status that the end of a view has

@@ -1,6 +1,6 @@
 //! What the program does where no host is asked for.
 
-ghost use Rattle.std.specs.Prelude.{◌≡◌, [], map, string_bytes, IfSome, Some, None};
+ghost use Rattle.std.specs.Prelude.{◌≡◌, [], map, string_bytes, IfSome, IfOk, IfErr, Ok, Err, None};
 ghost use Rattle.bt_base.specs.Counts.{HasRisen};
 ghost use Rattle.h4_view.specs.View.{IsAnswered};
 ghost use Rattle.command_words.specs.Forms.{AsksFor};
@@ -8,9 +8,10 @@ ghost use Rattle.three_wire.specs.Carrying.{AnyRose, WriteRose, IsWholeInput};
 ghost use Rattle.btpush_forms.specs.Carrying.{IsWell};
 ghost use Rattle.btpush_forms.specs.Doing.{Does};
 ghost use Rattle.btpush_forms.specs.Run.{RefusesWords, HasCauses};
-ghost use Rattle.btpush_forms.specs.Words.{AskForNone, AskForTrace, IsBuilt, WritesTrace};
+ghost use Rattle.btpush_forms.specs.Words.{AskForNone, AskForTrace, IsBuilt, WritesTrace, hosted_form};
 
 use crate::carrying::wire;
+use crate::hosted::Hosted;
 use crate::snooping::snoop;
 use crate::status::Status;
 use crate::usage::refuse_words;
@@ -19,42 +20,44 @@ use bt_base::{Sink, Source};
 use command_words::{Form, form_of};
 use std::alloc::Global;
 
-/// Does what a form asks for. `None` comes for a push.
+/// Does what a form asks for, unless it needs hosts.
 fn run_form<S: Source, K: Sink, T: Sink>(
     alloc: Global,
     form: Form,
     source: &mut S,
     sink: &mut K,
     trace: &mut T,
-) -> Option<Status>
-    ensures does { IfSome result (Does form (S.content source.old) (S.content source.new) (K.content sink.old) (K.content sink.new) (T.content trace.old) (T.content trace.new) (AnyRose (K.faults sink.old) (K.faults sink.new) (K.shortages sink.old) (K.shortages sink.new) (T.faults trace.old) (T.faults trace.new) (T.shortages trace.old) (T.shortages trace.new))) }
-    ensures wire_clean { form ≡ Form.Wire None → IsWholeInput (S.content source.old) → (HasRisen (S.faults source.old) (S.faults source.new) → ⊥) → (WriteRose (K.faults sink.old) (K.faults sink.new) (T.faults trace.old) (T.faults trace.new) → ⊥) → IfSome result IsWell }
-    ensures words { (IsBuilt form → ⊥) → IfSome result (RefusesWords (K.content sink.old) (K.content sink.new)) }
-    ensures bad_words { result ≡ Some Status.BadWords → IsBuilt form → ⊥ }
-    ensures finish { result ≡ Some Status.Ok → IfSome (S.content source.new) (λ left. left ≡ []) }
-    ensures causes { IfSome result (HasCauses (S.faults source.old) (S.faults source.new) (K.faults sink.old) (K.faults sink.new) (T.faults trace.old) (T.faults trace.new)) }
-    ensures source_short { IfSome result (λ status. IsAnswered (S.shortages source.old) (S.shortages source.new) (status ≡ Status.NoMemory)) }
-    ensures sink_short { IfSome result (λ status. IsAnswered (K.shortages sink.old) (K.shortages sink.new) (status ≡ Status.NoMemory)) }
-    ensures trace_short { IfSome result (λ status. IsAnswered (T.shortages trace.old) (T.shortages trace.new) (status ≡ Status.NoMemory)) }
+) -> Result<Status, Hosted>
+    ensures does { IfOk result (Does form (S.content source.old) (S.content source.new) (K.content sink.old) (K.content sink.new) (T.content trace.old) (T.content trace.new) (AnyRose (K.faults sink.old) (K.faults sink.new) (K.shortages sink.old) (K.shortages sink.new) (T.faults trace.old) (T.faults trace.new) (T.shortages trace.old) (T.shortages trace.new))) }
+    ensures wire_clean { form ≡ Form.Wire None → IsWholeInput (S.content source.old) → (HasRisen (S.faults source.old) (S.faults source.new) → ⊥) → (WriteRose (K.faults sink.old) (K.faults sink.new) (T.faults trace.old) (T.faults trace.new) → ⊥) → IfOk result IsWell }
+    ensures words { (IsBuilt form → ⊥) → IfOk result (RefusesWords (K.content sink.old) (K.content sink.new)) }
+    ensures bad_words { result ≡ Ok Status.BadWords → IsBuilt form → ⊥ }
+    ensures finish { result ≡ Ok Status.Ok → IfSome (S.content source.new) (λ left. left ≡ []) }
+    ensures causes { IfOk result (HasCauses (S.faults source.old) (S.faults source.new) (K.faults sink.old) (K.faults sink.new) (T.faults trace.old) (T.faults trace.new)) }
+    ensures source_short { IfOk result (λ status. IsAnswered (S.shortages source.old) (S.shortages source.new) (status ≡ Status.NoMemory)) }
+    ensures sink_short { IfOk result (λ status. IsAnswered (K.shortages sink.old) (K.shortages sink.new) (status ≡ Status.NoMemory)) }
+    ensures trace_short { IfOk result (λ status. IsAnswered (T.shortages trace.old) (T.shortages trace.new) (status ≡ Status.NoMemory)) }
     ensures trace { (WritesTrace form → ⊥) → trace.new ≡ trace.old }
-    ensures push { form ≡ Form.Push → result ≡ None }
-    ensures none { result ≡ None → form ≡ Form.Push }
-    ensures untouched { form ≡ Form.Push → (source.new ≡ source.old) × (sink.new ≡ sink.old) × (trace.new ≡ trace.old) }
+    ensures hosted { (hosted : Hosted) → form ≡ hosted_form hosted → result ≡ Err hosted }
+    ensures asked { IfErr result (λ hosted. form ≡ hosted_form hosted) }
+    ensures untouched { (hosted : Hosted) → form ≡ hosted_form hosted → (source.new ≡ source.old) × (sink.new ≡ sink.old) × (trace.new ≡ trace.old) }
 {
     match form {
-        Form::Decode => Some(decode(alloc, Viewing::Raw, source, sink)),
-        Form::DecodeTagged => Some(decode(alloc, Viewing::Tagged, source, sink)),
-        Form::DecodeSnoop => Some(decode(alloc, Viewing::Snoop, source, sink)),
-        Form::Snoop(side) => Some(snoop(alloc, side, source, sink, trace)),
-        Form::Wire(number) => Some(wire(alloc, number, source, sink, trace)),
-        Form::Push => None,
-        // The other forms are not built yet.
-        Form::Receive | Form::Make(_) => Some(refuse_words(sink)),
+        Form::Decode => Ok(decode(alloc, Viewing::Raw, source, sink)),
+        Form::DecodeTagged => Ok(decode(alloc, Viewing::Tagged, source, sink)),
+        Form::DecodeSnoop => Ok(decode(alloc, Viewing::Snoop, source, sink)),
+        Form::Snoop(side) => Ok(snoop(alloc, side, source, sink, trace)),
+        Form::Wire(number) => Ok(wire(alloc, number, source, sink, trace)),
+        Form::Push => Err(Hosted::Push),
+        Form::Receive => Err(Hosted::Receive),
+        // This form is not built yet.
+        Form::Make(_) => Ok(refuse_words(sink)),
     }
 }
 
 /// Does what these words ask for, where that needs no hosts. The first word is the program's name and
-/// is not looked at. `None` comes where they ask for a push, and then no port was touched.
+/// is not looked at. Where they ask for a push, or for a host that receives, that is answered, and then
+/// no port was touched.
 ///
 /// `decode` shows the packets of the source in the sink, `decode --tagged` the entries of a capture of
 /// two hosts, and `decode --snoop` the records of a btsnoop file. `snoop --side a` or `b` writes the
@@ -69,29 +72,29 @@ pub fn run_alone<S: Source, K: Sink, T: Sink>(
     source: &mut S,
     sink: &mut K,
     trace: &mut T,
-) -> Option<Status>
-    ensures does { (form : Form) → AsksFor (map string_bytes words.now.items) form → IfSome result (Does form (S.content source.old) (S.content source.new) (K.content sink.old) (K.content sink.new) (T.content trace.old) (T.content trace.new) (AnyRose (K.faults sink.old) (K.faults sink.new) (K.shortages sink.old) (K.shortages sink.new) (T.faults trace.old) (T.faults trace.new) (T.shortages trace.old) (T.shortages trace.new))) }
+) -> Result<Status, Hosted>
+    ensures does { (form : Form) → AsksFor (map string_bytes words.now.items) form → IfOk result (Does form (S.content source.old) (S.content source.new) (K.content sink.old) (K.content sink.new) (T.content trace.old) (T.content trace.new) (AnyRose (K.faults sink.old) (K.faults sink.new) (K.shortages sink.old) (K.shortages sink.new) (T.faults trace.old) (T.faults trace.new) (T.shortages trace.old) (T.shortages trace.new))) }
     // Whole units are all carried where no packet is to be lost and no port fails.
-    ensures wire_clean { AsksFor (map string_bytes words.now.items) (Form.Wire None) → IsWholeInput (S.content source.old) → (HasRisen (S.faults source.old) (S.faults source.new) → ⊥) → (WriteRose (K.faults sink.old) (K.faults sink.new) (T.faults trace.old) (T.faults trace.new) → ⊥) → IfSome result IsWell }
+    ensures wire_clean { AsksFor (map string_bytes words.now.items) (Form.Wire None) → IsWholeInput (S.content source.old) → (HasRisen (S.faults source.old) (S.faults source.new) → ⊥) → (WriteRose (K.faults sink.old) (K.faults sink.new) (T.faults trace.old) (T.faults trace.new) → ⊥) → IfOk result IsWell }
     // Other words are refused, and no others.
-    ensures words { AskForNone (map string_bytes words.now.items) → IfSome result (RefusesWords (K.content sink.old) (K.content sink.new)) }
-    ensures bad_words { result ≡ Some Status.BadWords → AskForNone (map string_bytes words.now.items) }
+    ensures words { AskForNone (map string_bytes words.now.items) → IfOk result (RefusesWords (K.content sink.old) (K.content sink.new)) }
+    ensures bad_words { result ≡ Ok Status.BadWords → AskForNone (map string_bytes words.now.items) }
     // `Ok` comes only where the input was read to its end.
-    ensures finish { result ≡ Some Status.Ok → IfSome (S.content source.new) (λ left. left ≡ []) }
+    ensures finish { result ≡ Ok Status.Ok → IfSome (S.content source.new) (λ left. left ≡ []) }
     // Each fault has its cause, and a shortage of memory of a port is answered.
-    ensures causes { IfSome result (HasCauses (S.faults source.old) (S.faults source.new) (K.faults sink.old) (K.faults sink.new) (T.faults trace.old) (T.faults trace.new)) }
-    ensures source_short { IfSome result (λ status. IsAnswered (S.shortages source.old) (S.shortages source.new) (status ≡ Status.NoMemory)) }
-    ensures sink_short { IfSome result (λ status. IsAnswered (K.shortages sink.old) (K.shortages sink.new) (status ≡ Status.NoMemory)) }
-    ensures trace_short { IfSome result (λ status. IsAnswered (T.shortages trace.old) (T.shortages trace.new) (status ≡ Status.NoMemory)) }
+    ensures causes { IfOk result (HasCauses (S.faults source.old) (S.faults source.new) (K.faults sink.old) (K.faults sink.new) (T.faults trace.old) (T.faults trace.new)) }
+    ensures source_short { IfOk result (λ status. IsAnswered (S.shortages source.old) (S.shortages source.new) (status ≡ Status.NoMemory)) }
+    ensures sink_short { IfOk result (λ status. IsAnswered (K.shortages sink.old) (K.shortages sink.new) (status ≡ Status.NoMemory)) }
+    ensures trace_short { IfOk result (λ status. IsAnswered (T.shortages trace.old) (T.shortages trace.new) (status ≡ Status.NoMemory)) }
     ensures trace { (AskForTrace (map string_bytes words.now.items) → ⊥) → trace.new ≡ trace.old }
-    // A push is left to the caller, unless there is no memory to read the words.
-    ensures push { AsksFor (map string_bytes words.now.items) Form.Push → IfSome result (λ status. status ≡ Status.NoMemory) }
-    ensures none { result ≡ None → AsksFor (map string_bytes words.now.items) Form.Push }
-    ensures untouched { AsksFor (map string_bytes words.now.items) Form.Push → (source.new ≡ source.old) × (sink.new ≡ sink.old) × (trace.new ≡ trace.old) }
+    // What needs hosts is left to the caller, unless there is no memory to read the words.
+    ensures hosted { (hosted : Hosted) → AsksFor (map string_bytes words.now.items) (hosted_form hosted) → IfOk result (λ status. status ≡ Status.NoMemory) }
+    ensures asked { IfErr result (λ hosted. AsksFor (map string_bytes words.now.items) (hosted_form hosted)) }
+    ensures untouched { (hosted : Hosted) → AsksFor (map string_bytes words.now.items) (hosted_form hosted) → (source.new ≡ source.old) × (sink.new ≡ sink.old) × (trace.new ≡ trace.old) }
 {
     match form_of(alloc, words) {
         Ok(Some(form)) => run_form(alloc, form, source, sink, trace),
-        Ok(None) => Some(refuse_words(sink)),
-        Err(_) => Some(Status::NoMemory),
+        Ok(None) => Ok(refuse_words(sink)),
+        Err(_) => Ok(Status::NoMemory),
     }
 }

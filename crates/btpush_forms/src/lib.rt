@@ -5,6 +5,7 @@
 mod alone;
 mod carrying;
 mod gathering;
+mod hosted;
 #[cfg(test)]
 mod long_tests;
 mod snooping;
@@ -16,5 +17,6 @@ mod viewing;
 
 pub use alone::run_alone;
 pub use gathering::{GatherFault, gather};
+pub use hosted::Hosted;
 pub use status::Status;
 pub use viewing::Viewing;

@@ -252,7 +252,7 @@ fn holds(rt: &HostRuntime, row: &Row, failing: Failing) -> Result<bool, Fail> {
     let mut trace = MemSink::new(rt.alloc(), failing.trace)?;
     let status = run_alone(rt.alloc(), &words, &mut source, &mut sink, &mut trace);
     Ok(
-        status == Some(row.status)
+        status == Ok(row.status)
             && sink.octets() == row.sink
             && trace.octets().ends_with(row.trace)
             && trace.octets().is_empty() == row.trace.is_empty(),
@@ -330,7 +330,7 @@ const BAD_LINES: [&str; 10] = [
     "decode --tagged --snoop",
     "snoop",
     "make --number 1",
-    "receive",
+    "receive --tagged",
     "wire --tagged",
     "wire --number 01",
 ];

@@ -6,7 +6,8 @@ ghost use Rattle.btpush_forms.specs.Run.{ViewsBy, status_of, Decodes, HasCauses,
 
 use crate::status::Status;
 use bt_base::{Sink, Source};
-use h4_view::{ViewFault, view_raw, view_snoop, view_tagged};
+use h4_view::{ViewFault, view_raw, view_snoop};
+use object_lines::view_tagged;
 use std::alloc::Global;
 
 /// What a source is read as.
@@ -14,7 +15,7 @@ use std::alloc::Global;
 pub enum Viewing {
     /// A stream of packets.
     Raw,
-    /// A capture of two hosts.
+    /// A capture of two hosts, with the objects that host b heard.
     Tagged,
     /// A btsnoop file.
     Snoop,

@@ -1,5 +1,5 @@
 -- What the answer of the peer to a request for options leaves of it.
-use Rattle.std.proofs.Common.{◌≡◌, ℕ, Bool, true, false, cond, eqb, Some, None, refl, ap, ◌∙◌, ◌⊎◌, inl, inr}
+use Rattle.std.proofs.Common.{◌≡◌, ℕ, Bool, true, false, cond, eqb, Some, None, refl, ap, ◌∙◌, ◌⊎◌, inl, inr, ◌||◌}
 use Rattle.std.specs.Prelude.{find, is_some, nat_le}
 use Rattle.l2cap_config.specs.declared.options.Options.{Options}
 use Rattle.l2cap_config.specs.declared.agreement.Settled.{Settled}
@@ -8,7 +8,7 @@ use Rattle.channel_model.specs.declared.errand.Errand.TheVariants as errands
 use Rattle.channel_model.specs.declared.event.CloseReason.{CloseReason}
 use Rattle.channel_model.specs.declared.event.CloseReason.TheVariants.{NoAgreement}
 use Rattle.channel_model.specs.Value.{Asking, Setup, Stage, Requested, Connected, Leaving, Closing, Crossed, Held, Channels}
-use Rattle.channel_model.specs.Changing.{has_own, has_fcs_by, held_at, setup_of, stage_with, with_setup, to_setup, forgets}
+use Rattle.channel_model.specs.Changing.{has_own, has_fcs_by, held_at, setup_of, stage_with, with_setup, to_setup, forgets, is_leaving}
 use Rattle.channel_model.specs.Asking.{new_request, asks_options}
 use Rattle.channel_model.specs.Closing.{closes, closes_at}
 use Rattle.channel_model.specs.Configuring.{opens_if, granted_setup, grants}
@@ -115,7 +115,7 @@ IsFinal Never = Unit {0}
 pub settled-answers : (v : Channels) (now : Settled) (held : Held) (setup : Setup) → IsFinal now → find (has_own held.own) v.held ≡ Some held → setup_of held.stage ≡ Some setup → IsAnswered held v (hears_settled now held setup v)
 settled-answers v Accepted held setup final found is = grants-answer v held setup found
 settled-answers v (Again options) held setup final found is =
-    let after : Setup = renewed_setup setup in renews_answer v held setup after options (nat_le 3 after.renewed) refl found is
+    let after : Setup = renewed_setup setup in renews_answer v held setup after options (is_leaving held.stage || nat_le 3 after.renewed) refl found is
 settled-answers v Wait held setup final found is = elim final [ ]
 settled-answers v Never held setup final found is = record {
   others = λ own away. inl (closes-rests v held NoAgreement found own);

@@ -161,7 +161,7 @@ passes_by identifier own waits settles (Some entry) same = by (is_there entry.li
     by false settles = refl
 
 -- of another channel
-response_else : (policy : Policy) (v : Channels) (source own identifier answer : ℕ) (octets : List ℕ) (held : Option Held) → held_at source v ≡ held → eqb source own ≡ false → GoesAt own v (hears_response held policy identifier answer octets v)
+pub response_else : (policy : Policy) (v : Channels) (source own identifier answer : ℕ) (octets : List ℕ) (held : Option Held) → held_at source v ≡ held → eqb source own ≡ false → GoesAt own v (hears_response held policy identifier answer octets v)
 response_else policy v source own identifier answer octets None at away = rests-goes v v (same-rests v v refl) own
 response_else policy v source own identifier answer octets (Some held) at away = on (setup_of held.stage) refl
   where
@@ -263,7 +263,7 @@ response_nearly party channel policy past v identifier source flags answer octet
         ∙ ap (fold demanded (waiting party channel past)) (settled_else identifier source channel.own settles (reading past).entries (read_at channel.own (reading past).entries) refl away))
         (response_else policy v source channel.own identifier answer octets (held_at source v) refl away) sound heeds
 
-features_rest : (identifier : ℕ) (given : Option ℕ) (v : Channels) → Rests v (hears_features identifier given v)
+pub features_rest : (identifier : ℕ) (given : Option ℕ) (v : Channels) → Rests v (hears_features identifier given v)
 features_rest identifier given v = same-rests v (hears_features identifier given v) (by (has_identifier identifier v.features))
   where
     by : (b : Bool) → (cond b (tells (Features given) (forgets errands.Features (record v { features = None }))) v).held ≡ v.held

@@ -18,7 +18,7 @@ use Rattle.channel_laws.proofs.Delivering.{arrives-more, arrives-again, sent_on}
 use Rattle.channel_laws.proofs.Ferrying.{Flight, Way, Delivers, Reaches, Allows}
 use Rattle.channel_laws.proofs.Ferried.{Ferries, all-ferries}
 
-sent_are : (party : Party) (channel : Channel) (said : List Saying) → mode_of channel said ≡ Basic → sdus party channel Out said ≡ sent_on channel said
+pub sent_are : (party : Party) (channel : Channel) (said : List Saying) → mode_of channel said ≡ Basic → sdus party channel Out said ≡ sent_on channel said
 sent_are party channel said mode = ap (λ m. sdus_by 65535 m (pdus_of Out (stretch channel said))) mode ∙ ap (map (drop 4)) (out-same channel [] said)
 
 -- ---- whatever the link does

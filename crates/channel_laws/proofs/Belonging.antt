@@ -32,7 +32,7 @@ use Rattle.channel_laws.specs.Pairs.{End, Pair, new_pair, Happening, Acts, Puts,
 use Rattle.channel_laws.specs.Ends.{end_at}
 use Rattle.channel_laws.specs.Signals.{StandsIn}
 use Rattle.channel_laws.specs.Belonging.{IsReadAs, IsRead, AreRead, said_at, is_pledge, PledgesWereSaid, Belongs, ChannelsBelong}
-use Rattle.channel_laws.specs.Views.{peer_of, channel_by, read_at, standing}
+use Rattle.channel_laws.specs.Views.{peer_of, channel_by, read_at}
 use Rattle.channel_laws.specs.Endpoints.{IsOf}
 use Rattle.channel_laws.specs.Granted.{IsFor}
 use Rattle.channel_laws.specs.Modes.{policy_of}

@@ -6,13 +6,9 @@ use Rattle.l2cap_signal.specs.Commands.{Content, connection_request, connection_
 use Rattle.l2cap_signal.specs.Reading.{Answer as Read}
 use Rattle.link_talk.specs.Sayings.{Saying, Carried}
 use Rattle.link_talk.specs.Channels.{reading}
-use Rattle.channel_model.specs.declared.errand.Errand.TheVariants as errands
-use Rattle.channel_model.specs.declared.request_kind.RequestKind.TheVariants as kinds
 use Rattle.channel_model.specs.Value.{no_setup, Connected, Held, Remembered, Channels, no_channels}
 use Rattle.channel_model.specs.Policies.{Policy}
 use Rattle.channel_model.specs.Changing.{has_room, held_at}
-use Rattle.channel_model.specs.Asking.{asks}
-use Rattle.channel_model.specs.Answers.{remembered}
 use Rattle.channel_model.specs.Following.{follows, can_say}
 use Rattle.channel_model.specs.Hearing.{hears_content}
 use Rattle.channel_model.specs.Carrying.{takes}

@@ -71,7 +71,7 @@ says_waits : (identifier : ℕ) (response : Option Content) (v t : Channels) →
 says_waits identifier None v t same can = inl (ap answers_of same)
 says_waits identifier (Some content) v t same can = inr (content, refl, can, answers_more t.queue (command_with identifier content) ∙ ap (λ q. answers_of q ++ command_with identifier content ∷ []) same)
 
-says_memory : (identifier : ℕ) (response : Option Content) (v : Channels) → (says identifier response v).memory ≡ v.memory
+pub says_memory : (identifier : ℕ) (response : Option Content) (v : Channels) → (says identifier response v).memory ≡ v.memory
 says_memory identifier None v = refl
 says_memory identifier (Some content) v = refl
 
@@ -295,7 +295,7 @@ replied_goes : (policy : Policy) (A : List Saying → Occurrence → Channels �
     → Answers policy J past v (Ok (command_with identifier content)) identifier None (hears_content policy identifier content v)
 replied_goes policy A K J c past v identifier content is same sound (holds, known) after = (c.answered past v identifier content is same sound holds after, subst Replies (sym same) known)
 
-features_memory : (identifier : ℕ) (given : Option ℕ) (v : Channels) → (hears_features identifier given v).memory ≡ v.memory
+pub features_memory : (identifier : ℕ) (given : Option ℕ) (v : Channels) → (hears_features identifier given v).memory ≡ v.memory
 features_memory identifier given v = by (has_identifier identifier v.features)
   where
     by : (b : Bool) → (cond b (tells (Features given) (forgets errands.Features (record v { features = None }))) v).memory ≡ v.memory
@@ -421,7 +421,7 @@ held_go policy A K J c past v tries own stands =
     (stands_on policy J past (said_on_firing own v between) v between
     (λ sound (holds, known) after. (c.waits past v tries own (times-last tries own v).1 sound holds after, subst Replies (sym (times-last tries own v).1) known)) (held-fires policy (reading past) v tries own (held_at own v) refl) stands))
 
-features_lost : (tries : ℕ) (v : Channels) (features : Option Request) → (times_features features tries v).memory ≡ v.memory
+pub features_lost : (tries : ℕ) (v : Channels) (features : Option Request) → (times_features features tries v).memory ≡ v.memory
 features_lost tries v None = refl
 features_lost tries v (Some request) = by (is_due errands.Features v) (nat_le tries request.given)
   where
@@ -457,7 +457,7 @@ asks_memory v = by (is_some v.features)
     by false = refl
 
 -- of what happens alone nothing is remembered
-single_memory : (policy : Policy) (more : Occurrence) (v : Channels) → is_single more ≡ true → (value_after policy more v).memory ≡ v.memory
+pub single_memory : (policy : Policy) (more : Occurrence) (v : Channels) → is_single more ≡ true → (value_after policy more v).memory ≡ v.memory
 single_memory policy (Comes pdu) v is = cc
 single_memory policy (Connects psm) v is = (connects-lasts psm v).1
 single_memory policy AsksFeatures v is = asks_memory v

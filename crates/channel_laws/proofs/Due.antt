@@ -5,14 +5,11 @@ use Rattle.std.proofs.lemmas.Bool.{eqb-true, ltb-false, ltb-true}
 use Rattle.l2cap_signal.specs.Commands.{connection_request}
 use Rattle.l2cap_config.specs.declared.wish.Wish.{Wish}
 use Rattle.link_talk.specs.Sayings.{Saying}
-use Rattle.link_talk.specs.Sayings as sayings
 use Rattle.link_talk.specs.Channels.{reading}
-use Rattle.channel_model.specs.declared.errand.Errand.TheVariants as errands
 use Rattle.channel_model.specs.declared.event.ChannelEvent.{ChannelEvent}
 use Rattle.channel_model.specs.Value.{Request, Carrier, no_setup, Stage, Requested, Connected, Leaving, Closing, Crossed, Held, Channels}
 use Rattle.channel_model.specs.Policies.{Policy}
 use Rattle.channel_model.specs.Changing.{has_own, held_at}
-use Rattle.channel_model.specs.Asking.{asks}
 use Rattle.channel_model.specs.Following.{with_channel, follows}
 use Rattle.channel_model.specs.Answers.{connection_result}
 use Rattle.channel_model.proofs.Going.{staged, StageGoes, Moves, new_held, Walks}

@@ -53,11 +53,11 @@ use Rattle.channel_laws.proofs.Ferrying.{Flight, Reach, Owes, Grows, IsBasic, Wa
 -- ---- the host that sends
 
 -- it has the channel as it is
-record Sends_so (channel : Channel) (end' : End) : Type 0 where
-  high : 0x0040 ≤ channel.peer
-  sound : IsSound end'.policy end'.run
-  sole : IsSole channel.own channel.peer end'.run.value
-  basic : IsBasic channel.own end'.run.value
+pub record Sends_so (channel : Channel) (end' : End) : Type 0 where
+  pub high : 0x0040 ≤ channel.peer
+  pub sound : IsSound end'.policy end'.run
+  pub sole : IsSole channel.own channel.peer end'.run.value
+  pub basic : IsBasic channel.own end'.run.value
 
 -- by what it does
 abbrev After : Way → Channel → Pair → Occurrence → Type 0
@@ -138,7 +138,7 @@ comes_owed W channel pair pdu so h = by (eqb (channel_of pdu) 0x0001)
         (owes-walked policy channel.own _ _ _ v w so.sound.core.held_below (λ rest. takes-goes policy Stays _ (walks_on policy channel.own rest) (channel_of pdu) pdu v (λ machine open'. tt)) h)
 
 -- whatever happens at it
-near_owed : (W : Way) → ((came : List (List ℕ)) → Grows (W came)) → (channel : Channel) (pair : Pair) (happening : Happening) → Sends_so channel pair.near → DoesSo IsUttered happening pair.near → IsCarried happening pair.near → Delivers W channel pair → Delivers W channel (happens_near happening pair)
+pub near_owed : (W : Way) → ((came : List (List ℕ)) → Grows (W came)) → (channel : Channel) (pair : Pair) (happening : Happening) → Sends_so channel pair.near → DoesSo IsUttered happening pair.near → IsCarried happening pair.near → Delivers W channel pair → Delivers W channel (happens_near happening pair)
 near_owed W grows channel pair (Acts occurrence) so uttered carried h = by (is_alone occurrence) refl
   where
     by : (alone : Bool) → is_alone occurrence ≡ alone → Delivers W channel (cond alone (with_near (occurs occurrence pair.near) pair) pair)
@@ -207,7 +207,7 @@ came_for own v pdu basic = by (held_at own v) refl
     by (Some held) found = came_with own v pdu held held.stage basic found refl
 
 -- for its endpoint
-up_of_it : (own : ℕ) (ups : List Up) (v : Channels) (pdu : List ℕ) → 0x0040 ≤ own → channel_of pdu ≡ own → sdus_up own (ups ++ up (channel_of pdu) pdu v ∷ []) ≡ sdus_up own ups ++ option_to_list (sdu_for (held_at own v) pdu)
+pub up_of_it : (own : ℕ) (ups : List Up) (v : Channels) (pdu : List ℕ) → 0x0040 ≤ own → channel_of pdu ≡ own → sdus_up own (ups ++ up (channel_of pdu) pdu v ∷ []) ≡ sdus_up own ups ++ option_to_list (sdu_for (held_at own v) pdu)
 up_of_it own ups v pdu high to =
     up-more own ups (up (channel_of pdu) pdu v)
     ∙ ap (λ o. sdus_up own ups ++ option_to_list o)
@@ -215,7 +215,7 @@ up_of_it own ups v pdu high to =
     ∙ (ap (λ b. sdu_up own (cond b Nothing (up_at own pdu v))) (flipped 0x0001 own (low-apart own high)) ∙ up-here own (held_at own v) pdu (λ x is. found-has own_of own v.held x is)))
 
 -- for another one
-up_of_other : (own : ℕ) (ups : List Up) (v : Channels) (pdu : List ℕ) → eqb (channel_of pdu) own ≡ false → sdus_up own (ups ++ up (channel_of pdu) pdu v ∷ []) ≡ sdus_up own ups
+pub up_of_other : (own : ℕ) (ups : List Up) (v : Channels) (pdu : List ℕ) → eqb (channel_of pdu) own ≡ false → sdus_up own (ups ++ up (channel_of pdu) pdu v ∷ []) ≡ sdus_up own ups
 up_of_other own ups v pdu away = up-nothing own ups (up (channel_of pdu) pdu v) (by (eqb (channel_of pdu) 0x0001))
   where
     by : (signal : Bool) → sdu_up own (cond signal Nothing (up_at (channel_of pdu) pdu v)) ≡ None
@@ -235,7 +235,7 @@ first_comes W again policy own sent flight came x now v (inr some) owes = subst 
 })
 
 -- it is under way no more
-first_done : (policy : Policy) (own : ℕ) (sent flight : List (List ℕ)) (x : List ℕ) (R R' : Reach) (v : Channels) → ((done : List (List ℕ)) → R done (x ∷ flight) → R' (done ++ x ∷ []) flight) → Owes policy own sent (x ∷ flight) R v → Owes policy own sent flight R' v
+pub first_done : (policy : Policy) (own : ℕ) (sent flight : List (List ℕ)) (x : List ℕ) (R R' : Reach) (v : Channels) → ((done : List (List ℕ)) → R done (x ∷ flight) → R' (done ++ x ∷ []) flight) → Owes policy own sent (x ∷ flight) R v → Owes policy own sent flight R' v
 first_done policy own sent flight x R R' v by owes = record {
   done = owes.done ++ x ∷ [];
   rest = owes.rest;
@@ -256,7 +256,7 @@ first_taken W reaches policy own sent flight came x now v (inr some) owes =
     subst (λ o. Owes policy own sent flight (W (came ++ option_to_list o)) v) (sym some) (first_done policy own sent flight x (W came) (W (came ++ x ∷ [])) v (λ done. reaches.comes came done flight x) owes)
 
 -- what the other host owes it
-abbrev Owed : Way → Channel → Pair → (coming : List (List ℕ)) → List Up → Type 0
+abbrev pub Owed : Way → Channel → Pair → (coming : List (List ℕ)) → List Up → Type 0
 Owed W channel pair coming ups = Owes pair.far.policy channel.peer (sent_on (mirrored channel) pair.far.run.said) (Flight channel.own coming) (W (sdus_up channel.own ups)) pair.far.run.value
 
 record Takes_so (channel : Channel) (end' : End) : Type 0 where
@@ -264,15 +264,15 @@ record Takes_so (channel : Channel) (end' : End) : Type 0 where
   basic : IsBasic channel.own end'.run.value
 
 -- something comes in for another endpoint
-other_in : (W : Way) (channel : Channel) (pair : Pair) (pdu : List ℕ) (coming : List (List ℕ)) → eqb (channel_of pdu) channel.own ≡ false → Owed W channel pair coming pair.near.run.up → Owed W channel pair coming (pair.near.run.up ++ up (channel_of pdu) pdu pair.near.run.value ∷ [])
+pub other_in : (W : Way) (channel : Channel) (pair : Pair) (pdu : List ℕ) (coming : List (List ℕ)) → eqb (channel_of pdu) channel.own ≡ false → Owed W channel pair coming pair.near.run.up → Owed W channel pair coming (pair.near.run.up ++ up (channel_of pdu) pdu pair.near.run.value ∷ [])
 other_in W channel pair pdu coming away h =
     subst (λ c. Owes pair.far.policy channel.peer (sent_on (mirrored channel) pair.far.run.said) (Flight channel.own coming) (W c) pair.far.run.value) (sym (up_of_other channel.own pair.near.run.up pair.near.run.value pdu away)) h
 
 -- the first is for its endpoint, or not
-flight_first : (own : ℕ) (pdu : List ℕ) (coming : List (List ℕ)) → eqb (channel_of pdu) own ≡ true → Flight own (pdu ∷ coming) ≡ drop 4 pdu ∷ Flight own coming
+pub flight_first : (own : ℕ) (pdu : List ℕ) (coming : List (List ℕ)) → eqb (channel_of pdu) own ≡ true → Flight own (pdu ∷ coming) ≡ drop 4 pdu ∷ Flight own coming
 flight_first own pdu coming here = ap (λ b. map (drop 4) (cond b (pdu ∷ under_way own coming) (under_way own coming))) here
 
-flight_other : (own : ℕ) (pdu : List ℕ) (coming : List (List ℕ)) → eqb (channel_of pdu) own ≡ false → Flight own (pdu ∷ coming) ≡ Flight own coming
+pub flight_other : (own : ℕ) (pdu : List ℕ) (coming : List (List ℕ)) → eqb (channel_of pdu) own ≡ false → Flight own (pdu ∷ coming) ≡ Flight own coming
 flight_other own pdu coming away = ap (λ b. map (drop 4) (cond b (pdu ∷ under_way own coming) (under_way own coming))) away
 
 -- the first comes in, and stays
@@ -342,7 +342,7 @@ unchecked own v pdu basic = of (held_at own v) refl
     of (Some held) found checked = on held held.stage found refl checked
 
 -- by what it does
-acts_up : (own : ℕ) (more : Occurrence) (v : Channels) → is_alone more ≡ true → sdu_up own (up_with more v) ≡ None
+pub acts_up : (own : ℕ) (more : Occurrence) (v : Channels) → is_alone more ≡ true → sdu_up own (up_with more v) ≡ None
 acts_up own (Comes pdu) v alone = cc
 acts_up own (Connects psm) v alone = refl
 acts_up own AsksFeatures v alone = refl
@@ -352,7 +352,7 @@ acts_up own (Gives pdu) v alone = cc
 acts_up own Fires v alone = refl
 acts_up own Tells v alone = refl
 
-none_up : (W : Way) (channel : Channel) (pair : Pair) (coming : List (List ℕ)) (now : Up) → sdu_up channel.own now ≡ None → Owed W channel pair coming pair.near.run.up → Owed W channel pair coming (pair.near.run.up ++ now ∷ [])
+pub none_up : (W : Way) (channel : Channel) (pair : Pair) (coming : List (List ℕ)) (now : Up) → sdu_up channel.own now ≡ None → Owed W channel pair coming pair.near.run.up → Owed W channel pair coming (pair.near.run.up ++ now ∷ [])
 none_up W channel pair coming now none h = subst (λ c. Owes pair.far.policy channel.peer (sent_on (mirrored channel) pair.far.run.said) (Flight channel.own coming) (W c) pair.far.run.value) (sym (up-nothing channel.own pair.near.run.up now none)) h
 
 -- whatever happens at it
@@ -409,11 +409,11 @@ pub record Ferries (W : Way) (channel : Channel) (pair : Pair) : Type 0 where
   pub there : Delivers W channel pair
   pub back : Delivers W (mirrored channel) (turned pair)
 
-record Ends_so (channel : Channel) (pair : Pair) : Type 0 where
-  near_sole : IsSole channel.own channel.peer pair.near.run.value
-  near_basic : IsBasic channel.own pair.near.run.value
-  far_sole : IsSole channel.peer channel.own pair.far.run.value
-  far_basic : IsBasic channel.peer pair.far.run.value
+pub record Ends_so (channel : Channel) (pair : Pair) : Type 0 where
+  pub near_sole : IsSole channel.own channel.peer pair.near.run.value
+  pub near_basic : IsBasic channel.own pair.near.run.value
+  pub far_sole : IsSole channel.peer channel.own pair.far.run.value
+  pub far_basic : IsBasic channel.peer pair.far.run.value
 
 record High (channel : Channel) : Type 0 where
   own : 0x0040 ≤ channel.own
@@ -455,7 +455,7 @@ first_owes W reaches policy channel far = record {
   back = record { done = []; rest = []; sent_is = refl; reached = reaches.first; held = tt; before = λ above. refl };
 }
 
-ends_at : (near far : Policy) (turns : List Turn) (channel : Channel) → AreRead near far turns → HaveChannel near far turns channel → OneWishes near far channel.psm Basic → (front behind : List Turn) → turns ≡ front ++ behind → Ends_so channel (pair_of near far front)
+pub ends_at : (near far : Policy) (turns : List Turn) (channel : Channel) → AreRead near far turns → HaveChannel near far turns channel → OneWishes near far channel.psm Basic → (front behind : List Turn) → turns ≡ front ++ behind → Ends_so channel (pair_of near far front)
 ends_at near far turns channel read have wish front behind is = record {
   near_sole = near_so.0;
   near_basic = one-wished Basic _ _ channel.own (pair_of near far front).near.run.value wish near_so.1;

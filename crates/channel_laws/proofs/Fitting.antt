@@ -1,5 +1,5 @@
 -- The channels of a host have endpoints, PSMs and identifiers that fit their fields, whatever happens.
-use Rattle.std.proofs.Common.{◌≡◌, ℕ, ◌+◌, ◌^◌, ◌<◌, ◌≤◌, List, [], ◌∷◌, ◌++◌, map, Bool, true, false, cond, eqb, not, Option, Some, None, Result, Ok, Err, refl, subst, arith}
+use Rattle.std.proofs.Common.{◌≡◌, ℕ, ◌+◌, ◌^◌, ◌<◌, ◌≤◌, List, [], ◌∷◌, ◌++◌, map, Bool, true, false, cond, eqb, not, Option, Some, None, Result, Ok, Err, refl, subst, arith, ◌||◌}
 use Rattle.std.specs.Prelude.{find, filter, nat_le, ◌&&◌, is_some, option_map}
 use Rattle.std.specs.List.{AllByRecursion}
 use Rattle.std.proofs.lemmas.Bool.{leb-true}
@@ -23,7 +23,7 @@ use Rattle.channel_model.specs.declared.event.CloseReason.{CloseReason}
 use Rattle.channel_model.specs.declared.event.CloseReason.TheVariants.{NoAgreement, Refused, OwnClosed, RetryLimit}
 use Rattle.channel_model.specs.Value.{Request, Queued, Answer, Ask, Own, Unasked, Asking, Granted, Carrier, Plain, Retransmitting, Setup, no_setup, Stage, Requested, Connected, Leaving, Closing, Crossed, Held, Channels}
 use Rattle.channel_model.specs.Policies.{Policy}
-use Rattle.channel_model.specs.Changing.{has_own, in_place_of, held_at, is_peer, to_stage, gone, setup_of, has_fcs_by, is_open, stage_with, with_setup, to_setup}
+use Rattle.channel_model.specs.Changing.{has_own, in_place_of, held_at, is_peer, to_stage, gone, setup_of, has_fcs_by, is_open, stage_with, with_setup, to_setup, is_leaving}
 use Rattle.channel_model.specs.Asking.{next_identifier, new_request, asks, asks_options, Fired, StillDue, OnceMore, Spent, fired}
 use Rattle.channel_model.specs.Closing.{closes, closes_at, peer_closes_at, ends, ends_at}
 use Rattle.channel_model.specs.Configuring.{accepted_setup, accepts_with, without_parts, refused_setup, follows_answer, opens_if, granted_setup, grants}
@@ -290,7 +290,7 @@ module _ (F : ℕ → Type 0) where
   settled_fits (Again options) held setup v one so fits =
       let after : Setup = renewed_setup setup in
       let renewed : FitsSetup after = record { own = so.own; parts = so.parts } in
-      either (nat_le 3 after.renewed) (closes NoAgreement (with_setup held after) (to_setup held after v)) (asks_options held after options v) (third held after v one renewed fits) (options_asked held after options v one renewed fits)
+      either (is_leaving held.stage || nat_le 3 after.renewed) (closes NoAgreement (with_setup held after) (to_setup held after v)) (asks_options held after options v) (third held after v one renewed fits) (options_asked held after options v one renewed fits)
   settled_fits Wait held setup v one so fits = fits
   settled_fits Never held setup v one so fits = closed held.stage NoAgreement held v one.stage one fits
 

@@ -179,7 +179,7 @@ behind party channel policy past said v w nearly sound =
 
 -- ---- a request of the peer
 
-alike_goes : (own : ℕ) (v u w : Channels) → IsAlike v u → GoesAt own u w → GoesAt own v w
+pub alike_goes : (own : ℕ) (v u w : Channels) → IsAlike v u → GoesAt own u w → GoesAt own v w
 alike_goes own v u w alike (inl (inl none)) = inl (inl none)
 alike_goes own v u w alike (inl (inr stays)) = inl (inr (stays ∙ ap (λ hs. asked_on (find (has_own own) hs)) alike.held_is))
 alike_goes own v u w alike (inr (inl anew)) = inr (inl (record { next = anew.next ∙ ap next_identifier alike.identifier_is; newest_is = anew.newest_is; asked = anew.asked ∙ ap (λ i. Some (Some i)) alike.identifier_is }))

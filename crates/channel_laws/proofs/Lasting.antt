@@ -1,5 +1,5 @@
 -- What a host asks of its peer's features, and what it remembers of its answers, changes only with a question or an answer.
-use Rattle.std.proofs.Common.{◌≡◌, ℕ, List, [], ◌∷◌, ◌++◌, Bool, true, false, cond, eqb, not, Option, Some, None, Result, Ok, Err, refl, ap, ◌∙◌}
+use Rattle.std.proofs.Common.{◌≡◌, ℕ, List, [], ◌∷◌, ◌++◌, Bool, true, false, cond, eqb, not, Option, Some, None, Result, Ok, Err, refl, ap, ◌∙◌, ◌||◌}
 use Rattle.std.specs.Prelude.{find, filter, option_map, is_some, nat_le}
 use Rattle.l2cap_signal.specs.Commands.{Content, reject, connection_request, connection_response, configuration_request, configuration_response, disconnection_request, disconnection_response, echo_request, echo_response, information_request, information_response}
 use Rattle.l2cap_config.specs.declared.options.Options.{Options}
@@ -21,7 +21,7 @@ use Rattle.channel_model.specs.declared.event.CloseReason.TheVariants.{NoAgreeme
 use Rattle.channel_model.specs.Value.{Request, Queued, Answer, Ask, Own, Unasked, Asking, Granted, Carrier, Plain, Retransmitting, Setup, no_setup, Stage, Requested, Connected, Leaving, Closing, Crossed, Held, Channels}
 use Rattle.channel_model.specs.Policies.{Policy}
 use Rattle.l2cap_signal.specs.Commands.{Command}
-use Rattle.channel_model.specs.Changing.{is_copy, is_copy_about, forgets, held_at, is_peer, setup_of, stage_with, with_setup, to_setup}
+use Rattle.channel_model.specs.Changing.{is_copy, is_copy_about, forgets, held_at, is_peer, setup_of, stage_with, with_setup, to_setup, is_leaving}
 use Rattle.channel_model.specs.Asking.{new_request, asks, asks_options, Fired, StillDue, OnceMore, Spent, fired}
 use Rattle.channel_model.specs.Closing.{closes, closes_at, peer_closes_at, ends_at, ends}
 use Rattle.channel_model.specs.Configuring.{Verdict, NoChannel, TooLate, Unreadable, Incomplete, Judged, verdict, accepted_setup, accepts_with, refused_setup, follows_answer, follows_verdict, opens_if, granted_setup, grants}
@@ -183,7 +183,7 @@ settled_lasts : (v : Channels) (now : Settled) (held : Held) (setup : Setup) →
 settled_lasts v Accepted held setup = grants_last v held setup
 settled_lasts v (Again options) held setup =
     let after : Setup = renewed_setup setup in
-    either (nat_le 3 after.renewed) v (closes NoAgreement (with_setup held after) (to_setup held after v)) (asks_options held after options v) (third_lasts v held after) (refl, refl, asked-with (errands.Configuration held.own) v.queue)
+    either (is_leaving held.stage || nat_le 3 after.renewed) v (closes NoAgreement (with_setup held after) (to_setup held after v)) (asks_options held after options v) (third_lasts v held after) (refl, refl, asked-with (errands.Configuration held.own) v.queue)
 settled_lasts v Wait held setup = (refl, refl, refl)
 settled_lasts v Never held setup = closes_lasts v held NoAgreement held.stage
 

@@ -114,3 +114,14 @@ pub mod Drawing
 pub mod Submitting
 pub mod Taken
 pub mod Delivered
+pub mod Marking
+pub mod Pacing
+pub mod Leading
+pub mod Timekeeping
+pub mod Shown
+pub mod Assents
+pub mod Assenting
+pub mod Trusting
+pub mod Hushed
+pub mod Ordered
+pub mod PlainTaken

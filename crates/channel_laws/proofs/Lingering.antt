@@ -1,6 +1,6 @@
 -- What is known of the options of each channel, and of what was agreed on, stays known with each step but a request of the peer for
 -- options.
-use Rattle.std.proofs.Common.{◌≡◌, ℕ, List, [], ◌∷◌, ◌++◌, map, Bool, true, false, cond, eqb, not, Option, Some, None, Result, Ok, Err, refl, sym, ap, subst, ◌∙◌}
+use Rattle.std.proofs.Common.{◌≡◌, ℕ, List, [], ◌∷◌, ◌++◌, map, Bool, true, false, cond, eqb, not, Option, Some, None, Result, Ok, Err, refl, sym, ap, subst, ◌∙◌, ◌||◌}
 use Rattle.std.specs.Prelude.{find, filter, is_some, option_map, nat_le}
 use Rattle.std.specs.List.{AllByRecursion}
 use Rattle.l2cap_signal.specs.Commands.{Content}
@@ -24,7 +24,7 @@ use Rattle.channel_model.specs.declared.event.CloseReason.TheVariants.{NoAgreeme
 use Rattle.channel_model.specs.declared.request_kind.RequestKind.{RequestKind}
 use Rattle.channel_model.specs.Value.{Request, Queued, Answer, Ask, Own, Unasked, Asking, Granted, Carrier, Plain, Retransmitting, Setup, no_setup, Stage, Requested, Connected, Leaving, Closing, Crossed, Held, Remembered, Channels}
 use Rattle.channel_model.specs.Policies.{Policy}
-use Rattle.channel_model.specs.Changing.{has_own, in_place_of, held_at, is_peer, to_stage, gone, setup_of, has_fcs_by, is_open, stage_with, with_setup, to_setup, forgets}
+use Rattle.channel_model.specs.Changing.{has_own, in_place_of, held_at, is_peer, to_stage, gone, setup_of, has_fcs_by, is_open, stage_with, with_setup, to_setup, forgets, is_leaving}
 use Rattle.channel_model.specs.Asking.{new_request, asks, asks_options, first_options, Fired, StillDue, OnceMore, Spent, fired}
 use Rattle.channel_model.specs.Closing.{closes, closes_at, peer_closes_at, ends, ends_at}
 use Rattle.channel_model.specs.Configuring.{accepts_with, opens_if, granted_setup, grants}
@@ -225,7 +225,7 @@ module _ (S : (psm own : ℕ) → Setup → Type 0) (lingers : Lingers S) where
   settled_has (Again options) held setup v so has =
       let after : Setup = renewed_setup setup in
       let renewed : S held.psm held.own after = lingers.same held.psm held.own setup after refl refl so in
-      either (nat_le 3 after.renewed) (closes NoAgreement (with_setup held after) (to_setup held after v)) (asks_options held after options v) (third held after v renewed has) (asked held after options v renewed has)
+      either (is_leaving held.stage || nat_le 3 after.renewed) (closes NoAgreement (with_setup held after) (to_setup held after v)) (asks_options held after options v) (third held after v renewed has) (asked held after options v renewed has)
   settled_has Wait held setup v so has = has
   settled_has Never held setup v so has = closed held.stage NoAgreement held v has
 

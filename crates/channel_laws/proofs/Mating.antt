@@ -51,11 +51,11 @@ is_there policy held peer said v reads found to =
     there_by policy held peer said (read_at held.own (reading said).entries) refl
     (subst (λ p. ReadsBy policy held p (read_at held.own (reading said).entries)) to (subst (λ h. Reads policy h (read_at held.own (reading said).entries)) found reads))
 
-same_channel : (a b : Channel) (found : Option Entry) → IsOf a found → IsOf b found → a ≡ b
+pub same_channel : (a b : Channel) (found : Option Entry) → IsOf a found → IsOf b found → a ≡ b
 same_channel a b None one two = elim one [ ]
 same_channel a b (Some entry) one two = sym one ∙ two
 
-stays_other : (near far : Policy) (side : Side) (past rest : List Turn) (channel : Channel) (own : ℕ) → IsOf channel (read_at own (reading (end_at side (turned (pair_of near far past))).run.said).entries)
+pub stays_other : (near far : Policy) (side : Side) (past rest : List Turn) (channel : Channel) (own : ℕ) → IsOf channel (read_at own (reading (end_at side (turned (pair_of near far past))).run.said).entries)
     → IsOf channel (read_at own (reading (end_at side (turned (pair_of near far (past ++ rest)))).run.said).entries)
 stays_other near far Near past rest channel own is = stays-of near far Far past rest channel own is
 stays_other near far Far past rest channel own is = stays-of near far Near past rest channel own is

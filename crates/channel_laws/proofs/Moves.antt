@@ -13,7 +13,7 @@ use Rattle.link_talk.specs.Requests.{Requests, requests_after}
 use Rattle.link_talk.specs.Meanings.{Meaning, Part, Parts, meant}
 use Rattle.link_talk.specs.Setups as read
 use Rattle.link_talk.specs.Channels.{life_after, is_there, Entry, entry_after, made_by, entries_after, Reading, read_on}
-use Rattle.channel_model.specs.Value.{Setup, Stage, Requested, Connected, Leaving, Closing, Crossed, Held, Memory, Channels}
+use Rattle.channel_model.specs.Value.{Stage, Requested, Connected, Leaving, Closing, Crossed, Held, Memory, Channels}
 use Rattle.channel_model.specs.Policies.{Policy}
 use Rattle.channel_model.specs.Changing.{has_own, has_fcs_by}
 use Rattle.channel_laws.specs.Views.{peer_of, life_of, Standing, Unread, Agreeing, Shut, standing, channel_by, IsThere, read_at}

@@ -54,7 +54,7 @@ mild_features party channel w None after = mild-none party channel w
 mild_features party channel w (Some request) None = mild-one party channel w (GaveUp (sayings.Information request.identifier)) (λ asked. refl) (λ past entry. refl)
 mild_features party channel w (Some request) (Some other) = mild-none party channel w
 
-lost_rests : (tries : ℕ) (v : Channels) (features : Option Request) → Rests v (times_features features tries v)
+pub lost_rests : (tries : ℕ) (v : Channels) (features : Option Request) → Rests v (times_features features tries v)
 lost_rests tries v None = same-rests v v refl
 lost_rests tries v (Some request) = by (is_due errands.Features v) (nat_le tries request.given)
   where

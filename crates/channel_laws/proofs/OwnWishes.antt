@@ -68,7 +68,7 @@ abbrev WishAt : Policy → ℕ → Reading → Type 0
 WishAt policy n r = (entry : Entry) → read_at n r.entries ≡ Some entry → IsWishIfThere policy entry
 
 -- something of what is read goes on with a meaning
-goes_on : (P : Entry → Type 0) → ((channel : Channel) → P (fresh channel)) → (n : ℕ) (entries : List Entry) (m : Meaning) → ((x : Entry) → read_at n entries ≡ Some x → P x) → ((x : Entry) → read_at n entries ≡ Some x → P (entry_after m x))
+pub goes_on : (P : Entry → Type 0) → ((channel : Channel) → P (fresh channel)) → (n : ℕ) (entries : List Entry) (m : Meaning) → ((x : Entry) → read_at n entries ≡ Some x → P x) → ((x : Entry) → read_at n entries ≡ Some x → P (entry_after m x))
     → (entry : Entry) → read_at n (entries_after entries m) ≡ Some entry → P entry
 goes_on P first n entries m was goes entry at = by (made_by m) refl
   where
@@ -87,7 +87,7 @@ goes_on P first n entries m was goes entry at = by (made_by m) refl
 
 -- ---- sayings that ask for no options
 
-abbrev is_wishes : Meaning → Bool
+abbrev pub is_wishes : Meaning → Bool
 is_wishes (Makes channel) = false
 is_wishes (Answers part) = false
 is_wishes (Wishes identifier peer options) = true
@@ -95,7 +95,7 @@ is_wishes (Settles identifier own) = false
 is_wishes (Parts said own peer) = false
 is_wishes Nothing = false
 
-asked_same : (x : Entry) (m : Meaning) → is_wishes m ≡ false → (entry_after m x).setup.asked ≡ x.setup.asked
+pub asked_same : (x : Entry) (m : Meaning) → is_wishes m ≡ false → (entry_after m x).setup.asked ≡ x.setup.asked
 asked_same x m mild = by m mild
   where
     still : (there : Bool) (setup : read.Setup) → setup.asked ≡ x.setup.asked → (cond there setup x.setup).asked ≡ x.setup.asked
@@ -124,7 +124,7 @@ asked_same x m mild = by m mild
     by (Parts said own peer) is = still (is_there x.life) x.setup refl
     by Nothing is = still (is_there x.life) x.setup refl
 
-abbrev IsMild : Saying → Type 0
+abbrev pub IsMild : Saying → Type 0
 IsMild s = (asked : Requests) → is_wishes (meant asked (sense s)) ≡ false
 
 mild_if : (b : Bool) (m : Meaning) → is_wishes m ≡ false → is_wishes (cond b m Nothing) ≡ false
@@ -143,7 +143,7 @@ answered_mild : (peer flags answer : ℕ) (terms : Option Terms) → is_wishes (
 answered_mild peer flags answer None = refl
 answered_mild peer flags answer (Some terms) = refl
 
-heard_mild : (one : Read) → IsMild (Command Into one)
+pub heard_mild : (one : Read) → IsMild (Command Into one)
 heard_mild (Ok command) asked = by command.content
   where
     by : (content : Content) → is_wishes (meant asked (sense (Command Into (Ok (command_with command.identifier content))))) ≡ false
@@ -170,7 +170,7 @@ heard_mild (Err (UnknownCode code identifier)) asked = refl
 heard_mild (Err (AboveMtu code identifier)) asked = refl
 
 -- nor does a response
-spoken_mild : (identifier : ℕ) (content : Content) → is_response content ≡ true → IsMild (spoken (command_with identifier content))
+pub spoken_mild : (identifier : ℕ) (content : Content) → is_response content ≡ true → IsMild (spoken (command_with identifier content))
 spoken_mild identifier (reject reason rest) is asked = refl
 spoken_mild identifier (connection_request psm source) is asked = cc
 spoken_mild identifier (connection_response destination source answer status) is asked = mild_if (eqb answer 0 && nat_le 0x0040 destination) _ (granted_mild destination source (answered_call asked Into identifier source))

@@ -1,5 +1,5 @@
 -- An endpoint is given to a new channel alone: whatever else happens, the next one stays.
-use Rattle.std.proofs.Common.{◌≡◌, ℕ, List, [], ◌∷◌, Bool, true, false, cond, eqb, Option, Some, None, Result, Ok, Err, refl, ◌∙◌}
+use Rattle.std.proofs.Common.{◌≡◌, ℕ, List, [], ◌∷◌, Bool, true, false, cond, eqb, Option, Some, None, Result, Ok, Err, refl, ◌∙◌, ◌||◌}
 use Rattle.std.specs.Prelude.{find, is_some, nat_le}
 use Rattle.l2cap_config.specs.declared.agreement.ConfigAnswer.{ConfigAnswer}
 use Rattle.l2cap_config.specs.declared.agreement.ConfigAnswer.TheVariants.{Accept, Unacceptable, Unknown}
@@ -21,7 +21,7 @@ use Rattle.channel_model.specs.declared.event.CloseReason.{CloseReason}
 use Rattle.channel_model.specs.declared.event.CloseReason.TheVariants.{Refused, NoAgreement, RetryLimit, OwnClosed}
 use Rattle.channel_model.specs.Value.{Request, Queued, Answer, Ask, Own, Unasked, Asking, Granted, Carrier, Plain, Retransmitting, Setup, Stage, Requested, Connected, Leaving, Closing, Crossed, Held, Channels}
 use Rattle.channel_model.specs.Policies.{Policy}
-use Rattle.channel_model.specs.Changing.{held_at, setup_of, with_setup, to_setup, is_peer, forgets, tells}
+use Rattle.channel_model.specs.Changing.{held_at, setup_of, with_setup, to_setup, is_peer, forgets, tells, is_leaving}
 use Rattle.channel_model.specs.Asking.{Fired, StillDue, OnceMore, Spent, fired, asks, asks_options, new_request}
 use Rattle.channel_model.specs.Closing.{closes_at, closes, peer_closes_at, ends_at, ends}
 use Rattle.channel_model.specs.Configuring.{Verdict, NoChannel, TooLate, Unreadable, Incomplete, Judged, verdict, accepts_with, accepted_setup, refused_setup, follows_answer, follows_verdict, opens_if, granted_setup}
@@ -151,7 +151,7 @@ settled_next : (now : Settled) (held : Held) (setup : Setup) (v : Channels) → 
 settled_next Accepted held setup v = opens_next (is_some setup.carrier) held (to_setup held (granted_setup setup) (forgets (errands.Configuration held.own) v))
 settled_next (Again options) held setup v =
     let after = renewed_setup setup in
-    either (nat_le 3 after.renewed) v (closes NoAgreement (with_setup held after) (to_setup held after v)) (asks_options held after options v) (closes_next (with_setup held after).stage NoAgreement (with_setup held after) (to_setup held after v)) refl
+    either (is_leaving held.stage || nat_le 3 after.renewed) v (closes NoAgreement (with_setup held after) (to_setup held after v)) (asks_options held after options v) (closes_next (with_setup held after).stage NoAgreement (with_setup held after) (to_setup held after v)) refl
 settled_next Wait held setup v = refl
 settled_next Never held setup v = closes_next held.stage NoAgreement held v
 

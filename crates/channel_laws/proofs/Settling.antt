@@ -1,5 +1,5 @@
 -- The peer responds to a request for options, or for an end.
-use Rattle.std.proofs.Common.{◌≡◌, ℕ, List, [], ◌∷◌, fold, Bool, true, false, cond, ◌&&◌, eqb, Option, Some, None, Result, Ok, Err, refl, sym, ap, subst, ◌∙◌}
+use Rattle.std.proofs.Common.{◌≡◌, ℕ, List, [], ◌∷◌, fold, Bool, true, false, cond, ◌&&◌, eqb, Option, Some, None, Result, Ok, Err, refl, sym, ap, subst, ◌∙◌, ◌||◌}
 use Rattle.std.specs.Prelude.{find, option_map, nat_le}
 use Rattle.std.proofs.lemmas.Bool.{eqb-true}
 use Rattle.capture.specs.declared.flow.Flow.TheVariants.{Into}
@@ -26,7 +26,7 @@ use Rattle.channel_model.specs.declared.errand.Errand.TheVariants.{Configuration
 use Rattle.channel_model.specs.declared.event.CloseReason.TheVariants.{NoAgreement, OwnClosed}
 use Rattle.channel_model.specs.Value.{Asking, Setup, Stage, Requested, Connected, Leaving, Closing, Crossed, Held, Channels}
 use Rattle.channel_model.specs.Policies.{Policy}
-use Rattle.channel_model.specs.Changing.{has_own, held_at, is_peer, setup_of, to_setup, stage_with, with_setup}
+use Rattle.channel_model.specs.Changing.{has_own, held_at, is_peer, setup_of, to_setup, stage_with, with_setup, is_leaving}
 use Rattle.channel_model.specs.Asking.{new_request, asks_options}
 use Rattle.channel_model.specs.Closing.{closes_at, ends_at}
 use Rattle.channel_model.specs.Configuring.{grants, granted_setup}
@@ -92,7 +92,7 @@ closes-after policy r v held peer setup after talks parts agrees sound =
 
 renews-sound : (policy : Policy) (r : Reading) (v : Channels) (held : Held) (peer : ℕ) (setup : Setup) (options : Options) → Talks v held peer setup → IsRequested (policy.wish held.psm) options → Sound policy r v
     → (let w : Channels = renews options held (renewed_setup setup) v in Sound policy (fold read_on r (asked_between v w)) w)
-renews-sound policy r v held peer setup options talks states sound = by (nat_le 3 (renewed_setup setup).renewed)
+renews-sound policy r v held peer setup options talks states sound = by (is_leaving held.stage || nat_le 3 (renewed_setup setup).renewed)
   where
     by : (third : Bool) → (let w : Channels = cond third (closes_at (stage_with (renewed_setup setup) held.stage) NoAgreement (with_setup held (renewed_setup setup)) (to_setup held (renewed_setup setup) v)) (asks_options held (renewed_setup setup) options v) in
         Sound policy (fold read_on r (asked_between v w)) w)

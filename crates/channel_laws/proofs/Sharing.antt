@@ -142,7 +142,7 @@ same_grows policy run = ([], refl)
 occurs_grows : (end' : End) (coming : List (List ℕ)) (more : Occurrence) → Grows end'.policy end'.run (occurs more (let_go coming end')).run
 occurs_grows end' coming more = (more ∷ [], refl)
 
-near_grows : (happening : Happening) (pair : Pair) → Grows pair.near.policy pair.near.run (happens_near happening pair).near.run × ((happens_near happening pair).far.run ≡ pair.far.run)
+pub near_grows : (happening : Happening) (pair : Pair) → Grows pair.near.policy pair.near.run (happens_near happening pair).near.run × ((happens_near happening pair).far.run ≡ pair.far.run)
 near_grows (Acts occurrence) pair = by (is_alone occurrence)
   where
     by : (alone : Bool) → (let after : Pair = cond alone (with_near (occurs occurrence pair.near) pair) pair in Grows pair.near.policy pair.near.run after.near.run × (after.far.run ≡ pair.far.run))

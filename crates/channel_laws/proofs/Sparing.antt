@@ -1,5 +1,5 @@
 -- No step but a firing lets a request be given again.
-use Rattle.std.proofs.Common.{◌≡◌, ℕ, ◌+◌, ◌≤◌, List, [], ◌∷◌, ◌++◌, Bool, true, false, cond, eqb, not, Option, Some, None, Result, Ok, Err, refl, sym, ap, subst, ◌∙◌, ◌⊎◌, inl, inr, arith}
+use Rattle.std.proofs.Common.{◌≡◌, ℕ, ◌+◌, ◌≤◌, List, [], ◌∷◌, ◌++◌, Bool, true, false, cond, eqb, not, Option, Some, None, Result, Ok, Err, refl, sym, ap, subst, ◌∙◌, ◌⊎◌, inl, inr, arith, ◌||◌}
 use Rattle.std.specs.Prelude.{find, filter, option_map, is_some, nat_le}
 use Rattle.std.specs.Option.{option_or}
 use Rattle.l2cap_signal.specs.Commands.{Content, reject, connection_request, connection_response, configuration_request, configuration_response, disconnection_request, disconnection_response, echo_request, echo_response, information_request, information_response}
@@ -20,7 +20,7 @@ use Rattle.channel_model.specs.declared.event.CloseReason.{CloseReason}
 use Rattle.channel_model.specs.declared.event.CloseReason.TheVariants.{NoAgreement, Refused, OwnClosed}
 use Rattle.channel_model.specs.Value.{Request, Own, Unasked, Asking, Granted, Carrier, Plain, Retransmitting, Setup, no_setup, Stage, Requested, Connected, Leaving, Closing, Crossed, Held, Channels}
 use Rattle.channel_model.specs.Policies.{Policy}
-use Rattle.channel_model.specs.Changing.{has_own, has_fcs_by, held_at, is_peer, setup_of, stage_with, with_setup, to_setup, is_copy, is_copy_about, forgets}
+use Rattle.channel_model.specs.Changing.{has_own, has_fcs_by, held_at, is_peer, setup_of, stage_with, with_setup, to_setup, is_copy, is_copy_about, forgets, is_leaving}
 use Rattle.channel_model.specs.Asking.{new_request, first_options, asks_options}
 use Rattle.channel_model.specs.Closing.{closes, closes_at, peer_closes_at, ends_at, ends}
 use Rattle.channel_model.specs.Configuring.{Verdict, NoChannel, TooLate, Unreadable, Incomplete, Judged, verdict, accepted_setup, without_parts, accepts_with, refused_setup, follows_answer, follows_verdict, opens_if, granted_setup, grants}
@@ -232,7 +232,7 @@ settled_tame : (v : Channels) (now : Settled) (held : Held) (setup : Setup) → 
 settled_tame v Accepted held setup found is = grants_tame v held setup found is
 settled_tame v (Again options) held setup found is =
     let after : Setup = renewed_setup setup in
-    either (nat_le 3 after.renewed) v (closes NoAgreement (with_setup held after) (to_setup held after v)) (asks_options held after options v) (third_tame v held setup after refl found is) (asked_tame v held setup after options found is)
+    either (is_leaving held.stage || nat_le 3 after.renewed) v (closes NoAgreement (with_setup held after) (to_setup held after v)) (asks_options held after options v) (third_tame v held setup after refl found is) (asked_tame v held setup after options found is)
 settled_tame v Wait held setup found is = same-tame v
 settled_tame v Never held setup found is = closes-tame v held NoAgreement found
 

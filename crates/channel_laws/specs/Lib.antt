@@ -31,3 +31,7 @@ pub mod Agreements
 pub mod Whole
 pub mod Taken
 pub mod Delivered
+pub mod Pace
+pub mod Consent
+pub mod Ordered
+pub mod PlainTaken

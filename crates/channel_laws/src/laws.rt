@@ -5,6 +5,7 @@ ghost use Rattle.channel_laws.specs.Agreements.{AgreementsAreOnHeard};
 ghost use Rattle.channel_laws.specs.Armed.{ArmedIsWhatWaits};
 ghost use Rattle.channel_laws.specs.Awaited.{FeaturesAreAwaited, OptionsAreAwaited, RequestsAreAwaited};
 ghost use Rattle.channel_laws.specs.CheckWords.{CheckWordsAreRead, CheckWordsAreWished};
+ghost use Rattle.channel_laws.specs.Consent.{GrantsAreShown, SuccessesAccept};
 ghost use Rattle.channel_laws.specs.Endpoints.{EndpointsNameOneChannel};
 ghost use Rattle.channel_laws.specs.Endings.{EndsAreTold};
 ghost use Rattle.channel_laws.specs.Ends.{EachEndUtters};
@@ -12,7 +13,9 @@ ghost use Rattle.channel_laws.specs.Fit.{GivenIsFit};
 ghost use Rattle.channel_laws.specs.Frames.{FramesAreHeld};
 ghost use Rattle.channel_laws.specs.Laws.{ChannelsAreRead, EndpointsAreNew};
 ghost use Rattle.channel_laws.specs.Modes.{ModesAreOwn};
+ghost use Rattle.channel_laws.specs.Pace.{OptionsKeepPace};
 ghost use Rattle.channel_laws.specs.Pairs.{EachEndRuns};
+ghost use Rattle.channel_laws.specs.PlainTaken.{PlainTakenGoesOut};
 ghost use Rattle.channel_laws.specs.Repeats.{RepeatsAreAnswered};
 ghost use Rattle.channel_laws.specs.Sdus.{SdusAreRead};
 ghost use Rattle.channel_laws.specs.Services.{ChannelsAloneWait};
@@ -189,4 +192,27 @@ pub fn check_words_are_wished()
 /// What a host's own talk says that went out on an enhanced channel is a front of what its channel took, SDU for SDU.
 pub fn taken_goes_out()
     ensures { TakenGoesOut }
+{}
+
+/// A host that offers no channel asks for the options of a channel that it leaves at least as often as for its
+/// end: so its end is not given up while its options are to be asked for once more.
+pub fn options_keep_pace()
+    ensures { OptionsKeepPace }
+{}
+
+/// Whatever happens to a host: its request for options of a channel is accepted for it only where it heard success for it, or a PDU on
+/// the channel.
+pub fn grants_are_shown()
+    ensures { GrantsAreShown }
+{}
+
+/// Whatever happens to a host: where it said success to a request for options, it accepted options of a channel for that endpoint of its
+/// peer, or it heard a request of which more follows.
+pub fn successes_accept()
+    ensures { SuccessesAccept }
+{}
+
+/// What a host's own talk says that went out on a channel of which it wishes basic mode is what the channel took, SDU for SDU.
+pub fn plain_taken_goes_out()
+    ensures { PlainTakenGoesOut }
 {}

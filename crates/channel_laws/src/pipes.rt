@@ -3,10 +3,13 @@
 ghost use Rattle.channel_laws.specs.Arrivals.{BasicChannelsArrive, BasicChannelsComeOnce};
 ghost use Rattle.channel_laws.specs.Closings.{ClosingsAreRead};
 ghost use Rattle.channel_laws.specs.Common.{ChannelsAreCommon};
+ghost use Rattle.channel_laws.specs.Consent.{PeersHaveAccepted};
 ghost use Rattle.channel_laws.specs.Delivered.{TakenIsDelivered, WishedIsDelivered};
 ghost use Rattle.channel_laws.specs.Granted.{EndpointsAreGrantedOnce, EndpointsAskForOnePsm};
 ghost use Rattle.channel_laws.specs.Modes.{ModesAreCommon, ModesAreWished};
+ghost use Rattle.channel_laws.specs.Ordered.{BasicChannelsArePipes};
 ghost use Rattle.channel_laws.specs.Pipes.{EnhancedChannelsArePipes};
+ghost use Rattle.channel_laws.specs.PlainTaken.{PlainTakenIsDelivered};
 ghost use Rattle.channel_laws.specs.Pending.{NoneComesDue, OneOpens};
 ghost use Rattle.channel_laws.specs.Singly.{CallsAreOneByOne, GrantsAreSingle, NoneIsCalled};
 ghost use Rattle.channel_laws.specs.Suiting.{AgreementsStay, OptionsSuit};
@@ -114,4 +117,22 @@ pub fn taken_is_delivered()
 /// The same where both hosts wish enhanced mode of the channel's PSM, in whatever mode the talk of either has the channel so far.
 pub fn wished_is_delivered()
     ensures { WishedIsDelivered }
+{}
+
+/// Whatever a link loses, repeats and damages: where one end has a channel open, so that it may send on it, the other end has accepted
+/// options of it.
+pub fn peers_have_accepted()
+    ensures { PeersHaveAccepted }
+{}
+
+/// A basic channel that two hosts have in common, of which one of them wishes basic mode, is a pipe of SDUs each way that is ordered or
+/// breaks: what one host handed up of it is a front of what the other's own talk says that went out.
+pub fn basic_channels_are_pipes()
+    ensures { BasicChannelsArePipes }
+{}
+
+/// Where both hosts wish basic mode of its PSM: over a channel that they have in common there come, each way that is ordered or breaks,
+/// the SDUs that the channel took of the other host, in their order and with none left out.
+pub fn plain_taken_is_delivered()
+    ensures { PlainTakenIsDelivered }
 {}

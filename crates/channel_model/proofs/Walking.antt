@@ -1,5 +1,5 @@
 -- All that comes in, step by step.
-use Rattle.std.proofs.Common.{◌≡◌, ℕ, ◌+◌, ◌%◌, List, [], ◌∷◌, ◌++◌, Bool, true, false, cond, eqb, Option, Some, None, Result, Ok, Err, refl, sym, ap, subst, ◌∙◌, inl, inr}
+use Rattle.std.proofs.Common.{◌≡◌, ℕ, ◌+◌, ◌%◌, List, [], ◌∷◌, ◌++◌, Bool, true, false, cond, eqb, Option, Some, None, Result, Ok, Err, refl, sym, ap, subst, ◌∙◌, inl, inr, ◌||◌}
 use Rattle.std.specs.Prelude.{find, nat_le, is_some}
 use Rattle.l2cap_signal.specs.Commands.{Content, reject, connection_request, connection_response, configuration_request, configuration_response, disconnection_request, disconnection_response, echo_request, echo_response, information_request, information_response}
 use Rattle.l2cap_signal.specs.Reading.{Answer as Read}
@@ -23,7 +23,7 @@ use Rattle.channel_model.specs.declared.request_kind.RequestKind.{RequestKind}
 use Rattle.channel_model.specs.declared.request_kind.RequestKind.TheVariants as kinds
 use Rattle.channel_model.specs.Value.{Request, Own, Unasked, Asking, Granted, Carrier, Setup, no_setup, Stage, Requested, Connected, Leaving, Closing, Crossed, Held, Remembered, Channels}
 use Rattle.channel_model.specs.Policies.{Policy}
-use Rattle.channel_model.specs.Changing.{has_own, held_at, is_stated, has_fcs_by, is_open, is_peer, setup_of, stage_with, with_setup, to_setup, to_stage, forgets, tells}
+use Rattle.channel_model.specs.Changing.{has_own, held_at, is_stated, has_fcs_by, is_open, is_peer, setup_of, stage_with, with_setup, to_setup, to_stage, forgets, tells, is_leaving}
 use Rattle.channel_model.specs.Telling.{any_reason, closes_for, is_told_closed}
 use Rattle.channel_model.specs.Asking.{new_request, first_options, asks_options}
 use Rattle.channel_model.specs.Closing.{closes, closes_at, peer_closes_at, ends_at}
@@ -419,7 +419,7 @@ settled_goes : (policy : Policy) (C : Carrier → Carrier → Type 0) (R : Chann
     → setup_of held.stage ≡ Some setup → is_asked identifier setup.own ≡ true → R v (hears_settled now held setup v)
 settled_goes policy C R walks v held setup identifier Accepted found is asked = grants-goes policy C R walks v held setup found is (asked_stated identifier setup.own asked)
 settled_goes policy C R walks v held setup identifier (Again options) found is asked =
-    renews_go policy C R walks v held setup (renewed_setup setup) options (nat_le 3 (renewed_setup setup).renewed) found is refl refl (new_request v) (asked_goes identifier setup.own (new_request v) options asked) refl
+    renews_go policy C R walks v held setup (renewed_setup setup) options (is_leaving held.stage || nat_le 3 (renewed_setup setup).renewed) found is refl refl (new_request v) (asked_goes identifier setup.own (new_request v) options asked) refl
 settled_goes policy C R walks v held setup identifier Wait found is asked = stays policy C R walks v
 settled_goes policy C R walks v held setup identifier Never found is asked = closes-goes policy C R walks v held NoAgreement held.stage refl found
 

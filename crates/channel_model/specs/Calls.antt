@@ -1,14 +1,13 @@
 -- What a host does with its channels, and what it may ask of them (Core 5.1, Volume 3 Part A, 2.1, 4 and 6).
-use Rattle.std.specs.Prelude.{ℕ, ◌+◌, ◌==◌, ◌&&◌, ◌||◌, nat_lt, nat_le, max, Bool, true, false, List, [], ◌∷◌, ◌++◌, length, drop, slice_get, map, fold, filter, Option, Some, None, is_some, option_and_then, option_map, if◌then◌else◌}
+use Rattle.std.specs.Prelude.{ℕ, ◌&&◌, ◌||◌, nat_lt, nat_le, max, Bool, true, false, List, [], ◌∷◌, ◌++◌, length, drop, slice_get, map, fold, Option, Some, None, is_some, option_map, if◌then◌else◌}
 use Rattle.std.specs.List.{list_any, flat_map}
-use Rattle.l2cap_config.specs.declared.wish.Agreed.{Agreed}
-use Rattle.ertm_model.specs.Value.{Ertm, armed as machine_armed, window_used as machine_window}
+use Rattle.ertm_model.specs.Value.{armed as machine_armed, window_used as machine_window}
 use Rattle.ertm_model.specs.Submitting.{is_busy, submitted}
 use Rattle.channel_model.specs.declared.errand.Errand.TheVariants.{Connection, Disconnection, Features}
 use Rattle.channel_model.specs.declared.event.ChannelEvent.{ChannelEvent}
 use Rattle.channel_model.specs.declared.event.ChannelEvent.TheVariants.{Closed}
 use Rattle.channel_model.specs.declared.event.CloseReason.TheVariants.{LinkDown, OwnClosed}
-use Rattle.channel_model.specs.Value.{Request, Own, Unasked, Asking, Granted, Carrier, Plain, Retransmitting, Setup, Stage, Requested, Connected, Leaving, Closing, Crossed, Held, Channels, no_channels}
+use Rattle.channel_model.specs.Value.{Own, Unasked, Asking, Granted, Carrier, Plain, Retransmitting, Setup, Stage, Requested, Connected, Leaving, Closing, Crossed, Held, Channels, no_channels}
 use Rattle.channel_model.specs.Changing.{held_at, to_stage, to_setup, setup_of, has_fcs_by, is_open}
 use Rattle.channel_model.specs.Asking.{new_request, asks}
 use Rattle.channel_model.specs.Closing.{closes}

@@ -1,6 +1,5 @@
 -- What a host makes of a PDU on one of its channels (Core 5.1, Volume 3 Part A, 3.1, 3.3 and 8.6).
-use Rattle.std.specs.Prelude.{ℕ, Bool, true, false, List, drop, Option, Some, None, Result, Ok, Err, if◌then◌else◌}
-use Rattle.ertm_frames.specs.Frames.{PlainFrame}
+use Rattle.std.specs.Prelude.{ℕ, Bool, true, false, List, drop, Option, Some, None, Ok, Err, if◌then◌else◌}
 use Rattle.ertm_frames.specs.Answers.{Answer}
 use Rattle.ertm_frames.specs.Reading.{answer_in}
 use Rattle.ertm_model.specs.declared.reason.ErtmReason.{ErtmReason}

@@ -1,11 +1,11 @@
 -- How the channels of a link are looked at and changed.
-use Rattle.std.specs.Prelude.{ℕ, ◌+◌, ◌==◌, ◌&&◌, ◌||◌, not, nat_lt, Bool, true, false, List, [], ◌∷◌, ◌++◌, length, map, filter, find, Option, Some, None, is_some, if◌then◌else◌}
+use Rattle.std.specs.Prelude.{ℕ, ◌==◌, ◌&&◌, not, nat_lt, Bool, true, false, [], ◌∷◌, ◌++◌, length, map, filter, find, Option, Some, None, is_some, if◌then◌else◌}
 use Rattle.std.specs.List.{list_any}
-use Rattle.l2cap_signal.specs.Commands.{Content, Command}
+use Rattle.l2cap_signal.specs.Commands.{Content}
 use Rattle.channel_model.specs.declared.errand.Errand.{Errand}
 use Rattle.channel_model.specs.declared.errand.Errand.TheVariants.{Connection, Configuration, Disconnection, Features}
 use Rattle.channel_model.specs.declared.event.ChannelEvent.{ChannelEvent}
-use Rattle.channel_model.specs.Value.{Request, Queued, Answer, Ask, Own, Unasked, Asking, Granted, Carrier, Plain, Retransmitting, Setup, Stage, Requested, Connected, Leaving, Closing, Crossed, Held, Channels}
+use Rattle.channel_model.specs.Value.{Queued, Answer, Ask, Own, Unasked, Asking, Granted, Carrier, Plain, Retransmitting, Setup, Stage, Requested, Connected, Leaving, Closing, Crossed, Held, Channels}
 
 -- ---- channels
 
@@ -60,6 +60,14 @@ stage_with setup (Connected peer before) = Connected peer setup
 stage_with setup (Leaving peer before request) = Leaving peer setup request
 stage_with setup (Closing peer request checked) = Closing peer request checked
 stage_with setup (Crossed peer request) = Crossed peer request
+
+-- the host asked for the end of a channel that is there
+abbrev pub is_leaving : Stage → Bool
+is_leaving (Requested request) = false
+is_leaving (Connected peer setup) = false
+is_leaving (Leaving peer setup request) = true
+is_leaving (Closing peer request checked) = false
+is_leaving (Crossed peer request) = false
 
 abbrev pub with_setup : Held → Setup → Held
 with_setup held setup = record held { stage = stage_with setup held.stage }

@@ -1,5 +1,4 @@
 -- How a channel is closed (Core 5.1, Volume 3 Part A, 4.6 and 4.7).
-use Rattle.std.specs.Prelude.{ℕ}
 use Rattle.channel_model.specs.declared.errand.Errand.TheVariants.{Configuration, Disconnection}
 use Rattle.channel_model.specs.declared.event.ChannelEvent.TheVariants.{Closed}
 use Rattle.channel_model.specs.declared.event.CloseReason.{CloseReason}

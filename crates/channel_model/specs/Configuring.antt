@@ -1,6 +1,6 @@
 -- How a request of the peer for options of a channel is judged, and what follows from its answer (Core 5.1, Volume 3 Part A,
 -- 4.4, 4.5, 5 and 7.1).
-use Rattle.std.specs.Prelude.{ℕ, ◌+◌, ◌==◌, ◌%◌, min, nat_le, Bool, true, false, List, [], Option, Some, None, is_some, Result, Ok, Err, if◌then◌else◌}
+use Rattle.std.specs.Prelude.{ℕ, ◌+◌, ◌==◌, ◌%◌, min, nat_le, Bool, true, false, List, Option, Some, None, is_some, Result, Ok, Err, if◌then◌else◌}
 use Rattle.l2cap_config.specs.declared.options.Options.{Options}
 use Rattle.l2cap_config.specs.declared.options.ConfigRefusal.{ConfigRefusal}
 use Rattle.l2cap_config.specs.declared.wish.Mode.{Mode}

@@ -6,7 +6,7 @@ use Rattle.channel_model.specs.Value.{Setup, no_setup, Stage, Connected, Held, R
 use Rattle.channel_model.specs.Policies.{Policy}
 use Rattle.channel_model.specs.Changing.{held_at, is_peer, setup_of, has_room, answers}
 use Rattle.channel_model.specs.Closing.{peer_closes}
-use Rattle.channel_model.specs.Configuring.{Verdict, verdict, follows_verdict}
+use Rattle.channel_model.specs.Configuring.{verdict, follows_verdict}
 use Rattle.channel_model.specs.Answers.{remembered, with_remembered, connection_result, answer_to}
 
 -- ---- what follows

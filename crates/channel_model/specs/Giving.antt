@@ -1,11 +1,10 @@
 -- What a host gives next: what waits on the signalling channel, in the order in which it arose, and then what waits on the
 -- channels, in the order of their endpoints (Core 5.1, Volume 3 Part A, 3.1, 3.3 and 4).
-use Rattle.std.specs.Prelude.{ℕ, ◌≡◌, ◌+◌, ◌==◌, min, not, Bool, true, false, List, [], ◌∷◌, ◌++◌, length, find, Option, Some, None, option_map, is_some}
+use Rattle.std.specs.Prelude.{ℕ, ◌≡◌, ◌+◌, min, Bool, List, [], ◌∷◌, ◌++◌, length, find, Option, Some, None, option_map, is_some}
 use Rattle.bt_base.specs.Octets.{le16}
 use Rattle.l2cap_signal.specs.Commands.{Content, Command, spelling, connection_request, configuration_request, disconnection_request, information_request}
 use Rattle.l2cap_config.specs.Writing.{written}
 use Rattle.ertm_frames.specs.Frames.{PlainFrame, Spells}
-use Rattle.ertm_model.specs.Value.{Ertm}
 use Rattle.ertm_model.specs.Giving.{next_frame, after_frame}
 use Rattle.channel_model.specs.declared.errand.Errand.{Errand}
 use Rattle.channel_model.specs.declared.errand.Errand.TheVariants.{Connection, Configuration, Disconnection, Features}

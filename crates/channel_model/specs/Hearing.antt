@@ -1,6 +1,6 @@
 -- What a host makes of a PDU that comes in (Core 5.1, Volume 3 Part A, 3.1 and 4).
-use Rattle.std.specs.Prelude.{ℕ, ◌%◌, ◌==◌, ◌&&◌, nat_le, Bool, true, false, List, [], drop, fold, Option, Some, None, Ok, Err, if◌then◌else◌}
-use Rattle.l2cap_signal.specs.Commands.{Content, Command, reject, connection_request, connection_response, configuration_request, configuration_response, disconnection_request, disconnection_response, echo_request, echo_response, information_request, information_response}
+use Rattle.std.specs.Prelude.{ℕ, ◌%◌, ◌==◌, ◌&&◌, nat_le, Bool, true, false, List, drop, fold, Option, Some, None, Ok, Err, if◌then◌else◌}
+use Rattle.l2cap_signal.specs.Commands.{Content, reject, connection_request, connection_response, configuration_request, configuration_response, disconnection_request, disconnection_response, echo_request, echo_response, information_request, information_response}
 use Rattle.l2cap_signal.specs.Reading.{Answer, answers}
 use Rattle.l2cap_signal.specs.declared.refusal.SignalRefusal.{SignalRefusal}
 use Rattle.l2cap_signal.specs.declared.refusal.SignalRefusal.TheVariants.{ZeroIdentifier, BadLength, UnknownCode, AboveMtu}

@@ -1,6 +1,6 @@
 -- What a host makes of the responses of its peer (Core 5.1, Volume 3 Part A, 4.1, 4.3, 4.5, 4.7 and 4.11). A response that it
 -- does not wait for changes nothing.
-use Rattle.std.specs.Prelude.{ℕ, ◌+◌, ◌*◌, ◌==◌, ◌&&◌, not, nat_lt, nat_le, Bool, true, false, List, length, slice_index, Option, Some, None, Result, Ok, Err, if◌then◌else◌}
+use Rattle.std.specs.Prelude.{ℕ, ◌+◌, ◌*◌, ◌==◌, ◌&&◌, ◌||◌, not, nat_le, Bool, false, List, length, slice_index, Option, Some, None, Result, Ok, Err, if◌then◌else◌}
 use Rattle.std.specs.List.{list_any}
 use Rattle.l2cap_config.specs.declared.options.Options.{Options}
 use Rattle.l2cap_config.specs.declared.options.ConfigRefusal.{ConfigRefusal}
@@ -14,7 +14,7 @@ use Rattle.channel_model.specs.declared.event.ChannelEvent.TheVariants.{Features
 use Rattle.channel_model.specs.declared.event.CloseReason.TheVariants.{Refused, NoAgreement, OwnClosed}
 use Rattle.channel_model.specs.Value.{Request, Own, Unasked, Asking, Granted, Setup, no_setup, Stage, Requested, Connected, Leaving, Closing, Crossed, Held, Channels}
 use Rattle.channel_model.specs.Policies.{Policy}
-use Rattle.channel_model.specs.Changing.{held_at, has_live_peer, is_peer, setup_of, with_setup, to_setup, forgets, tells}
+use Rattle.channel_model.specs.Changing.{has_live_peer, is_peer, is_leaving, setup_of, with_setup, to_setup, forgets, tells}
 use Rattle.channel_model.specs.Asking.{first_options, asks_options}
 use Rattle.channel_model.specs.Closing.{closes, ends}
 use Rattle.channel_model.specs.Configuring.{grants}
@@ -51,10 +51,11 @@ hears_grant (Some held) policy identifier endpoint result v = hears_grant_at hel
 
 -- ---- the options that the host asked for
 
--- the third time that other options are suggested closes (this project's own)
+-- the third time that other options are suggested closes; and a channel whose end the host asked for is not bargained over, so there the
+-- first time does (this project's own)
 abbrev pub renews : Options → Held → Setup → Channels → Channels
 renews options held setup v =
-    if nat_le 3 setup.renewed then closes NoAgreement (with_setup held setup) (to_setup held setup v) else asks_options held setup options v
+    if is_leaving held.stage || nat_le 3 setup.renewed then closes NoAgreement (with_setup held setup) (to_setup held setup v) else asks_options held setup options v
 
 abbrev pub renewed_setup : Setup → Setup
 renewed_setup setup = record setup { renewed = setup.renewed + 1 }

@@ -1,6 +1,6 @@
 -- What the timer of a host does (Core 5.1, Volume 3 Part A, 6.2 and 8.6): each own request that waits for its response is
 -- given once more, or given up where that was done as often as may be.
-use Rattle.std.specs.Prelude.{ℕ, Bool, List, map, fold, Option, Some, None}
+use Rattle.std.specs.Prelude.{ℕ, List, map, fold, Option, Some, None}
 use Rattle.ertm_model.specs.Giving.{timed}
 use Rattle.channel_model.specs.declared.errand.Errand.{Errand}
 use Rattle.channel_model.specs.declared.errand.Errand.TheVariants.{Connection, Configuration, Disconnection, Features}

@@ -1,5 +1,5 @@
 -- The channels of a link as one of its hosts keeps them, as a value (Core 5.1, Volume 3 Part A, 2.1, 4, 6 and 7).
-use Rattle.std.specs.Prelude.{ℕ, Bool, List, [], ◌∷◌, Option, Some, None}
+use Rattle.std.specs.Prelude.{ℕ, Bool, List, [], Option, None}
 use Rattle.l2cap_signal.specs.Commands.{Content, Command}
 use Rattle.l2cap_config.specs.declared.options.Options.{Options}
 use Rattle.l2cap_config.specs.declared.wish.Agreed.{Agreed}

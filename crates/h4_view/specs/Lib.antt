@@ -16,3 +16,4 @@ pub mod Shows
 pub mod Standing
 pub mod View
 pub mod Laws
+pub mod Keeping

@@ -4,6 +4,7 @@
 mod both_links;
 mod details;
 mod joined;
+mod keeping;
 pub mod laws;
 mod line;
 mod links;
@@ -19,4 +20,4 @@ mod tagged;
 pub use raw::view_raw;
 pub use refusal::{ViewFault, ViewRefusal};
 pub use snoop::view_snoop;
-pub use tagged::view_tagged;
+pub use tagged::view_entries;

@@ -7,12 +7,14 @@ ghost use Rattle.push_terms.specs.Outcomes.{outcome_text};
 ghost use Rattle.capture.specs.Lent.{plain_entry};
 ghost use Rattle.h4_view.specs.Lines.{packet_text};
 ghost use Rattle.h4_view.specs.Both.{Sent, KnowsBoth, under_by};
-ghost use Rattle.h4_view.specs.Tagged.{direction_of, flow_text, TaggedViews};
+ghost use Rattle.h4_view.specs.Tagged.{direction_of, flow_text};
+ghost use Rattle.h4_view.specs.Keeping.{ShowsAndKeeps};
 ghost use Rattle.h4_view.specs.View.{Blames, IsAnswered};
 ghost use Rattle.h4_view.specs.TaggedTelling.{BehindOffset, EntryShown, VerdictOf, IsNew};
 ghost use Rattle.capture.specs.Entries.{Moved};
 
 use crate::both_links::{BothLinks, push_both_lines};
+use crate::keeping::new_kept;
 use crate::line::{Text, push_decimal, push_text};
 use crate::raw::refuse;
 use crate::refusal::{ViewFault, ViewRefusal};
@@ -196,7 +198,7 @@ impl Teller for TaggedView {
 }
 
 /// A view at the beginning of a capture.
-fn new_view(alloc: Global) -> Result<TaggedView, NoMemory>
+pub(crate) fn new_view(alloc: Global) -> Result<TaggedView, NoMemory>
     ensures { IfOk result IsNew }
 {
     let a = BothLinks::new(alloc)?;
@@ -222,12 +224,12 @@ fn verdict_of(view: &TaggedView, ending: Ending) -> Option<(ViewRefusal, u64)>
     }
 }
 
-/// Shows a capture of two hosts: the lines of each entry up to the first fault, and one for the fault.
+/// Shows a capture of two hosts: the lines of each entry up to the first fault, and one for the fault. It
+/// answers the octets of the capture.
 ///
 /// A line begins with the offset of the entry's tag. Packets stand with their host and the way that they
 /// went, and with what stands under them in the view of a stream: each host, handle and direction has
-/// pieces of its own, and a host's channels are told by what went both ways. The lines of the objects that
-/// host b was sent are not written.
+/// pieces of its own, and a host's channels are told by what went both ways.
 ///
 /// `Refused` comes where the input is no capture, with the place of the fault: `BadTag` where the first
 /// octet of an entry is no tag, `Truncated` where the input ends within an entry, `BadRecord` where a
@@ -235,13 +237,13 @@ fn verdict_of(view: &TaggedView, ending: Ending) -> Option<(ViewRefusal, u64)>
 /// ends before within an entry that would. `ReadFault` comes where the source failed, once the lines of
 /// all that was read are written, and `WriteFault` where the sink failed. `NoMemory` comes where memory
 /// was wanting, also that of a port.
-pub fn view_tagged<S: Source, K: Sink>(
+pub fn view_entries<S: Source, K: Sink>(
     alloc: Global,
     source: &mut S,
     sink: &mut K,
-) -> Result<(), ViewFault>
+) -> Result<Vec<u8>, ViewFault>
     // What the sink gains is the view of what the source had left. A fault of the source loses nothing.
-    ensures views { IfSome (S.content source.old) (λ input. TaggedViews input (S.content source.new) (K.content sink.old) (K.content sink.new) result) }
+    ensures views { IfSome (S.content source.old) (λ input. ShowsAndKeeps input (S.content source.new) (K.content sink.old) (K.content sink.new) result) }
     // The input was read to its end.
     ensures finish { OnOk result (IfSome (S.content source.new) (λ left. left ≡ [])) }
     // Each fault has its cause, and a shortage of memory of a port is answered.
@@ -249,12 +251,12 @@ pub fn view_tagged<S: Source, K: Sink>(
     ensures source_short { IsAnswered (S.shortages source.old) (S.shortages source.new) (IsErrOf result ViewFault.NoMemory) }
     ensures sink_short { IsAnswered (K.shortages sink.old) (K.shortages sink.new) (IsErrOf result ViewFault.NoMemory) }
 {
-    let Ok(mut view) = new_view(alloc) else {
+    let Ok(mut view) = new_kept(alloc) else {
         return Err(ViewFault::NoMemory);
     };
     match tell_all(alloc, &[], &mut view, source, sink) {
-        Ok(ending) => match verdict_of(&view, ending) {
-            None => Ok(()),
+        Ok(ending) => match verdict_of(&view.view, ending) {
+            None => Ok(view.kept),
             Some((refusal, place)) => Err(refuse(alloc, sink, refusal, place)),
         },
         Err(StreamFault::ReadFault) => Err(ViewFault::ReadFault),

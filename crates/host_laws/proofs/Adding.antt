@@ -1,5 +1,5 @@
 -- From a host in which no request of its own waits to be given, a command or a call lets at most one wait.
-use Rattle.std.proofs.Common.{◌≡◌, ℕ, List, [], ◌∷◌, ◌++◌, Bool, true, false, cond, not, eqb, find, filter, Option, Some, None, Result, Ok, Err, is_some, nat_le, refl, sym, ap, subst, ◌∙◌}
+use Rattle.std.proofs.Common.{◌≡◌, ℕ, List, [], ◌∷◌, ◌++◌, Bool, true, false, cond, not, eqb, find, filter, Option, Some, None, Result, Ok, Err, is_some, nat_le, refl, sym, ap, subst, ◌∙◌, ◌||◌}
 use Rattle.std.specs.Option.{option_or}
 use Rattle.std.specs.List.{AllByRecursion}
 use Rattle.l2cap_signal.specs.Commands.{Content, reject, connection_request, connection_response, configuration_request, configuration_response, disconnection_request, disconnection_response, echo_request, echo_response, information_request, information_response}
@@ -21,7 +21,7 @@ use Rattle.channel_model.specs.declared.event.CloseReason.{CloseReason}
 use Rattle.channel_model.specs.declared.event.CloseReason.TheVariants.{NoAgreement, Refused, OwnClosed}
 use Rattle.channel_model.specs.Value.{Request, Queued, Answer, Ask, Own, Unasked, Asking, Granted, Carrier, Plain, Retransmitting, Setup, no_setup, Stage, Requested, Connected, Leaving, Closing, Crossed, Held, Channels}
 use Rattle.channel_model.specs.Policies.{Policy}
-use Rattle.channel_model.specs.Changing.{has_own, has_fcs_by, held_at, is_peer, setup_of, stage_with, with_setup, to_setup, is_copy, is_copy_about, forgets, tells}
+use Rattle.channel_model.specs.Changing.{has_own, has_fcs_by, held_at, is_peer, setup_of, stage_with, with_setup, to_setup, is_copy, is_copy_about, forgets, tells, is_leaving}
 use Rattle.channel_model.specs.Asking.{next_identifier, new_request, first_options, asks, asks_options}
 use Rattle.channel_model.specs.Closing.{closes, closes_at, peer_closes_at, ends_at}
 use Rattle.channel_model.specs.Configuring.{Verdict, NoChannel, TooLate, Unreadable, Incomplete, Judged, verdict, accepted_setup, accepts_with, refused_setup, follows_answer, follows_verdict, opens_if, granted_setup, grants}
@@ -221,7 +221,7 @@ grants_add v all held setup = let same = grants_same v all held setup in Stays s
 settled_adds : (v : Channels) → Replies v.queue → (held : Held) (setup : Setup) (now : Settled) → find (has_own held.own) v.held ≡ Some held → setup_of held.stage ≡ Some setup → Adds v (hears_settled now held setup v)
 settled_adds v all held setup Accepted found is = grants_add v all held setup
 settled_adds v all held setup (Again options) found is =
-    third_adds v all held (renewed_setup setup) (nat_le 3 (renewed_setup setup).renewed) found (asks_options held (renewed_setup setup) options v) (options_add v all held held setup (renewed_setup setup) options found is)
+    third_adds v all held (renewed_setup setup) (is_leaving held.stage || nat_le 3 (renewed_setup setup).renewed) found (asks_options held (renewed_setup setup) options v) (options_add v all held held setup (renewed_setup setup) options found is)
 settled_adds v all held setup Wait found is = same_adds v
 settled_adds v all held setup Never found is = closes_adds v all held NoAgreement held.stage found
 

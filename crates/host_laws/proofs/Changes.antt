@@ -1,6 +1,6 @@
 -- What one step does to one channel, and for which reason each is closed: what laws have to look at that go by these reasons. Of a host that
 -- offers nothing.
-use Rattle.std.proofs.Common.{◌≡◌, ℕ, List, [], ◌∷◌, ◌++◌, map, drop, Bool, true, false, cond, eqb, not, Option, Some, None, Result, Ok, Err, refl, sym, ap, subst, ◌∙◌}
+use Rattle.std.proofs.Common.{◌≡◌, ℕ, List, [], ◌∷◌, ◌++◌, map, drop, Bool, true, false, cond, eqb, not, Option, Some, None, Result, Ok, Err, refl, sym, ap, subst, ◌∙◌, ◌||◌}
 use Rattle.std.specs.Prelude.{find, filter, nat_le, nat_lt, length, is_some, option_map}
 use Rattle.std.specs.List.{list_any}
 use Rattle.acl_fragments.specs.Pieces.{channel_of}
@@ -31,7 +31,7 @@ use Rattle.channel_model.specs.declared.request_kind.RequestKind.{RequestKind}
 use Rattle.channel_model.specs.declared.request_kind.RequestKind.TheVariants as kinds
 use Rattle.channel_model.specs.Value.{Request, Queued, Answer, Ask, Own, Unasked, Asking, Granted, Carrier, Plain, Retransmitting, Setup, no_setup, Stage, Requested, Connected, Leaving, Closing, Crossed, Held, Remembered, Channels}
 use Rattle.channel_model.specs.Policies.{Policy}
-use Rattle.channel_model.specs.Changing.{has_own, in_place_of, held_at, has_peer, is_peer, to_stage, setup_of, stage_with, with_setup, to_setup, queued, forgets, tells}
+use Rattle.channel_model.specs.Changing.{has_own, in_place_of, held_at, has_peer, is_peer, to_stage, setup_of, stage_with, with_setup, to_setup, queued, forgets, tells, is_leaving}
 use Rattle.channel_model.specs.Asking.{new_request, first_options, asks_options, Fired, StillDue, OnceMore, Spent, fired}
 use Rattle.channel_model.specs.Closing.{closes, closes_at, peer_closes_at, ends, ends_at}
 use Rattle.channel_model.specs.Configuring.{Verdict, NoChannel, TooLate, Unreadable, Incomplete, Judged, verdict, accepted_setup, accepts_with, without_parts, refused_setup, follows_answer, follows_verdict, opens_if, granted_setup, grants}
@@ -303,7 +303,7 @@ module _ (K : Channels → Type 0) (fine : Fine K) where
     settled_so Accepted v held setup at k = granted v held setup at k
     settled_so (Again options) v held setup at k =
         let after : Setup = renewed_setup setup in
-        either (nat_le 3 after.renewed) (closes NoAgreement (with_setup held after) (to_setup held after v)) (asks_options held after options v) (third v held after at k) (options_asked v held after options at k)
+        either (is_leaving held.stage || nat_le 3 after.renewed) (closes NoAgreement (with_setup held after) (to_setup held after v)) (asks_options held after options v) (third v held after at k) (options_asked v held after options at k)
     settled_so Wait v held setup at k = k
     settled_so Never v held setup at k = shut v held NoAgreement at tt k
 

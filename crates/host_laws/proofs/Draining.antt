@@ -8,6 +8,7 @@ use Rattle.channel_laws.specs.Runs.{Occurrence, value_after}
 use Rattle.channel_laws.specs.Runs as channels
 use Rattle.host_model.specs.Profiles.{Profile}
 use Rattle.host_model.specs.Hosts.{Host, tells_each, tells_events}
+use Rattle.host_laws.specs.Asked.{BeginsNone}
 use Rattle.host_laws.specs.Calls.{Asks, values_after, asked, outer}
 use Rattle.host_laws.specs.Feeds.{Feed, Happens, all_fed, asked_from, Tiding, Tells, tidings_of, tidings_from}
 use Rattle.host_laws.specs.Seen.{IsCalm}
@@ -91,3 +92,12 @@ tells_grow A asks C host =
       on_link = told_on_link v.events;
       feeds_are = drained_feeds A asks v v.events host.profile;
     }
+
+-- and no push begins with that
+told_plain : (events : List ChannelEvent) → AllByRecursion BeginsNone (told_strands events)
+told_plain [] = tt
+told_plain (event ∷ events) = (tt, told_plain events)
+
+pub tells-begin_none : {P : Type 0} (A : Profile P) (asks : Asks A) (C : Type 0) (host : Host P) → AllByRecursion BeginsNone (tells_grow A asks C host).weave
+unfolding tells_grow
+tells-begin_none A asks C host = told_plain host.channels.events

@@ -1,24 +1,27 @@
 -- Whatever a host hears and says, its channels have less to give than it may say: so it holds none of it back.
 use Rattle.std.proofs.Common.{◌≡◌, ℕ, zero, suc, ◌+◌, ◌≤◌, List, [], ◌∷◌, ◌++◌, length, Bool, true, false, cond, eqb, Option, Some, None, refl, sym, ap, subst, ◌∙◌, arith, if◌then◌else◌}
-use Rattle.std.specs.Prelude.{is_some, nat_le, ◌&&◌, not}
+use Rattle.std.specs.Prelude.{is_some, nat_le, min, ◌&&◌, not}
 use Rattle.std.specs.List.{AllByRecursion}
-use Rattle.std.proofs.lemmas.Bool.{and_parts, leb-true, leb-false}
+use Rattle.std.proofs.lemmas.Bool.{and_parts, le-leb, leb-true, leb-false}
 use Rattle.bt_base.specs.Objects.{Contents}
 use Rattle.bt_base.specs.Octets.{IsOctets}
 use Rattle.bt_base.specs.declared.settings.Settings.{Settings}
 use Rattle.l2cap_config.specs.declared.wish.Mode.TheVariants.{Basic}
 use Rattle.l2cap_config.specs.declared.wish.Wish.{Wish}
-use Rattle.channel_model.specs.Value.{Stage, Requested, Connected, Leaving, Closing, Crossed, Held, Channels}
+use Rattle.channel_model.specs.Value.{Request, Own, Unasked, Asking, Granted, Stage, Requested, Connected, Leaving, Closing, Crossed, Held, Channels}
 use Rattle.channel_model.specs.Changing.{has_own, held_at}
 use Rattle.channel_model.specs.Policies.{Policy, policy, wished, enhanced_wish}
 use Rattle.channel_model.specs.Giving.{Given, next_given, after_given}
 use Rattle.channel_model.specs.Calls.{peer_mtu, waits, sends}
-use Rattle.channel_laws.specs.Tries.{request_of, copies}
+use Rattle.channel_laws.specs.Pace.{OffersNothing}
+use Rattle.channel_laws.specs.Runs.{Occurrence, run_of}
+use Rattle.channel_laws.specs.Tries.{own_request, for_options, for_end, request_at, request_of, copies}
 use Rattle.channel_laws.proofs.Numbering.{mtu-short}
 use Rattle.channel_laws.proofs.Spending.{tries-are_kept}
+use Rattle.channel_laws.proofs.Timekeeping.{options-keep_pace}
 use Rattle.world_model.specs.Machines.{Up, Down, News, Linked, Failed, Heard, TimerFired, Cancelled, Opening}
 use Rattle.host_model.specs.Circumstances.{Circumstance}
-use Rattle.host_model.specs.Clients.{client_profile}
+use Rattle.host_model.specs.Clients.{ClientProfile, client_profile}
 use Rattle.host_model.specs.Endpoints.{fits, takes_sdu}
 use Rattle.host_model.specs.Hosts.{Host, most_said, half_said, first_host, with_channels, settles, strides, drives, most_steps, steps_behind, ready, hears_news, hear, says, after_said, next}
 use Rattle.host_model.specs.Machines.{upper}
@@ -28,10 +31,10 @@ use Rattle.host_model.specs.Servers.{server_profile}
 use Rattle.host_model.proofs.Orderly.{octets_by}
 use Rattle.host_laws.specs.Acts.{Act, Hears, Says, Does, Acting}
 use Rattle.host_laws.specs.Calls.{Asks}
-use Rattle.host_laws.specs.Free.{HoldsBackNothing, HostsHoldBackNothing, ServersFirePlainly}
+use Rattle.host_laws.specs.Free.{HoldsBackNothing, HostsHoldBackNothing, ServersFirePlainly, ClientsFirePlainly}
 use Rattle.host_laws.specs.Read.{IsActSo, IsHeardSo}
 use Rattle.host_laws.specs.Seen.{IsOneCommand, FiresPlainly}
-use Rattle.host_laws.specs.Steady.{IsSteadyStage, IsSteadyAt, IsSteady}
+use Rattle.host_laws.specs.Steady.{IsSteadyOwn, IsSteadyStage, IsSteadyAt, IsSteady}
 use Rattle.host_laws.proofs.Answering.{told-signals, new-signals, comes-signals, connects-signals, asks-signals, disconnects-signals, sends-signals, timed-signals, gives-signals}
 use Rattle.host_laws.proofs.Asking.{hosts_ask}
 use Rattle.host_laws.proofs.Cargo.{new-laden, told-laden, comes-laden, timed-laden, gives-laden, connects-laden, asks-laden, disconnects-laden, sends-laden}
@@ -305,3 +308,40 @@ servers_fire_plainly settings content acts now one acting =
     let keeps : KeepsFit A IsOneCommand (IsFlowing ⊥ wanted) AnyServer = servers-keep_so settings content IsOneCommand (IsFlowing ⊥ wanted) (flowing-heeds ⊥ wanted wishes) (flowing-sends ⊥ wanted wishes) in
     let fit = acts-fit A IsOneCommand (IsFlowing ⊥ wanted) AnyServer keeps acts (first_host A) now one acting (first-fits A IsOneCommand (IsFlowing ⊥ wanted) AnyServer keeps) in
     steady_fires A (hosts_ask.servers settings content) acts now acting (λ own. steady_at wanted.tries (held_at own now.channels) (fits-found ⊥ (has_own own) now.channels fit.channels.signals.core))
+
+-- ---- a client offers nothing
+
+-- a channel whose end was asked for as often as may be, where its options were asked for as often
+steady_by : (tries : ℕ) (end : Request) (own : Own) → tries ≤ 255 → ((options : Request) → own_request own ≡ Some options → min end.given 255 ≤ options.given) → IsSteadyOwn tries end own
+steady_by tries end Unasked few paced = tt
+steady_by tries end (Asking request options) few paced = λ spent.
+    let most = leb-true tries end.given spent in let less = paced request refl in le-leb tries request.given (omega (arith, most, less, few))
+steady_by tries end Granted few paced = tt
+
+paced_stage : (tries : ℕ) (stage : Stage) → tries ≤ 255 → ((options end : Request) → for_options stage ≡ Some options → for_end stage ≡ Some end → min end.given 255 ≤ options.given) → IsSteadyStage tries stage
+paced_stage tries (Requested request) few paced = tt
+paced_stage tries (Connected peer setup) few paced = tt
+paced_stage tries (Leaving peer setup request) few paced = steady_by tries request setup.own few (λ options asked. paced options request asked refl)
+paced_stage tries (Closing peer request checked) few paced = tt
+paced_stage tries (Crossed peer request) few paced = tt
+
+-- where nothing waits
+steady_run : (wanted : Policy) (list : List Occurrence) → OffersNothing wanted → wanted.tries ≤ 255 → (run_of wanted list).value.queue ≡ [] → IsSteady wanted.tries (run_of wanted list).value
+steady_run wanted list none few empty own = by (held_at own (run_of wanted list).value) refl
+  where
+    by : (found : Option Held) → held_at own (run_of wanted list).value ≡ found → IsSteadyAt wanted.tries found
+    by None is = tt
+    by (Some held) is = paced_stage wanted.tries held.stage few (λ options end asked ended. options-keep_pace wanted list none empty own options end (ap (request_at for_options) is ∙ asked) (ap (request_at for_end) is ∙ ended))
+
+clients_steady : (settings : Settings) (acts : List (Act Circumstance)) (now : Host ClientProfile) → Acting (upper (client_profile settings)) acts (first_host (client_profile settings)) now → now.channels.queue ≡ [] → IsSteady settings.tries now.channels
+clients_steady settings acts now acting empty =
+    let wanted = policy settings false in
+    let lives = hosts_run (client_profile settings) (hosts_ask.clients settings) acts now acting in
+    let few : wanted.tries ≤ 255 = let high = settings.tries_high in omega (arith, high) in
+    subst (IsSteady settings.tries) (sym lives.channels_run) (steady_run wanted lives.now (λ psm. refl) few (ap (λ (v : Channels). v.queue) (sym lives.channels_run) ∙ empty))
+
+pub clients_fire_plainly : ClientsFirePlainly
+clients_fire_plainly = record {
+  steady = clients_steady;
+  fires = λ settings acts now acting empty. steady_fires (client_profile settings) (hosts_ask.clients settings) acts now acting (clients_steady settings acts now acting empty) empty;
+}

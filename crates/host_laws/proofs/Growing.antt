@@ -26,8 +26,9 @@ use Rattle.host_laws.specs.Seen.{IsQuiet, IsGiven, IsCalmAt, IsCalm}
 use Rattle.host_laws.specs.Calm.{IsCalmNews, IsReadFrom, IsCalmAct}
 use Rattle.host_laws.specs.Woven.{Strand, IsOnLink, Hearing, Giving, Firing, Gifting, Learning, Checking, Stepping, strand_list, strand_profile, woven_list, woven_profile}
 use Rattle.host_laws.specs.Fed.{feeds_up, strand_feeds, woven_feeds}
+use Rattle.host_laws.specs.Asked.{IsOfLink, BeginsNone, ActsOfLink}
 use Rattle.host_laws.proofs.Steps.{Grows}
-use Rattle.host_laws.proofs.Draining.{tells_grow}
+use Rattle.host_laws.proofs.Draining.{tells_grow, tells-begin_none}
 
 pub tidings-append : (policy : Policy) (v : Channels) (xs ys : List Occurrence) → tidings_from policy v (xs ++ ys) ≡ tidings_from policy v xs ++ tidings_from policy (values_after policy v xs) ys
 tidings-append policy v [] ys = refl
@@ -88,6 +89,17 @@ pub none-some : {X : Type 0} (found : Option X) → is_some found ≡ false → 
 none-some None is = refl
 none-some (Some x) is = cc
 
+-- ---- what a host does
+
+-- without the begin of a push, and where it hears nothing of its link
+pub record Plainly {P : Type 0} (A : Profile P) (asks : Asks A) (C : Type 0) (acted : List Occurrence) (old new : Host P) : Type 0 where
+  pub grows : Grows A asks C acted old new
+  pub begins : AllByRecursion BeginsNone grows.weave
+
+pub both-begin_none : (one two : List Strand) → AllByRecursion BeginsNone one → AllByRecursion BeginsNone two → AllByRecursion BeginsNone (one ++ two)
+both-begin_none [] two first second = second
+both-begin_none (strand ∷ one) two first second = (first.0, both-begin_none one two first.1 second)
+
 module _ {P : Type 0} (A : Profile P) (asks : Asks A) (C : Type 0) where
   pub grows_none : (host : Host P) → Grows A asks C [] host host
   grows_none host = record { list = []; feeds = []; channels_are = refl; profile_is = refl; tidings_are = refl; asked_is = refl; acted_is = refl; calm = λ c. tt; weave = []; woven_is = refl; last_is = refl; on_link = tt; feeds_are = refl }
@@ -121,7 +133,7 @@ module _ {P : Type 0} (A : Profile P) (asks : Asks A) (C : Type 0) where
   }
 
   -- the profile alone goes on
-  pub feeds_grow : (host : Host P) (feed : Feed) (strand : Strand) (count : ℕ) → IsOnLink strand → strand_list A asks strand host.channels host.profile ≡ [] → fed A host.profile feed ≡ strand_profile A strand host.channels host.profile → strand_feeds strand host.channels ≡ feed ∷ [] → tidings_in feed ≡ [] → asked_with A asks host.profile feed ≡ [] → (let after : Host P = record host { profile = fed A host.profile feed; may_say = count } in Grows A asks C [] host after)
+  feeds_grow : (host : Host P) (feed : Feed) (strand : Strand) (count : ℕ) → IsOnLink strand → strand_list A asks strand host.channels host.profile ≡ [] → fed A host.profile feed ≡ strand_profile A strand host.channels host.profile → strand_feeds strand host.channels ≡ feed ∷ [] → tidings_in feed ≡ [] → asked_with A asks host.profile feed ≡ [] → (let after : Host P = record host { profile = fed A host.profile feed; may_say = count } in Grows A asks C [] host after)
   feeds_grow host feed strand count on silent goes told none nothing = record {
     list = [];
     feeds = feed ∷ [];
@@ -138,8 +150,27 @@ module _ {P : Type 0} (A : Profile P) (asks : Asks A) (C : Type 0) where
     feeds_are = sym (ap (λ (l : List Feed). l ++ []) told);
   }
 
-  pub settles_grow : (host : Host P) → Grows A asks C [] host (settles A host)
-  settles_grow host = feeds_grow host (feeds.Sent host.channels) Checking host.may_say tt refl refl refl refl refl
+  pub plain_then : (xs ys : List Occurrence) (old mid new : Host P) → Plainly A asks C xs old mid → Plainly A asks C ys mid new → Plainly A asks C (xs ++ ys) old new
+  unfolding grows_then
+  plain_then xs ys old mid new one two = record { grows = grows_then xs ys old mid new one.grows two.grows; begins = both-begin_none one.grows.weave two.grows.weave one.begins two.begins }
+
+  pub tells_plain : (host : Host P) → Plainly A asks C [] host (tells_events A host)
+  tells_plain host = record { grows = tells_grow A asks C host; begins = tells-begin_none A asks C host }
+
+  settles_plain : (host : Host P) → Plainly A asks C [] host (settles A host)
+  unfolding feeds_grow
+  settles_plain host = record { grows = feeds_grow host (feeds.Sent host.channels) Checking host.may_say tt refl refl refl refl refl; begins = (tt, tt) }
+
+  pub readies_plain : (circumstances : List Circumstance) (host : Host P) → Plainly A asks C [] host (ready A circumstances host)
+  unfolding feeds_grow
+  readies_plain circumstances host = record { grows = feeds_grow host (Gifts circumstances) (Gifting circumstances) (ready A circumstances host).may_say tt refl refl refl refl refl; begins = (tt, tt) }
+
+  learns_grow : (circumstances : List Circumstance) (news : News) (host : Host P) → tidings_by news ≡ [] → Grows A asks C [] host (told A circumstances news host)
+  learns_grow circumstances news host none = feeds_grow host (Learns circumstances news) (Learning circumstances news) host.may_say none refl refl refl none refl
+
+  learns_plain : (circumstances : List Circumstance) (news : News) (host : Host P) → IsOfLink news → tidings_by news ≡ [] → Plainly A asks C [] host (told A circumstances news host)
+  unfolding learns_grow feeds_grow
+  learns_plain circumstances news host of none = record { grows = learns_grow circumstances news host none; begins = (of, tt) }
 
   -- ---- a PDU comes in
 
@@ -155,22 +186,28 @@ module _ {P : Type 0} (A : Profile P) (asks : Asks A) (C : Type 0) where
   asked_up Nothing p = refl
   asked_up (Received own psm sdu) p = refl
 
-  pub comes_grow : (pdu : List ℕ) (host : Host P) → (C → IsCalmAt A.policy (Comes pdu) host.channels)
-      → (let after : Host P = record host { channels = channels.hears A.policy (channel_of pdu) pdu host.channels; profile = handed A (channels.up (channel_of pdu) pdu host.channels) host.profile } in Grows A asks C (Comes pdu ∷ []) host after)
-  comes_grow pdu host calm =
+  comes_plain : (pdu : List ℕ) (host : Host P) → (C → IsCalmAt A.policy (Comes pdu) host.channels)
+      → (let after : Host P = record host { channels = channels.hears A.policy (channel_of pdu) pdu host.channels; profile = handed A (channels.up (channel_of pdu) pdu host.channels) host.profile } in Plainly A asks C (Comes pdu ∷ []) host after)
+  comes_plain pdu host calm =
       let up = channels.up (channel_of pdu) pdu host.channels in
-      record { list = Comes pdu ∷ []; feeds = feeds_up up; channels_are = refl; profile_is = fed_up up host.profile; tidings_are = told_up up; asked_is = sym (asked_up up host.profile); acted_is = refl; calm = λ c. (calm c, tt); weave = Hearing pdu ∷ []; woven_is = refl; last_is = refl; on_link = (tt, tt); feeds_are = sym (append-nil (feeds_up up)) }
+      record {
+        grows = record { list = Comes pdu ∷ []; feeds = feeds_up up; channels_are = refl; profile_is = fed_up up host.profile; tidings_are = told_up up; asked_is = sym (asked_up up host.profile); acted_is = refl; calm = λ c. (calm c, tt); weave = Hearing pdu ∷ []; woven_is = refl; last_is = refl; on_link = (tt, tt); feeds_are = sym (append-nil (feeds_up up)) };
+        begins = (tt, tt);
+      }
 
   -- ---- the timer fires, a PDU is given
 
-  fires_grow : (host : Host P) → (C → IsCalmAt A.policy Fires host.channels) → Grows A asks C (Fires ∷ []) host (with_channels (timed_out A.policy host.channels) host)
-  fires_grow host calm = record { list = Fires ∷ []; feeds = []; channels_are = refl; profile_is = refl; tidings_are = refl; asked_is = refl; acted_is = refl; calm = λ c. (calm c, tt); weave = Firing ∷ []; woven_is = refl; last_is = refl; on_link = (tt, tt); feeds_are = refl }
+  fires_plain : (host : Host P) → (C → IsCalmAt A.policy Fires host.channels) → Plainly A asks C (Fires ∷ []) host (with_channels (timed_out A.policy host.channels) host)
+  fires_plain host calm = record {
+    grows = record { list = Fires ∷ []; feeds = []; channels_are = refl; profile_is = refl; tidings_are = refl; asked_is = refl; acted_is = refl; calm = λ c. (calm c, tt); weave = Firing ∷ []; woven_is = refl; last_is = refl; on_link = (tt, tt); feeds_are = refl };
+    begins = (tt, tt);
+  }
 
-  gives_grow : (pdu : List ℕ) (host : Host P) → (C → IsGiven host.channels pdu) → Grows A asks C (Gives pdu ∷ []) host (with_channels (after_given host.channels) host)
-  gives_grow pdu host calm = record { list = Gives pdu ∷ []; feeds = []; channels_are = refl; profile_is = refl; tidings_are = refl; asked_is = refl; acted_is = refl; calm = λ c. (calm c, tt); weave = Giving pdu ∷ []; woven_is = refl; last_is = refl; on_link = (tt, tt); feeds_are = refl }
-
-  learns_grow : (circumstances : List Circumstance) (news : News) (host : Host P) → tidings_by news ≡ [] → Grows A asks C [] host (told A circumstances news host)
-  learns_grow circumstances news host none = feeds_grow host (Learns circumstances news) (Learning circumstances news) host.may_say none refl refl refl none refl
+  gives_plain : (pdu : List ℕ) (host : Host P) → (C → IsGiven host.channels pdu) → Plainly A asks C (Gives pdu ∷ []) host (with_channels (after_given host.channels) host)
+  gives_plain pdu host calm = record {
+    grows = record { list = Gives pdu ∷ []; feeds = []; channels_are = refl; profile_is = refl; tidings_are = refl; asked_is = refl; acted_is = refl; calm = λ c. (calm c, tt); weave = Giving pdu ∷ []; woven_is = refl; last_is = refl; on_link = (tt, tt); feeds_are = refl };
+    begins = (tt, tt);
+  }
 
   -- ---- a step of its profile
 
@@ -202,8 +239,8 @@ module _ {P : Type 0} (A : Profile P) (asks : Asks A) (C : Type 0) where
   call_calm (Some (Disconnect own)) v quiet = (quiet, tt)
   call_calm (Some (Send own sdu)) v quiet = (quiet, tt)
 
-  strides_grow : (host : Host P) → IsQuiet host.channels → Grows A asks C [] host (strides A (A.steps host.channels host.profile) host)
-  strides_grow host quiet =
+  strides_plain : (host : Host P) → IsQuiet host.channels → Plainly A asks C [] host (strides A (A.steps host.channels host.profile) host)
+  strides_plain host quiet =
       let stride = A.steps host.channels host.profile in
       let mid : Host P = record host { channels = stride.channels; profile = stride.profile } in
       let call = asks.call host.channels host.profile in
@@ -222,99 +259,126 @@ module _ {P : Type 0} (A : Profile P) (asks : Asks A) (C : Type 0) where
         woven_is = sym (append-nil (from_call call));
         last_is = refl;
       } in
-      grows_then [] [] host mid (strides A stride host) steps (tells_grow A asks C mid)
+      plain_then [] [] host mid (strides A stride host) (record { grows = steps; begins = (tt, tt) }) (tells_plain mid)
 
   -- ---- all that it does by itself
 
-  strides_on : (more : Host P → Host P) (test : Bool) (host : Host P) → IsQuiet host.channels → ((next : Host P) → Grows A asks C [] next (more next))
-      → (let after = strides A (A.steps host.channels host.profile) host in Grows A asks C [] host (if test then more after else after))
-  strides_on more true host quiet goes = let after = strides A (A.steps host.channels host.profile) host in grows_then [] [] host after (more after) (strides_grow host quiet) (goes after)
-  strides_on more false host quiet goes = strides_grow host quiet
+  plain_on : (more : Host P → Host P) (test : Bool) (host : Host P) → IsQuiet host.channels → ((next : Host P) → Plainly A asks C [] next (more next))
+      → (let after = strides A (A.steps host.channels host.profile) host in Plainly A asks C [] host (if test then more after else after))
+  plain_on more true host quiet goes = let after = strides A (A.steps host.channels host.profile) host in plain_then [] [] host after (more after) (strides_plain host quiet) (goes after)
+  plain_on more false host quiet goes = strides_plain host quiet
 
-  goes_on : (more : Host P → Host P) (test : Bool) (host : Host P) → is_some (next_given host.channels) ≡ test → ((next : Host P) → Grows A asks C [] next (more next))
-      → Grows A asks C [] host (if test then host else goes_by A more (A.steps host.channels host.profile) host)
-  goes_on more true host is goes = grows_none host
-  goes_on more false host is goes = strides_on more (A.steps host.channels host.profile).more host (none-some (next_given host.channels) is) goes
+  plain_goes : (more : Host P → Host P) (test : Bool) (host : Host P) → is_some (next_given host.channels) ≡ test → ((next : Host P) → Plainly A asks C [] next (more next))
+      → Plainly A asks C [] host (if test then host else goes_by A more (A.steps host.channels host.profile) host)
+  unfolding grows_none
+  plain_goes more true host is goes = record { grows = grows_none host; begins = tt }
+  plain_goes more false host is goes = plain_on more (A.steps host.channels host.profile).more host (none-some (next_given host.channels) is) goes
 
-  pub drives_grow : (count : ℕ) (host : Host P) → Grows A asks C [] host (drives A count host)
+  pub drives_plain : (count : ℕ) (host : Host P) → Plainly A asks C [] host (drives A count host)
   unfolding drives
-  drives_grow zero host = settles_grow host
-  drives_grow (suc count) host =
+  drives_plain zero host = settles_plain host
+  drives_plain (suc count) host =
       let now = settles A host in
       let more = λ (next : Host P). drives A count next in
       let test = is_some (next_given now.channels) in
-      grows_then [] [] host now (if test then now else goes_by A more (A.steps now.channels now.profile) now) (settles_grow host) (goes_on more test now refl (λ next. drives_grow count next))
+      plain_then [] [] host now (if test then now else goes_by A more (A.steps now.channels now.profile) now) (settles_plain host) (plain_goes more test now refl (λ next. drives_plain count next))
 
-  then_drives : (count : ℕ) (acted : List Occurrence) (old new : Host P) → Grows A asks C acted old new → Grows A asks C acted old (drives A count new)
-  then_drives count acted old new grows =
-      subst (λ (list : List Occurrence). Grows A asks C list old (drives A count new)) (append-nil acted) (grows_then acted [] old new (drives A count new) grows (drives_grow count new))
-
-  pub then_driven : (acted : List Occurrence) (old new : Host P) → Grows A asks C acted old new → Grows A asks C acted old (driven A new)
-  then_driven acted old new grows = then_drives most_steps acted old new grows
-
-  -- how much it may say counts for nothing
-  may_grow : (acted : List Occurrence) (old new : Host P) (count : ℕ) → Grows A asks C acted old new → (let after : Host P = record new { may_say = count } in Grows A asks C acted old after)
-  may_grow acted old new count grows = record {
-    list = grows.list;
-    feeds = grows.feeds;
-    channels_are = grows.channels_are;
-    profile_is = grows.profile_is;
-    tidings_are = grows.tidings_are;
-    asked_is = grows.asked_is;
-    acted_is = grows.acted_is;
-    calm = grows.calm;
-    weave = grows.weave;
-    woven_is = grows.woven_is;
-    last_is = grows.last_is;
-    on_link = grows.on_link;
-    feeds_are = grows.feeds_are;
-  }
-
-  pub readies : (circumstances : List Circumstance) (host : Host P) → Grows A asks C [] host (ready A circumstances host)
-  readies circumstances host = feeds_grow host (Gifts circumstances) (Gifting circumstances) (ready A circumstances host).may_say tt refl refl refl refl refl
+  plain_drives : (count : ℕ) (acted : List Occurrence) (old new : Host P) → Plainly A asks C acted old new → Plainly A asks C acted old (drives A count new)
+  plain_drives count acted old new plain =
+      subst (λ (list : List Occurrence). Plainly A asks C list old (drives A count new)) (append-nil acted) (plain_then acted [] old new (drives A count new) plain (drives_plain count new))
 
   -- ---- acts
 
-  hears_any : (circumstances : List Circumstance) (news : News) (host : Host P) → StaysOnLink (Hears circumstances news) → (C → IsCalmNews A.policy news host.channels) → Grows A asks C (from_news news) host (hears_news A circumstances news host)
-  hears_any circumstances (Linked event) host stays calm = absurd stays
-  hears_any circumstances (Failed status) host stays calm = learns_grow circumstances (Failed status) host refl
-  hears_any circumstances (Heard pdu) host stays calm =
+  plain_hears : (circumstances : List Circumstance) (news : News) (host : Host P) → IsOfLink news → (C → IsCalmNews A.policy news host.channels) → Plainly A asks C (from_news news) host (hears_news A circumstances news host)
+  plain_hears circumstances (Linked event) host of calm = absurd of
+  plain_hears circumstances (Failed status) host of calm = absurd of
+  plain_hears circumstances (Heard pdu) host of calm =
       let heard : Host P = record host { channels = channels.hears A.policy (channel_of pdu) pdu host.channels; profile = handed A (channels.up (channel_of pdu) pdu host.channels) host.profile } in
-      grows_then (Comes pdu ∷ []) [] host heard (tells_events A heard) (comes_grow pdu host calm) (tells_grow A asks C heard)
-  hears_any circumstances TimerFired host stays calm =
+      plain_then (Comes pdu ∷ []) [] host heard (tells_events A heard) (comes_plain pdu host calm) (tells_plain heard)
+  plain_hears circumstances TimerFired host of calm =
       let fired = with_channels (timed_out A.policy host.channels) host in
-      grows_then (Fires ∷ []) [] host fired (told A circumstances TimerFired (tells_events A fired)) (fires_grow host calm)
-      (grows_then [] [] fired (tells_events A fired) (told A circumstances TimerFired (tells_events A fired)) (tells_grow A asks C fired) (learns_grow circumstances TimerFired (tells_events A fired) refl))
-  hears_any circumstances Cancelled host stays calm = learns_grow circumstances Cancelled host refl
-  hears_any circumstances (Opening name) host stays calm = learns_grow circumstances (Opening name) host refl
+      plain_then (Fires ∷ []) [] host fired (told A circumstances TimerFired (tells_events A fired)) (fires_plain host calm)
+      (plain_then [] [] fired (tells_events A fired) (told A circumstances TimerFired (tells_events A fired)) (tells_plain fired) (learns_plain circumstances TimerFired (tells_events A fired) tt refl))
+  plain_hears circumstances Cancelled host of calm = learns_plain circumstances Cancelled host tt refl
+  plain_hears circumstances (Opening name) host of calm = absurd of
 
-  hears_grow : (circumstances : List Circumstance) (news : News) (host : Host P) → StaysOnLink (Hears circumstances news) → (C → IsCalmNews A.policy news host.channels) → Grows A asks C (from_news news) host (hear A circumstances news host)
-  hears_grow circumstances news host stays calm =
+  plain_hear : (circumstances : List Circumstance) (news : News) (host : Host P) → IsOfLink news → (C → IsCalmNews A.policy news host.channels) → Plainly A asks C (from_news news) host (hear A circumstances news host)
+  plain_hear circumstances news host of calm =
       let old = ready A circumstances host in
-      then_driven (from_news news) host (hears_news A circumstances news old)
-      (grows_then [] (from_news news) host old (hears_news A circumstances news old) (readies circumstances host) (hears_any circumstances news old stays calm))
+      plain_drives most_steps (from_news news) host (hears_news A circumstances news old)
+      (plain_then [] (from_news news) host old (hears_news A circumstances news old) (readies_plain circumstances host) (plain_hears circumstances news old of calm))
 
-  -- what follows from all that is said
-  abbrev Says_it : Host P → Option (List ℕ × Host P) → Type 0
-  Says_it host None = Unit {0}
-  Says_it host (Some one) = (C → IsReadFrom one.0 host) → Grows A asks C (Gives one.0 ∷ []) host one.1
+  abbrev Says_plain : Host P → Option (List ℕ × Host P) → Type 0
+  Says_plain host None = Unit {0}
+  Says_plain host (Some one) = (C → IsReadFrom one.0 host) → Plainly A asks C (Gives one.0 ∷ []) host one.1
 
-  frames_grow : (old : Host P) (test : Bool) (pdu : List ℕ) (host : Host P) → ((C → IsReadFrom pdu old) → Grows A asks C (Gives pdu ∷ []) old host) → Says_it old (if test then Some (pdu, host) else None)
-  frames_grow old true pdu host grows = grows
-  frames_grow old false pdu host grows = tt
+  frames_plain : (old : Host P) (test : Bool) (pdu : List ℕ) (host : Host P) → ((C → IsReadFrom pdu old) → Plainly A asks C (Gives pdu ∷ []) old host) → Says_plain old (if test then Some (pdu, host) else None)
+  frames_plain old true pdu host plain = plain
+  frames_plain old false pdu host plain = tt
 
-  says_grow : (old : Host P) (given : Option Given) (count : ℕ) → next_given old.channels ≡ given → Says_it old (says A given count old)
-  says_grow old None count is = tt
-  says_grow old (Some given) zero is = tt
-  says_grow old (Some given) (suc count) is =
+  -- how much it may say counts for nothing
+  may_plain : (acted : List Occurrence) (old new : Host P) (count : ℕ) → Plainly A asks C acted old new → (let after : Host P = record new { may_say = count } in Plainly A asks C acted old after)
+  may_plain acted old new count plain =
+      let grows = plain.grows in
+      record {
+        grows = record {
+          list = grows.list;
+          feeds = grows.feeds;
+          channels_are = grows.channels_are;
+          profile_is = grows.profile_is;
+          tidings_are = grows.tidings_are;
+          asked_is = grows.asked_is;
+          acted_is = grows.acted_is;
+          calm = grows.calm;
+          weave = grows.weave;
+          woven_is = grows.woven_is;
+          last_is = grows.last_is;
+          on_link = grows.on_link;
+          feeds_are = grows.feeds_are;
+        };
+        begins = plain.begins;
+      }
+
+  says_plain : (old : Host P) (given : Option Given) (count : ℕ) → next_given old.channels ≡ given → Says_plain old (says A given count old)
+  says_plain old None count is = tt
+  says_plain old (Some given) zero is = tt
+  says_plain old (Some given) (suc count) is =
       let pdu = pdu_of given in
       let gave = with_channels (after_given old.channels) old in
-      frames_grow old (is_frame pdu) pdu (after_said A count old)
-      (λ calm. may_grow (Gives pdu ∷ []) old (drives A (steps_behind count) gave) count (then_drives (steps_behind count) (Gives pdu ∷ []) old gave (gives_grow pdu old (λ c. record { given = given; is = is; said_as = calm c given is }))))
+      frames_plain old (is_frame pdu) pdu (after_said A count old)
+      (λ calm. may_plain (Gives pdu ∷ []) old (drives A (steps_behind count) gave) count (plain_drives (steps_behind count) (Gives pdu ∷ []) old gave (gives_plain pdu old (λ c. record { given = given; is = is; said_as = calm c given is }))))
+
+  -- what a host does on its link, where no push begins
+  pub act_plain : (act : Act Circumstance) (old new : Host P) → ActsOfLink act → (C → IsCalmAct A act old) → Does (upper A) act old new → Plainly A asks C (from_act act) old new
+  act_plain (Hears circumstances news) old new of calm does = subst (λ (host : Host P). Plainly A asks C (from_news news) old host) (sym does) (plain_hear circumstances news old of calm)
+  act_plain (Says pdu) old new of calm does = subst (Says_plain old) does (says_plain old (next_given old.channels) old.may_say refl) calm
+
+  -- ---- whatever it does
+
+  pub drives_grow : (count : ℕ) (host : Host P) → Grows A asks C [] host (drives A count host)
+  drives_grow count host = (drives_plain count host).grows
+
+  pub readies : (circumstances : List Circumstance) (host : Host P) → Grows A asks C [] host (ready A circumstances host)
+  readies circumstances host = (readies_plain circumstances host).grows
+
+  -- it hears news that are for its profile alone
+  aside_grows : (circumstances : List Circumstance) (news : News) (host : Host P) → tidings_by news ≡ [] → Grows A asks C [] host (driven A (told A circumstances news (ready A circumstances host)))
+  aside_grows circumstances news host none =
+      let old = ready A circumstances host in
+      let mid = told A circumstances news old in
+      grows_then [] [] host mid (driven A mid) (grows_then [] [] host old mid (readies circumstances host) (learns_grow circumstances news old none)) (drives_grow most_steps mid)
+
+  hears_grow : (circumstances : List Circumstance) (news : News) (host : Host P) → StaysOnLink (Hears circumstances news) → (C → IsCalmNews A.policy news host.channels) → Grows A asks C (from_news news) host (hear A circumstances news host)
+  hears_grow circumstances (Linked event) host stays calm = absurd stays
+  hears_grow circumstances (Failed status) host stays calm = aside_grows circumstances (Failed status) host refl
+  hears_grow circumstances (Heard pdu) host stays calm = (plain_hear circumstances (Heard pdu) host tt calm).grows
+  hears_grow circumstances TimerFired host stays calm = (plain_hear circumstances TimerFired host tt calm).grows
+  hears_grow circumstances Cancelled host stays calm = (plain_hear circumstances Cancelled host tt calm).grows
+  hears_grow circumstances (Opening name) host stays calm = aside_grows circumstances (Opening name) host refl
 
   pub act_grows : (act : Act Circumstance) (old new : Host P) → StaysOnLink act → (C → IsCalmAct A act old) → Does (upper A) act old new → Grows A asks C (from_act act) old new
   act_grows (Hears circumstances news) old new stays calm does = subst (λ (host : Host P). Grows A asks C (from_news news) old host) (sym does) (hears_grow circumstances news old stays calm)
-  act_grows (Says pdu) old new stays calm does = subst (Says_it old) does (says_grow old (next_given old.channels) old.may_say refl) calm
+  act_grows (Says pdu) old new stays calm does = (act_plain (Says pdu) old new tt calm does).grows
 
 -- it is so of a host that need not be calm
 abbrev pub without_calm : {P : Type 0} (A : Profile P) (asks : Asks A) (acted : List Occurrence) (old new : Host P) → Grows A asks (Unit {0}) acted old new → Grows A asks ⊥ acted old new

@@ -2,17 +2,16 @@
 use Rattle.std.proofs.Common.{◌≡◌, ℕ, true, false, cond, eqb, List, Option, Some, None, refl, ap, ◌∙◌}
 use Rattle.std.specs.Prelude.{is_some}
 use Rattle.std.proofs.lemmas.Bool.{eq-eqb}
+use Rattle.bt_base.specs.declared.settings.Settings.{Settings}
 use Rattle.push_terms.specs.declared.outcome.Outcome.{Outcome}
 use Rattle.push_terms.specs.declared.outcome.Outcome.TheVariants as outcomes
-use Rattle.channel_model.specs.Value.{Channels}
 use Rattle.push_model.specs.declared.closing.CloseCause.TheVariants.{RetryLimit, Own}
 use Rattle.push_model.specs.declared.course.Point.TheVariants.{Due, Asked}
 use Rattle.push_model.specs.declared.course.Stage.{Stage}
 use Rattle.push_model.specs.declared.course.Stage.TheVariants.{Rest, Link, SearchChannel, Search, SearchEnd, Features, ObjectChannel, Object, ObjectEnd, LinkEnd, Over}
 use Rattle.push_model.specs.Client.{Client, at_once, ends_by, ends}
 use Rattle.push_model.specs.Events.{is_asking_features, search_left, closed_at}
-use Rattle.push_model.specs.Steps.{Part, BreakLink, Stepped, NoMemory, rests, steps_at, steps}
-use Rattle.host_model.specs.Clients.{ClientProfile, Parting, takes, next_stride}
+use Rattle.host_model.specs.Clients.{ClientProfile, client_profile, is_at_end}
 use Rattle.host_laws.specs.Leaving.{in_use, is_closing, LeavesAtLosses}
 
 -- the link alone is left
@@ -75,17 +74,8 @@ closed_back (ObjectEnd point) client psm closing is cause = psm_same psm client.
 closed_back (LinkEnd point) client psm closing is cause = cc
 closed_back Over client psm closing is cause = cc
 
--- its next step
-step_is : (client : Client) (parts : List Part) → client.stage ≡ LinkEnd Due → client.given ≡ false → client.failed ≡ false → (steps client parts).step ≡ BreakLink
-step_is client parts at given failed =
-    let none : Stepped = record { client = client; step = NoMemory; left = parts } in
-    ap (λ b. (cond b none (cond client.given (rests client parts) (steps_at client.stage client parts))).step) failed
-    ∙ (ap (λ b. (cond b (rests client parts) (steps_at client.stage client parts)).step) given ∙ ap (λ stage. (steps_at stage client parts).step) at)
-
-leaving : (v : Channels) (pushing : ClientProfile) → pushing.client.stage ≡ LinkEnd Due → pushing.client.given ≡ false → pushing.client.failed ≡ false → (next_stride v pushing).profile.bid ≡ Parting
-leaving v pushing at given failed =
-    let one = steps pushing.client pushing.parts in
-    ap (λ step. (takes step v (record pushing { client = one.client; parts = one.left }) pushing).profile.bid) (step_is pushing.client pushing.parts at given failed)
+leaving : (settings : Settings) (pushing : ClientProfile) → pushing.client.stage ≡ LinkEnd Due → (client_profile settings).leaves_link pushing ≡ true
+leaving settings pushing at = ap is_at_end at
 
 pub clients_leave_at_losses : LeavesAtLosses
 clients_leave_at_losses = record {

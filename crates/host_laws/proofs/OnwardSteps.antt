@@ -35,7 +35,7 @@ use Rattle.host_model.specs.Circumstances.{Circumstance}
 use Rattle.host_model.specs.Endpoints.{endpoint_of, takes_sdu}
 use Rattle.host_model.specs.Pdus.{sdu_of}
 use Rattle.host_model.specs.Clients as clients
-use Rattle.host_model.specs.Clients.{Bid, NoBid, Parting, is_paging, ClientProfile, client_profile, after_end, ended, cause_of, closed_by, opened_by, event_heard, sent_on, submits, takes}
+use Rattle.host_model.specs.Clients.{Bid, NoBid, is_paging, ClientProfile, client_profile, after_end, ended, cause_of, closed_by, opened_by, event_heard, sent_on, submits, takes}
 use Rattle.host_model.proofs.Keeping.{Keeps}
 use Rattle.host_laws.specs.Feeds.{Feed, Gifts, Learns, Receives, Happens, Sent, Steps, fed, all_fed}
 use Rattle.host_laws.specs.Onward.{Befits, IsOfPush, IsFeedOfPush, ClientsGoOnward}
@@ -294,7 +294,7 @@ takes_so up (SendSdu psm payload) v q p same step so = by (endpoint_of psm q.end
     by : (own : Option ℕ) → IsSo up (submits own payload v q).profile
     by own = submits_so up own payload v q (so_by up p q same (goes_stay p.client q.client step) so)
 takes_so up (CloseChannel psm) v q p same step so = let now = so_by up p q same (goes_stay p.client q.client step) so in record { suits = now.suits; linked = now.linked }
-takes_so up BreakLink v q p same step so = record { suits = subst (λ (stage : Stage). Befits stage Parting) (sym step) refl; linked = λ on. ap is_linked step }
+takes_so up BreakLink v q p same step so = record { suits = subst (λ (stage : Stage). Befits stage NoBid) (sym step) refl; linked = λ on. ap is_linked step }
 takes_so up (Ended outcome) v q p same (from, to) so = record {
   suits = subst (λ (stage : Stage). Befits stage q.bid) (sym to) (subst (λ (bid : Bid). is_paging bid ≡ false) (sym same) (subst (λ (stage : Stage). Befits stage p.bid) from so.suits));
   linked = λ on. let never : false ≡ true = sym (ap is_linked from) ∙ so.linked on in cc;

@@ -13,6 +13,7 @@ use Rattle.channel_laws.specs.OwnTalk.{spoken}
 use Rattle.channel_laws.specs.Runs.{Occurrence, Gives, new_link, run_of}
 use Rattle.world_model.specs.Machines.{LinkEvent, Up, Down, Linked, Failed, Heard, TimerFired, Cancelled, Opening, Upper}
 use Rattle.world_model.specs.Talks.{Talk, Told, Said, Unsent, Met, Done}
+use Rattle.world_model.specs.Carriages.{linked_by}
 use Rattle.host_model.specs.Circumstances.{Circumstance}
 use Rattle.host_model.specs.Profiles.{Profile}
 use Rattle.host_model.specs.Hosts.{Host, first_host, ready, driven, hears_news, most_steps}
@@ -28,8 +29,9 @@ use Rattle.host_laws.proofs.Steps.{Grows}
 use Rattle.host_laws.proofs.Plain.{whole_said}
 use Rattle.host_laws.specs.Woven.{woven_list, woven_profile, Woven, turned, AreWoven, HostsTalkWoven}
 use Rattle.host_laws.specs.Feeds.{Feed}
+use Rattle.host_laws.specs.Asked.{BeginsNone, BeginsNoneIf, IsWantedAt, up_behind, AreAsked}
 use Rattle.host_laws.specs.Fed.{woven_feeds, WovenFed, turned_feeds, FedSpan, span_feeds, behind_span, AreFed, TalksFed, HostsTalkFed}
-use Rattle.host_laws.proofs.Growing.{calm-both, both-on_link, woven-both, woven-last, fed-both, drives_grow, readies, act_grows, without_calm}
+use Rattle.host_laws.proofs.Growing.{both-begin_none, calm-both, both-on_link, woven-both, woven-last, fed-both, drives_grow, readies, act_grows, without_calm}
 use Rattle.host_laws.proofs.Links.{value_run, drives_told, act_told}
 use Rattle.host_laws.proofs.Living.{first_lives, goes-on, turns-on}
 use Rattle.host_laws.proofs.Moving.{pending, talk-waits}
@@ -352,3 +354,52 @@ hosts_talk_woven A asks talk now over gentle =
 
 pub hosts_talk_over_links : {P : Type 0} (A : Profile P) → HostsTalkOverLinks A
 hosts_talk_over_links {P} A asks talk now over gentle = (hosts_talk_woven A asks talk now over gentle).so
+
+-- ---- no push begins on its links, and they come up where its profile wants them
+
+module _ {P : Type 0} (A : Profile P) (asks : Asks A) (W : P → Type 0) where
+  asked_on : (up : Bool) (spans : List Span) (now acted : List Occurrence) (feeds : List Feed) (old new : Host P) (first : P) (value : old.channels ≡ values_after A.policy no_channels now) (grows : Grows A asks (Unit {0}) acted old new) (fed : AreFed A asks spans now feeds first old.profile)
+      → (up_behind up spans ≡ true → AllByRecursion BeginsNone grows.weave) → AreAsked A asks W up spans now feeds first old.profile fed → AreAsked A asks W up spans (now ++ grows.list) (feeds ++ grows.feeds) first new.profile (fed_on A asks spans now acted feeds old new first value grows fed)
+  unfolding fed_on
+  asked_on true [] now acted feeds old new first value grows fed plain asked = both-begin_none fed.woven.weave grows.weave asked (plain refl)
+  asked_on false [] now acted feeds old new first value grows fed plain asked = tt
+  asked_on up (span ∷ spans) now acted feeds old new first value grows (here, later, is, rest) plain (one, two, more) =
+      (one, two, asked_on (linked_by span.event) spans now acted later old new (behind_span A asks span first here) value grows rest plain more)
+
+  -- nothing happened yet on a link that is new
+  none_begun : (up : Bool) (first p q : P) (same : p ≡ q) (w : WovenFed A asks [] [] first p) → AllByRecursion BeginsNone w.woven.weave → BeginsNoneIf up (subst (λ (r : P). WovenFed A asks [] [] first r) same w).woven.weave
+  none_begun true first p q same w none = (subst (λ (r : P). (fed : WovenFed A asks [] [] first r) × AllByRecursion BeginsNone fed.woven.weave) same (w, none)).1
+  none_begun false first p q same w none = tt
+
+  asked_turned : (up : Bool) (spans : List Span) (now : List Occurrence) (feeds : List Feed) (event : LinkEvent) (circumstances : List Circumstance) (host : Host P) (first : P) (value : host.channels ≡ values_after A.policy no_channels now) (fed : AreFed A asks spans now feeds first host.profile)
+      → IsWantedAt W event host.profile → AreAsked A asks W up spans now feeds first host.profile fed
+      → (let span : Span = record { list = now; event = event } in AreAsked A asks W up (spans ++ span ∷ []) [] (feeds ++ turned_feeds circumstances event host.channels) first (hears_news A circumstances (Linked event) host).profile (fed_turned A asks spans now feeds event circumstances host first value fed))
+  unfolding fed_turned fed_none woven_none
+  asked_turned up [] now feeds event circumstances host first value fed wanted asked =
+      let after = turned A circumstances event (values_after A.policy no_channels now) host.profile in
+      (asked, wanted, none_begun (linked_by event) after after (hears_news A circumstances (Linked event) host).profile (ap (λ (v : Channels). turned A circumstances event v host.profile) (sym value) ∙ sym (hears_turned A asks event circumstances host)) (fed_none A asks after) tt)
+  asked_turned up (span ∷ spans) now feeds event circumstances host first value (here, later, is, rest) wanted (one, two, more) =
+      (one, two, asked_turned (linked_by span.event) spans now later event circumstances host (behind_span A asks span first here) value rest wanted more)
+
+  abbrev pub IsAsked : (marks : List Mark) (host : Host P) → Calmly A asks marks host → Type 0
+  IsAsked marks host so = AreAsked A asks W false so.lives.spans so.lives.now so.lives.feeds A.first host.profile so.fed
+
+  pub goes-asked : (marks : List Mark) (acted : List Occurrence) (old new : Host P) (so : Calmly A asks marks old) (grows : Grows A asks (Unit {0}) acted old new) (told : new.channels.events ≡ []) → (up_behind false so.lives.spans ≡ true → AllByRecursion BeginsNone grows.weave) → IsAsked marks old so
+      → IsAsked (marks ++ map Occurred acted) new (goes_calmly A asks marks acted old new so grows told)
+  unfolding goes_calmly goes-on
+  goes-asked marks acted old new so grows told plain asked =
+      let value : old.channels ≡ values_after A.policy no_channels so.lives.now = so.lives.channels_run ∙ value_run A.policy so.lives.now new_link in
+      asked_on false so.lives.spans so.lives.now acted so.lives.feeds old new A.first value grows so.fed plain asked
+
+  pub turns-asked : (marks : List Mark) (event : LinkEvent) (circumstances : List Circumstance) (host : Host P) (so : Calmly A asks marks host) → IsWantedAt W event host.profile → IsAsked marks host so → IsAsked (marks ++ Turned event ∷ []) (hears_news A circumstances (Linked event) host) (turns_calmly A asks marks event circumstances host so)
+  unfolding turns_calmly turns-on
+  turns-asked marks event circumstances host so wanted asked =
+      asked_turned false so.lives.spans so.lives.now so.lives.feeds event circumstances host A.first (so.lives.channels_run ∙ value_run A.policy so.lives.now new_link) so.fed wanted asked
+
+  pub first-asked : IsAsked [] (first_host A) (first_calmly A asks)
+  unfolding first_calmly first_lives
+  first-asked = tt
+
+pub up_turned : (up : Bool) (spans : List Span) (span : Span) → up_behind up (spans ++ span ∷ []) ≡ linked_by span.event
+up_turned up [] span = refl
+up_turned up (one ∷ spans) span = up_turned (linked_by one.event) spans span

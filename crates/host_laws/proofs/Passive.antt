@@ -1,5 +1,5 @@
 -- The channels of a host that asks for none, for no end of one and for no features: each was granted to its peer, or was closed since.
-use Rattle.std.proofs.Common.{◌≡◌, ℕ, List, [], ◌∷◌, ◌++◌, map, drop, Bool, true, false, cond, eqb, not, Option, Some, None, Result, Ok, Err, refl, sym, subst}
+use Rattle.std.proofs.Common.{◌≡◌, ℕ, List, [], ◌∷◌, ◌++◌, map, drop, Bool, true, false, cond, eqb, not, Option, Some, None, Result, Ok, Err, refl, sym, subst, ◌||◌}
 use Rattle.std.specs.Prelude.{find, filter, nat_le, is_some, option_map}
 use Rattle.std.specs.List.{AllByRecursion}
 use Rattle.acl_fragments.specs.Pieces.{channel_of}
@@ -28,7 +28,7 @@ use Rattle.channel_model.specs.declared.request_kind.RequestKind.{RequestKind}
 use Rattle.channel_model.specs.declared.request_kind.RequestKind.TheVariants as kinds
 use Rattle.channel_model.specs.Value.{Request, Queued, Answer, Ask, Own, Unasked, Asking, Granted, Carrier, Plain, Retransmitting, Setup, no_setup, Stage, Requested, Connected, Leaving, Closing, Crossed, Held, Remembered, Channels, no_channels}
 use Rattle.channel_model.specs.Policies.{Policy}
-use Rattle.channel_model.specs.Changing.{has_own, in_place_of, held_at, is_peer, to_stage, gone, setup_of, has_fcs_by, stage_with, with_setup, to_setup, forgets, tells}
+use Rattle.channel_model.specs.Changing.{has_own, in_place_of, held_at, is_peer, to_stage, gone, setup_of, has_fcs_by, stage_with, with_setup, to_setup, forgets, tells, is_leaving}
 use Rattle.channel_model.specs.Asking.{new_request, asks_options, Fired, StillDue, OnceMore, Spent, fired}
 use Rattle.channel_model.specs.Closing.{closes, closes_at, peer_closes_at, ends, ends_at}
 use Rattle.channel_model.specs.Configuring.{Verdict, NoChannel, TooLate, Unreadable, Incomplete, Judged, verdict, accepted_setup, accepts_with, without_parts, refused_setup, follows_answer, follows_verdict, opens_if, granted_setup, grants}
@@ -258,7 +258,7 @@ settled_passive : (now : Settled) (held : Held) (setup : Setup) (v : Channels) �
 settled_passive Accepted held setup v one passive = granted held setup v one passive
 settled_passive (Again options) held setup v one passive =
     let after : Setup = renewed_setup setup in
-    either (nat_le 3 after.renewed) (closes NoAgreement (with_setup held after) (to_setup held after v)) (asks_options held after options v) (third held after v one passive) (options_asked held after options v one passive)
+    either (is_leaving held.stage || nat_le 3 after.renewed) (closes NoAgreement (with_setup held after) (to_setup held after v)) (asks_options held after options v) (third held after v one passive) (options_asked held after options v one passive)
 settled_passive Wait held setup v one passive = passive
 settled_passive Never held setup v one passive = closed held.stage NoAgreement held v passive
 

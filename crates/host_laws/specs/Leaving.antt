@@ -1,13 +1,13 @@
 -- A client that is told of a loss ends its link (Core 5.1, Volume 3 Part A, 6.2; Object Push Profile 1.2, 4.3).
 use Rattle.std.specs.Prelude.{ℕ, ◌≡◌, Bool, true, false, Option, Some, None, is_some}
-use Rattle.channel_model.specs.Value.{Channels}
+use Rattle.bt_base.specs.declared.settings.Settings.{Settings}
 use Rattle.push_model.specs.declared.closing.CloseCause.TheVariants.{RetryLimit, Own}
 use Rattle.push_model.specs.declared.course.Point.TheVariants.{Due, Asked}
 use Rattle.push_model.specs.declared.course.Stage.{Stage}
 use Rattle.push_model.specs.declared.course.Stage.TheVariants.{Rest, Link, SearchChannel, Search, SearchEnd, Features, ObjectChannel, Object, ObjectEnd, LinkEnd, Over}
 use Rattle.push_model.specs.Client.{Client}
 use Rattle.push_model.specs.Events.{ChannelClosed, FeaturesLost, search_psm, is_asking_features, hears_news}
-use Rattle.host_model.specs.Clients.{ClientProfile, Parting, next_stride}
+use Rattle.host_model.specs.Clients.{ClientProfile, client_profile}
 
 -- the channel that it uses, where the one of the object has that PSM: it asked for it, and was not told its end
 abbrev pub in_use : Stage → (object : ℕ) → Option ℕ
@@ -54,10 +54,9 @@ is_off (LinkEnd point) = true
 is_off Over = true
 
 -- Nothing is left to it but its link: where a request for the channel that it uses, or for its end, was given as often as may be, where the
--- features never came, and where it closed its channel with a cause. Then its next step ends the link, unless an SDU of it still waits, or
--- it has no memory.
+-- features never came, and where it closed its channel with a cause. Then it asks for the end of the link, whatever waits.
 pub record LeavesAtLosses : Type 0 where
   pub closed : (client : Client) (psm : ℕ) → in_use client.stage client.psm ≡ Some psm → (hears_news (ChannelClosed psm RetryLimit) client).stage ≡ LinkEnd Due
   pub featureless : (client : Client) → is_asking_features client.stage ≡ true → (hears_news FeaturesLost client).stage ≡ LinkEnd Due
   pub taken_back : (client : Client) (psm : ℕ) → is_closing client.stage ≡ true → in_use client.stage client.psm ≡ Some psm → is_some client.cause ≡ true → (hears_news (ChannelClosed psm Own) client).stage ≡ LinkEnd Due
-  pub leaves : (v : Channels) (pushing : ClientProfile) → pushing.client.stage ≡ LinkEnd Due → pushing.client.given ≡ false → pushing.client.failed ≡ false → (next_stride v pushing).profile.bid ≡ Parting
+  pub leaves : (settings : Settings) (pushing : ClientProfile) → pushing.client.stage ≡ LinkEnd Due → (client_profile settings).leaves_link pushing ≡ true

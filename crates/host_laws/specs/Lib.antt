@@ -26,3 +26,4 @@ pub mod Keeping
 pub mod Leaving
 pub mod Onward
 pub mod Memory
+pub mod Asked

@@ -1,5 +1,4 @@
--- A client whose push is on its link stays on it while that is up, and has asked for its end where it waits for that (Object Push Profile 1.2,
--- 4.3).
+-- A client whose push is on its link stays on it while that is up, and asks for no other one (Object Push Profile 1.2, 4.3).
 use Rattle.std.specs.Prelude.{◌≡◌, true, false, List}
 use Rattle.std.specs.List.{AllByRecursion}
 use Rattle.bt_base.specs.declared.settings.Settings.{Settings}
@@ -8,14 +7,12 @@ use Rattle.push_model.specs.declared.course.Stage.{Stage}
 use Rattle.push_model.specs.declared.course.Stage.TheVariants.{Rest, Link, SearchChannel, Search, SearchEnd, Features, ObjectChannel, Object, ObjectEnd, LinkEnd, Over}
 use Rattle.push_model.specs.Events.{is_linked}
 use Rattle.world_model.specs.Machines.{News, Linked, Failed, Heard, TimerFired, Cancelled, Opening}
-use Rattle.host_model.specs.Clients.{Bid, Parting, is_paging, ClientProfile, client_profile}
+use Rattle.host_model.specs.Clients.{Bid, is_paging, ClientProfile, client_profile}
 use Rattle.host_laws.specs.Feeds.{Feed, Gifts, Learns, Receives, Happens, Sent, Steps, all_fed}
 
--- What it asks of its line is as its push stands: that a link be made where its push waits for one alone, and that the link end where it waits
--- for that.
+-- What it asks of its line is as its push stands: that a link be made where its push waits for one alone.
 abbrev pub Befits : Stage → Bid → Type 0
 Befits (Link Asked) bid = Unit {0}
-Befits (LinkEnd Asked) bid = bid ≡ Parting
 Befits Rest bid = is_paging bid ≡ false
 Befits (Link Due) bid = is_paging bid ≡ false
 Befits (SearchChannel point) bid = is_paging bid ≡ false
@@ -25,7 +22,7 @@ Befits (Features point) bid = is_paging bid ≡ false
 Befits (ObjectChannel point) bid = is_paging bid ≡ false
 Befits Object bid = is_paging bid ≡ false
 Befits (ObjectEnd point) bid = is_paging bid ≡ false
-Befits (LinkEnd Due) bid = is_paging bid ≡ false
+Befits (LinkEnd point) bid = is_paging bid ≡ false
 Befits Over bid = is_paging bid ≡ false
 
 -- it asks for what suits it, and is on its link

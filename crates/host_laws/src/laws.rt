@@ -5,7 +5,7 @@ ghost use Rattle.host_laws.specs.Calls.{HostsAsk};
 ghost use Rattle.host_laws.specs.Carriers.{HostsGainByCarriers};
 ghost use Rattle.host_laws.specs.Calm.{CalmHostsMove, HostsTalkInTurns};
 ghost use Rattle.host_laws.specs.ClientCalls.{ClientsAskInOrder, ClientsAskOnce};
-ghost use Rattle.host_laws.specs.Free.{HostsHoldBackNothing, ServersFirePlainly};
+ghost use Rattle.host_laws.specs.Free.{ClientsFirePlainly, HostsHoldBackNothing, ServersFirePlainly};
 ghost use Rattle.host_laws.specs.Gaining.{HostsGainTalk};
 ghost use Rattle.host_laws.specs.GainingOver.{HostsGainOverLinks};
 ghost use Rattle.host_laws.specs.InOrder.{ClientsCallInOrder, ServersAreServedInOrder, ServersAskNothing};
@@ -230,6 +230,12 @@ pub fn hosts_hold_back_nothing()
 /// A server ends no channel of its own accord: so each firing of it says what waits behind it, where no command waited before.
 pub fn servers_fire_plainly()
     ensures { ServersFirePlainly }
+{}
+
+/// A client asks for the options of a channel that it leaves as often as for its end: so each firing of it says what waits behind it, where no command
+/// waited before.
+pub fn clients_fire_plainly()
+    ensures { ClientsFirePlainly }
 {}
 
 /// Of each request that a host gives up it is told, but for one for a channel that it takes back: so where no loss arose and none was taken back, its

@@ -11,6 +11,8 @@ use Rattle.channel_model.specs.Calls.{connected, connect_answer, disconnected, a
 use Rattle.ertm_model.specs.Reasons.{number_of}
 use Rattle.push_model.specs.declared.closing.CloseCause.{CloseCause}
 use Rattle.push_model.specs.declared.closing.CloseCause.TheVariants as causes
+use Rattle.push_model.specs.declared.course.Stage.{Stage}
+use Rattle.push_model.specs.declared.course.Stage.TheVariants.{Rest, Link, SearchChannel, Search, SearchEnd, Features as FeaturesStage, ObjectChannel, Object, ObjectEnd, LinkEnd, Over}
 use Rattle.push_model.specs.Client.{Client, new_client, begins, cancelled, is_idle, may_cancel}
 use Rattle.push_model.specs.Events as events
 use Rattle.push_model.specs.Events.{hears_news, armed}
@@ -22,11 +24,10 @@ use Rattle.host_model.specs.Pdus.{sdu_of}
 use Rattle.host_model.specs.Endpoints.{Endpoint, endpoint_of, with_answer, takes_sdu}
 use Rattle.host_model.specs.Profiles.{Stride, Profile}
 
--- what it asks of its line: nothing, that a link be made, that the link end
+-- what it asks of its line: nothing, or that a link be made
 pub data Bid : Type 0 where
   NoBid : Bid
   Paging : Bid
-  Parting : Bid
 
 pub record ClientProfile : Type 0 where
   pub client : Client
@@ -141,7 +142,7 @@ takes AskFeatures channels after before = waiting (asks_features channels) (done
 takes (OpenChannel psm) channels after before = waiting (connected psm channels) (done (record after { endpoints = with_answer psm (connect_answer channels) after.endpoints }))
 takes (SendSdu psm payload) channels after before = submits (endpoint_of psm after.endpoints) payload channels after
 takes (CloseChannel psm) channels after before = going (closes (endpoint_of psm after.endpoints) channels) (done after)
-takes BreakLink channels after before = waiting channels (done (record after { bid = Parting }))
+takes BreakLink channels after before = waiting channels (done (record after { bid = NoBid }))
 takes (Ended outcome) channels after before = waiting channels after
 takes NoMemory channels after before = waiting channels after
 
@@ -153,12 +154,20 @@ next_stride channels pushing = let one = steps pushing.client pushing.parts in t
 abbrev pub is_paging : Bid → Bool
 is_paging NoBid = false
 is_paging Paging = true
-is_paging Parting = false
 
-abbrev pub is_parting : Bid → Bool
-is_parting NoBid = false
-is_parting Paging = false
-is_parting Parting = true
+-- Nothing is left to its push but the end of its link. It asks for that whatever waits in its channels still: all else would be in vain.
+abbrev pub is_at_end : Stage → Bool
+is_at_end Rest = false
+is_at_end (Link point) = false
+is_at_end (SearchChannel point) = false
+is_at_end Search = false
+is_at_end (SearchEnd point) = false
+is_at_end (FeaturesStage point) = false
+is_at_end (ObjectChannel point) = false
+is_at_end Object = false
+is_at_end (ObjectEnd point) = false
+is_at_end (LinkEnd point) = true
+is_at_end Over = false
 
 abbrev pub client_profile : Settings → Profile ClientProfile
 client_profile settings = record {
@@ -171,7 +180,7 @@ client_profile settings = record {
   sent = sent;
   steps = next_stride;
   wants_link = λ pushing. is_paging pushing.bid && not (is_idle pushing.client);
-  leaves_link = λ pushing. is_parting pushing.bid;
+  leaves_link = λ pushing. is_at_end pushing.client.stage;
   is_idle = λ pushing. is_idle pushing.client;
   outcome = λ pushing. pushing.client.cause;
   armed = λ pushing. armed pushing.client;

@@ -264,3 +264,44 @@ fn check_words_go_on_to_the_end(rt: HostRuntime) -> Result<(), Fail> {
     assert!(rt; ends_with_check_words(&mut client, &mut server, own));
     Ok(())
 }
+
+/// Whether the next event is that both sides of a channel found no options.
+fn is_not_agreed(channels: &mut Channels) -> bool {
+    matches!(
+        channels.next_event(),
+        Some(ChannelEvent::Closed(_, _, CloseReason::NoAgreement))
+    )
+}
+
+/// Asks for the end of a channel where no event waits; whether it did.
+#[tactic(auto, using(l2cap_channels::proofs::Giving::no_events))]
+fn leaves(channels: &mut Channels, own: Cid) -> bool {
+    if channels.next_event().is_some() {
+        return false;
+    }
+    channels.disconnect(own);
+    true
+}
+
+/// Whether a channel is granted, its options are asked for, and then its end.
+fn asks_and_leaves(client: &mut Channels, own: Cid) -> bool {
+    let granted = [12, 0, 1, 0, 3, 1, 8, 0, 0x40, 0, 0x40, 0, 0, 0, 0, 0];
+    let options = [12, 0, 1, 0, 4, 2, 8, 0, 0x40, 0, 0, 0, 1, 2, 0xA0, 2];
+    let end = [8, 0, 1, 0, 6, 3, 4, 0, 0x40, 0, 0x40, 0];
+    gives(client, &[8, 0, 1, 0, 2, 1, 4, 0, 1, 0, 0x40, 0])
+        && answers(client, &granted, &options)
+        && leaves(client, own)
+        && gives(client, &end)
+}
+
+#[test]
+fn a_channel_that_is_left_is_not_bargained_over(rt: HostRuntime) -> Result<(), Fail> {
+    let mut client = channels(rt.alloc(), 4, false)?;
+    let own = asks(&mut client, DISCOVERY)?;
+    let suggestion = [14, 0, 1, 0, 5, 2, 10, 0, 0x40, 0, 0, 0, 1, 0, 1, 2, 0x30, 0];
+    assert!(rt; asks_and_leaves(&mut client, own));
+    assert!(rt; hears(&mut client, 0x0001, &suggestion, None));
+    assert!(rt; is_not_agreed(&mut client));
+    assert!(rt; is_silent(&mut client));
+    Ok(())
+}

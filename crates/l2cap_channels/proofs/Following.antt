@@ -1,7 +1,7 @@
 -- What follows at the place of a channel.
 use Rattle.std.proofs.Common.{◌≡◌, ◌∙◌, ℕ, zero, suc, ◌+◌, ◌≤◌, ◌<◌, Bool, true, false, List, [], ◌∷◌, map, refl, sym, ap, arith}
 use Rattle.std.specs.Prelude.{◌==◌, nat_le, Option, Some, None, option_map, is_some}
-use Rattle.std.proofs.lemmas.Bool.{le-leb, eqb-true, eq-eqb}
+use Rattle.std.proofs.lemmas.Bool.{le-leb, leb-true, leb-false, eqb-true, eq-eqb}
 use Rattle.l2cap_config.specs.declared.options.Options.{Options}
 use Rattle.l2cap_config.specs.declared.wish.Wish.{Wish}
 use Rattle.l2cap_config.specs.Agreement.{agreed_on}
@@ -18,7 +18,7 @@ use Rattle.channel_model.specs.Configuring.{accepts, accepts_with, accepted_setu
 use Rattle.channel_model.specs.Responses.{renews, renewed_setup}
 use Rattle.l2cap_config.specs.Items.{no_options}
 use Rattle.l2cap_channels.specs.Finding.{on_place, place_setup}
-use Rattle.l2cap_channels.specs.Steps.{with_change, accepted, first_asked, asked_anew, refused_on, renewed_on, carries_on, acceptance_by, acceptance_on, with_setup_at}
+use Rattle.l2cap_channels.specs.Steps.{with_change, accepted, first_asked, asked_anew, refused_on, is_past_asking, is_past_asking_at, carries_on, acceptance_by, acceptance_on, with_setup_at}
 use Rattle.l2cap_channels.specs.declared.progress.Acceptance.{Acceptance}
 use Rattle.l2cap_channels.specs.declared.progress.Acceptance.TheVariants.{Asks, Waits, Opens}
 
@@ -152,31 +152,35 @@ refusing_by (Some h) v few there = refusing_stage h.stage h.psm h.own v few ther
 
 -- ---- the own options are not acceptable
 
-renewed_stage : (stage : Stage) (psm own : ℕ) (options : Options) (v : Channels) → 2 ≤ renewed_on (setup_of stage)
+twice_leb : (n : ℕ) → nat_le 2 n ≡ true → nat_le 3 (n + 1) ≡ true
+twice_leb n is = let many = leb-true 2 n is in le-leb 3 (n + 1) (omega (arith, many))
+
+few_leb : (n : ℕ) → nat_le 2 n ≡ false → nat_le 3 (n + 1) ≡ false
+few_leb n is = let few = leb-false 2 n is in below n (omega (arith, few))
+
+renewed_stage : (stage : Stage) (psm own : ℕ) (options : Options) (v : Channels) → is_past_asking stage ≡ true
     → closes NoAgreement (record { psm = psm; own = own; stage = stage }) v ≡ with_setup_at (λ held setup. renews options held (renewed_setup setup)) (record { psm = psm; own = own; stage = stage }) v
-renewed_stage (Requested request) psm own options v many = absurd (omega (arith, many))
-renewed_stage (Connected peer setup) psm own options v many =
-    rw (le-leb 3 (setup.renewed + 1) (omega (arith, many))) (sym (closes_stage (Connected peer setup) psm own (renewed_setup setup) NoAgreement v refl refl))
-renewed_stage (Leaving peer setup request) psm own options v many =
-    rw (le-leb 3 (setup.renewed + 1) (omega (arith, many))) (sym (closes_stage (Leaving peer setup request) psm own (renewed_setup setup) NoAgreement v refl refl))
-renewed_stage (Closing peer request checked) psm own options v many = absurd (omega (arith, many))
-renewed_stage (Crossed peer request) psm own options v many = absurd (omega (arith, many))
+renewed_stage (Requested request) psm own options v past = cc
+renewed_stage (Connected peer setup) psm own options v past = rw (twice_leb setup.renewed past) (sym (closes_stage (Connected peer setup) psm own (renewed_setup setup) NoAgreement v refl refl))
+renewed_stage (Leaving peer setup request) psm own options v past = sym (closes_stage (Leaving peer setup request) psm own (renewed_setup setup) NoAgreement v refl refl)
+renewed_stage (Closing peer request checked) psm own options v past = cc
+renewed_stage (Crossed peer request) psm own options v past = cc
 
-pub renewed_by : (o : Option Held) (options : Options) (v : Channels) → 2 ≤ renewed_on (place_setup o)
+pub renewed_by : (o : Option Held) (options : Options) (v : Channels) → is_past_asking_at o ≡ true
     → on_place (closes NoAgreement) o v ≡ on_place (with_setup_at (λ held setup. renews options held (renewed_setup setup))) o v
-renewed_by None options v many = refl
-renewed_by (Some h) options v many = renewed_stage h.stage h.psm h.own options v many
+renewed_by None options v past = refl
+renewed_by (Some h) options v past = renewed_stage h.stage h.psm h.own options v past
 
-renewing_stage : (stage : Stage) (psm own : ℕ) (options : Options) (v : Channels) → renewed_on (setup_of stage) < 2 → is_some (setup_of stage) ≡ true
+renewing_stage : (stage : Stage) (psm own : ℕ) (options : Options) (v : Channels) → is_past_asking stage ≡ false → is_some (setup_of stage) ≡ true
     → asks (Configuration own) (to_stage (record { psm = psm; own = own; stage = stage }) (with_change (asked_anew (new_request v) options) stage) v)
     ≡ with_setup_at (λ held setup. renews options held (renewed_setup setup)) (record { psm = psm; own = own; stage = stage }) v
 renewing_stage (Requested request) psm own options v few there = cc
-renewing_stage (Connected peer setup) psm own options v few there = rw (below setup.renewed few) refl
-renewing_stage (Leaving peer setup request) psm own options v few there = rw (below setup.renewed few) refl
+renewing_stage (Connected peer setup) psm own options v few there = rw (few_leb setup.renewed few) refl
+renewing_stage (Leaving peer setup request) psm own options v few there = cc
 renewing_stage (Closing peer request checked) psm own options v few there = cc
 renewing_stage (Crossed peer request) psm own options v few there = cc
 
-pub renewing_by : (o : Option Held) (own : ℕ) (options : Options) (v : Channels) → option_map (λ (h : Held). h.own) o ≡ Some own → renewed_on (place_setup o) < 2 → is_some (place_setup o) ≡ true
+pub renewing_by : (o : Option Held) (own : ℕ) (options : Options) (v : Channels) → option_map (λ (h : Held). h.own) o ≡ Some own → is_past_asking_at o ≡ false → is_some (place_setup o) ≡ true
     → asks (Configuration own) (on_place (λ held. to_stage held (with_change (asked_anew (new_request v) options) held.stage)) o v) ≡ on_place (with_setup_at (λ held setup. renews options held (renewed_setup setup))) o v
 renewing_by None own options v own_is few there = cc
 renewing_by (Some h) own options v own_is few there =

@@ -1,5 +1,5 @@
 -- What is done to the options of a channel.
-use Rattle.std.specs.Prelude.{ℕ, ◌≡◌, ◌≤◌, Bool, false, Option, Some, None, is_some, if◌then◌else◌}
+use Rattle.std.specs.Prelude.{ℕ, ◌≡◌, ◌≤◌, nat_le, Bool, true, false, Option, Some, None, is_some, if◌then◌else◌}
 use Rattle.l2cap_config.specs.declared.options.Options.{Options}
 use Rattle.l2cap_config.specs.declared.wish.Wish.{Wish}
 use Rattle.l2cap_config.specs.declared.wish.Agreed.{Agreed}
@@ -100,14 +100,22 @@ on_setup f (Some setup) held v = f held setup v
 abbrev pub with_setup_at : (Held → Setup → Channels → Channels) → Held → Channels → Channels
 with_setup_at f held v = on_setup f (setup_of held.stage) held v
 
--- how often requests of either side were answered as unacceptable
+-- how often requests of the peer were answered as unacceptable
 abbrev pub refused_on : Option Setup → ℕ
 refused_on None = 0
 refused_on (Some setup) = setup.refused
 
-abbrev pub renewed_on : Option Setup → ℕ
-renewed_on None = 0
-renewed_on (Some setup) = setup.renewed
+-- no other options are asked for: the peer answered own requests as unacceptable as often as may be, or the host asked for the end
+abbrev pub is_past_asking : Stage → Bool
+is_past_asking (Requested request) = false
+is_past_asking (Connected peer setup) = nat_le 2 setup.renewed
+is_past_asking (Leaving peer setup request) = true
+is_past_asking (Closing peer request checked) = false
+is_past_asking (Crossed peer request) = false
+
+abbrev pub is_past_asking_at : Option Held → Bool
+is_past_asking_at None = false
+is_past_asking_at (Some held) = is_past_asking held.stage
 
 -- a carrier is there, by options of the peer that were accepted
 abbrev pub carries_on : Option Setup → Bool

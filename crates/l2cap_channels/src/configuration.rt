@@ -1,6 +1,6 @@
 //! Requests for the options of channels, and their responses.
 
-ghost use Rattle.std.specs.Prelude.{◌≡◌, ◌≤◌, ◌<◌, ◌+◌, true, Some, length, slice_get, option_map, is_some};
+ghost use Rattle.std.specs.Prelude.{◌≡◌, ◌≤◌, ◌<◌, ◌+◌, true, false, Some, length, slice_get, option_map, is_some};
 ghost use Rattle.l2cap_config.specs.Agreement.{answered};
 ghost use Rattle.l2cap_signal.specs.Commands.{configuration_request};
 ghost use Rattle.channel_model.specs.Changing.{held_at, to_stage};
@@ -12,21 +12,17 @@ ghost use Rattle.l2cap_channels.specs.Finding.{on_place, place_setup};
 ghost use Rattle.l2cap_channels.specs.Lines.{IsFor};
 ghost use Rattle.l2cap_channels.specs.Machine.{policy_of, with_channels};
 ghost use Rattle.l2cap_channels.specs.Sound.{owns};
-ghost use Rattle.l2cap_channels.specs.Steps.{with_change, noted, accepted, asked_anew, refused_on, renewed_on, carries_on, acceptance_on, verdict_value, IsJudgedBy, IsWish, IsAccept, with_setup_at, granted};
+ghost use Rattle.l2cap_channels.specs.Steps.{with_change, noted, accepted, asked_anew, refused_on, is_past_asking_at, carries_on, acceptance_on, verdict_value, IsJudgedBy, IsWish, IsAccept, with_setup_at, granted};
 
 use crate::channels::Channels;
 use crate::hearing::no_such_channel;
 use crate::identifier::Identifier;
-use crate::progress::Acceptance;
+use crate::progress::{Acceptance, MOST_REFUSALS};
 use crate::request::Request;
 use crate::verdict::Verdict;
 use crate::wish::first_options;
 use channel_model::{ChannelEvent, CloseReason, Errand, RequestKind};
 use l2cap_config::{Agreed, ConfigAnswer, Options, Settled, Wish, agree, options_of, settle};
-
-/// How often requests for options may be answered as unacceptable; once more closes the channel (this
-/// project's own).
-const MOST_REFUSALS: u8 = 2;
 
 impl Channels {
     ghost use Rattle.l2cap_channels.specs.Parts.{request_value};
@@ -67,17 +63,17 @@ impl Channels {
         place.refuse();
     }
 
-    /// How many own requests for options of the channel at a place were answered as unacceptable.
-    fn renewed(&self, at: usize) -> u8
+    /// Whether the channel at a place asks for no other options, as `Place::asks_no_more` says.
+    fn asks_no_more(&self, at: usize) -> bool
         requires { at < length self.now.channels.held }
-        ensures { result ≡ renewed_on (place_setup (slice_get self.now.channels.held at)) }
+        ensures { result ≡ is_past_asking_at (slice_get self.now.channels.held at) }
     {
-        self.places[at].renewed()
+        self.places[at].asks_no_more()
     }
 
     fn set_renewed(&mut self, at: usize, request: Request, options: Options)
         requires place { at < length self.old.channels.held }
-        requires few { renewed_on (place_setup (slice_get self.old.channels.held at)) < 2 }
+        requires few { is_past_asking_at (slice_get self.old.channels.held at) ≡ false }
         ensures { self.new ≡ with_channels self.old (on_place (λ held. to_stage held (with_change (asked_anew (request_value request) options) held.stage)) (slice_get self.old.channels.held at) self.old.channels) }
     {
         let place = &mut self.places[at];
@@ -252,7 +248,8 @@ impl Channels {
         }
     }
 
-    /// The peer suggests other options for the channel at a place: the third time closes it.
+    /// The peer suggests other options for the channel at a place: the third time closes it, and the first
+    /// time where the host asked for its end.
     fn renew(&mut self, at: usize, options: Options)
         requires place { at < length self.old.channels.held }
         requires room { length self.old.channels.events < 168 }
@@ -260,7 +257,7 @@ impl Channels {
         ensures after { self.new ≡ with_channels self.old (on_place (with_setup_at (λ held setup. responses.renews options held (responses.renewed_setup setup))) (slice_get self.old.channels.held at) self.old.channels) }
         ensures few { length self.new.channels.events ≤ length self.old.channels.events + 1 }
     {
-        if self.renewed(at) >= MOST_REFUSALS {
+        if self.asks_no_more(at) {
             self.close(at, CloseReason::NoAgreement);
             return;
         }

@@ -1,11 +1,11 @@
 //! What is done to the options of a channel.
 
-ghost use Rattle.std.specs.Prelude.{◌≡◌, ◌≤◌, ◌<◌};
+ghost use Rattle.std.specs.Prelude.{◌≡◌, ◌≤◌, ◌<◌, false};
 ghost use Rattle.channel_model.specs.Changing.{setup_of};
 ghost use Rattle.channel_model.specs.Configuring.{granted_setup, refused_setup};
 ghost use Rattle.l2cap_channels.specs.Lines.{IsFor};
 ghost use Rattle.l2cap_channels.specs.Parts.{request_value};
-ghost use Rattle.l2cap_channels.specs.Steps.{asking_stage, with_change, noted, accepted, asked_anew, refused_on, renewed_on, carries_on, acceptance_on, verdict_value, IsJudgedBy};
+ghost use Rattle.l2cap_channels.specs.Steps.{asking_stage, with_change, noted, accepted, asked_anew, refused_on, is_past_asking, carries_on, acceptance_on, verdict_value, IsJudgedBy};
 ghost use Rattle.channel_model.specs.Configuring.{judged_stage};
 
 use crate::place::Place;
@@ -15,6 +15,10 @@ use crate::stage::Stage;
 use crate::verdict::{Verdict, judged};
 use bt_base::Cid;
 use l2cap_config::{Agreed, Options, Wish};
+
+/// How often requests for options may be answered as unacceptable; once more closes the channel (this
+/// project's own).
+pub(crate) const MOST_REFUSALS: u8 = 2;
 
 /// What the host does once it accepted the peer's options.
 #[derive(Clone, Copy)]
@@ -67,20 +71,21 @@ impl Place {
         }
     }
 
-    /// How many own requests were answered as unacceptable by the peer.
-    pub(crate) fn renewed(&self) -> u8
-        ensures { result ≡ renewed_on (setup_of self.now.stage) }
+    /// Whether it asks for no other options: the host asked for its end, or the peer answered own requests
+    /// as unacceptable as often as may be.
+    pub(crate) fn asks_no_more(&self) -> bool
+        ensures { result ≡ is_past_asking self.now.stage }
     {
-        if self.is_there() {
-            self.setup.renewed
-        } else {
-            0
+        match self.stage {
+            Stage::Connected(_) => self.setup.renewed >= MOST_REFUSALS,
+            Stage::Leaving(_, _) => true,
+            Stage::Requested(_) | Stage::Closing(_, _, _) | Stage::Crossed(_, _) => false,
         }
     }
 
     /// These options are asked for, in place of those that the peer answered as unacceptable.
     pub(crate) fn renew(&mut self, request: Request, options: Options)
-        requires { renewed_on (setup_of self.old.stage) < 2 }
+        requires { is_past_asking self.old.stage ≡ false }
         ensures { self.new ≡ record self.old { stage = with_change (asked_anew (request_value request) options) self.old.stage } }
     {
         if self.is_there() {

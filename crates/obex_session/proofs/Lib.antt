@@ -21,5 +21,7 @@ pub mod AskingLaws
 pub mod NameLaws
 pub mod WritingLaws
 pub mod LookingLaws
+pub mod CountingLaws
 pub mod ViewLaws
 pub mod ModeLaws
+pub mod SaidLaws

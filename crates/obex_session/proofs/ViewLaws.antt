@@ -1,9 +1,7 @@
 -- A packet that was heard, as those see it that know no names of sayings.
-use Rattle.std.proofs.Common.{◌≡◌, ℕ, Bool, true, false, List, [], ◌∷◌, ◌++◌, length, drop, Option, Some, None, is_none, IfSome, Result, Ok, Err, IsErrOf, refl, ap, sym, subst, ◌∙◌, append-nil}
+use Rattle.std.proofs.Common.{◌≡◌, ℕ, Bool, true, false, List, [], ◌∷◌, ◌++◌, length, drop, Option, is_none, IfSome, Ok, Err, IsErrOf, refl, ap, sym, subst, ◌∙◌, append-nil}
 use Rattle.std.specs.Option.{option_map}
-use Rattle.bt_base.specs.Counts.{HasCause, HasRisen}
-use Rattle.bt_base.specs.Objects.{Contents, aborted}
-use Rattle.bt_base.specs.declared.ports.PortFault.{PortFault}
+use Rattle.bt_base.specs.Objects.{Contents}
 use Rattle.bt_base.specs.declared.ports.PortFault.TheVariants.{Failed, NoMemory}
 use Rattle.obex_session.specs.declared.course.Course.{Course}
 use Rattle.obex_session.specs.declared.course.Verdict.{Verdict}
@@ -12,11 +10,12 @@ use Rattle.obex_session.specs.declared.marks.Kind.{Kind}
 use Rattle.obex_session.specs.declared.responding.Saying.{Saying}
 use Rattle.obex_session.specs.declared.responding.Saying.TheVariants as saying
 use Rattle.obex_session.specs.declared.server.Reply.{Reply}
-use Rattle.obex_session.specs.declared.server.Reply.TheVariants as reply
 use Rattle.obex_session.specs.InboxCalls.{InboxCall, Answer, come_of, left_by, held_after, done_by}
+use Rattle.obex_session.specs.Counting.{Counts}
 use Rattle.obex_session.specs.Past.{Serving}
 use Rattle.obex_session.specs.Serving.{Hears, Says, Turn, heard_with, kind_heard, ruling_on, outcome_on, verdict_or}
 use Rattle.obex_session.specs.Turns.{said_after, said_open, said_whole, is_first_in, is_single_in}
+use Rattle.obex_session.proofs.CountingLaws.{counted_by}
 use Rattle.obex_session.specs.Views.{Viewed, viewed, octets_said, is_shortage, count_in, IsAnswered}
 
 -- ---- answers that are left over
@@ -81,14 +80,15 @@ viewed_is session session' packet answers left said lacks turn short =
     ap (λ (t : Turn). (let v : Viewed = record { session = t.session; response = octets_said packet session.maximum t.saying; short = is_shortage t.saying; left = t.left } in v)) turn
     ∙ ap (λ (b : Bool). (let v : Viewed = record { session = session'; response = octets_said packet session.maximum said; short = b; left = left } in v)) short
 
-pub answered : (session session' : Serving) (packet : List ℕ) (content content' : Option Contents) (f f' s s' : ℕ) (room room' : List ℕ) (answer : Reply) → Hears session session' packet content content' f f' s s' room room' answer
-    → IsAnswered session session' packet content content' s s' room room' answer
-answered session session' packet content content' f f' s s' room room' answer hears =
+pub answered : (session session' : Serving) (packet : List ℕ) (content content' : Option Contents) (old new : Counts) (room room' : List ℕ) (answer : Reply) → Hears session session' packet content content' old.faults new.faults old.shortages new.shortages room room' answer
+    → IsAnswered session session' packet content content' old new room room' answer
+answered session session' packet content content' old new room room' answer hears =
     let calls = (ruling_on session packet).calls in
     let short = short_is packet session.maximum hears.saying room room' answer hears.says in
     let said : is_shortage (heard_with session packet (hears.used ++ [])).saying ≡ is_none (count_in answer) = ap (λ (t : Turn). is_shortage t.saying) (hears.turn []) ∙ short in
     record {
       used = hears.used;
+      counted = counted_by calls hears.used old new (λ others. ap (λ (t : Turn). t.left) (hears.turn others)) hears.cause;
       response = octets_said packet session.maximum hears.saying;
       turn = λ rest. viewed_is session session' packet (hears.used ++ rest) rest hears.saying (is_none (count_in answer)) (hears.turn rest) short;
       held = λ rest. held_ahead calls hears.used content (λ others. ap (λ (t : Turn). t.left) (hears.turn others)) rest ∙ sym hears.content_is;

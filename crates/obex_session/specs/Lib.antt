@@ -1,6 +1,7 @@
 pub mod Codes
 pub mod Responses
 pub mod InboxCalls
+pub mod Counting
 pub mod Marks
 pub mod Rules
 pub mod Turns

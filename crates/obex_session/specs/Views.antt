@@ -11,6 +11,7 @@ use Rattle.obex_session.specs.declared.responding.Saying.TheVariants as saying
 use Rattle.obex_session.specs.declared.server.Reply.{Reply}
 use Rattle.obex_session.specs.declared.server.Reply.TheVariants as reply
 use Rattle.obex_session.specs.InboxCalls.{Answer, held_after}
+use Rattle.obex_session.specs.Counting.{Counts, AreCounted}
 use Rattle.obex_session.specs.Asking.{Asking, asks_for, answer_to, after_answer}
 use Rattle.obex_session.specs.Past.{Serving}
 use Rattle.obex_session.specs.Responses.{response_octets, confirmation_octets}
@@ -111,11 +112,12 @@ count_in reply.Silent = Some 0
 count_in reply.NoMemory = None
 
 -- what a call with a packet does, whatever answers of the inbox are left over
-pub record IsAnswered (session session' : Serving) (packet : List ℕ) (content content' : Option Contents) (shortages shortages' : ℕ) (room room' : List ℕ) (answer : Reply) : Type 0 where
+pub record IsAnswered (session session' : Serving) (packet : List ℕ) (content content' : Option Contents) (old new : Counts) (room room' : List ℕ) (answer : Reply) : Type 0 where
   pub used : List Answer
+  pub counted : AreCounted used old new
   pub response : List ℕ
   pub turn : (rest : List Answer) → viewed session packet (used ++ rest) ≡ record { session = session'; response = response; short = is_none (count_in answer); left = rest }
   pub held : (rest : List Answer) → held_after (ruling_on session packet).calls (used ++ rest) content ≡ content'
   pub written : IfSome (count_in answer) (λ count. (count ≡ length response) × (room' ≡ response ++ drop count room))
   pub none : is_none (count_in answer) ≡ true → response ≡ []
-  pub short : is_none (count_in answer) ≡ true → HasRisen shortages shortages'
+  pub short : is_none (count_in answer) ≡ true → HasRisen old.shortages new.shortages

@@ -25,12 +25,13 @@ use Rattle.turn_laws.proofs.Advancing.{Both, advances}
 use Rattle.turn_laws.proofs.Finishing.{nothing_more}
 use Rattle.turn_laws.proofs.Recounting.{IsOfScript, RestsIn, CarriesSo}
 use Rattle.turn_laws.proofs.Running.{first_both}
-use Rattle.turn_laws.proofs.Standing.{Sound, quiet_there}
+use Rattle.turn_laws.proofs.Standing.{Sound, quiet_there, idle_linked}
 use Rattle.host_model.specs.Circumstances.{Circumstance}
 use Rattle.host_model.specs.Hosts.{Host, next}
 use Rattle.host_model.specs.Profiles.{Profile}
 use Rattle.host_model.specs.Machines.{upper}
 use Rattle.host_laws.specs.Acts.{Says, Acting}
+use Rattle.host_laws.specs.Asked.{IsOfLink, IsWantedAt}
 use Rattle.host_laws.specs.Calls.{Asks}
 use Rattle.host_laws.specs.Calm.{HoldsNothingBack, IsCalmNews}
 use Rattle.host_laws.specs.Lives.{Mark, Span}
@@ -39,7 +40,7 @@ use Rattle.host_laws.specs.Read.{IsSoberPdu}
 use Rattle.host_laws.specs.Seen.{FiresPlainly}
 use Rattle.host_laws.proofs.Fitting.{IsProper, KeepsFit, FitHost}
 use Rattle.host_laws.proofs.Living.{first_lives}
-use Rattle.host_laws.proofs.OverLinks.{first_calmly}
+use Rattle.host_laws.proofs.OverLinks.{first_calmly, first-asked}
 use Rattle.host_laws.proofs.ReadSo.{reads-so}
 use Rattle.scenario_laws.proofs.Both.{ActedEnd, ActedBoth, IsReady, AreReady, done_both}
 use Rattle.scenario_laws.proofs.Acting.{first_acted}
@@ -47,6 +48,7 @@ use Rattle.scenario_laws.proofs.Free.{free_where}
 use Rattle.scenario_laws.proofs.Gentle.{host-tames}
 use Rattle.scenario_laws.proofs.Taming.{AreTame, TameEnd, TameBoth, done-tame}
 use Rattle.scenario_laws.proofs.Unlinked.{IsOff, Keeps, acts_off}
+use Rattle.pair_laws.proofs.Abreast.{off_on, HasToldAll, Awaits, Abreast, done-abreast, first-abreast}
 use Rattle.pair_laws.proofs.Facing.{PairFrom, new_at}
 use Rattle.pair_laws.proofs.Meeting.{IsRight, IsRightDeed, word-right, meets-it}
 use Rattle.pair_laws.proofs.Numbered.{part_at, coming_at, coming_none, Links, turned-links, owes-both, comes-over}
@@ -106,25 +108,30 @@ module _ {P : Type 0} (A : Profile P) (asks : Asks A) (K R : P → Type 0) (keep
       by (inl none) = let never : pdu ∷ [] ≡ [] = sym first ∙ none in cc
       by (inr ready) = ready (linked e.linked refl)
 
-  motion_held : {T : Type 0} (side : Side) (theirs : Policy) (number : ℕ) (link : Bool) (motion : Motion) (e e' : carriages.End (Host P)) (other : ℕ → List Occurrence) (j : ℕ) (f : carriages.End T) → DoesMotion (upper A) motion e e' → Fine link e → Held side A asks theirs number e other j f → Held side A asks theirs number e' other j f
-  motion_held side theirs number link (Saying pdu) e e' other j f does fine held =
-      subst (λ (x : carriages.End (Host P)). Held side A asks theirs number x other j f) (sym does.is)
-      (says-held A asks side theirs number e other j f pdu does.after does.next (reads-so A e.upper does.after pdu fine.tame.upper.channels does.next) does.none_comes held)
-  motion_held side theirs number link (Departure pdu) e e' other j f does fine held =
-      subst (λ (x : carriages.End (Host P)). Held side A asks theirs number x other j f) (sym does.is) (moves-held A asks side theirs number e other j f pdu does.left does.first held)
-  motion_held side theirs number link (Arrival pdu) e e' other j f does fine held =
-      let quiet = quiet_there (upper A) e pdu [] fine.sound.hearing does.first in
-      subst (λ (x : carriages.End (Host P)). Held side A asks theirs number x other j f) (sym does.is)
-      (hears-held A asks side theirs number e other j f does.answers pdu (calm_hearing link e pdu fine does.first) quiet.none_waits does.first held)
-  motion_held side theirs number link (Telling event) e e' other j f does fine held =
-      subst (λ (x : carriages.End (Host P)). Held side A asks theirs number x other j f) (sym does.is)
-      (turns-held A asks side theirs number e other j f does.answers event does.more does.first does.none_comes (fine.sound.owed_queue (ap (λ (l : List LinkEvent). is_empty l) does.first)) held)
+  wanted_by : (W : P → Type 0) (event : LinkEvent) (more : List LinkEvent) (gifts : List Circumstance) (e : carriages.End (Host P)) → e.owed ≡ event ∷ more → ((answers : List Circumstance) (rest : List LinkEvent) → e.owed ≡ Up ∷ rest → W (A.given answers e.upper.profile)) → IsWantedAt W event (A.given gifts e.upper.profile)
+  wanted_by W Up more gifts e first wants = wants gifts more first
+  wanted_by W (Down reason) more gifts e first wants = tt
 
-  fired_held : {T : Type 0} (side : Side) (theirs : Policy) (number : ℕ) (link : Bool) (e : carriages.End (Host P)) (other : ℕ → List Occurrence) (j : ℕ) (f : carriages.End T) (gifts : List Circumstance) (armed : Bool) → (upper A).armed e.upper ≡ armed → IsIdle (upper A) e → IsReady (upper A) (free_where A) e → Fine link e
-      → Held side A asks theirs number e other j f → Held side A asks theirs number (if armed then told (upper A) gifts TimerFired e else e) other j f
-  fired_held side theirs number link e other j f gifts true is idle ready fine held =
-      told-held A asks side theirs number e other j f gifts TimerFired tt (calm_firing link e fine idle (λ on. (ready on).1 is)) (waits_none link e fine idle) idle.none_comes held
-  fired_held side theirs number link e other j f gifts false is idle ready fine held = held
+  motion_held : {T : Type 0} (W : P → Type 0) (side : Side) (theirs : Policy) (number : ℕ) (link : Bool) (motion : Motion) (e e' : carriages.End (Host P)) (other : ℕ → List Occurrence) (j : ℕ) (f : carriages.End T) → DoesMotion (upper A) motion e e' → Fine link e
+      → ((answers : List Circumstance) (rest : List LinkEvent) → e.owed ≡ Up ∷ rest → W (A.given answers e.upper.profile)) → Held side A asks W theirs number e other j f → Held side A asks W theirs number e' other j f
+  motion_held W side theirs number link (Saying pdu) e e' other j f does fine wants held =
+      subst (λ (x : carriages.End (Host P)). Held side A asks W theirs number x other j f) (sym does.is)
+      (says-held A asks W side theirs number e other j f pdu does.after does.next (reads-so A e.upper does.after pdu fine.tame.upper.channels does.next) does.none_comes held)
+  motion_held W side theirs number link (Departure pdu) e e' other j f does fine wants held =
+      subst (λ (x : carriages.End (Host P)). Held side A asks W theirs number x other j f) (sym does.is) (moves-held A asks W side theirs number e other j f pdu does.left does.first held)
+  motion_held W side theirs number link (Arrival pdu) e e' other j f does fine wants held =
+      let quiet = quiet_there (upper A) e pdu [] fine.sound.hearing does.first in
+      subst (λ (x : carriages.End (Host P)). Held side A asks W theirs number x other j f) (sym does.is)
+      (hears-held A asks W side theirs number e other j f does.answers pdu (calm_hearing link e pdu fine does.first) quiet.none_waits does.first held)
+  motion_held W side theirs number link (Telling event) e e' other j f does fine wants held =
+      subst (λ (x : carriages.End (Host P)). Held side A asks W theirs number x other j f) (sym does.is)
+      (turns-held A asks W side theirs number e other j f does.answers event does.more does.first (wanted_by W event does.more does.answers e does.first wants) does.none_comes (fine.sound.owed_queue (ap (λ (l : List LinkEvent). is_empty l) does.first)) held)
+
+  fired_held : {T : Type 0} (W : P → Type 0) (side : Side) (theirs : Policy) (number : ℕ) (link : Bool) (e : carriages.End (Host P)) (other : ℕ → List Occurrence) (j : ℕ) (f : carriages.End T) (gifts : List Circumstance) (armed : Bool) → (upper A).armed e.upper ≡ armed → IsIdle (upper A) e → IsReady (upper A) (free_where A) e → Fine link e
+      → Held side A asks W theirs number e other j f → Held side A asks W theirs number (if armed then told (upper A) gifts TimerFired e else e) other j f
+  fired_held W side theirs number link e other j f gifts true is idle ready fine held =
+      told-held A asks W side theirs number e other j f gifts TimerFired tt (λ on. tt) (calm_firing link e fine idle (λ on. (ready on).1 is)) (waits_none link e fine idle) idle.none_comes held
+  fired_held W side theirs number link e other j f gifts false is idle ready fine held = held
 
 -- ---- a frame meets its fate
 
@@ -155,23 +162,30 @@ same_links side mine theirs spans now other j e f talk links k =
 
 -- ---- both hosts
 
+-- the profile asks for a link
+abbrev pub Wants : {P : Type 0} → Profile P → P → Type 0
+Wants A profile = A.wants_link profile ≡ true
+
+abbrev pub Always : {P : Type 0} → P → Type 0
+Always profile = Unit {0}
+
 module _ {P Q : Type 0} (A : Profile P) (asks_a : Asks A) (B : Profile Q) (asks_b : Asks B) where
   pub record PairsOf (e : carriages.End (Host P)) (f : carriages.End (Host Q)) : Type 0 where
     pub number : ℕ
-    pub a : HostAt A asks_a e
-    pub b : HostAt B asks_b f
+    pub a : HostAt A asks_a (Wants A) e
+    pub b : HostAt B asks_b Always f
     pub level_a : length a.so.lives.spans + length e.owed ≡ number
     pub level_b : length b.so.lives.spans + length f.owed ≡ number
     pub links : Links Near A.policy B.policy a.so.lives.spans a.so.lives.now e (λ k. part_at k b.so.lives.spans b.so.lives.now) (length b.so.lives.spans) f
 
   -- one of them does something
-  on_a : (e e' : carriages.End (Host P)) (f : carriages.End (Host Q)) → ((number : ℕ) (other : ℕ → List Occurrence) (j : ℕ) → Held Near A asks_a B.policy number e other j f → Held Near A asks_a B.policy number e' other j f) → PairsOf e f → PairsOf e' f
+  on_a : (e e' : carriages.End (Host P)) (f : carriages.End (Host Q)) → ((number : ℕ) (other : ℕ → List Occurrence) (j : ℕ) → Held Near A asks_a (Wants A) B.policy number e other j f → Held Near A asks_a (Wants A) B.policy number e' other j f) → PairsOf e f → PairsOf e' f
   on_a e e' f does both =
       let b = both.b.so.lives in
       let after = does both.number (λ k. part_at k b.spans b.now) (length b.spans) (record { host = both.a; level = both.level_a; links = both.links }) in
       record { number = both.number; a = after.host; b = both.b; level_a = after.level; level_b = both.level_b; links = after.links }
 
-  on_b : (e : carriages.End (Host P)) (f f' : carriages.End (Host Q)) → ((number : ℕ) (other : ℕ → List Occurrence) (j : ℕ) → Held Far B asks_b A.policy number f other j e → Held Far B asks_b A.policy number f' other j e) → PairsOf e f → PairsOf e f'
+  on_b : (e : carriages.End (Host P)) (f f' : carriages.End (Host Q)) → ((number : ℕ) (other : ℕ → List Occurrence) (j : ℕ) → Held Far B asks_b Always A.policy number f other j e → Held Far B asks_b Always A.policy number f' other j e) → PairsOf e f → PairsOf e f'
   on_b e f f' does both =
       let a = both.a.so.lives in
       let b = both.b.so.lives in
@@ -190,8 +204,8 @@ module _ {P Q : Type 0} (A : Profile P) (asks_a : Asks A) (B : Profile Q) (asks_
       let others = length-append f.owed (Up ∷ []) in
       record {
         number = both.number + 1;
-        a = besides A asks_a e e.talk e.queue e.coming (e.owed ++ Up ∷ []) refl both.a;
-        b = besides B asks_b f f.talk f.queue f.coming (f.owed ++ Up ∷ []) refl both.b;
+        a = besides A asks_a (Wants A) e e.talk e.queue e.coming (e.owed ++ Up ∷ []) refl both.a;
+        b = besides B asks_b Always f f.talk f.queue f.coming (f.owed ++ Up ∷ []) refl both.b;
         level_a = omega (arith, one, more);
         level_b = omega (arith, two, others);
         links = owes-both Near A.policy B.policy a.spans a.now (λ k. part_at k b.spans b.now) (length b.spans) Up Up e f both.links;
@@ -207,8 +221,8 @@ module _ {P Q : Type 0} (A : Profile P) (asks_a : Asks A) (B : Profile Q) (asks_
       let others = length-append f.owed (Down y ∷ []) in
       record {
         number = both.number + 1;
-        a = besides A asks_a e e.talk [] e.coming (e.owed ++ Down x ∷ []) refl both.a;
-        b = besides B asks_b f f.talk [] f.coming (f.owed ++ Down y ∷ []) refl both.b;
+        a = besides A asks_a (Wants A) e e.talk [] e.coming (e.owed ++ Down x ∷ []) refl both.a;
+        b = besides B asks_b Always f f.talk [] f.coming (f.owed ++ Down y ∷ []) refl both.b;
         level_a = omega (arith, one, more);
         level_b = omega (arith, two, others);
         links = owes-both Near A.policy B.policy a.spans a.now (λ k. part_at k b.spans b.now) (length b.spans) (Down x) (Down y) e f both.links;
@@ -221,7 +235,7 @@ module _ {P Q : Type 0} (A : Profile P) (asks_a : Asks A) (B : Profile Q) (asks_
       let b = both.b.so.lives in
       record {
         number = both.number;
-        a = besides A asks_a e (e.talk ++ Done outcome ∷ []) e.queue e.coming e.owed (silent_marks e.talk e.waiting (Done outcome) refl) both.a;
+        a = besides A asks_a (Wants A) e (e.talk ++ Done outcome ∷ []) e.queue e.coming e.owed (silent_marks e.talk e.waiting (Done outcome) refl) both.a;
         b = both.b;
         level_a = both.level_a;
         level_b = both.level_b;
@@ -249,8 +263,8 @@ module _ {P Q : Type 0} (A : Profile P) (asks_a : Asks A) (B : Profile Q) (asks_
       (turned-links Near A.policy B.policy a.spans b.spans a.now b.now e f both.links) in
       let now : PairsOf e1 f1 = record {
         number = both.number;
-        a = besides A asks_a e talk rest e.coming e.owed (silent_marks e.talk e.waiting (Met fate meeting.checked) refl) both.a;
-        b = besides B asks_b f f.talk f.queue (comes_of size fate meeting.checked meeting.frame) f.owed refl both.b;
+        a = besides A asks_a (Wants A) e talk rest e.coming e.owed (silent_marks e.talk e.waiting (Met fate meeting.checked) refl) both.a;
+        b = besides B asks_b Always f f.talk f.queue (comes_of size fate meeting.checked meeting.frame) f.owed refl both.b;
         level_a = both.level_a;
         level_b = both.level_b;
         links = turned-links Far B.policy A.policy b.spans a.spans b.now a.now f1 e1 links;
@@ -267,8 +281,8 @@ module _ {P Q : Type 0} (A : Profile P) (asks_a : Asks A) (B : Profile Q) (asks_
       let e1 : carriages.End (Host P) = record e { coming = comes_of size fate meeting.checked meeting.frame } in
       let now : PairsOf e1 f1 = record {
         number = both.number;
-        a = besides A asks_a e e.talk e.queue (comes_of size fate meeting.checked meeting.frame) e.owed refl both.a;
-        b = besides B asks_b f talk rest f.coming f.owed (silent_marks f.talk f.waiting (Met fate meeting.checked) refl) both.b;
+        a = besides A asks_a (Wants A) e e.talk e.queue (comes_of size fate meeting.checked meeting.frame) e.owed refl both.a;
+        b = besides B asks_b Always f talk rest f.coming f.owed (silent_marks f.talk f.waiting (Met fate meeting.checked) refl) both.b;
         level_a = both.level_a;
         level_b = both.level_b;
         links = met_links A Near B.policy a.spans a.now (λ k. part_at k b.spans b.now) (length b.spans) size fate f e meeting.frame meeting.rest meeting.checked meeting.is meeting.checked_is right (same_number e f both none_a none_b) none_b idle a.channels_run unchecked both.links;
@@ -292,12 +306,14 @@ first_links U V near far k = record {
   now_far = λ same owed. refl;
 }
 
-module _ {P Q : Type 0} (A : Profile P) (asks_a : Asks A) (B : Profile Q) (asks_b : Asks B) (K R : P → Type 0) (L S : Q → Type 0) (keeps_a : KeepsFit A IsSoberPdu (IsProper A.policy) K) (keeps_b : KeepsFit B IsSoberPdu (IsProper B.policy) L) (away_a : Keeps A R) (away_b : Keeps B S) where
+module _ {P Q : Type 0} (A : Profile P) (asks_a : Asks A) (B : Profile Q) (asks_b : Asks B) (K R : P → Type 0) (L S : Q → Type 0) (keeps_a : KeepsFit A IsSoberPdu (IsProper A.policy) K) (keeps_b : KeepsFit B IsSoberPdu (IsProper B.policy) L) (away_a : Keeps A R) (away_b : Keeps B S)
+    (F : Host Q → Type 0) (awaits : Awaits (upper A) (upper B) HasToldAll F) (same_wish : (gifts : List Circumstance) (p : P) → A.wants_link (A.given gifts p) ≡ A.wants_link p) where
   pub record Sane (c : Carriage (Host P) (Host Q)) : Type 0 where
     pub both : Both (upper A) (upper B) c
     pub acted : ActedBoth (upper A) (upper B) (free_where A) (free_where B) c
     pub tame : TameBoth (FitHost (IsProper A.policy) K) (FitHost (IsProper B.policy) L) c
     pub pairs : PairsOf A asks_a B asks_b c.a c.b
+    pub abreast : Abreast (upper A) (upper B) HasToldAll F c
 
   fine_a : (c : Carriage (Host P) (Host Q)) → Sane c → Fine A asks_a K R keeps_a away_a c.link c.a
   fine_a c sane = record { sound = sane.both.a; acted = sane.acted.a; tame = sane.tame.a }
@@ -308,10 +324,10 @@ module _ {P Q : Type 0} (A : Profile P) (asks_a : Asks A) (B : Profile Q) (asks_
   abbrev PairsIn : Carriage (Host P) (Host Q) → Type 0
   PairsIn c = PairsOf A asks_a B asks_b c.a c.b
 
-  word_a : (c : Carriage (Host P) (Host Q)) (g : List Circumstance) (news : News) → IsWord A asks_a news → IsCalmNews A.policy news c.a.upper.channels → IsIdle (upper A) c.a → Sane c → PairsOf A asks_a B asks_b (told (upper A) g news c.a) c.b
-  word_a c g news word calm idle sane =
+  word_a : (c : Carriage (Host P) (Host Q)) (g : List Circumstance) (news : News) → IsWord A asks_a (Wants A) news → (c.a.linked ≡ true → IsOfLink news) → IsCalmNews A.policy news c.a.upper.channels → IsIdle (upper A) c.a → Sane c → PairsOf A asks_a B asks_b (told (upper A) g news c.a) c.b
+  word_a c g news word of calm idle sane =
       on_a A asks_a B asks_b c.a (told (upper A) g news c.a) c.b
-      (λ number other j held. told-held A asks_a Near B.policy number c.a other j c.b g news word calm (waits_none A asks_a K R keeps_a away_a c.link c.a (fine_a c sane) idle) idle.none_comes held) sane.pairs
+      (λ number other j held. told-held A asks_a (Wants A) Near B.policy number c.a other j c.b g news word of calm (waits_none A asks_a K R keeps_a away_a c.link c.a (fine_a c sane) idle) idle.none_comes held) sane.pairs
 
   deed_pairs : (deed : Deed) (old new : Carriage (Host P) (Host Q)) → IsAtRest (upper A) (upper B) old → AreReady (upper A) (upper B) (free_where A) (free_where B) old → IsRightDeed deed old.a.queue old.b.queue → ActsOn (upper A) (upper B) deed old new → Sane old → PairsIn new
   deed_pairs Nothing old new rest ready right acts sane = absurd acts
@@ -320,36 +336,36 @@ module _ {P Q : Type 0} (A : Profile P) (asks_a : Asks A) (B : Profile Q) (asks_
   deed_pairs (Meets Ba fate) old new rest ready right (e, f, meeting, same) sane =
       subst PairsIn (sym same) (met_ba A asks_a B asks_b old.size fate old.b old.a f e meeting right rest.idle_a.none_owed rest.idle_b.none_owed rest.idle_a.none_comes ((host-tames A K keeps_a).unchecked old.a.upper sane.tame.a.upper) sane.pairs)
   deed_pairs (Fires sides.A) old new rest ready right (armed, g, same) sane =
-      subst PairsIn (sym same) (word_a old g TimerFired tt (calm_firing A asks_a K R keeps_a away_a old.link old.a (fine_a old sane) rest.idle_a (λ on. (ready.0 on).1 armed)) rest.idle_a sane)
+      subst PairsIn (sym same) (word_a old g TimerFired tt (λ on. tt) (calm_firing A asks_a K R keeps_a away_a old.link old.a (fine_a old sane) rest.idle_a (λ on. (ready.0 on).1 armed)) rest.idle_a sane)
   deed_pairs (Fires sides.B) old new rest ready right (armed, h, same) sane =
       subst PairsIn (sym same)
       (on_b A asks_a B asks_b old.a old.b (told (upper B) h TimerFired old.b)
-      (λ number other j held. told-held B asks_b Far A.policy number old.b other j old.a h TimerFired tt (calm_firing B asks_b L S keeps_b away_b old.link old.b (fine_b old sane) rest.idle_b (λ on. (ready.1 on).1 armed))
+      (λ number other j held. told-held B asks_b Always Far A.policy number old.b other j old.a h TimerFired tt (λ on. tt) (calm_firing B asks_b L S keeps_b away_b old.link old.b (fine_b old sane) rest.idle_b (λ on. (ready.1 on).1 armed))
       (waits_none B asks_b L S keeps_b away_b old.link old.b (fine_b old sane) rest.idle_b) rest.idle_b.none_comes held) sane.pairs)
   deed_pairs FiresBoth old new rest ready right (armed, g, h, same) sane =
       let e' = if (upper A).armed old.a.upper then told (upper A) g TimerFired old.a else old.a in
       let f' = if (upper B).armed old.b.upper then told (upper B) h TimerFired old.b else old.b in
       subst PairsIn (sym same)
       (on_b A asks_a B asks_b e' old.b f'
-      (λ number other j held. fired_held B asks_b L S keeps_b away_b Far A.policy number old.link old.b other j e' h ((upper B).armed old.b.upper) refl rest.idle_b ready.1 (fine_b old sane) held)
+      (λ number other j held. fired_held B asks_b L S keeps_b away_b Always Far A.policy number old.link old.b other j e' h ((upper B).armed old.b.upper) refl rest.idle_b ready.1 (fine_b old sane) held)
       (on_a A asks_a B asks_b old.a e' old.b
-      (λ number other j held. fired_held A asks_a K R keeps_a away_a Near B.policy number old.link old.a other j old.b g ((upper A).armed old.a.upper) refl rest.idle_a ready.0 (fine_a old sane) held) sane.pairs))
+      (λ number other j held. fired_held A asks_a K R keeps_a away_a (Wants A) Near B.policy number old.link old.a other j old.b g ((upper A).armed old.a.upper) refl rest.idle_a ready.0 (fine_a old sane) held) sane.pairs))
   deed_pairs Breaks old new rest ready right same sane = subst PairsIn (sym same) (owes_down A asks_a B asks_b 0x08 0x08 old.a old.b sane.pairs)
-  deed_pairs Cancels old new rest ready right (may, g, same) sane = subst PairsIn (sym same) (word_a old g Cancelled tt tt rest.idle_a sane)
+  deed_pairs Cancels old new rest ready right (may, g, same) sane = subst PairsIn (sym same) (word_a old g Cancelled tt (λ on. tt) tt rest.idle_a sane)
 
   done_pairs : (doing : Doing) (old new : Carriage (Host P) (Host Q)) → IsOfScript doing → IsDone (upper A) (upper B) doing old new → RestsIn (AreReady (upper A) (upper B) (free_where A) (free_where B)) doing old → Sane old → PairsIn new
   done_pairs (Moved sides.A motion) old new script (e, does, same) ready sane =
       subst PairsIn (sym same)
-      (on_a A asks_a B asks_b old.a e old.b (λ number other j held. motion_held A asks_a K R keeps_a away_a Near B.policy number old.link motion old.a e other j old.b does (fine_a old sane) held) sane.pairs)
+      (on_a A asks_a B asks_b old.a e old.b (λ number other j held. motion_held A asks_a K R keeps_a away_a (Wants A) Near B.policy number old.link motion old.a e other j old.b does (fine_a old sane) (λ gifts more first. same_wish gifts old.a.upper.profile ∙ sane.abreast.wants more first) held) sane.pairs)
   done_pairs (Moved sides.B motion) old new script (f, does, same) ready sane =
       subst PairsIn (sym same)
-      (on_b A asks_a B asks_b old.a old.b f (λ number other j held. motion_held B asks_b L S keeps_b away_b Far A.policy number old.link motion old.b f other j old.a does (fine_b old sane) held) sane.pairs)
+      (on_b A asks_a B asks_b old.a old.b f (λ number other j held. motion_held B asks_b L S keeps_b away_b Always Far A.policy number old.link motion old.b f other j old.a does (fine_b old sane) (λ gifts more first. tt) held) sane.pairs)
   done_pairs (Deeds word) old new script (rest, acts) ready sane = deed_pairs (finds word old) old new rest ready (word-right word old.served old.a.queue old.b.queue old.link script) acts sane
   done_pairs (Misses word) old new script (rest, nothing, same) ready sane = subst PairsIn (sym same) sane.pairs
   done_pairs Rises old new script (down, idle, going, wants, same) ready sane = subst PairsIn (sym same) (owes_up A asks_a B asks_b old.a old.b sane.pairs)
   done_pairs (Falls sides.A) old new script (up, idle, leaves, same) ready sane = subst PairsIn (sym same) (owes_down A asks_a B asks_b 0x16 0x13 old.a old.b sane.pairs)
   done_pairs (Falls sides.B) old new script (up, idle, leaves, same) ready sane = subst PairsIn (sym same) (owes_down A asks_a B asks_b 0x13 0x16 old.a old.b sane.pairs)
-  done_pairs (Opens name) old new script (down, idle, pushes, next, g, same) ready sane = subst PairsIn (sym same) (word_a old g (Opening name) tt tt idle sane)
+  done_pairs (Opens name) old new script (down, idle, pushes, next, g, same) ready sane = subst PairsIn (sym same) (word_a old g (Opening name) tt (λ on. off_on old.a.linked on (idle_linked (upper A) old.link old.a idle sane.both.a ∙ down)) tt idle sane)
   done_pairs (Closes outcome) old new script (down, idle_a, idle_b, going, pushes, is, same) ready sane = subst PairsIn (sym same) (is_done A asks_a B asks_b outcome old.a old.b sane.pairs)
 
   carries_pairs : (doings : List Doing) (old new : Carriage (Host P) (Host Q)) → AllByRecursion IsOfScript doings → CarriesSo (upper A) (upper B) (AreReady (upper A) (upper B) (free_where A) (free_where B)) doings old new → Sane old → Sane new
@@ -360,14 +376,15 @@ module _ {P Q : Type 0} (A : Profile P) (asks_a : Asks A) (B : Profile Q) (asks_
         acted = done_both (upper A) (upper B) (free_where A) (free_where B) doing old mid does ready sane.both sane.acted;
         tame = done-tame (upper A) (upper B) (FitHost (IsProper A.policy) K) (FitHost (IsProper B.policy) L) (host-tames A K keeps_a) (host-tames B L keeps_b) doing old mid script.0 does sane.tame;
         pairs = done_pairs doing old mid script.0 does ready sane;
+        abreast = done-abreast (upper A) (upper B) HasToldAll F doing old mid does awaits sane.pairs.b.so.lives.all_told sane.both sane.abreast;
       })
 
   first_pairs : (size : ℕ) (names : List (List ℕ)) → PairsIn (first_carriage (upper A) (upper B) size names)
   unfolding first_calmly first_lives
   first_pairs size names = record {
     number = 0;
-    a = record { marks = []; so = first_calmly A asks_a; marks_are = refl };
-    b = record { marks = []; so = first_calmly B asks_b; marks_are = refl };
+    a = record { marks = []; so = first_calmly A asks_a; marks_are = refl; asked = first-asked A asks_a (Wants A); up_is = refl };
+    b = record { marks = []; so = first_calmly B asks_b; marks_are = refl; asked = first-asked B asks_b Always; up_is = refl };
     level_a = refl;
     level_b = refl;
     links = first_links (upper A) (upper B) A.policy B.policy;
@@ -383,4 +400,5 @@ module _ {P Q : Type 0} (A : Profile P) (asks_a : Asks A) (B : Profile Q) (asks_
         acted = record { a = record { acted = first_acted (upper A) (free_where A); ready = inl refl }; b = record { acted = first_acted (upper B) (free_where B); ready = inl refl } };
         tame = record { a = record { upper = one.first; waiting = tt; queue = tt; coming = tt; talk = tt }; b = record { upper = other.first; waiting = tt; queue = tt; coming = tt; talk = tt } };
         pairs = first_pairs size names;
+        abreast = first-abreast (upper A) (upper B) HasToldAll F size names;
       })

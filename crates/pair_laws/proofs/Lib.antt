@@ -1,6 +1,8 @@
 pub mod Facing
 pub mod Walking
 pub mod Numbered
+pub mod Abreast
+pub mod Awaiting
 pub mod Hosting
 pub mod Meeting
 pub mod Carrying
@@ -9,3 +11,4 @@ pub mod Taking
 pub mod Damaging
 pub mod Seeing
 pub mod Whole
+pub mod Fronts

@@ -1,5 +1,5 @@
 -- The channels of both hosts on each link of a run are the two ends of a pair.
-use Rattle.std.proofs.Common.{◌≡◌, ℕ, List, [], ◌∷◌, ◌++◌, map, length, refl, sym, ap, subst, ◌∙◌, append-nil}
+use Rattle.std.proofs.Common.{◌≡◌, ◌≤◌, ◌+◌, arith, ℕ, List, [], ◌∷◌, ◌++◌, map, length, refl, sym, ap, subst, ◌∙◌, append-nil}
 use Rattle.std.specs.List.{AllByRecursion}
 use Rattle.std.proofs.lemmas.Bool.{cases_eq}
 use Rattle.push_terms.specs.declared.word.Side.{Side}
@@ -43,11 +43,15 @@ use Rattle.scenario_laws.proofs.Gentle.{client-keeps, server-keeps}
 use Rattle.scenario_laws.proofs.UnlinkedClients.{HasNoLink, clients_keep}
 use Rattle.scenario_laws.proofs.UnlinkedServers.{KnowsNone, servers_keep}
 use Rattle.turn_laws.proofs.Ordering.{at}
+use Rattle.world_model.specs.Machines.{LinkEvent}
+use Rattle.pair_laws.specs.InTurn.{HostsTakeTurns}
 use Rattle.pair_laws.specs.Changes.{AreChanged, IsSeenThere, DamageIsSeen}
 use Rattle.pair_laws.specs.OnLinks.{LivedOver, happened_on, IsInAir, HostsArePairs}
 use Rattle.pair_laws.specs.Pairs.{TakesAll, PairOnLink}
 use Rattle.pair_laws.specs.Seen.{IsAddressedAt, AreAddressed}
-use Rattle.pair_laws.proofs.Carrying.{PairsOf, same_number, waits_none, all-sane}
+use Rattle.pair_laws.proofs.Abreast.{IsShort}
+use Rattle.pair_laws.proofs.Awaiting.{HasNew, servers-await}
+use Rattle.pair_laws.proofs.Carrying.{Wants, Always, PairsOf, same_number, waits_none, all-sane}
 use Rattle.pair_laws.proofs.Facing.{Goes, AllGo, AllTake, IsComing, PairAt}
 use Rattle.pair_laws.proofs.Hosting.{marks_of, talk_of, HostAt}
 use Rattle.pair_laws.proofs.Numbered.{part_at, part-get, coming_none}
@@ -110,18 +114,18 @@ all_utter : (policy : Policy) (lists : List (List Occurrence)) → AllByRecursio
 all_utter policy [] calm = tt
 all_utter policy (list ∷ lists) calm = (calm-utters policy list calm.0, all_utter policy lists calm.1)
 
-unfoldable lived : {P : Type 0} (A : Profile P) (asks : Asks A) (side : Side) (capture : List Entry) (e : carriages.End (Host P)) (host : HostAt A asks e) (came : CameOver A side capture e.upper) → came.talk ≡ talk_of e → LivedOver A asks side capture e.upper
+unfoldable lived : {P : Type 0} (A : Profile P) (asks : Asks A) (W : P → Type 0) (side : Side) (capture : List Entry) (e : carriages.End (Host P)) (host : HostAt A asks W e) (came : CameOver A side capture e.upper) → came.talk ≡ talk_of e → LivedOver A asks side capture e.upper
 unfolding calmly_fed
-lived A asks side capture e host came talk_is = record {
+lived A asks W side capture e host came talk_is = record {
   came = came;
   fed = calmly_fed A asks came.talk e.upper came.over host.marks host.so (host.marks_are ∙ ap marks_of (sym talk_is));
   uttered = all_utter A.policy (map (λ (span : Span). span.list) host.so.lives.spans ++ host.so.lives.now ∷ []) (all_spans A.policy host.so.lives.spans host.so.lives.now host.so.spans_calm host.so.now_calm);
 }
 
-lived_at : {P : Type 0} (A : Profile P) (asks : Asks A) (side : Side) (capture : List Entry) (e : carriages.End (Host P)) (host : HostAt A asks e) (came : CameOver A side capture e.upper) (talk_is : came.talk ≡ talk_of e) (number : ℕ)
-    → part_at number host.so.lives.spans host.so.lives.now ≡ happened_on A asks side capture e.upper (lived A asks side capture e host came talk_is) number
+lived_at : {P : Type 0} (A : Profile P) (asks : Asks A) (W : P → Type 0) (side : Side) (capture : List Entry) (e : carriages.End (Host P)) (host : HostAt A asks W e) (came : CameOver A side capture e.upper) (talk_is : came.talk ≡ talk_of e) (number : ℕ)
+    → part_at number host.so.lives.spans host.so.lives.now ≡ happened_on A asks side capture e.upper (lived A asks W side capture e host came talk_is) number
 unfolding lived calmly_fed
-lived_at A asks side capture e host came talk_is number = part-get number host.so.lives.spans host.so.lives.now
+lived_at A asks W side capture e host came talk_is number = part-get number host.so.lives.spans host.so.lives.now
 
 -- by what it was told and said
 unfoldable came_by : {P : Type 0} (A : Profile P) (side : Side) (past capture : List Entry) (e : carriages.End (Host P)) → ActedSo (upper A) (free_where A) e.linked e.upper e.waiting e.talk → linkage e.talk ≡ captured side past → linking (moves side capture) ≡ linking (moves side past) → CameOver A side capture e.upper
@@ -150,9 +154,17 @@ in_air A asks_a B asks_b e f both none_a none_b idle_a idle_b quiet_a quiet_b =
           ∙ (link.now_put refl none_a ∙ (ap (λ (w : List (List ℕ)). e.queue ++ w) quiet_a ∙ append-nil e.queue));
     }
 
-pub hosts-are_pairs : HostsArePairs
+short_length : (owed : List LinkEvent) → IsShort owed → length owed ≤ 1
+short_length [] short = omega arith
+short_length (event ∷ []) short = omega arith
+short_length (event ∷ other ∷ more) short = absurd short
+
+not_ahead : (near far owed other number : ℕ) → near + owed ≡ number → far + other ≡ number → owed ≤ 1 → far ≤ near + 1
+not_ahead near far owed other number one two short = omega (arith, one, two, short)
+
+pub hosts-take_turns : HostsTakeTurns
 unfolding lived calmly_fed
-hosts-are_pairs asks scenario content capture ran free =
+hosts-take_turns asks scenario content capture ran =
     let client = client_profile scenario.settings in
     let server = server_profile scenario.settings content in
     let asks_a = asks.clients scenario.settings in
@@ -160,26 +172,34 @@ hosts-are_pairs asks scenario content capture ran free =
     let U = client_of scenario in
     let V = server_of scenario content in
     let past = all_entries ran.happenings in
-    let all = carried_so U V (AreReady U V (free_where client) (free_where server)) scenario.acl_length scenario.acl_count scenario.names ran.happenings ran.world (fits scenario content) ran.happened (rests_hold scenario content ran.happenings (runs_are_free scenario content ran.happenings free)) in
+    let all = carried_so U V (AreReady U V (free_where client) (free_where server)) scenario.acl_length scenario.acl_count scenario.names ran.happenings ran.world (fits scenario content) ran.happened (rests_hold scenario content ran.happenings (runs_are_free scenario content ran.happenings)) in
     let c = at ran.world all.talk_a all.talk_b in
-    let sane = all-sane client asks_a server asks_b IsLowClient HasNoLink AnyServer KnowsNone (client-keeps scenario.settings) (server-keeps scenario.settings content) (clients_keep scenario.settings) (servers_keep scenario.settings content) scenario.acl_length scenario.names all.doings c all.of_script all.so in
+    let sane = all-sane client asks_a server asks_b IsLowClient HasNoLink AnyServer KnowsNone (client-keeps scenario.settings) (server-keeps scenario.settings content) (clients_keep scenario.settings) (servers_keep scenario.settings content)
+    HasNew (servers-await scenario.settings content U) (λ gifts p. refl) scenario.acl_length scenario.names all.doings c all.of_script all.so in
     let same : (side : Side) → linking (moves side capture) ≡ linking (moves side past) = λ side. ap (λ (es : List Entry). linking (moves side es)) ran.capture_is ∙ ended_all side ran.world.pushes past ran.ends ran.last in
     let came_a = came_by client sides.A past capture c.a sane.acted.a.acted all.links_a (same sides.A) in
     let came_b = came_by server sides.B past capture c.b sane.acted.b.acted all.links_b (same sides.B) in
     let talk_a = came_talk client sides.A past capture c.a sane.acted.a.acted all.links_a (same sides.A) in
     let talk_b = came_talk server sides.B past capture c.b sane.acted.b.acted all.links_b (same sides.B) in
     record {
-      a = lived client asks_a sides.A capture c.a sane.pairs.a came_a talk_a;
-      b = lived server asks_b sides.B capture c.b sane.pairs.b came_b talk_b;
-      pairs = λ number.
-          let a = sane.pairs.a.so.lives in
-          let b = sane.pairs.b.so.lives in
-          pair_of_two client.policy server.policy (part_at number a.spans a.now) (part_at number b.spans b.now) _ _ _ _ _ _ (lived_at client asks_a sides.A capture c.a sane.pairs.a came_a talk_a number) (lived_at server asks_b sides.B capture c.b sane.pairs.b came_b talk_b number)
-          (sane.pairs.links number).pair;
-      level = λ rests. let rest = all.rests rests in sym (same_number client asks_a server asks_b c.a c.b sane.pairs rest.idle_a.none_owed rest.idle_b.none_owed);
-      air = λ rests.
-          let rest = all.rests rests in
-          in_air client asks_a server asks_b c.a c.b sane.pairs rest.idle_a.none_owed rest.idle_b.none_owed rest.idle_a.none_comes rest.idle_b.none_comes
-          (waits_none client asks_a IsLowClient HasNoLink (client-keeps scenario.settings) (clients_keep scenario.settings) c.link c.a (record { sound = sane.both.a; acted = sane.acted.a; tame = sane.tame.a }) rest.idle_a)
-          (waits_none server asks_b AnyServer KnowsNone (server-keeps scenario.settings content) (servers_keep scenario.settings content) c.link c.b (record { sound = sane.both.b; acted = sane.acted.b; tame = sane.tame.b }) rest.idle_b);
+      pairs = record {
+        a = lived client asks_a (Wants client) sides.A capture c.a sane.pairs.a came_a talk_a;
+        b = lived server asks_b Always sides.B capture c.b sane.pairs.b came_b talk_b;
+        pairs = λ number.
+            let a = sane.pairs.a.so.lives in
+            let b = sane.pairs.b.so.lives in
+            pair_of_two client.policy server.policy (part_at number a.spans a.now) (part_at number b.spans b.now) _ _ _ _ _ _ (lived_at client asks_a (Wants client) sides.A capture c.a sane.pairs.a came_a talk_a number) (lived_at server asks_b Always sides.B capture c.b sane.pairs.b came_b talk_b number)
+            (sane.pairs.links number).pair;
+        level = λ rests. let rest = all.rests rests in sym (same_number client asks_a server asks_b c.a c.b sane.pairs rest.idle_a.none_owed rest.idle_b.none_owed);
+        air = λ rests.
+            let rest = all.rests rests in
+            in_air client asks_a server asks_b c.a c.b sane.pairs rest.idle_a.none_owed rest.idle_b.none_owed rest.idle_a.none_comes rest.idle_b.none_comes
+            (waits_none client asks_a IsLowClient HasNoLink (client-keeps scenario.settings) (clients_keep scenario.settings) c.link c.a (record { sound = sane.both.a; acted = sane.acted.a; tame = sane.tame.a }) rest.idle_a)
+            (waits_none server asks_b AnyServer KnowsNone (server-keeps scenario.settings content) (servers_keep scenario.settings content) c.link c.b (record { sound = sane.both.b; acted = sane.acted.b; tame = sane.tame.b }) rest.idle_b);
+      };
+      asked = sane.pairs.a.asked;
+      ahead = not_ahead (length sane.pairs.a.so.lives.spans) (length sane.pairs.b.so.lives.spans) (length c.a.owed) (length c.b.owed) sane.pairs.number sane.pairs.level_a sane.pairs.level_b (short_length c.a.owed sane.abreast.short);
     }
+
+pub hosts-are_pairs : HostsArePairs
+hosts-are_pairs asks scenario content capture ran = (hosts-take_turns asks scenario content capture ran).pairs

@@ -44,7 +44,7 @@ can_wish settings psm = by (eqb psm 0x0001) (eqb psm 0x0003)
     by false true = record { mtu = can.mtu; mps = can.mps; least = can.least; tries = can.tries; some = can.some; most = can.most }
     by false false = can
 
-both_can : (settings : Settings) (psm : ℕ) → CanStateBoth (policy settings false) (policy settings true) psm
+pub both_can : (settings : Settings) (psm : ℕ) → CanStateBoth (policy settings false) (policy settings true) psm
 both_can settings psm = record { near_can = can_wish settings psm; far_can = can_wish settings psm }
 
 -- ---- on a link

@@ -5,3 +5,5 @@ pub mod Pairs
 pub mod OnLinks
 pub mod Within
 pub mod Whole
+pub mod InTurn
+pub mod Fronts

@@ -21,7 +21,6 @@ use Rattle.host_laws.specs.OverLinks.{talk_marks}
 use Rattle.host_laws.specs.Fed.{TalksFed}
 use Rattle.scenario_laws.specs.Captures.{client_of, server_of, Ran}
 use Rattle.scenario_laws.specs.Coming.{CameOver}
-use Rattle.scenario_laws.specs.Gentle.{RestsAreFree}
 use Rattle.pair_laws.specs.Pairs.{PairOnLink}
 
 -- ---- a host
@@ -62,6 +61,6 @@ pub record ArePairs (asks : HostsAsk) (scenario : Scenario) (content : Option Co
   pub air : IsAtRest (client_of scenario) (server_of scenario content) ran.world
       → IsInAir (client_profile scenario.settings).policy (server_profile scenario.settings content).policy (pairs (last_number (client_profile scenario.settings) (asks.clients scenario.settings) sides.A capture ran.world.a.upper a)).turns ran.world.radio.b.waiting ran.world.radio.a.waiting
 
--- So it is at each moment of each run, wherever it broke off, whose client's channels are steady wherever it is at rest.
+-- So it is at each moment of each run, wherever it broke off.
 abbrev pub HostsArePairs : Type 0
-HostsArePairs = (asks : HostsAsk) (scenario : Scenario) (content : Option Contents) (capture : List Entry) (ran : Ran scenario content capture) → RestsAreFree scenario content ran.happenings → ArePairs asks scenario content capture ran
+HostsArePairs = (asks : HostsAsk) (scenario : Scenario) (content : Option Contents) (capture : List Entry) (ran : Ran scenario content capture) → ArePairs asks scenario content capture ran

@@ -2,16 +2,23 @@
 #![tactic(auto)]
 
 ghost use Rattle.pair_laws.specs.Changes.{ChangesAreSeen};
+ghost use Rattle.pair_laws.specs.Fronts.{FrontsAreRun};
+ghost use Rattle.pair_laws.specs.InTurn.{HostsTakeTurns};
 ghost use Rattle.pair_laws.specs.OnLinks.{HostsArePairs};
 ghost use Rattle.pair_laws.specs.Seen.{AllDamageIsSeen};
 ghost use Rattle.pair_laws.specs.Whole.{PairsAreWhole};
 ghost use Rattle.pair_laws.specs.Within.{HostsSendWithin, PairsAreCarried};
 
 /// At each moment of a run, wherever it broke off, the channels of both hosts on each link are the two ends of a pair: what came into one
-/// is what the air made of what the other gave, and each SDU, frame and command is what it is read as; where no bound on what a host says
-/// held a PDU back and its firings said what waits behind them.
+/// is what the air made of what the other gave, and each SDU, frame and command is what it is read as.
 pub fn hosts_are_pairs()
     ensures { HostsArePairs }
+{}
+
+/// And their links go side by side: each comes up where the client of host a wants it, no push begins on it, and host b never hears two turns
+/// more of its link than host a.
+pub fn hosts_take_turns()
+    ensures { HostsTakeTurns }
 {}
 
 /// A client and a server ask for no SDU to be sent that is longer than the peer takes on its channel.
@@ -37,4 +44,10 @@ pub fn all_damage_is_seen()
 /// So all that comes on the channels of both hosts of such a run is handed up, also of a channel that its retransmission machine closed.
 pub fn pairs_are_whole()
     ensures { PairsAreWhole }
+{}
+
+/// What happened to the channels of both hosts up to a moment is what happened with the first turns of a pair, and each host is the one to
+/// which its part of it happened: so the laws on two channels hold at each moment of the order in which both went through a link.
+pub fn fronts_are_run()
+    ensures { FrontsAreRun }
 {}

@@ -66,7 +66,7 @@ over_answer : (response : List ℕ) (service : Service) → (response_over L2cap
 over_answer [] service = refl
 over_answer (octet ∷ octets) service = refl
 
-answer_stays : (packet : List ℕ) (service : Service) (gift : Gift) → (hears_packet L2cap packet service gift).service.answer ≡ service.answer
+pub answer_stays : (packet : List ℕ) (service : Service) (gift : Gift) → (hears_packet L2cap packet service gift).service.answer ≡ service.answer
 answer_stays packet service gift =
     cond_both (is_ignored L2cap packet service) _ _ (λ (s : Served). s.service.answer ≡ service.answer)
     (λ ignored. refl)

@@ -35,6 +35,8 @@ use Rattle.rfcomm_model.proofs.Ended.{closed-sides_read, to_all}
 use Rattle.rfcomm_model.proofs.Keeping.{answer_keeps, next_keeps}
 use Rattle.rfcomm_model.proofs.Reading.{own_grants, granted_more, spent_more, said_keeps}
 use Rattle.rfcomm_model.proofs.Stepping.{cond_same}
+use Rattle.push_laws.specs.Premises.{is_answer, leaves_or_controls, is_apart, may_overtake}
+use Rattle.push_laws.proofs.Overtaking.{his, swapped, under}
 
 -- ---- the octets of the peer
 
@@ -285,27 +287,50 @@ heard_is from (Err refusal) = refl
 frames_more : (passed : List Passed) (p : Passed) → frames (passed ++ p ∷ []) ≡ frames passed ++ cons_option (framed p.from (frame_answer p.sdu)) []
 frames_more passed p = filter_map-append (λ (q : Passed). framed q.from (frame_answer q.sdu)) passed (p ∷ [])
 
-abbrev pub only_quiet : Option PlainFrame → Bool
-only_quiet None = true
-only_quiet (Some frame) = carries frame.kind
+-- UA or DM that DISC of the peer overtakes, or its messages on the control channel
+overtaken : (fs more : List Framed) (f g : PlainFrame) → is_answer f.kind ≡ true → leaves_or_controls g ≡ true → Alike (fs ++ own f ∷ his g ∷ more) (fs ++ his g ∷ own f ∷ more)
+overtaken fs more f g answer apart =
+    let s = under (own f ∷ his g ∷ more) (his g ∷ own f ∷ more) (λ lines course. swapped f g answer apart lines course more) fs no_connections no_course in
+    record {
+      octets = s.octets;
+      grants = s.grants;
+      over = s.over;
+      spends = (let same = s.spends in omega (arith, same));
+      total = (let one = sum_by-append (spent_by 18 Responder) fs (own f ∷ his g ∷ more) in let two = spent_first (own f) (his g ∷ more) in let three = spent_first (his g) more in
+          let four = sum_by-append (spent_by 18 Responder) fs (his g ∷ own f ∷ more) in let five = spent_first (his g) (own f ∷ more) in let six = spent_first (own f) more in omega (arith, one, two, three, four, five, six));
+    }
 
-passes_waiting : (fs new more : List Framed) (frame : Option PlainFrame) → only_quiet frame ≡ true → Alike (fs ++ (waiting frame ++ (new ++ more))) ((fs ++ new) ++ (waiting frame ++ more))
-passes_waiting fs new more None e = alike_same (fs ++ (new ++ more)) ((fs ++ new) ++ more) (sym (append_assoc fs new more))
-passes_waiting fs new more (Some f) e = later fs new more f e
+same_place : (fs new more : List Framed) (x : Framed) → (fs ++ new) ++ x ∷ more ≡ fs ++ (new ++ x ∷ more)
+same_place fs new more x = append_assoc fs new (x ∷ more)
+
+passes_one : (fs more : List Framed) (read : Answer) (f : PlainFrame) (quiet : Bool) → carries f.kind ≡ quiet → (quiet || (is_answer f.kind && is_apart read)) ≡ true
+    → Alike (fs ++ own f ∷ (heard_frame Initiator read ++ more)) ((fs ++ heard_frame Initiator read) ++ own f ∷ more)
+passes_one fs more read f true is e = later fs (heard_frame Initiator read) more f is
+passes_one fs more (Ok g) f false is e =
+    let both = and_parts (is_answer f.kind) (leaves_or_controls g) e in
+    alike_then _ _ _ (overtaken fs more f g both.0 both.1) (alike_same (fs ++ his g ∷ own f ∷ more) ((fs ++ his g ∷ []) ++ own f ∷ more) (sym (same_place fs (his g ∷ []) more (own f))))
+passes_one fs more (Err refusal) f false is e = alike_same (fs ++ own f ∷ more) ((fs ++ []) ++ own f ∷ more) (sym (same_place fs [] more (own f)))
+
+passes_waiting : (fs more : List Framed) (read : Answer) (frame : Option PlainFrame) → may_overtake read frame ≡ true → Alike (fs ++ (waiting frame ++ (heard_frame Initiator read ++ more))) ((fs ++ heard_frame Initiator read) ++ (waiting frame ++ more))
+passes_waiting fs more read None e = alike_same (fs ++ (heard_frame Initiator read ++ more)) ((fs ++ heard_frame Initiator read) ++ more) (sym (append_assoc fs (heard_frame Initiator read) more))
+passes_waiting fs more read (Some f) e = passes_one fs more read f (carries f.kind) refl e
 
 -- a frame comes
-pub carries_came : (largest cap : ℕ) (passed : List Passed) (got : List ℕ) (mux : Mux) (frame : Option PlainFrame) (sdu : List ℕ) → Carries largest cap passed got mux frame → AnswerFindsRoom (frame_answer sdu) mux → only_quiet frame ≡ true
+pub carries_came : (largest cap : ℕ) (passed : List Passed) (got : List ℕ) (mux : Mux) (frame : Option PlainFrame) (sdu : List ℕ) → Carries largest cap passed got mux frame → AnswerFindsRoom (frame_answer sdu) mux → may_overtake (frame_answer sdu) frame ≡ true
     → Carries largest cap (passed ++ record { from = Initiator; sdu = sdu } ∷ []) (got ++ handed (up sdu mux)) (hears sdu mux) frame
 carries_came largest cap passed got mux frame sdu c room quiet =
     let new : List Framed = heard_frame (other_role mux.role) (frame_answer sdu) in
     let role = (reached_kept largest cap (record { mux = mux; talk = c.talk; got = got }) c.reached).0 in
-    let new_is : new ≡ cons_option (framed Initiator (frame_answer sdu)) [] = ap (λ (r : Role). heard_frame (other_role r) (frame_answer sdu)) role ∙ heard_is Initiator (frame_answer sdu) in
+    let so : new ≡ heard_frame Initiator (frame_answer sdu) = ap (λ (r : Role). heard_frame (other_role r) (frame_answer sdu)) role in
+    let new_is : new ≡ cons_option (framed Initiator (frame_answer sdu)) [] = so ∙ heard_is Initiator (frame_answer sdu) in
+    let passed_by : (more : List Framed) → Alike (frames passed ++ (waiting frame ++ (new ++ more))) ((frames passed ++ new) ++ (waiting frame ++ more)) =
+    λ more. subst (λ (fs : List Framed). Alike (frames passed ++ (waiting frame ++ (fs ++ more))) ((frames passed ++ fs) ++ (waiting frame ++ more))) (sym so) (passes_waiting (frames passed) more (frame_answer sdu) frame quiet) in
     record {
       talk = c.talk ++ new;
       reached = reached_by largest cap (record { mux = mux; talk = c.talk; got = got }) (Hears sdu) c.reached room;
       reads = λ more.
           alike_then _ _ _ (alike_same ((c.talk ++ new) ++ more) (c.talk ++ (new ++ more)) (append_assoc c.talk new more))
-          (alike_then _ _ _ (c.reads (new ++ more)) (alike_then _ _ _ (passes_waiting (frames passed) new more frame quiet)
+          (alike_then _ _ _ (c.reads (new ++ more)) (alike_then _ _ _ (passed_by more)
           (alike_same ((frames passed ++ new) ++ (waiting frame ++ more)) (frames (passed ++ record { from = Initiator; sdu = sdu } ∷ []) ++ (waiting frame ++ more))
           (ap (λ (fs : List Framed). fs ++ (waiting frame ++ more)) (ap (λ (xs : List Framed). frames passed ++ xs) new_is ∙ sym (frames_more passed (record { from = Initiator; sdu = sdu })))))));
     }

@@ -2,6 +2,7 @@ pub mod Sessions
 pub mod Services
 pub mod Readings
 pub mod Streams
+pub mod Overtaking
 pub mod Frames
 pub mod Listening
 pub mod Servers
@@ -40,6 +41,10 @@ pub mod Deeds
 pub mod Parties
 pub mod OneByOne
 pub mod Taken
+pub mod Ordering
+pub mod Conceding
+pub mod Wishing
+pub mod Orders
 pub mod Couples
 pub mod Carrying
 pub mod Driving
@@ -49,3 +54,16 @@ pub mod Early
 pub mod Numbers
 pub mod Throughout
 pub mod Muxed
+pub mod Replies
+pub mod Untouched
+pub mod Parsing
+pub mod Requesting
+pub mod Muxing
+pub mod Working
+pub mod Undirected
+pub mod Exchanging
+pub mod Speaking
+pub mod Attending
+pub mod Naming
+pub mod Carried
+pub mod Staying

@@ -249,7 +249,7 @@ one_ends most direct carried got packet rest stored steps listener gift least s 
 abbrev pub hears_more : List ℕ → Listener → List ℕ → Gift → Received
 hears_more octets listener held gift = cond listener.breaks (record { listener = listener; held = held; gift = gift }) (hears_stream (length (held ++ octets)) (held ++ octets) listener gift)
 
-joined_is : (carried : List Heard) → flat_map (λ (packet : List ℕ). packet) (map octets_of carried) ≡ stream_of carried
+pub joined_is : (carried : List Heard) → flat_map (λ (packet : List ℕ). packet) (map octets_of carried) ≡ stream_of carried
 joined_is [] = refl
 joined_is (one ∷ carried) = ap (λ (xs : List ℕ). one.0 ++ xs) (joined_is carried)
 

@@ -95,12 +95,12 @@ pushes-may_come settings before pushes last pushed over come =
 -- ---- where calls of the inbox fail
 
 -- what was heard, marked where a call failed
-record Marks (settings : Settings) (before : List Stored) (past : List Occurrence) (at : Reacted) : Type 0 where
-  marks : List Marked
-  same : unmarked marks ≡ past
-  holds : Holds settings before marks at
+pub record Marks (settings : Settings) (before : List Stored) (past : List Occurrence) (at : Reacted) : Type 0 where
+  pub marks : List Marked
+  pub same : unmarked marks ≡ past
+  pub holds : Holds settings before marks at
 
-marks_more : (settings : Settings) (before : List Stored) (past : List Occurrence) (one : Occurrence) (at : Reacted) → Marks settings before past at → MayCome NoneShort (IsTaken settings past at.server.listener.service) settings past at one → Marks settings before (past ++ one ∷ []) (done one at)
+pub marks_more : (settings : Settings) (before : List Stored) (past : List Occurrence) (one : Occurrence) (at : Reacted) → Marks settings before past at → MayCome NoneShort (IsTaken settings past at.server.listener.service) settings past at one → Marks settings before (past ++ one ∷ []) (done one at)
 marks_more settings before past one at m may =
     let more = holds_more settings before m.marks one at m.holds (subst (λ (os : List Occurrence). MayCome NoneShort (IsTaken settings os at.server.listener.service) settings os at one) (sym m.same) may) in
     let last : Marked = record { occurrence = one; failed = more.failed } in

@@ -145,7 +145,7 @@ off_read request session (Ok packet) w s =
     (single_plain request session.wanted session.single packet.headers w s) refl
 off_read request session (Err refusal) w s = s
 
-off_behind : (awaited : Option Request) (session : Asking) (response : List ℕ) → session.wanted ≡ false → session.single ≡ false → (after_at awaited session response).single ≡ false
+pub off_behind : (awaited : Option Request) (session : Asking) (response : List ℕ) → session.wanted ≡ false → session.single ≡ false → (after_at awaited session response).single ≡ false
 off_behind None session response w s = s
 off_behind (Some request) session response w s = off_read request session (packet_in (phase_of request) session.maximum response) w s
 
@@ -158,13 +158,13 @@ plain_kept = record {
 
 -- ---- what it sends
 
-puts_wait : (first final single : Bool) → single ≡ false → is_waiting (Some (put_request first final single)) ≡ true
+pub puts_wait : (first final single : Bool) → single ≡ false → is_waiting (Some (put_request first final single)) ≡ true
 puts_wait first true single s = refl
 puts_wait true false single s = refl
 puts_wait false false true s = absurd (let f : true ≡ false = s in cc)
 puts_wait false false false s = refl
 
-off_put : (final single : Bool) → single ≡ false → (not final && single) ≡ false
+pub off_put : (final single : Bool) → single ≡ false → (not final && single) ≡ false
 off_put true single s = refl
 off_put false single s = s
 

@@ -30,32 +30,32 @@ use Rattle.push_laws.proofs.Late.{Anchor, anchor_of, IsLate, either, object_late
 
 -- ---- where a push stands on its way
 
-record Walk : Type 0 where
+pub record Walk : Type 0 where
   pub transport : Transport
   pub targets : List Target
   pub taken : List Step
 
-record Course : Type 0 where
+pub record Course : Type 0 where
   pub cause : Option Outcome
   pub anchor : Anchor
 
-abbrev course_of : Client → Course
+abbrev pub course_of : Client → Course
 course_of client = record { cause = client.cause; anchor = anchor_of client }
 
-abbrev first : List Step
+abbrev pub first : List Step
 first = OpenChannel search_psm ∷ []
 
-abbrev psm_over : Transport → ℕ → ℕ
+abbrev pub psm_over : Transport → ℕ → ℕ
 psm_over L2cap psm = psm
 psm_over Rfcomm channel = rfcomm_psm
 
-record Begins (w : Walk) (taken : List Step) (c : Course) : Type 0 where
+pub record Begins (w : Walk) (taken : List Step) (c : Course) : Type 0 where
   pub same : c.anchor.transport ≡ w.transport
   pub none : w.targets ≡ []
   pub is : w.taken ≡ taken
 
 -- the target that was heard names the channel
-record Names (w : Walk) (anchor : Anchor) : Type 0 where
+pub record Names (w : Walk) (anchor : Anchor) : Type 0 where
   pub same : anchor.transport ≡ w.transport
   pub target : Target
   pub number : ℕ
@@ -64,35 +64,35 @@ record Names (w : Walk) (anchor : Anchor) : Type 0 where
   pub psm_is : anchor.psm ≡ psm_over w.transport number
   pub channel_is : w.transport ≡ Rfcomm → anchor.channel ≡ number
 
-record Searched (w : Walk) (c : Course) : Type 0 where
+pub record Searched (w : Walk) (c : Course) : Type 0 where
   pub one : length w.targets ≤ 1
   pub is : w.taken ≡ first
   pub names : c.cause ≡ None → Names w c.anchor
 
-record AsksPeer (w : Walk) (taken : List Step) (c : Course) : Type 0 where
+pub record AsksPeer (w : Walk) (taken : List Step) (c : Course) : Type 0 where
   pub names : Names w c.anchor
   pub is : w.taken ≡ taken
   pub direct : w.transport ≡ L2cap
 
-record Opens (w : Walk) (c : Course) : Type 0 where
+pub record Opens (w : Walk) (c : Course) : Type 0 where
   pub names : Names w c.anchor
   pub way : whole_way w.transport w.targets ≡ w.taken ++ OpenChannel c.anchor.psm ∷ []
 
-abbrev OnTheWay : Walk → Type 0
+abbrev pub OnTheWay : Walk → Type 0
 OnTheWay w = TakesTheWay w.transport w.targets w.taken
 
 -- the channel of the object was asked for
-record AsksChannel (w : Walk) (c : Course) : Type 0 where
+pub record AsksChannel (w : Walk) (c : Course) : Type 0 where
   pub names : Names w c.anchor
   pub way : OnTheWay w
 
 -- it is open, and over RFCOMM the multiplexer is for the server channel
-record HasChannel (w : Walk) (c : Course) : Type 0 where
+pub record HasChannel (w : Walk) (c : Course) : Type 0 where
   pub names : Names w c.anchor
   pub way : OnTheWay w
   pub dlci : w.transport ≡ Rfcomm → c.anchor.dlci ≡ 2 * c.anchor.channel
 
-abbrev At : Walk → Stage → Course → Type 0
+abbrev pub At : Walk → Stage → Course → Type 0
 At w (Link point) c = Begins w [] c
 At w (SearchChannel Due) c = Begins w [] c
 At w (SearchChannel Asked) c = Begins w first c
@@ -108,7 +108,7 @@ At w (LinkEnd point) c = OnTheWay w
 At w Over c = OnTheWay w
 At w Rest c = OnTheWay w
 
-abbrev Stands : Walk → Client → Type 0
+abbrev pub Stands : Walk → Client → Type 0
 Stands w client = At w client.stage (course_of client)
 
 -- ---- each stands on the whole way
@@ -496,7 +496,7 @@ all_steps w client parts c =
 
 -- ---- all that may happen
 
-abbrev behind_deed : Walk → Deed → Client → Walk
+abbrev pub behind_deed : Walk → Deed → Client → Walk
 behind_deed w deed client = record { transport = w.transport; targets = w.targets ++ targets_by deed client; taken = w.taken ++ way_by deed client }
 
 neither : (w : Walk) (client : Client) → Stands w client → Stands (taking (hearing w []) []) client
@@ -505,7 +505,7 @@ neither w client c = none_taken (hearing w []) client (none_heard w client c)
 unheard : (w : Walk) (more : List Step) (client : Client) → Stands (taking w more) client → Stands (taking (hearing w []) more) client
 unheard w more client s = none_heard (taking w more) client s
 
-deed_stands : (w : Walk) (deed : Deed) (client : Client) → Stands w client → Stands (behind_deed w deed client) (done deed client)
+pub deed_stands : (w : Walk) (deed : Deed) (client : Client) → Stands w client → Stands (behind_deed w deed client) (done deed client)
 deed_stands w (Hears news) client c = none_taken (hearing w (targets_told news client)) (events.hears_news news client) (news_stand w news client c)
 deed_stands w (Asks parts) client c = unheard w (way_in (steps.steps client parts).step) (steps.steps client parts).client (all_steps w client parts c)
 deed_stands w Finishes client c = neither w (done Finishes client) c
@@ -534,7 +534,7 @@ opens-the_target client name size deeds =
 
 -- ---- the server channel
 
-opened_at : (w : Walk) (stage : Stage) (c : Course) → is_object stage ≡ true → At w stage c → HasChannel w c
+pub opened_at : (w : Walk) (stage : Stage) (c : Course) → is_object stage ≡ true → At w stage c → HasChannel w c
 opened_at w stage c works s = subst (λ (x : Stage). At w x c) (object_of stage works) s
 
 pub opens-the_server_channel : OpensTheServerChannel

@@ -1,5 +1,5 @@
 -- A server behind each occurrence stands for what can be read off them all.
-use Rattle.std.proofs.Common.{Bool, true, false, cond, eqb, ◌+◌, ◌-◌, ◌≤◌, ◌≡◌, ℕ, List, [], ◌∷◌, ◌++◌, length, Option, Some, None, refl, sym, ap, ap₂, subst, ◌∙◌, ◌||◌, arith, append-nil}
+use Rattle.std.proofs.Common.{Bool, false, cond, eqb, ◌+◌, ◌-◌, ◌≤◌, ◌≡◌, ℕ, List, [], ◌∷◌, ◌++◌, length, Option, Some, None, refl, sym, ap, ap₂, subst, ◌∙◌, ◌||◌, arith, append-nil}
 use Rattle.std.specs.List.{filter_map, AllByRecursion}
 use Rattle.std.proofs.Math.Seq.{drop-nil}
 use Rattle.std.proofs.lemmas.Bool.{cond_both, cond-false}
@@ -31,12 +31,12 @@ use Rattle.push_model.specs.Server.{Server, Reacted, Lent, hears_search, hears_u
 use Rattle.push_laws.specs.Occurrences.{Occurrence, Came, Went, Closed, LinkDown, Asked, Answering, done}
 use Rattle.push_laws.specs.Readings.{closes, since, came_on, passed_by, octets_heard, packets_over}
 use Rattle.push_laws.specs.Faults.{heard_as, counted, faults_of, fails_at, any_fails, fails_with, faults_before}
-use Rattle.push_laws.specs.Premises.{IsTaken, NoneShort, only_carries, FrameIsHeard, MayCome, new_packets}
+use Rattle.push_laws.specs.Premises.{IsTaken, NoneShort, FrameIsHeard, MayCome, new_packets}
 use Rattle.push_laws.proofs.Readings.{read_more, read_same, read_closed, drop_front, drop_same}
 use Rattle.push_laws.proofs.Listening as listening
 use Rattle.push_laws.proofs.Listening.{Listens, IsWell, OneAtATime, or-false, hears_more, direct_heard, direct_closed, carried_closed}
 use Rattle.push_laws.proofs.Services.{let_go_paid}
-use Rattle.push_laws.proofs.Frames.{Carries, carries_read, carries_new, carries_came, carries_went, only_quiet, reached_kept}
+use Rattle.push_laws.proofs.Frames.{Carries, carries_read, carries_new, carries_came, carries_went, reached_kept}
 use Rattle.push_laws.proofs.Servers.{Upholds, octets_uphold, octets_give, by_psm, up_keeps}
 
 abbrev pub most : Settings → Transport → ℕ
@@ -234,7 +234,7 @@ module _ (settings : Settings) (past : List Occurrence) (direct carried : List H
       let octets : List ℕ = got ++ handed comes in
       let on : List Passed = passed past ++ record { from = Initiator; sdu = sdu } ∷ [] in
       let frame : FrameIsHeard sdu at.server = may.frame sdu refl in
-      let carries = carries_came (settings.mtu - 6) settings.credits (passed past) got at.server.mux at.server.frame sdu u.carries frame.room (quiet at.server.frame frame.behind) in
+      let carries = carries_came (settings.mtu - 6) settings.credits (passed past) got at.server.mux at.server.frame sdu u.carries frame.room frame.behind in
       let more : passed (past ++ one ∷ []) ≡ on = read_more passed_by rfcomm_psm past one refl in
       let orderly : IsOrderly (hears sdu at.server.mux).closed = subst (λ (m : Mux). IsOrderly m.closed) (ap (λ (r : Reacted). r.server.mux) is ∙ up_keeps comes server at.gift) may.orderly in
       let heard' : octets_heard (past ++ one ∷ []) ≡ octets = ap (user_octets 18 Responder Initiator) more ∙ carries_read (settings.mtu - 6) settings.credits on octets (hears sdu at.server.mux) at.server.frame carries orderly in
@@ -249,10 +249,6 @@ module _ (settings : Settings) (past : List Occurrence) (direct carried : List H
       next_by one at.server.listener.service at.gift (hears_on 0x0003 sdu at.server at.gift) then.failed direct now on octets (stored ++ carried_gain now) is
       (direct_same one then.failed refl (read_same (came_on object_psm) object_psm past one refl refl)) refl more (right_gain stored (direct_gain direct) (carried_gain now) (nothing_gained (own_maximum L2cap settings) direct)) then.stands
       (let paid = then.paid in omega arith)
-    where
-      quiet : (frame : Option PlainFrame) → only_carries frame ≡ true → only_quiet frame ≡ true
-      quiet None e = e
-      quiet (Some frame) e = e
 
   other_next : (psm : ℕ) (sdu : List ℕ) (at : Reacted) → eqb psm 0x0001 ≡ false → eqb psm 0x0003 ≡ false → eqb psm 0x1001 ≡ false → Now at → Next (Came psm sdu) at.server.listener.service at.gift (hears_on psm sdu at.server at.gift)
   other_next psm sdu at a b c u =

@@ -145,7 +145,7 @@ said_talk : (P : Talk → Type 0) (said : Option Said) (client : Client) (parts 
 said_talk P None client parts p = p
 said_talk P (Some said) client parts p = p
 
-says_talk : (P : Talk → Type 0) (client : Client) (parts : List Part) → P (talk_of client) → P (talk_of (says client parts).client)
+pub says_talk : (P : Talk → Type 0) (client : Client) (parts : List Part) → P (talk_of client) → P (talk_of (says client parts).client)
 says_talk P client parts p = let full = filled client in said_talk P (next full.mux) full parts (filled_talk P client p)
 
 sent_muxed : (w : Task) (sent : List (List ℕ)) (outcome : Result (Unit {0}) PortFault) (request : Made) → Stands w (sent ++ packet_of outcome request) (talk_of request.client) → Stands w (sent ++ packet_of outcome request) (talk_of (sends_muxed outcome request).client)

@@ -25,22 +25,23 @@ use Rattle.push_laws.specs.Laws.{new_over}
 use Rattle.push_laws.specs.Occurrences.{Occurrence, Came, Went, Closed, LinkDown, Asked, Answering, done, IsOwn}
 use Rattle.push_laws.specs.Parties.{Move, OfServer, OfClient, server_side, sdu_if, Push, begun_of, ended_with, over_pushes}
 use Rattle.push_laws.proofs.Calm.{IsCalm, first_calm, calm_more, is_orderly}
-use Rattle.push_laws.proofs.Carriage.{Both, On, Off}
+use Rattle.push_laws.proofs.Carriage.{Linked, Both, On, Off}
 use Rattle.push_laws.proofs.Carrying.{reset_calm}
-use Rattle.push_laws.proofs.Couples.{waiting}
+use Rattle.push_laws.proofs.Couples.{no_sums, waiting}
 use Rattle.push_laws.proofs.Early.{IsEarly, IsOpened, Begun, Early, Opened, early_deed, early_frames}
 use Rattle.push_laws.proofs.FramesFit as fit
 use Rattle.push_laws.proofs.FramesFit.{no_octets, none_comes, off_goes, down_goes, deed_goes, late_at}
 use Rattle.push_laws.proofs.Late.{Anchor, anchor_of}
 use Rattle.push_laws.proofs.Numbers.{K, numbers_stay}
+use Rattle.push_laws.proofs.Orders.{Order, order_first}
 
 -- ---- lists that are empty
 
-none_behind : {A : Type 0} (xs ys : List A) → xs ++ ys ≡ [] → ys ≡ []
+pub none_behind : {A : Type 0} (xs ys : List A) → xs ++ ys ≡ [] → ys ≡ []
 none_behind [] ys e = e
 none_behind (x ∷ xs) ys e = cc
 
-none_before : {A : Type 0} (xs ys : List A) → xs ++ ys ≡ [] → xs ≡ []
+pub none_before : {A : Type 0} (xs ys : List A) → xs ++ ys ≡ [] → xs ≡ []
 none_before [] ys e = refl
 none_before (x ∷ xs) ys e = cc
 
@@ -50,7 +51,7 @@ none_read (sdu ∷ sdus) [] are e = absurd are
 none_read (sdu ∷ sdus) (f ∷ frames) are e = cc
 
 -- nothing was sent, so nothing came
-none_came : (c : Carriage) → AreCarried c → c.sent ≡ [] → c.come ≡ []
+pub none_came : (c : Carriage) → AreCarried c → c.sent ≡ [] → c.come ≡ []
 none_came c are none = none_read c.come are.front are.read (none_before are.front are.behind (sym are.forth ∙ none))
 
 -- ---- nothing goes from a calm server
@@ -67,7 +68,7 @@ went_none (Some Records) psm sdu server lent e p none = sym (ap (λ (n : ℕ). s
 went_none (Some Direct) psm sdu server lent e p none = sym (ap (λ (n : ℕ). sdu_if (n == rfcomm_psm) sdu) (ap (λ (l : Lent). l.psm) (same_lent _ lent e) ∙ p))
 went_none (Some Muxed) psm sdu server lent e p none = absurd (no_lent lent (sym (ap frame_lent none) ∙ e))
 
-none_goes : (one : Occurrence) (at : Reacted) → IsOwn one at.server → at.server.frame ≡ None → gone_by one ≡ []
+pub none_goes : (one : Occurrence) (at : Reacted) → IsOwn one at.server → at.server.frame ≡ None → gone_by one ≡ []
 none_goes (Came psm sdu) at own none = refl
 none_goes (Went psm sdu) at own none = went_none at.server.lent psm sdu at.server own.0 own.1 own.2 none
 none_goes (Closed psm) at own none = refl
@@ -141,18 +142,19 @@ module _ (n : Numbers) (mux : Mux) (role : mux.role ≡ Initiator) (fits : mux.l
   }
 
   -- the channel has opened
-  opens : (past : List Occurrence) (client : Client) (c : Carriage) (at : Server) → IsOpened mux Rfcomm client → IsThere client → K n.largest n.cap at.mux → IsCalm past at → c.sent ≡ [] → c.come ≡ [] → c.gone ≡ [] → c.told ≡ [] → Phase mux past client c at
+  pub opened_linked : (past : List Occurrence) (client : Client) (c : Carriage) (at : Server) → IsOpened mux Rfcomm client → IsThere client → K n.largest n.cap at.mux → IsCalm past at → c.sent ≡ [] → c.come ≡ [] → c.gone ≡ [] → c.told ≡ []
+      → Linked (anchor_of client) client c at (record no_sums { asked = client.rest; replied = at.listener.service.answer })
   unfolding terms
-  opens past client c at o there k calm sent come gone told =
+  opened_linked past client c at o there k calm sent come gone told =
       let here = there (ap is_object o.here) in
       let t = terms o.mtu in
       let dlci : 2 * client.channel ≡ 18 = ap (λ (m : ℕ). 2 * m) here.1 in
       let mux_is : new_mux Initiator 18 mux.largest (own_frame mux.largest o.mtu) mux.account.cap ≡ client.mux =
       sym (o.mux_is ∙ (ap (λ (r : Role). new_mux r (2 * client.channel) mux.largest (own_frame mux.largest o.mtu) mux.account.cap) role ∙ ap (λ (d : ℕ). new_mux Initiator d mux.largest (own_frame mux.largest o.mtu) mux.account.cap) dlci)) in
-      Goes (anchor_of client) o.same here.0
-      (On (record {
+      record {
         heard = [];
         unheard = [];
+        rest = client.rest;
         coupled = record {
           pair = offering t mux.largest;
           tidy = tidy_first t mux.largest;
@@ -164,11 +166,23 @@ module _ (n : Numbers) (mux : Mux) (role : mux.role ≡ Initiator) (fits : mux.l
           frames = [];
           unheard_are = tt;
           queue_is = sym (ap waiting calm.no_frame);
+          asked_is = refl;
+          got_is = refl;
+          replied_is = refl;
+          told_is = refl;
+          order = λ e. subst (λ (m : Mux). Order m [] at.mux []) mux_is
+              (subst (λ (m : Mux). Order (new_mux Initiator 18 mux.largest (own_frame mux.largest o.mtu) mux.account.cap) [] m []) (sym (new_again n.largest n.cap past at k calm))
+              (order_first mux.largest (own_frame mux.largest o.mtu) n.largest mux.account.cap n.cap));
         };
         gone_is = gone;
         told_is = λ works. told;
+        rest_is = λ works. refl;
         late = (late_at client.stage o.here, refl);
-      }))
+      }
+
+  opens : (past : List Occurrence) (client : Client) (c : Carriage) (at : Server) → IsOpened mux Rfcomm client → IsThere client → K n.largest n.cap at.mux → IsCalm past at → c.sent ≡ [] → c.come ≡ [] → c.gone ≡ [] → c.told ≡ [] → Phase mux past client c at
+  opens past client c at o there k calm sent come gone told =
+      Goes (anchor_of client) o.same (there (ap is_object o.here)).0 (On (record no_sums { asked = client.rest; replied = at.listener.service.answer }) (opened_linked past client c at o there k calm sent come gone told))
 
   pub deed_phase : (past : List Occurrence) (client : Client) (c : Carriage) (at : Server) (deed : Deed) → AreCarried (carriage_after (OfClient deed) client c) → IsThere (deeds.done deed client) → K n.largest n.cap at.mux → Phase mux past client c at
       → Phase mux past (deeds.done deed client) (carriage_after (OfClient deed) client c) at
@@ -201,7 +215,7 @@ module _ (n : Numbers) (mux : Mux) (role : mux.role ≡ Initiator) (fits : mux.l
 
   pub down_fits : (past : List Occurrence) (client : Client) (c : Carriage) (at : Reacted) → ServesMuxed at LinkDown → Phase mux past client c at.server → FrameFits at LinkDown
   down_fits past client c at serves (Waits early sent come gone calm) = (waits_goes mux past client c at LinkDown serves refl early sent come gone calm).fits
-  down_fits past client c at serves (Goes anchor muxed there (On l)) = (down_goes anchor past client c at l serves.works).fits
+  down_fits past client c at serves (Goes anchor muxed there (On sums l)) = (down_goes anchor past client c at sums l serves.works).fits
   down_fits past client c at serves (Goes anchor muxed there (Off closed calm)) = (off_goes anchor past client c at LinkDown serves (λ e. refl) closed calm).fits
 
 -- behind it the server is calm, or a call of its inbox answered want of memory

@@ -27,7 +27,7 @@ use Rattle.push_model.specs.Steps.{Step, Wait, MakeLink, AskFeatures, OpenChanne
 use Rattle.push_laws.specs.Occurrences.{Occurrence, Came, Went, Closed, LinkDown, Asked, Answering, done, IsOwn}
 use Rattle.push_laws.specs.Laws.{new_over}
 use Rattle.push_laws.specs.Parties.{Move, OfServer, OfClient, server_side, client_after, sdu_if, IsFrontOf, Push, begun_of, over_pushes}
-use Rattle.push_laws.specs.Premises.{AllGranted, NoneShort, AnswersAre, IsHeard, IsTaken, RequestsCome, AllMayCome, AllMayFail, only_carries}
+use Rattle.push_laws.specs.Premises.{AllGranted, NoneShort, AnswersAre, IsHeard, IsTaken, RequestsCome, AllMayCome, AllMayFail, may_overtake}
 use Rattle.push_laws.specs.Readings.{closes, user_dlci}
 
 -- ---- the channel of the multiplexers, as each of them has it
@@ -202,13 +202,13 @@ PushedFramesFit = (settings : Settings) (before : List Stored) (pushes : List Pu
 
 -- ---- what is left to ask for
 
--- What goes is what the server lends, its inbox answers so, requests come one at a time, and no frame comes while one of the server's
--- still waits that opens or closes a connection.
+-- What goes is what the server lends, its inbox answers so, requests come one at a time, and a frame that comes says the same behind
+-- the one of the server that waits.
 pub record ComesMuxed (Are : List Answer → Type 0) (Comes : Transport → List ℕ → Type 0) (settings : Settings) (past : List Occurrence) (at : Reacted) (one : Occurrence) : Type 0 where
   pub own : IsOwn one at.server
   pub answers : AnswersAre Are one
   pub requests : RequestsCome Comes settings past one
-  pub behind : (sdu : List ℕ) → one ≡ Came rfcomm_psm sdu → only_carries at.server.frame ≡ true
+  pub behind : (sdu : List ℕ) → one ≡ Came rfcomm_psm sdu → may_overtake (frame_answer sdu) at.server.frame ≡ true
 
 abbrev pub AllComeMuxed : (List Answer → Type 0) → (List Occurrence → Service → Transport → List ℕ → Type 0) → Settings → List Occurrence → Reacted → List Occurrence → Type 0
 AllComeMuxed Are Comes settings past at [] = Unit {0}

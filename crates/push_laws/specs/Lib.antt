@@ -15,3 +15,4 @@ pub mod Success
 pub mod Exchanges
 pub mod Parties
 pub mod Carriage
+pub mod Dialogs

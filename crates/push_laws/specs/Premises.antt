@@ -1,6 +1,6 @@
 -- When a server makes of what it hears all that it spells: nothing is ignored, and one object is pushed at a time (this
 -- project's own).
-use Rattle.std.specs.Prelude.{ℕ, ◌≡◌, ◌≤◌, nat_lt, Bool, true, false, List, [], ◌∷◌, ◌++◌, length, Option, Some, None, Ok, Err}
+use Rattle.std.specs.Prelude.{ℕ, ◌≡◌, ◌==◌, ◌≤◌, ◌&&◌, ◌||◌, nat_lt, Bool, true, false, List, [], ◌∷◌, ◌++◌, length, Option, Some, None, Ok, Err}
 use Rattle.std.specs.List.{AllByRecursion}
 use Rattle.bt_base.specs.declared.ports.PortFault.TheVariants.{NoMemory}
 use Rattle.bt_base.specs.declared.settings.Settings.{Settings}
@@ -9,6 +9,9 @@ use Rattle.bt_base.specs.declared.settings.Transport.TheVariants.{Rfcomm}
 use Rattle.obex_headers.specs.declared.packet.Phase.TheVariants.{Request}
 use Rattle.obex_headers.specs.Reading.{packet_in}
 use Rattle.obex_headers.specs.Runs.{names}
+use Rattle.rfcomm_frames.specs.declared.frame.MuxKind.{MuxKind}
+use Rattle.rfcomm_frames.specs.declared.frame.MuxKind.TheVariants.{Sabm, Ua, Dm, Disc, Uih}
+use Rattle.rfcomm_frames.specs.Answers.{Answer as Read}
 use Rattle.rfcomm_frames.specs.Frames.{PlainFrame, carries}
 use Rattle.rfcomm_frames.specs.FrameReading.{frame_answer}
 use Rattle.rfcomm_model.specs.Sides.{AnswerFindsRoom}
@@ -77,15 +80,39 @@ AnswersAre Are (Answering answers) = Are answers
 
 -- ---- all of it
 
--- no frame waits for its channel that opens or closes a connection
-abbrev pub only_carries : Option PlainFrame → Bool
-only_carries None = true
-only_carries (Some frame) = carries frame.kind
+-- UA or DM
+abbrev pub is_answer : MuxKind → Bool
+is_answer Sabm = false
+is_answer Ua = true
+is_answer Dm = true
+is_answer Disc = false
+is_answer Uih = false
 
--- a frame that comes finds room for its answers, and comes behind those that open or close connections
+abbrev pub leaves : MuxKind → Bool
+leaves Sabm = false
+leaves Ua = false
+leaves Dm = false
+leaves Disc = true
+leaves Uih = false
+
+-- DISC, or messages on the control channel
+abbrev pub leaves_or_controls : PlainFrame → Bool
+leaves_or_controls frame = leaves frame.kind || (carries frame.kind && (frame.dlci == 0))
+
+abbrev pub is_apart : Read → Bool
+is_apart (Ok frame) = leaves_or_controls frame
+is_apart (Err refusal) = true
+
+-- A frame comes while another waits for its channel: that is one of any kind if the latter carries information, and DISC or
+-- messages on the control channel if the latter is UA or DM. So both say the same in either order.
+abbrev pub may_overtake : Read → Option PlainFrame → Bool
+may_overtake read None = true
+may_overtake read (Some waiting) = carries waiting.kind || (is_answer waiting.kind && is_apart read)
+
+-- a frame that comes finds room for its answers, and says the same behind the one that waits
 pub record FrameIsHeard (sdu : List ℕ) (server : Server) : Type 0 where
   pub room : AnswerFindsRoom (frame_answer sdu) server.mux
-  pub behind : only_carries server.frame ≡ true
+  pub behind : may_overtake (frame_answer sdu) server.frame ≡ true
 
 -- what may happen next, behind all that was
 pub record MayCome (Are : List Answer → Type 0) (Comes : Transport → List ℕ → Type 0) (settings : Settings) (past : List Occurrence) (at : Reacted) (one : Occurrence) : Type 0 where

@@ -2,6 +2,7 @@
 
 ghost use Rattle.push_laws.specs.Carriage.{FramesFit, PushedFramesFit, PushesMayCome, PushesMayFail};
 ghost use Rattle.push_laws.specs.Calls.{InboxIsCalledByRuns};
+ghost use Rattle.push_laws.specs.Dialogs.{CarriedAreHeard, CarriedAreTaken, ClientsStay, MultiplexersStay};
 ghost use Rattle.push_laws.specs.Example.{OneFaultIsHeard, OnePushIsHeard};
 ghost use Rattle.push_laws.specs.Laws.{AnswersComeInTurn, CreditsAreRead, GainsAllButFaults, GainsWhatIsHeard, LendsFewOctets, OnePacketIsHeard};
 ghost use Rattle.push_laws.specs.Parties.{RequestsAreHeard, RequestsAreTaken, RequestsComeInTurn};
@@ -93,9 +94,24 @@ pub fn frames_find_room()
 {}
 
 /// So of all that the laws of a server ask of what may come over RFCOMM, this is left: what goes is what the server lends, its
-/// inbox grants all calls, or fails but not for want of memory, requests come one at a time, and no frame comes while one of
-/// the server's still waits that opens or closes a connection.
+/// inbox grants all calls, or fails but not for want of memory, requests come one at a time, and a frame that comes while one of
+/// the server's waits may overtake it.
 pub fn pushes_may_come()
     ensures granted { PushesMayCome }
     ensures failing { PushesMayFail }
+{}
+
+/// A client of this profile has one request under way at most over RFCOMM, so none is ignored, and none is refused for its
+/// length: push after push, whatever becomes of the pushes. All that the laws of a server ask of what may come holds then.
+pub fn carried_requests_are_heard()
+    ensures granted { CarriedAreHeard }
+    ensures failing { CarriedAreTaken }
+{}
+
+/// A client over RFCOMM keeps the side of its multiplexer, its room and the credits that its peer is to have, whatever it
+/// hears and does. Behind a push it also takes packets as long as before, and wants single response mode as before: what the
+/// law above asks of these is so of each push where it is so of the first.
+pub fn multiplexers_stay()
+    ensures always { MultiplexersStay }
+    ensures pushed { ClientsStay }
 {}

@@ -5,20 +5,16 @@ use Rattle.bt_base.specs.Objects.{Contents}
 use Rattle.bt_base.specs.declared.no_memory.NoMemory.{NoMemory}
 use Rattle.bt_base.specs.declared.settings.Transport.{Transport}
 use Rattle.bt_base.specs.declared.settings.Transport.TheVariants.{L2cap, Rfcomm}
+use Rattle.obex_session.specs.Counting.{Counts}
 use Rattle.obex_session.specs.declared.server.Reply.{Reply}
 use Rattle.obex_session.specs.InboxCalls.{Answer}
 use Rattle.obex_session.specs.Past.{Serving}
 use Rattle.obex_session.specs.Serving as serving
 use Rattle.obex_session.specs.Views.{Viewed, count_in}
+use Rattle.obex_session.proofs.CountingLaws.{rises_last, counted_then}
 use Rattle.obex_session.proofs.ViewLaws.{answered}
 use Rattle.push_model.specs.Sessions.{Sessions, Gift, Parted, Heard, session_of, other_of, with_session, has_object, is_naming, lets_go, answers_to, hears_after, hears}
 use Rattle.push_profile.specs.Reactions.{given, LetsGo, AnswersTo, HearsPacket}
-
--- ---- counts
-
-pub rises : (a b c : ℕ) → a ≤ b → b ≤ c → HasRisen b c → HasRisen a c
-rises a b c ab bc (inl less) = inl (omega (arith, ab, less))
-rises a b c ab bc (inr most) = grind (arith, ab, bc, most)
 
 -- ---- what is pending
 
@@ -53,11 +49,11 @@ lacks_by : (counted : Option ℕ) (result : Result ℕ NoMemory) → is_err resu
 lacks_by counted (Ok count) lacks e = absurd cc
 lacks_by counted (Err lack) lacks e = sym lacks
 
-pub answers : (transport : Transport) (old : Sessions) (session' : Serving) (packet : List ℕ) (content content' : Option Contents) (f f' s s' : ℕ) (room room' : List ℕ) (answer : Reply) (result : Result ℕ NoMemory)
-    → serving.Hears (session_of transport old) session' packet content content' f f' s s' room room' answer → IfOk result (λ count. count_in answer ≡ Some count) → is_err result ≡ is_none (count_in answer)
+pub answers : (transport : Transport) (old : Sessions) (session' : Serving) (packet : List ℕ) (content content' : Option Contents) (s s' : Counts) (room room' : List ℕ) (answer : Reply) (result : Result ℕ NoMemory)
+    → serving.Hears (session_of transport old) session' packet content content' s.faults s'.faults s.shortages s'.shortages room room' answer → IfOk result (λ count. count_in answer ≡ Some count) → is_err result ≡ is_none (count_in answer)
     → AnswersTo transport old (with_session transport session' old) packet content content' s s' room room' result
-answers transport old session' packet content content' f f' s s' room room' answer result hears count lacks =
-    let done = answered (session_of transport old) session' packet content content' f f' s s' room room' answer hears in
+answers transport old session' packet content content' s s' room room' answer result hears count lacks =
+    let done = answered (session_of transport old) session' packet content content' s s' room room' answer hears in
     record {
       used = done.used;
       response = done.response;
@@ -66,16 +62,16 @@ answers transport old session' packet content content' f f' s s' room room' answ
       written = written_by done.response room room' (count_in answer) result count done.written;
       none = λ e. done.none (lacks_by (count_in answer) result lacks e);
       short = λ e. done.short (lacks_by (count_in answer) result lacks e);
-      stays = hears.cause.shortages_stay;
+      counted = done.counted;
     }
 
 -- ---- a Name
 
-pub free : (o : Transport) (old mid : Sessions) (content content' : Option Contents) (s s' : ℕ) (result : Result (Unit {0}) NoMemory) → LetsGo o old mid content content' s s' result → has_object (session_of o mid) ≡ false
+pub free : (o : Transport) (old mid : Sessions) (content content' : Option Contents) (s s' : Counts) (result : Result (Unit {0}) NoMemory) → LetsGo o old mid content content' s s' result → has_object (session_of o mid) ≡ false
 free L2cap old mid content content' s s' result lets = ap (λ (p : Parted). has_object p.sessions.direct) (sym (lets.parted []))
 free Rfcomm old mid content content' s s' result lets = ap (λ (p : Parted). has_object p.sessions.carried) (sym (lets.parted []))
 
-pub named_short : (t : Transport) (old mid : Sessions) (packet : List ℕ) (content content' : Option Contents) (s s' : ℕ) (room : List ℕ) (lack other : NoMemory) → is_naming t packet old ≡ true
+pub named_short : (t : Transport) (old mid : Sessions) (packet : List ℕ) (content content' : Option Contents) (s s' : Counts) (room : List ℕ) (lack other : NoMemory) → is_naming t packet old ≡ true
     → LetsGo (other_of t) old mid content content' s s' (Err lack) → HearsPacket t old mid packet content content' s s' room room (Err other)
 named_short t old mid packet content content' s s' room lack other name lets = record {
   used = lets.used;
@@ -85,10 +81,10 @@ named_short t old mid packet content content' s s' room lack other name lets = r
   written = tt;
   none = λ e. refl;
   short = λ e. lets.short e;
-  stays = lets.stays;
+  counted = lets.counted;
 }
 
-pub named : (t : Transport) (old mid new : Sessions) (packet : List ℕ) (c0 c1 c2 : Option Contents) (s0 s1 s2 : ℕ) (room room' : List ℕ) (done : Unit {0}) (result : Result ℕ NoMemory) → is_naming t packet old ≡ true
+pub named : (t : Transport) (old mid new : Sessions) (packet : List ℕ) (c0 c1 c2 : Option Contents) (s0 s1 s2 : Counts) (room room' : List ℕ) (done : Unit {0}) (result : Result ℕ NoMemory) → is_naming t packet old ≡ true
     → LetsGo (other_of t) old mid c0 c1 s0 s1 (Ok done) → AnswersTo t mid new packet c1 c2 s1 s2 room room' result → HearsPacket t old new packet c0 c2 s0 s2 room room' result
 named t old mid new packet c0 c1 c2 s0 s1 s2 room room' done result name lets answer = record {
   used = lets.used ++ answer.used;
@@ -99,11 +95,11 @@ named t old mid new packet c0 c1 c2 s0 s1 s2 room room' done result name lets an
       ∙ ap (hears_after t packet) (lets.parted (answer.used ++ rest)) ∙ answer.heard rest;
   written = answer.written;
   none = answer.none;
-  short = λ e. rises s0 s1 s2 lets.stays answer.stays (answer.short e);
-  stays = omega (arith, lets.stays, answer.stays);
+  short = λ e. rises_last s0.shortages s1.shortages s2.shortages lets.counted.shortages_stay answer.counted.shortages_stay (answer.short e);
+  counted = counted_then lets.used answer.used s0 s1 s2 lets.counted answer.counted;
 }
 
-pub nameless : (t : Transport) (old new : Sessions) (packet : List ℕ) (content content' : Option Contents) (s s' : ℕ) (room room' : List ℕ) (result : Result ℕ NoMemory) → is_naming t packet old ≡ false
+pub nameless : (t : Transport) (old new : Sessions) (packet : List ℕ) (content content' : Option Contents) (s s' : Counts) (room room' : List ℕ) (result : Result ℕ NoMemory) → is_naming t packet old ≡ false
     → AnswersTo t old new packet content content' s s' room room' result → HearsPacket t old new packet content content' s s' room room' result
 nameless t old new packet content content' s s' room room' result name answer = record {
   used = answer.used;
@@ -113,7 +109,7 @@ nameless t old new packet content content' s s' room room' result name answer = 
   written = answer.written;
   none = answer.none;
   short = answer.short;
-  stays = answer.stays;
+  counted = answer.counted;
 }
 
 pub or_swap : (a b : Bool) → (a || b) ≡ (b || a)

@@ -4,6 +4,7 @@ use Rattle.bt_base.specs.Objects.{Contents}
 use Rattle.bt_base.specs.declared.no_memory.NoMemory.{NoMemory}
 use Rattle.bt_base.specs.declared.settings.Transport.{Transport}
 use Rattle.bt_base.specs.declared.settings.Transport.TheVariants.{L2cap, Rfcomm}
+use Rattle.obex_session.specs.Counting.{Counts}
 use Rattle.obex_session.specs.Past.{Serving}
 use Rattle.push_model.specs.Sessions.{Sessions, Gift, Parted, Heard, session_of, other_of, with_session, is_naming, lets_go, answers_to, hears_after, hears}
 use Rattle.push_model.specs.Service.{Service, Served, response_over, after_heard, after_parted, is_ignored, hears_packet, parts}
@@ -50,18 +51,18 @@ heeds_longest t packet l gift = ignored_longest t packet l.service gift (is_igno
 
 -- ---- calls
 
-pub hear_longest : (t : Transport) (packet : List ℕ) (old new : Listener) (c c' : Option Contents) (s s' : ℕ) (lacks : Bool) → Comes (heeds t packet old) (heeded new) c c' s s' lacks → longest new ≡ longest old
+pub hear_longest : (t : Transport) (packet : List ℕ) (old new : Listener) (c c' : Option Contents) (s s' : Counts) (lacks : Bool) → Comes (heeds t packet old) (heeded new) c c' s s' lacks → longest new ≡ longest old
 hear_longest t packet old new c c' s s' lacks comes =
     ap (λ (h : Heeded). longest h.listener) (sym (comes.comes [])) ∙ heeds_longest t packet old (given c (comes.used ++ []))
 
-pub part_longest : (t : Transport) (old new : Listener) (c c' : Option Contents) (s s' : ℕ) (lacks : Bool) → Comes (lets_go_by t old) (heeded new) c c' s s' lacks → longest new ≡ longest old
+pub part_longest : (t : Transport) (old new : Listener) (c c' : Option Contents) (s s' : Counts) (lacks : Bool) → Comes (lets_go_by t old) (heeded new) c c' s s' lacks → longest new ≡ longest old
 part_longest t old new c c' s s' lacks comes =
     ap (λ (h : Heeded). longest h.listener) (sym (comes.comes [])) ∙ go_longest t old.service.sessions (given c (comes.used ++ []))
 
-pub hear_comes : (t : Transport) (packet : List ℕ) (old : Listener) (new : Service) (c c' : Option Contents) (s s' : ℕ) (result : Result (Unit {0}) NoMemory) → ServiceHears t old.service new packet c c' s s' result
+pub hear_comes : (t : Transport) (packet : List ℕ) (old : Listener) (new : Service) (c c' : Option Contents) (s s' : Counts) (result : Result (Unit {0}) NoMemory) → ServiceHears t old.service new packet c c' s s' result
     → Comes (heeds t packet old) (heeded (record old { service = new })) c c' s s' (is_err result)
-hear_comes t packet old new c c' s s' result hears = record { used = hears.used; comes = λ rest. ap (heeded_by old) (hears.heard rest); short = hears.short; stays = hears.stays }
+hear_comes t packet old new c c' s s' result hears = record { used = hears.used; comes = λ rest. ap (heeded_by old) (hears.heard rest); short = hears.short; counted = hears.counted }
 
-pub part_comes : (t : Transport) (old : Listener) (new : Service) (c c' : Option Contents) (s s' : ℕ) (result : Result (Unit {0}) NoMemory) → ServiceParts t old.service new c c' s s' result
+pub part_comes : (t : Transport) (old : Listener) (new : Service) (c c' : Option Contents) (s s' : Counts) (result : Result (Unit {0}) NoMemory) → ServiceParts t old.service new c c' s s' result
     → Comes (lets_go_by t old) (heeded (record old { service = new })) c c' s s' (is_err result)
-part_comes t old new c c' s s' result parted = record { used = parted.used; comes = λ rest. ap (heeded_by old) (parted.parted rest); short = parted.short; stays = parted.stays }
+part_comes t old new c c' s s' result parted = record { used = parted.used; comes = λ rest. ap (heeded_by old) (parted.parted rest); short = parted.short; counted = parted.counted }

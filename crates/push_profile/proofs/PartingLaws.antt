@@ -5,6 +5,7 @@ use Rattle.bt_base.specs.Objects.{Contents}
 use Rattle.bt_base.specs.declared.no_memory.NoMemory.{NoMemory}
 use Rattle.bt_base.specs.declared.ports.PortFault.TheVariants as fault
 use Rattle.bt_base.specs.declared.settings.Transport.{Transport}
+use Rattle.obex_session.specs.Counting.{Counts, AreCounted}
 use Rattle.obex_session.specs.InboxCalls.{Abort, Answer, come_of, left_by, all_done, held_after}
 use Rattle.obex_session.specs.Past.{Serving}
 use Rattle.obex_session.specs.Serving as serving
@@ -45,10 +46,17 @@ left_with false (Err lack) rest sure = absurd (let e : false ≡ true = sure ref
 gift_is : (content content' : Option Contents) (answers rest : List Answer) → content ≡ content' → answers ≡ rest → given content answers ≡ given content' rest
 gift_is content content' answers rest a b = cc
 
-pub parts : (transport : Transport) (old : Sessions) (session' : Serving) (content content' : Option Contents) (pending pending' : Bool) (f f' s s' : ℕ) (result : Result (Unit {0}) NoMemory)
-    → serving.LetsGo (session_of transport old) session' content content' → (has_object (session_of transport old) ≡ false → serving.IsUnasked pending pending' f f' s s' result)
-    → serving.CountsShortages f f' s s' result → LetsGo transport old (with_session transport session' old) content content' s s' result
-parts transport old session' content content' pending pending' f f' s s' result lets unasked counts =
+-- what the inbox answered is what its counts say
+counted_as : (under : Bool) (s s' : Counts) (result : Result (Unit {0}) NoMemory) → serving.CountsShortages s.faults s'.faults s.shortages s'.shortages result → AreCounted (used_by under result) s s'
+counted_as false s s' (Ok done) counts = record { faults_stay = counts.faults_stay; shortages_stay = counts.shortages_stay; granted = λ no_fault no_lack. tt; none_short = λ no_lack. tt }
+counted_as true s s' (Ok done) counts = record { faults_stay = counts.faults_stay; shortages_stay = counts.shortages_stay; granted = λ no_fault no_lack. (refl, tt); none_short = λ no_lack. ((λ e. absurd cc), tt) }
+counted_as false s s' (Err lack) counts = record { faults_stay = counts.faults_stay; shortages_stay = counts.shortages_stay; granted = λ no_fault no_lack. absurd (no_lack (counts.short refl)); none_short = λ no_lack. absurd (no_lack (counts.short refl)) }
+counted_as true s s' (Err lack) counts = record { faults_stay = counts.faults_stay; shortages_stay = counts.shortages_stay; granted = λ no_fault no_lack. absurd (no_lack (counts.short refl)); none_short = λ no_lack. absurd (no_lack (counts.short refl)) }
+
+pub parts : (transport : Transport) (old : Sessions) (session' : Serving) (content content' : Option Contents) (pending pending' : Bool) (s s' : Counts) (result : Result (Unit {0}) NoMemory)
+    → serving.LetsGo (session_of transport old) session' content content' → (has_object (session_of transport old) ≡ false → serving.IsUnasked pending pending' s.faults s'.faults s.shortages s'.shortages result)
+    → serving.CountsShortages s.faults s'.faults s.shortages s'.shortages result → LetsGo transport old (with_session transport session' old) content content' s s' result
+parts transport old session' content content' pending pending' s s' result lets unasked counts =
     let under = has_object (session_of transport old) in
     let sure : (under ≡ false → is_ok result ≡ true) = λ e. (unasked e).succeeds in
     record {
@@ -56,5 +64,5 @@ parts transport old session' content content' pending pending' f f' s s' result 
       parted = λ rest. parted_is _ _ _ _ _ _ (ap (λ (x : Serving). with_session transport x old) (sym lets.session_is)) (short_by under result rest sure)
           (gift_is _ _ _ _ (held_by under result content rest sure ∙ sym lets.content_is) (left_with under result rest sure));
       short = counts.short;
-      stays = counts.shortages_stay;
+      counted = counted_as under s s' result counts;
     }

@@ -5,9 +5,10 @@ use Rattle.bt_base.specs.declared.settings.Transport.TheVariants.{L2cap, Rfcomm}
 use Rattle.rfcomm_frames.specs.Frames.{PlainFrame}
 use Rattle.rfcomm_model.specs.Hearing.{up, hears}
 use Rattle.rfcomm_model.specs.Saying.{Said, next, after_said}
+use Rattle.obex_session.specs.Counting.{Counts}
 use Rattle.push_model.specs.Listening.{heeds}
 use Rattle.push_model.specs.Sessions.{Gift}
-use Rattle.push_model.specs.Server.{Server, Reacted, filled, said_on, breaks_now, left_by, leaves_with, framed_by, framed, remuxed, unanswered, unreplied, lets_go_on, lets_go_twice, link_down, hears_search, hears_up, hears_on, search_psm, rfcomm_psm, object_psm, reacted_by}
+use Rattle.push_model.specs.Server.{Server, Reacted, filled, said_on, breaks_now, left_by, leaves_with, framed_by, framed, remuxed, unanswered, unreplied, lets_go_on, lets_go_twice, link_down, closed_on, hears_search, hears_up, hears_on, search_psm, rfcomm_psm, object_psm, reacted_by}
 use Rattle.push_rooms.specs.Frames.{said_frame}
 use Rattle.push_profile.specs.Reactions.{Comes}
 use Rattle.push_profile.specs.Serving.{reacted, has_failed, fails_now}
@@ -62,7 +63,7 @@ pub fails_as : (old new : Server) (lacks : Bool) → has_failed old ≡ false �
 fails_as old new lacks works fails = ap (λ (b : Bool). not b && has_failed new) works ∙ sym fails
 
 -- the object over either transport is let go
-pub link_parts : (old mid new : Server) (c0 c1 c2 : Option Contents) (s0 s1 s2 : ℕ) (lacks : Bool) → has_failed old ≡ false → has_failed mid ≡ false → lacks ≡ has_failed new
+pub link_parts : (old mid new : Server) (c0 c1 c2 : Option Contents) (s0 s1 s2 : Counts) (lacks : Bool) → has_failed old ≡ false → has_failed mid ≡ false → lacks ≡ has_failed new
     → Comes (lets_go_on L2cap (unanswered old)) (reacted mid) c0 c1 s0 s1 false → Comes (lets_go_on Rfcomm (remuxed (unreplied mid))) (reacted new) c1 c2 s1 s2 lacks
     → Comes (link_down old) (reacted new) c0 c2 s0 s2 (fails_now old new)
 link_parts old mid new c0 c1 c2 s0 s1 s2 lacks works went fails first second =
@@ -76,15 +77,30 @@ link_parts old mid new c0 c1 c2 s0 s1 s2 lacks works went fails first second =
 is_not : (n m : ℕ) → n ≢ m → (n == m) ≡ false
 is_not n m differ = grind (arith, differ)
 
-pub search_heard : (n psm : ℕ) (sdu : List ℕ) (old new : Server) (c : Option Contents) (s : ℕ) → n ≡ psm → n ≡ search_psm → new ≡ hears_search sdu old
+pub search_heard : (n psm : ℕ) (sdu : List ℕ) (old new : Server) (c : Option Contents) (s : Counts) → n ≡ psm → n ≡ search_psm → new ≡ hears_search sdu old
     → Comes (hears_on psm sdu old) (reacted new) c c s s false
 search_heard n psm sdu old new c s is one done = comes_at_once _ _ c s (λ gift.
     ap (λ (b : Bool). (if b then reacted (hears_search sdu old) gift else hears_other psm sdu old gift)) (ap (λ (m : ℕ). m == search_psm) (sym is ∙ one))
     ∙ ap (λ (x : Server). reacted x gift) (sym done))
 
-pub none_heard : (n psm : ℕ) (sdu : List ℕ) (old : Server) (c : Option Contents) (s : ℕ) → n ≡ psm → n ≢ search_psm → n ≢ rfcomm_psm → n ≢ object_psm
+pub none_heard : (n psm : ℕ) (sdu : List ℕ) (old : Server) (c : Option Contents) (s : Counts) → n ≡ psm → n ≢ search_psm → n ≢ rfcomm_psm → n ≢ object_psm
     → Comes (hears_on psm sdu old) (reacted old) c c s s false
 none_heard n psm sdu old c s is no_search no_rfcomm no_object = comes_at_once _ _ c s (λ gift.
     ap (λ (b : Bool). (if b then reacted (hears_search sdu old) gift else hears_other psm sdu old gift)) (ap (λ (m : ℕ). m == search_psm) (sym is) ∙ is_not n search_psm no_search)
     ∙ ap (λ (b : Bool). (if b then hears_up (up sdu old.mux) (record old { mux = hears sdu old.mux }) gift else hears_direct psm sdu old gift)) (ap (λ (m : ℕ). m == rfcomm_psm) (sym is) ∙ is_not n rfcomm_psm no_rfcomm)
     ∙ ap (λ (b : Bool). (if b then reacted_by old (heeds L2cap sdu old.listener gift) else reacted old gift)) (ap (λ (m : ℕ). m == object_psm) (sym is) ∙ is_not n object_psm no_object))
+
+-- ---- a channel that was closed
+
+abbrev closed_direct : ℕ → Server → Gift → Reacted
+closed_direct psm old gift = if psm == object_psm then lets_go_on L2cap (unanswered old) gift else reacted old gift
+
+abbrev closed_other : ℕ → Server → Gift → Reacted
+closed_other psm old gift = if psm == rfcomm_psm then lets_go_on Rfcomm (remuxed old) gift else closed_direct psm old gift
+
+pub none_closed : (n psm : ℕ) (old : Server) (c : Option Contents) (s : Counts) → n ≡ psm → n ≢ search_psm → n ≢ rfcomm_psm → n ≢ object_psm
+    → Comes (closed_on psm old) (reacted old) c c s s false
+none_closed n psm old c s is no_search no_rfcomm no_object = comes_at_once _ _ c s (λ gift.
+    ap (λ (b : Bool). (if b then reacted (unreplied old) gift else closed_other psm old gift)) (ap (λ (m : ℕ). m == search_psm) (sym is) ∙ is_not n search_psm no_search)
+    ∙ ap (λ (b : Bool). (if b then lets_go_on Rfcomm (remuxed old) gift else closed_direct psm old gift)) (ap (λ (m : ℕ). m == rfcomm_psm) (sym is) ∙ is_not n rfcomm_psm no_rfcomm)
+    ∙ ap (λ (b : Bool). (if b then lets_go_on L2cap (unanswered old) gift else reacted old gift)) (ap (λ (m : ℕ). m == object_psm) (sym is) ∙ is_not n object_psm no_object))

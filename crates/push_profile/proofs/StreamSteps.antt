@@ -9,39 +9,40 @@ use Rattle.obex_headers.specs.declared.assembler.Assembled.{Assembled}
 use Rattle.obex_headers.specs.Assembled.{answer_of}
 use Rattle.obex_headers.specs.Assembling as assembling
 use Rattle.obex_headers.specs.Assembling.{Assembling, Answers, IsFramed, IsPartial, BeginsNone, fresh}
+use Rattle.obex_session.specs.Counting.{Counts}
 use Rattle.obex_session.specs.InboxCalls.{Answer}
+use Rattle.obex_session.proofs.CountingLaws.{rises_last, counted_none, counted_then}
 use Rattle.push_model.proofs.StreamLaws.{whole_front, partial_front, broken_front}
 use Rattle.push_model.specs.Sessions.{Gift}
 use Rattle.push_model.specs.Streams.{Front, Whole, Partial, Broken, front_of}
 use Rattle.push_model.specs.Listening.{Listener, Heeded, Received, heeds_carried, heeds_broken, stops, received, hears_on, hears_front, hears_stream}
-use Rattle.push_profile.proofs.HearingLaws.{rises}
 use Rattle.push_profile.specs.Reactions.{given, Comes}
 use Rattle.push_profile.specs.Hearing.{heeded, ended, longest, Suits}
 
 -- ---- reactions
 
 -- both ends of a reaction go on alike
-pub comes_by : {R S : Type 0} (f : R → S) (reaction end : Gift → R) (c c' : Option Contents) (s s' : ℕ) (lacks : Bool) → Comes reaction end c c' s s' lacks → Comes (λ gift. f (reaction gift)) (λ gift. f (end gift)) c c' s s' lacks
-comes_by f reaction end c c' s s' lacks comes = record { used = comes.used; comes = λ rest. ap f (comes.comes rest); short = comes.short; stays = comes.stays }
+pub comes_by : {R S : Type 0} (f : R → S) (reaction end : Gift → R) (c c' : Option Contents) (s s' : Counts) (lacks : Bool) → Comes reaction end c c' s s' lacks → Comes (λ gift. f (reaction gift)) (λ gift. f (end gift)) c c' s s' lacks
+comes_by f reaction end c c' s s' lacks comes = record { used = comes.used; comes = λ rest. ap f (comes.comes rest); short = comes.short; counted = comes.counted }
 
 -- they are the same whatever the inbox answers
-pub comes_as : {R : Type 0} (reaction reaction' end end' : Gift → R) (c c' : Option Contents) (s s' : ℕ) (lacks : Bool) → ((gift : Gift) → reaction' gift ≡ reaction gift) → ((gift : Gift) → end gift ≡ end' gift)
+pub comes_as : {R : Type 0} (reaction reaction' end end' : Gift → R) (c c' : Option Contents) (s s' : Counts) (lacks : Bool) → ((gift : Gift) → reaction' gift ≡ reaction gift) → ((gift : Gift) → end gift ≡ end' gift)
     → Comes reaction end c c' s s' lacks → Comes reaction' end' c c' s s' lacks
 comes_as reaction reaction' end end' c c' s s' lacks same same' comes =
-    record { used = comes.used; comes = λ rest. same (given c (comes.used ++ rest)) ∙ comes.comes rest ∙ same' (given c' rest); short = comes.short; stays = comes.stays }
+    record { used = comes.used; comes = λ rest. same (given c (comes.used ++ rest)) ∙ comes.comes rest ∙ same' (given c' rest); short = comes.short; counted = comes.counted }
 
 -- one after the other
-pub comes_then : {R : Type 0} (reaction middle end : Gift → R) (c0 c1 c2 : Option Contents) (s0 s1 s2 : ℕ) (lacks lacks' : Bool) → Comes reaction middle c0 c1 s0 s1 lacks → Comes middle end c1 c2 s1 s2 lacks' → Comes reaction end c0 c2 s0 s2 lacks'
+pub comes_then : {R : Type 0} (reaction middle end : Gift → R) (c0 c1 c2 : Option Contents) (s0 s1 s2 : Counts) (lacks lacks' : Bool) → Comes reaction middle c0 c1 s0 s1 lacks → Comes middle end c1 c2 s1 s2 lacks' → Comes reaction end c0 c2 s0 s2 lacks'
 comes_then reaction middle end c0 c1 c2 s0 s1 s2 lacks lacks' first second = record {
   used = first.used ++ second.used;
   comes = λ rest. ap (λ (a : List Answer). reaction (given c0 a)) (append_assoc first.used second.used rest) ∙ first.comes (second.used ++ rest) ∙ second.comes rest;
-  short = λ e. rises s0 s1 s2 first.stays second.stays (second.short e);
-  stays = omega (arith, first.stays, second.stays);
+  short = λ e. rises_last s0.shortages s1.shortages s2.shortages first.counted.shortages_stay second.counted.shortages_stay (second.short e);
+  counted = counted_then first.used second.used s0 s1 s2 first.counted second.counted;
 }
 
 -- nothing is asked
-pub comes_at_once : {R : Type 0} (reaction end : Gift → R) (c : Option Contents) (s : ℕ) → ((gift : Gift) → reaction gift ≡ end gift) → Comes reaction end c c s s false
-comes_at_once reaction end c s same = record { used = []; comes = λ rest. same (given c rest); short = λ e. absurd (let f : false ≡ true = e in cc); stays = omega arith }
+pub comes_at_once : {R : Type 0} (reaction end : Gift → R) (c : Option Contents) (s : Counts) → ((gift : Gift) → reaction gift ≡ end gift) → Comes reaction end c c s s false
+comes_at_once reaction end c s same = record { used = []; comes = λ rest. same (given c rest); short = λ e. absurd (let f : false ≡ true = e in cc); counted = counted_none s }
 
 -- ---- the front of a stream
 
@@ -57,7 +58,7 @@ front_whole held piece packet used maximum old is framed most =
     ap (λ (m : ℕ). front_of m (held ++ piece)) (sym most) ∙ ap (front_of maximum) (where_parts held piece used) ∙ ap (λ (p : List ℕ). front_of maximum (p ++ drop used piece)) (sym is) ∙ whole_front maximum packet (drop used piece) framed
 
 -- a whole packet is heard, and then nothing more
-pub packet_stops : (more : More) (held piece packet : List ℕ) (used maximum : ℕ) (old new : Listener) (c c' : Option Contents) (s s' : ℕ) (lacks : Bool)
+pub packet_stops : (more : More) (held piece packet : List ℕ) (used maximum : ℕ) (old new : Listener) (c c' : Option Contents) (s s' : Counts) (lacks : Bool)
     → used ≤ length piece → packet ≡ held ++ take used piece → IsFramed maximum packet → maximum ≡ longest old → stops new ≡ true
     → Comes (heeds_carried packet old) (heeded new) c c' s s' lacks
     → Comes (hears_front more (held ++ piece) (front_of (longest old) (held ++ piece)) old) (ended new []) c c' s s' lacks
@@ -68,7 +69,7 @@ packet_stops more held piece packet used maximum old new c c' s s' lacks within 
     (comes_by (hears_on (more (drop used piece))) _ _ c c' s s' lacks comes)
 
 -- a whole packet is heard, and what follows it
-pub packet_goes_on : (more : More) (held piece packet : List ℕ) (used maximum : ℕ) (old new : Listener) (c c' : Option Contents) (s s' : ℕ) (lacks : Bool)
+pub packet_goes_on : (more : More) (held piece packet : List ℕ) (used maximum : ℕ) (old new : Listener) (c c' : Option Contents) (s s' : Counts) (lacks : Bool)
     → used ≤ length piece → packet ≡ held ++ take used piece → IsFramed maximum packet → maximum ≡ longest old → stops new ≡ false
     → Comes (heeds_carried packet old) (heeded new) c c' s s' lacks
     → Comes (hears_front more (held ++ piece) (front_of (longest old) (held ++ piece)) old) (more (drop used piece) new) c c' s s' lacks
@@ -79,13 +80,13 @@ packet_goes_on more held piece packet used maximum old new c c' s s' lacks withi
     (comes_by (hears_on (more (drop used piece))) _ _ c c' s s' lacks comes)
 
 -- less than a whole packet is held
-pub part_is_held : (more : More) (held piece : List ℕ) (maximum : ℕ) (old : Listener) (c : Option Contents) (s : ℕ) → IsPartial maximum (held ++ piece) → maximum ≡ longest old
+pub part_is_held : (more : More) (held piece : List ℕ) (maximum : ℕ) (old : Listener) (c : Option Contents) (s : Counts) → IsPartial maximum (held ++ piece) → maximum ≡ longest old
     → Comes (hears_front more (held ++ piece) (front_of (longest old) (held ++ piece)) old) (ended old (held ++ piece)) c c s s false
 part_is_held more held piece maximum old c s partial most =
     comes_at_once _ _ c s (λ gift. ap (λ (f : Front). hears_front more (held ++ piece) f old gift) (ap (λ (m : ℕ). front_of m (held ++ piece)) (sym most) ∙ partial_front maximum (held ++ piece) partial))
 
 -- octets that begin no packet
-pub broken_is_heard : (more : More) (held piece octets : List ℕ) (maximum : ℕ) (refusal : ObexRefusal) (old new : Listener) (c c' : Option Contents) (s s' : ℕ) (lacks : Bool)
+pub broken_is_heard : (more : More) (held piece octets : List ℕ) (maximum : ℕ) (refusal : ObexRefusal) (old new : Listener) (c c' : Option Contents) (s s' : Counts) (lacks : Bool)
     → BeginsNone maximum (held ++ piece) refusal → maximum ≡ longest old → octets ≡ take 3 (held ++ piece)
     → Comes (heeds_broken octets old) (heeded new) c c' s s' lacks
     → Comes (hears_front more (held ++ piece) (front_of (longest old) (held ++ piece)) old) (ended new []) c c' s s' lacks
@@ -101,26 +102,26 @@ broken_is_heard more held piece octets maximum refusal old new c c' s s' lacks b
 pub packet_answer : (old : Assembling) (piece : List ℕ) (result : Assembled) (answer : assembling.Answer) (after : Assembling) → answer_of result ≡ answer → Answers old piece (answer_of result) after → Answers old piece answer after
 packet_answer old piece result answer after is holds = subst (λ (a : assembling.Answer). Answers old piece a after) is holds
 
-pub packet_ends : (more : More) (old : Assembling) (piece packet : List ℕ) (used : ℕ) (after : Assembling) (l new : Listener) (c c' : Option Contents) (s s' : ℕ) (lacks : Bool)
+pub packet_ends : (more : More) (old : Assembling) (piece packet : List ℕ) (used : ℕ) (after : Assembling) (l new : Listener) (c c' : Option Contents) (s s' : Counts) (lacks : Bool)
     → Suits old l → Answers old piece (assembling.Packet packet used) after → stops new ≡ true → Comes (heeds_carried packet l) (heeded new) c c' s s' lacks
     → Comes (hears_front more (old.held ++ piece) (front_of (longest l) (old.held ++ piece)) l) (ended new after.held) c c' s s' lacks
 packet_ends more old piece packet used after l new c c' s s' lacks suits holds stopped comes =
     subst (λ (h : List ℕ). Comes (hears_front more (old.held ++ piece) (front_of (longest l) (old.held ++ piece)) l) (ended new h) c c' s s' lacks) (sym (ap (λ (a : Assembling). a.held) holds.5))
     (packet_stops more old.held piece packet used old.maximum l new c c' s s' lacks holds.2 holds.3 holds.4 suits.maximum stopped comes)
 
-pub packet_follows : (more : More) (old : Assembling) (piece packet : List ℕ) (used : ℕ) (after : Assembling) (l new : Listener) (c c' : Option Contents) (s s' : ℕ) (lacks : Bool)
+pub packet_follows : (more : More) (old : Assembling) (piece packet : List ℕ) (used : ℕ) (after : Assembling) (l new : Listener) (c c' : Option Contents) (s s' : Counts) (lacks : Bool)
     → Suits old l → Answers old piece (assembling.Packet packet used) after → stops new ≡ false → Comes (heeds_carried packet l) (heeded new) c c' s s' lacks
     → Comes (hears_front more (old.held ++ piece) (front_of (longest l) (old.held ++ piece)) l) (more (drop used piece) new) c c' s s' lacks
 packet_follows more old piece packet used after l new c c' s s' lacks suits holds stopped comes =
     packet_goes_on more old.held piece packet used old.maximum l new c c' s s' lacks holds.2 holds.3 holds.4 suits.maximum stopped comes
 
-pub part_ends : (more : More) (old : Assembling) (piece : List ℕ) (after : Assembling) (l : Listener) (c : Option Contents) (s : ℕ) → Suits old l → Answers old piece assembling.More after
+pub part_ends : (more : More) (old : Assembling) (piece : List ℕ) (after : Assembling) (l : Listener) (c : Option Contents) (s : Counts) → Suits old l → Answers old piece assembling.More after
     → Comes (hears_front more (old.held ++ piece) (front_of (longest l) (old.held ++ piece)) l) (ended l after.held) c c s s false
 part_ends more old piece after l c s suits holds =
     subst (λ (h : List ℕ). Comes (hears_front more (old.held ++ piece) (front_of (longest l) (old.held ++ piece)) l) (ended l h) c c s s false) (sym (ap (λ (a : Assembling). a.held) holds.2))
     (part_is_held more old.held piece old.maximum l c s holds.1 suits.maximum)
 
-pub broken_ends : (more : More) (old : Assembling) (piece : List ℕ) (refusal : ObexRefusal) (mid after : Assembling) (lent octets : List ℕ) (l new : Listener) (c c' : Option Contents) (s s' : ℕ) (lacks : Bool)
+pub broken_ends : (more : More) (old : Assembling) (piece : List ℕ) (refusal : ObexRefusal) (mid after : Assembling) (lent octets : List ℕ) (l new : Listener) (c c' : Option Contents) (s s' : Counts) (lacks : Bool)
     → Suits old l → Answers old piece (assembling.Refused refusal) mid → lent ≡ mid.held → octets ≡ take 3 (lent ++ piece) → after ≡ fresh mid.maximum → Comes (heeds_broken octets l) (heeded new) c c' s s' lacks
     → Comes (hears_front more (old.held ++ piece) (front_of (longest l) (old.held ++ piece)) l) (ended new after.held) c c' s s' lacks
 broken_ends more old piece refusal mid after lent octets l new c c' s s' lacks suits (inl holds) is first ends comes = absurd (let e : Some refusal ≡ None = sym holds.0 ∙ suits.sound in cc)
@@ -135,12 +136,12 @@ or_right false b e = e
 -- ---- all of it
 
 -- the stream so far comes to what is left of it, in as many steps as it has octets or more
-pub record IsLeft (total stream : List ℕ) (old now : Listener) (c c' : Option Contents) (s s' : ℕ) : Type 0 where
+pub record IsLeft (total stream : List ℕ) (old now : Listener) (c c' : Option Contents) (s s' : Counts) : Type 0 where
   pub steps : ℕ
   pub enough : length stream ≤ steps
   pub comes : Comes (hears_stream (length total) total old) (hears_stream steps stream now) c c' s s' false
 
-pub left_whole : (total : List ℕ) (old : Listener) (c : Option Contents) (s : ℕ) → IsLeft total total old old c c s s
+pub left_whole : (total : List ℕ) (old : Listener) (c : Option Contents) (s : Counts) → IsLeft total total old old c c s s
 left_whole total old c s = record { steps = length total; enough = omega arith; comes = comes_at_once _ _ c s (λ gift. refl) }
 
 -- with no step left nothing is left
@@ -172,7 +173,7 @@ step_is zero (octet ∷ stream) now gift enough = absurd (omega arith)
 step_is (suc steps) stream now gift enough = unfold_step steps stream now gift
 
 -- the stream comes to an end with its next front
-pub left_ends : (total stream held : List ℕ) (old now new : Listener) (c0 c1 c2 : Option Contents) (s0 s1 s2 : ℕ) (lacks : Bool) (left : IsLeft total stream old now c0 c1 s0 s1)
+pub left_ends : (total stream held : List ℕ) (old now new : Listener) (c0 c1 c2 : Option Contents) (s0 s1 s2 : Counts) (lacks : Bool) (left : IsLeft total stream old now c0 c1 s0 s1)
     → Comes (hears_front (more_of left.steps) stream (front_of (longest now) stream) now) (ended new held) c1 c2 s1 s2 lacks
     → Comes (hears_stream (length total) total old) (ended new held) c0 c2 s0 s2 lacks
 left_ends total stream held old now new c0 c1 c2 s0 s1 s2 lacks left comes =
@@ -183,7 +184,7 @@ fewer_is zero n m some enough less = absurd (omega arith)
 fewer_is (suc steps) n m some enough less = omega arith
 
 -- it goes on with what follows its next front
-pub left_on : (total stream rest : List ℕ) (old now new : Listener) (c0 c1 c2 : Option Contents) (s0 s1 s2 : ℕ) (left : IsLeft total stream old now c0 c1 s0 s1) → length rest < length stream
+pub left_on : (total stream rest : List ℕ) (old now new : Listener) (c0 c1 c2 : Option Contents) (s0 s1 s2 : Counts) (left : IsLeft total stream old now c0 c1 s0 s1) → length rest < length stream
     → Comes (hears_front (more_of left.steps) stream (front_of (longest now) stream) now) (more_of left.steps rest new) c1 c2 s1 s2 false
     → IsLeft total rest old new c0 c2 s0 s2
 left_on total stream rest old now new c0 c1 c2 s0 s1 s2 left less comes = record {

@@ -1,6 +1,7 @@
 //! What a server makes of the packets over both transports.
 
 ghost use Rattle.std.specs.Prelude.{◌≡◌, ◌≤◌, true, false, is_err};
+ghost use Rattle.obex_session.specs.Counting.{counts_of};
 ghost use Rattle.push_model.specs.Service.{new_service};
 ghost use Rattle.push_model.specs.Sessions.{is_pending};
 ghost use Rattle.obex_headers.specs.Reading.{packet_in};
@@ -90,7 +91,7 @@ impl Listener {
     ) -> Result<(), NoMemory>
         requires pending { B.is_pending inbox.old ≡ is_pending self.old.service.sessions }
         requires works { self.old.service.failed ≡ false }
-        ensures comes { Comes (heeds transport packet.now self.old) (heeded self.new) (B.content inbox.old) (B.content inbox.new) (B.shortages inbox.old) (B.shortages inbox.new) (is_err result) }
+        ensures comes { Comes (heeds transport packet.now self.old) (heeded self.new) (B.content inbox.old) (B.content inbox.new) (counts_of B.faults B.shortages inbox.old) (counts_of B.faults B.shortages inbox.new) (is_err result) }
         ensures fails { is_err result ≡ self.new.service.failed }
         ensures longest { longest self.new ≡ longest self.old }
         ensures breaks { self.new.breaks ≡ self.old.breaks }
@@ -107,7 +108,7 @@ impl Listener {
     ) -> Result<(), NoMemory>
         requires pending { B.is_pending inbox.old ≡ is_pending self.old.service.sessions }
         requires works { self.old.service.failed ≡ false }
-        ensures comes { Comes (lets_go_by transport self.old) (heeded self.new) (B.content inbox.old) (B.content inbox.new) (B.shortages inbox.old) (B.shortages inbox.new) (is_err result) }
+        ensures comes { Comes (lets_go_by transport self.old) (heeded self.new) (B.content inbox.old) (B.content inbox.new) (counts_of B.faults B.shortages inbox.old) (counts_of B.faults B.shortages inbox.new) (is_err result) }
         ensures fails { is_err result ≡ self.new.service.failed }
         ensures longest { longest self.new ≡ longest self.old }
         ensures pending { B.is_pending inbox.new ≡ is_pending self.new.service.sessions }
@@ -123,7 +124,7 @@ impl Listener {
     ) -> Result<(), NoMemory>
         requires pending { B.is_pending inbox.old ≡ is_pending self.old.service.sessions }
         requires works { self.old.service.failed ≡ false }
-        ensures comes { Comes (heeds_carried packet.now self.old) (heeded self.new) (B.content inbox.old) (B.content inbox.new) (B.shortages inbox.old) (B.shortages inbox.new) (is_err result) }
+        ensures comes { Comes (heeds_carried packet.now self.old) (heeded self.new) (B.content inbox.old) (B.content inbox.new) (counts_of B.faults B.shortages inbox.old) (counts_of B.faults B.shortages inbox.new) (is_err result) }
         ensures fails { is_err result ≡ self.new.service.failed }
         ensures longest { longest self.new ≡ longest self.old }
         ensures pending { B.is_pending inbox.new ≡ is_pending self.new.service.sessions }
@@ -140,7 +141,7 @@ impl Listener {
     ) -> Result<(), NoMemory>
         requires pending { B.is_pending inbox.old ≡ is_pending self.old.service.sessions }
         requires works { self.old.service.failed ≡ false }
-        ensures comes { Comes (heeds_broken octets.now self.old) (heeded self.new) (B.content inbox.old) (B.content inbox.new) (B.shortages inbox.old) (B.shortages inbox.new) (is_err result) }
+        ensures comes { Comes (heeds_broken octets.now self.old) (heeded self.new) (B.content inbox.old) (B.content inbox.new) (counts_of B.faults B.shortages inbox.old) (counts_of B.faults B.shortages inbox.new) (is_err result) }
         ensures fails { is_err result ≡ self.new.service.failed }
         ensures longest { longest self.new ≡ longest self.old }
         ensures pending { B.is_pending inbox.new ≡ is_pending self.new.service.sessions }

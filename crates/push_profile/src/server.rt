@@ -1,6 +1,7 @@
 //! The server of Object Push.
 
 ghost use Rattle.std.specs.Prelude.{◌≡◌, ◌≤◌, [], None, true, false, length, is_err, IfOk, OnOk};
+ghost use Rattle.obex_session.specs.Counting.{counts_of};
 ghost use Rattle.rfcomm_model.specs.Hearing.{up, hears};
 ghost use Rattle.push_model.specs.Sessions.{is_pending};
 ghost use Rattle.push_model.specs.Server.{new_server, hears_search, hears_octets, hears_up, hears_on, on_sdu, remuxed, unanswered, unreplied, unlent, lets_go_on, closed_on, channel_down, link_down, stepped};
@@ -101,7 +102,7 @@ impl PushServer {
     /// The inbox has an object pending exactly where one is under way.
     pub fn on_sdu<B: Inbox>(&mut self, psm: Psm, sdu: &[u8], inbox: &mut B) -> Result<(), NoMemory>
         requires pending { B.is_pending inbox.old ≡ is_pending self.old.listener.service.sessions }
-        ensures comes { Comes (on_sdu psm sdu.now self.old) (reacted self.new) (B.content inbox.old) (B.content inbox.new) (B.shortages inbox.old) (B.shortages inbox.new) (fails_now self.old self.new) }
+        ensures comes { Comes (on_sdu psm sdu.now self.old) (reacted self.new) (B.content inbox.old) (B.content inbox.new) (counts_of B.faults B.shortages inbox.old) (counts_of B.faults B.shortages inbox.new) (fails_now self.old self.new) }
         ensures fails { is_err result ≡ has_failed self.new }
         ensures pending { B.is_pending inbox.new ≡ is_pending self.new.listener.service.sessions }
     {
@@ -115,7 +116,7 @@ impl PushServer {
     /// start. `NoMemory` as in `on_sdu`.
     pub fn channel_down<B: Inbox>(&mut self, psm: Psm, inbox: &mut B) -> Result<(), NoMemory>
         requires pending { B.is_pending inbox.old ≡ is_pending self.old.listener.service.sessions }
-        ensures comes { Comes (channel_down psm self.old) (reacted self.new) (B.content inbox.old) (B.content inbox.new) (B.shortages inbox.old) (B.shortages inbox.new) (fails_now self.old self.new) }
+        ensures comes { Comes (channel_down psm self.old) (reacted self.new) (B.content inbox.old) (B.content inbox.new) (counts_of B.faults B.shortages inbox.old) (counts_of B.faults B.shortages inbox.new) (fails_now self.old self.new) }
         ensures fails { is_err result ≡ has_failed self.new }
         ensures pending { B.is_pending inbox.new ≡ is_pending self.new.listener.service.sessions }
     {
@@ -128,7 +129,7 @@ impl PushServer {
     /// The link is down: the object that is under way is let go, and all is as at the start. `NoMemory` as in `on_sdu`.
     pub fn link_down<B: Inbox>(&mut self, inbox: &mut B) -> Result<(), NoMemory>
         requires pending { B.is_pending inbox.old ≡ is_pending self.old.listener.service.sessions }
-        ensures comes { Comes (link_down self.old) (reacted self.new) (B.content inbox.old) (B.content inbox.new) (B.shortages inbox.old) (B.shortages inbox.new) (fails_now self.old self.new) }
+        ensures comes { Comes (link_down self.old) (reacted self.new) (B.content inbox.old) (B.content inbox.new) (counts_of B.faults B.shortages inbox.old) (counts_of B.faults B.shortages inbox.new) (fails_now self.old self.new) }
         ensures fails { is_err result ≡ has_failed self.new }
         ensures pending { B.is_pending inbox.new ≡ is_pending self.new.listener.service.sessions }
     {
@@ -153,7 +154,7 @@ impl PushServer {
     fn hear<B: Inbox>(&mut self, psm: Psm, sdu: &[u8], inbox: &mut B) -> Result<(), NoMemory>
         requires pending { B.is_pending inbox.old ≡ is_pending self.old.listener.service.sessions }
         requires works { has_failed self.old ≡ false }
-        ensures comes { Comes (hears_on psm sdu.now self.old) (reacted self.new) (B.content inbox.old) (B.content inbox.new) (B.shortages inbox.old) (B.shortages inbox.new) (is_err result) }
+        ensures comes { Comes (hears_on psm sdu.now self.old) (reacted self.new) (B.content inbox.old) (B.content inbox.new) (counts_of B.faults B.shortages inbox.old) (counts_of B.faults B.shortages inbox.new) (is_err result) }
         ensures fails { is_err result ≡ has_failed self.new }
         ensures pending { B.is_pending inbox.new ≡ is_pending self.new.listener.service.sessions }
     {
@@ -187,7 +188,7 @@ impl PushServer {
     fn hear_frame<B: Inbox>(&mut self, sdu: &[u8], inbox: &mut B) -> Result<(), NoMemory>
         requires pending { B.is_pending inbox.old ≡ is_pending self.old.listener.service.sessions }
         requires works { has_failed self.old ≡ false }
-        ensures comes { Comes (hears_up (up sdu.now self.old.mux) (record (self.old) { mux = hears sdu.now self.old.mux })) (reacted self.new) (B.content inbox.old) (B.content inbox.new) (B.shortages inbox.old) (B.shortages inbox.new) (is_err result) }
+        ensures comes { Comes (hears_up (up sdu.now self.old.mux) (record (self.old) { mux = hears sdu.now self.old.mux })) (reacted self.new) (B.content inbox.old) (B.content inbox.new) (counts_of B.faults B.shortages inbox.old) (counts_of B.faults B.shortages inbox.new) (is_err result) }
         ensures fails { is_err result ≡ has_failed self.new }
         ensures pending { B.is_pending inbox.new ≡ is_pending self.new.listener.service.sessions }
     {
@@ -201,7 +202,7 @@ impl PushServer {
     fn hear_octets<B: Inbox>(&mut self, octets: &[u8], inbox: &mut B) -> Result<(), NoMemory>
         requires pending { B.is_pending inbox.old ≡ is_pending self.old.listener.service.sessions }
         requires works { has_failed self.old ≡ false }
-        ensures comes { Comes (hears_octets octets.now self.old) (reacted self.new) (B.content inbox.old) (B.content inbox.new) (B.shortages inbox.old) (B.shortages inbox.new) (is_err result) }
+        ensures comes { Comes (hears_octets octets.now self.old) (reacted self.new) (B.content inbox.old) (B.content inbox.new) (counts_of B.faults B.shortages inbox.old) (counts_of B.faults B.shortages inbox.new) (is_err result) }
         ensures fails { is_err result ≡ has_failed self.new }
         ensures pending { B.is_pending inbox.new ≡ is_pending self.new.listener.service.sessions }
     {
@@ -215,7 +216,7 @@ impl PushServer {
     fn close<B: Inbox>(&mut self, psm: Psm, inbox: &mut B) -> Result<(), NoMemory>
         requires pending { B.is_pending inbox.old ≡ is_pending self.old.listener.service.sessions }
         requires works { has_failed self.old ≡ false }
-        ensures comes { Comes (closed_on psm self.old) (reacted self.new) (B.content inbox.old) (B.content inbox.new) (B.shortages inbox.old) (B.shortages inbox.new) (is_err result) }
+        ensures comes { Comes (closed_on psm self.old) (reacted self.new) (B.content inbox.old) (B.content inbox.new) (counts_of B.faults B.shortages inbox.old) (counts_of B.faults B.shortages inbox.new) (is_err result) }
         ensures fails { is_err result ≡ has_failed self.new }
         ensures pending { B.is_pending inbox.new ≡ is_pending self.new.listener.service.sessions }
     {
@@ -237,7 +238,7 @@ impl PushServer {
     fn close_muxed<B: Inbox>(&mut self, inbox: &mut B) -> Result<(), NoMemory>
         requires pending { B.is_pending inbox.old ≡ is_pending self.old.listener.service.sessions }
         requires works { has_failed self.old ≡ false }
-        ensures comes { Comes (lets_go_on Transport.Rfcomm (remuxed self.old)) (reacted self.new) (B.content inbox.old) (B.content inbox.new) (B.shortages inbox.old) (B.shortages inbox.new) (is_err result) }
+        ensures comes { Comes (lets_go_on Transport.Rfcomm (remuxed self.old)) (reacted self.new) (B.content inbox.old) (B.content inbox.new) (counts_of B.faults B.shortages inbox.old) (counts_of B.faults B.shortages inbox.new) (is_err result) }
         ensures fails { is_err result ≡ has_failed self.new }
         ensures pending { B.is_pending inbox.new ≡ is_pending self.new.listener.service.sessions }
     {
@@ -249,7 +250,7 @@ impl PushServer {
     fn close_direct<B: Inbox>(&mut self, inbox: &mut B) -> Result<(), NoMemory>
         requires pending { B.is_pending inbox.old ≡ is_pending self.old.listener.service.sessions }
         requires works { has_failed self.old ≡ false }
-        ensures comes { Comes (lets_go_on Transport.L2cap (unanswered self.old)) (reacted self.new) (B.content inbox.old) (B.content inbox.new) (B.shortages inbox.old) (B.shortages inbox.new) (is_err result) }
+        ensures comes { Comes (lets_go_on Transport.L2cap (unanswered self.old)) (reacted self.new) (B.content inbox.old) (B.content inbox.new) (counts_of B.faults B.shortages inbox.old) (counts_of B.faults B.shortages inbox.new) (is_err result) }
         ensures fails { is_err result ≡ has_failed self.new }
         ensures pending { B.is_pending inbox.new ≡ is_pending self.new.listener.service.sessions }
     {

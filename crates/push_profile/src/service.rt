@@ -1,6 +1,7 @@
 //! What a server makes of packets.
 
 ghost use Rattle.std.specs.Prelude.{◌≡◌, ◌≤◌, true, false, length};
+ghost use Rattle.obex_session.specs.Counting.{counts_of};
 ghost use Rattle.push_model.specs.Sessions.{is_pending};
 ghost use Rattle.push_model.specs.Service.{has_response, is_ignored, response_over, without_response, without_answer, answer_cut, new_service};
 ghost use Rattle.push_profile.specs.Reactions.{ServiceParts, ServiceHears};
@@ -108,7 +109,7 @@ impl Service {
     ) -> Result<(), NoMemory>
         requires pending { B.is_pending inbox.old ≡ is_pending self.old.sessions }
         requires works { self.old.failed ≡ false }
-        ensures parts { ServiceParts transport self.old self.new (B.content inbox.old) (B.content inbox.new) (B.shortages inbox.old) (B.shortages inbox.new) result }
+        ensures parts { ServiceParts transport self.old self.new (B.content inbox.old) (B.content inbox.new) (counts_of B.faults B.shortages inbox.old) (counts_of B.faults B.shortages inbox.new) result }
         ensures pending { B.is_pending inbox.new ≡ is_pending self.new.sessions }
     {
         let Ok(()) = self.sessions.let_go(transport, inbox) else {
@@ -128,7 +129,7 @@ impl Service {
         requires pending { B.is_pending inbox.old ≡ is_pending self.old.sessions }
         requires works { self.old.failed ≡ false }
         requires heard { is_ignored transport packet.now self.old ≡ false }
-        ensures hears { ServiceHears transport self.old self.new packet.now (B.content inbox.old) (B.content inbox.new) (B.shortages inbox.old) (B.shortages inbox.new) result }
+        ensures hears { ServiceHears transport self.old self.new packet.now (B.content inbox.old) (B.content inbox.new) (counts_of B.faults B.shortages inbox.old) (counts_of B.faults B.shortages inbox.new) result }
         ensures pending { B.is_pending inbox.new ≡ is_pending self.new.sessions }
     {
         let mut room = [0u8; LONGEST_RESPONSE];
@@ -149,7 +150,7 @@ impl Service {
     ) -> Result<(), NoMemory>
         requires pending { B.is_pending inbox.old ≡ is_pending self.old.sessions }
         requires works { self.old.failed ≡ false }
-        ensures hears { ServiceHears transport self.old self.new packet.now (B.content inbox.old) (B.content inbox.new) (B.shortages inbox.old) (B.shortages inbox.new) result }
+        ensures hears { ServiceHears transport self.old self.new packet.now (B.content inbox.old) (B.content inbox.new) (counts_of B.faults B.shortages inbox.old) (counts_of B.faults B.shortages inbox.new) result }
         ensures pending { B.is_pending inbox.new ≡ is_pending self.new.sessions }
     {
         if self.is_ignored(transport, packet) {

@@ -3,6 +3,7 @@
 ghost use Rattle.std.specs.Prelude.{◌≡◌, ◌≤◌, true, false, length, Some, IfOk, is_err, is_none};
 ghost use Rattle.push_model.specs.Sessions.{session_of, other_of, is_pending, is_naming, has_object};
 ghost use Rattle.push_model.specs.Service.{new_service};
+ghost use Rattle.obex_session.specs.Counting.{counts_of};
 ghost use Rattle.obex_session.specs.Views.{is_silent, count_in};
 ghost use Rattle.push_profile.specs.Reactions.{LetsGo, AnswersTo, HearsPacket};
 
@@ -90,7 +91,7 @@ impl Sessions {
         inbox: &mut B,
     ) -> Result<(), NoMemory>
         requires pending { B.is_pending inbox.old ≡ is_pending self.old }
-        ensures goes { LetsGo transport self.old self.new (B.content inbox.old) (B.content inbox.new) (B.shortages inbox.old) (B.shortages inbox.new) result }
+        ensures goes { LetsGo transport self.old self.new (B.content inbox.old) (B.content inbox.new) (counts_of B.faults B.shortages inbox.old) (counts_of B.faults B.shortages inbox.new) result }
         ensures pending { B.is_pending inbox.new ≡ is_pending self.new }
     {
         match transport {
@@ -111,7 +112,7 @@ impl Sessions {
         requires room { 7 ≤ length into.old }
         requires pending { B.is_pending inbox.old ≡ is_pending self.old }
         requires single { is_naming transport packet.now self.old ≡ true → has_object (session_of (other_of transport) self.old) ≡ false }
-        ensures answers { AnswersTo transport self.old self.new packet.now (B.content inbox.old) (B.content inbox.new) (B.shortages inbox.old) (B.shortages inbox.new) into.old into.new result }
+        ensures answers { AnswersTo transport self.old self.new packet.now (B.content inbox.old) (B.content inbox.new) (counts_of B.faults B.shortages inbox.old) (counts_of B.faults B.shortages inbox.new) into.old into.new result }
         ensures pending { B.is_pending inbox.new ≡ is_pending self.new }
     {
         match transport {
@@ -131,7 +132,7 @@ impl Sessions {
         requires room { 7 ≤ length into.old }
         requires pending { B.is_pending inbox.old ≡ is_pending self.old }
         requires named { is_naming transport packet.now self.old ≡ true }
-        ensures hears { HearsPacket transport self.old self.new packet.now (B.content inbox.old) (B.content inbox.new) (B.shortages inbox.old) (B.shortages inbox.new) into.old into.new result }
+        ensures hears { HearsPacket transport self.old self.new packet.now (B.content inbox.old) (B.content inbox.new) (counts_of B.faults B.shortages inbox.old) (counts_of B.faults B.shortages inbox.new) into.old into.new result }
         ensures pending { B.is_pending inbox.new ≡ is_pending self.new }
     {
         let Ok(()) = self.let_go(other_of(transport), inbox) else {
@@ -151,7 +152,7 @@ impl Sessions {
     ) -> Result<usize, NoMemory>
         requires room { 7 ≤ length into.old }
         requires pending { B.is_pending inbox.old ≡ is_pending self.old }
-        ensures hears { HearsPacket transport self.old self.new packet.now (B.content inbox.old) (B.content inbox.new) (B.shortages inbox.old) (B.shortages inbox.new) into.old into.new result }
+        ensures hears { HearsPacket transport self.old self.new packet.now (B.content inbox.old) (B.content inbox.new) (counts_of B.faults B.shortages inbox.old) (counts_of B.faults B.shortages inbox.new) into.old into.new result }
         ensures pending { B.is_pending inbox.new ≡ is_pending self.new }
     {
         if self.is_naming(transport, packet) {

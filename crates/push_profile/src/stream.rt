@@ -1,6 +1,7 @@
 //! The stream of packets over RFCOMM, however it was cut.
 
 ghost use Rattle.std.specs.Prelude.{◌≡◌, ◌++◌, List, ℕ, true, false, length, is_err, IfOk, IfSome};
+ghost use Rattle.obex_session.specs.Counting.{counts_of};
 ghost use Rattle.push_model.specs.Sessions.{Gift, is_pending};
 ghost use Rattle.push_model.specs.Streams.{front_of};
 ghost use Rattle.push_model.specs.Listening.{Listener as Heeding, Received, stops, hears_front, hears_stream};
@@ -25,7 +26,7 @@ fn hear_next<B: Inbox>(
     requires pending { B.is_pending inbox.old ≡ is_pending listener.old.service.sessions }
     requires works { stops listener.old ≡ false }
     requires suits { Suits assembler.old listener.old }
-    ensures comes { (more : List ℕ → Heeding → Gift → Received) → Comes (hears_front more (assembler.old.held ++ piece.now) (front_of (longest listener.old) (assembler.old.held ++ piece.now)) listener.old) (goes_on more piece.now assembler.new.held listener.new result) (B.content inbox.old) (B.content inbox.new) (B.shortages inbox.old) (B.shortages inbox.new) (is_err result) }
+    ensures comes { (more : List ℕ → Heeding → Gift → Received) → Comes (hears_front more (assembler.old.held ++ piece.now) (front_of (longest listener.old) (assembler.old.held ++ piece.now)) listener.old) (goes_on more piece.now assembler.new.held listener.new result) (B.content inbox.old) (B.content inbox.new) (counts_of B.faults B.shortages inbox.old) (counts_of B.faults B.shortages inbox.new) (is_err result) }
     ensures heard { IfOk result (λ next. IfSome next (IsHeard assembler.old piece.now assembler.new listener.new)) }
     ensures fails { is_err result ≡ listener.new.service.failed }
     ensures suits { Suits assembler.new listener.new }
@@ -63,7 +64,7 @@ pub(crate) fn hear_stream<B: Inbox>(
     requires pending { B.is_pending inbox.old ≡ is_pending listener.old.service.sessions }
     requires works { stops listener.old ≡ false }
     requires suits { Suits assembler.old listener.old }
-    ensures comes { Comes (hears_stream (length (assembler.old.held ++ octets.now)) (assembler.old.held ++ octets.now) listener.old) (ended listener.new assembler.new.held) (B.content inbox.old) (B.content inbox.new) (B.shortages inbox.old) (B.shortages inbox.new) (is_err result) }
+    ensures comes { Comes (hears_stream (length (assembler.old.held ++ octets.now)) (assembler.old.held ++ octets.now) listener.old) (ended listener.new assembler.new.held) (B.content inbox.old) (B.content inbox.new) (counts_of B.faults B.shortages inbox.old) (counts_of B.faults B.shortages inbox.new) (is_err result) }
     ensures fails { is_err result ≡ listener.new.service.failed }
     ensures suits { Suits assembler.new listener.new }
     ensures pending { B.is_pending inbox.new ≡ is_pending listener.new.service.sessions }

@@ -2,7 +2,7 @@
 use Rattle.std.proofs.Common.{◌≡◌, ℕ, List, [], ◌∷◌, ◌++◌, length, Option, inl, inr, refl, sym, ap, ap₂, subst, ◌∙◌, arith}
 use Rattle.std.proofs.lemmas.List.{append-nil}
 use Rattle.bt_base.specs.Streams.{gained, GainedFront}
-use Rattle.bt_base.proofs.PortLaws.{front_none, front_whole}
+use Rattle.bt_base.proofs.PortLaws.{front_none}
 use Rattle.h4_framing.specs.Packets.{Packet}
 use Rattle.push_terms.specs.declared.word.Side.{Side}
 use Rattle.capture.specs.declared.flow.Flow.TheVariants.{Into}
@@ -10,10 +10,9 @@ use Rattle.capture.specs.Entries.{Entry, Moved, entry_octets, capture_octets}
 use Rattle.radio_air.specs.Radio.{after_answer}
 use Rattle.world_model.specs.Machines.{Upper}
 use Rattle.world_model.specs.Stations.{Order}
-use Rattle.world_model.specs.Worlds.{all_entries}
 use Rattle.radio_world.specs.Hosts.{Asking, answering, Coming, coming_packet, hears_coming, JoinAnswers}
 use Rattle.radio_world.specs.Leaving.{Medium, in_radio, after_all, after_leaving, leaving_entry, leaving_entries, BreaksOff}
-use Rattle.radio_world.specs.Halves.{Half, Leaving, Entering, happenings_of, ComesFirst, half_of, Goes}
+use Rattle.radio_world.specs.Halves.{Half, Leaving, Entering, ComesFirst, half_of, Goes}
 use Rattle.radio_world.specs.Breaking.{IsLeft, IsOf, GoesBroken}
 use Rattle.radio_world.proofs.Entering.{entering_entry}
 use Rattle.radio_world.proofs.Moving.{goes_none, goes_then}

@@ -10,7 +10,7 @@ use Rattle.capture.specs.Entries.{Entry, Acted, Begun, Ended, entry_octets, capt
 use Rattle.radio_air.specs.Radio.{found, is_idle, after_deed}
 use Rattle.world_model.specs.Machines.{Upper, Opening}
 use Rattle.world_model.specs.Pushes.{one_begun, one_ended}
-use Rattle.world_model.specs.Stations.{Station, told}
+use Rattle.world_model.specs.Stations.{told}
 use Rattle.world_model.specs.Worlds.{World, Turns, Opens, Closes, IsAtRest, all_words}
 use Rattle.radio_world.specs.Hosts.{Asking, answering, JoinAnswers}
 use Rattle.radio_world.specs.Leaving.{in_radio}

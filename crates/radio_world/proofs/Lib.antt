@@ -18,6 +18,7 @@ mod Crowding
 mod Returned
 pub mod Reasons
 mod Tallying
+mod Lowering
 pub mod Overrunning
 mod Breaking
 pub mod Broken

@@ -1,7 +1,7 @@
 -- What the capture and the script have where a world wants memory.
-use Rattle.std.proofs.Common.{◌≡◌, ℕ, ◌≤◌, List, [], ◌∷◌, ◌++◌, length, Option, Some, None, inl, inr, sym, ap, subst, ◌∙◌, arith, length-append}
+use Rattle.std.proofs.Common.{◌≡◌, ℕ, List, [], ◌++◌, Option, Some, inl, inr, sym, ap, subst, ◌∙◌, arith}
 use Rattle.bt_base.specs.Streams.{gained}
-use Rattle.capture.specs.Entries.{Entry, entry_octets, capture_octets}
+use Rattle.capture.specs.Entries.{Entry, capture_octets}
 use Rattle.push_terms.specs.declared.word.Side.TheVariants.{A}
 use Rattle.world_model.specs.Machines.{Upper}
 use Rattle.world_model.specs.Stations.{Station, first_station}
@@ -11,8 +11,8 @@ use Rattle.air_laws.proofs.Crowding.{crowds_are_told}
 use Rattle.radio_world.specs.Hosts.{answering}
 use Rattle.radio_world.specs.Scenes.{Scene, first_scene, moment, world_at, moment_of, Stage}
 use Rattle.radio_world.specs.Standing.{starting}
-use Rattle.radio_world.specs.Crowds.{IsNew, OverrunsAreCrowded, LingeringIsTold, WantsAreTold}
-use Rattle.radio_world.specs.Shortages.{ShelfLacked, InboxLacked, AirCrowded, WordsFull, NoRest}
+use Rattle.radio_world.specs.Crowds.{IsNew, OverrunsAreCrowded, WantsAreTold}
+use Rattle.radio_world.specs.Shortages.{ShelfLacked, InboxLacked, AirCrowded, WordsFull}
 use Rattle.radio_world.proofs.Runs.{scripts_are_counted}
 use Rattle.capture.specs.Air.{words_of}
 use Rattle.radio_world.proofs.Starting.{orderly_from, runs_from}
@@ -37,35 +37,6 @@ overruns_are_crowded {S} {T} {G} {H} U V RA RB hosts size count names s t words 
     let from_first = subst (λ (w : World S T). Runs (starting s U) (starting t V) advances.happenings w (world_at last)) (first_is U V size count names s t old (advances.used_a ++ []) (advances.used_b ++ []) new) runs in
     (crowds_are_told (starting s U) (starting t V) hosts size count names advances.happenings (world_at last) fits from_first tells over.crowded, sym over.trace_is ∙ advances.written)
 
--- ---- each entry has an octet at least
-
-some_octets : (entry : Entry) → 1 ≤ length (entry_octets entry)
-some_octets entry = omega arith
-
-pub all_octets : (entries : List Entry) → length entries ≤ length (capture_octets entries)
-all_octets [] = omega arith
-all_octets (entry ∷ entries) =
-    let one = some_octets entry in
-    let more = all_octets entries in
-    let both = length-append (entry_octets entry) (capture_octets entries) in
-    omega arith
-
-told_by : (trace : Option (List ℕ)) (more octets : List ℕ) → Some octets ≡ gained trace more → length more ≤ length octets
-told_by None more octets is = absurd cc
-told_by (Some before) more octets is =
-    let same : octets ≡ before ++ more = cc in
-    let long = ap (λ (l : List ℕ). length l) same in
-    let both = length-append before more in
-    omega arith
-
-pub lingering_is_told : {S T G H P Q : Type 0} (U : Upper S G) (V : Upper T H) (RA : P → List G → P → Type 0) (RB : Q → List H → Q → Type 0) → LingeringIsTold U V RA RB
-lingering_is_told U V RA RB words old shelf inbox octets lingers =
-    let entries : List Entry = all_entries lingers.settling.happenings in
-    let long = lingers.long in
-    let all = all_octets entries in
-    let told = told_by lingers.mid.trace (capture_octets entries) octets (sym lingers.trace_is ∙ lingers.settling.written) in
-    omega arith
-
 -- ---- all causes
 
 from_told : (before octets more : List ℕ) (trace : Option (List ℕ)) → trace ≡ Some before → Some octets ≡ gained trace more → octets ≡ before ++ more
@@ -74,16 +45,13 @@ from_told before octets more trace told is =
     cc
 
 pub wants_are_told : {S T G H P Q : Type 0} (U : Upper S G) (V : Upper T H) (RA : P → List G → P → Type 0) (RB : Q → List H → Q → Type 0) (LA : P → P → Type 0) (LB : Q → Q → Type 0) → WantsAreTold U V RA RB LA LB
-wants_are_told U V RA RB LA LB hosts size count names s t script old shelf inbox before octets orderly sized new are few told short tells (ShelfLacked lacked) = inl (inl lacked)
-wants_are_told U V RA RB LA LB hosts size count names s t script old shelf inbox before octets orderly sized new are few told short tells (InboxLacked lacked) = inl (inr lacked)
-wants_are_told U V RA RB LA LB hosts size count names s t script old shelf inbox before octets orderly sized new are few told short tells (AirCrowded over) =
+wants_are_told U V RA RB LA LB hosts size count names s t script old shelf inbox before octets orderly sized new are few told tells (ShelfLacked lacked) = inl (inl lacked)
+wants_are_told U V RA RB LA LB hosts size count names s t script old shelf inbox before octets orderly sized new are few told tells (InboxLacked lacked) = inl (inr lacked)
+wants_are_told U V RA RB LA LB hosts size count names s t script old shelf inbox before octets orderly sized new are few told tells (AirCrowded over) =
     let crowded = overruns_are_crowded U V RA RB hosts size count names s t (words_of script) old shelf inbox (Some octets) orderly sized new over (tells over.advances.happenings) in
     let entries : List Entry = all_entries over.advances.happenings in
     inr (entries, from_told before octets (capture_octets entries) old.trace told crowded.1, crowded.0)
-wants_are_told U V RA RB LA LB hosts size count names s t script old shelf inbox before octets orderly sized new are few told short tells (WordsFull full) =
+wants_are_told U V RA RB LA LB hosts size count names s t script old shelf inbox before octets orderly sized new are few told tells (WordsFull full) =
     let none = ap (λ (scene : Scene). scene.turned) new.scene_is in
     let words = scripts_are_counted script are few in
-    absurd (omega arith)
-wants_are_told U V RA RB LA LB hosts size count names s t script old shelf inbox before octets orderly sized new are few told short tells (NoRest lingers) =
-    let long = lingering_is_told U V RA RB (words_of script) old shelf inbox octets lingers in
     absurd (omega arith)

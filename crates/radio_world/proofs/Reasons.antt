@@ -10,7 +10,7 @@ use Rattle.world_model.specs.Machines.{Upper}
 use Rattle.world_model.specs.Worlds.{World, Happening, Tries, Departure, GivingBack, Piecemeal, Answering, Turns, Misses, Opens, Closes, words_in, all_words, Acts, Does}
 use Rattle.radio_world.specs.Hosts.{JoinAnswers}
 use Rattle.radio_world.specs.Scenes.{Moment, world_at, Plays, Stage, moment_of, Advances}
-use Rattle.radio_world.specs.Shortages.{Wants, ShelfLacked, InboxLacked, AirCrowded, WordsFull, NoRest}
+use Rattle.radio_world.specs.Shortages.{Wants, ShelfLacked, InboxLacked, AirCrowded, WordsFull}
 use Rattle.radio_world.proofs.Advancing.{advances_then}
 
 -- ---- how many words were turned
@@ -85,17 +85,3 @@ module _ {S T G H P Q : Type 0} (U : Upper S G) (V : Upper T H) (RA : P → List
       let one = length-append ws (vs ++ more) in
       let two = length-append vs more in
       WordsFull (omega arith)
-  wants_behind all ws vs more old mid shelf inbox trace joins_a joins_b lacks_a lacks_b are before (NoRest lingers) =
-      NoRest (record {
-        mid = lingers.mid;
-        new = lingers.new;
-        turned = ws ++ lingers.turned;
-        later = lingers.later ++ more;
-        words_are = fronts all ws vs more lingers.turned lingers.later are lingers.words_are;
-        before = advances_then U V RA RB ws lingers.turned old mid lingers.mid joins_a joins_b before lingers.before;
-        settling = lingers.settling;
-        long = lingers.long;
-        shelf_is = lingers.shelf_is;
-        inbox_is = lingers.inbox_is;
-        trace_is = lingers.trace_is;
-      })

@@ -1,5 +1,5 @@
 -- A run that broke off: what happened as far as the trace has it whole, and what stood in the trace next (this project's own).
-use Rattle.std.specs.Prelude.{ℕ, ◌≡◌, ◌≤◌, ◌+◌, ◌⊎◌, true, List, [], ◌++◌, length, Option, Some}
+use Rattle.std.specs.Prelude.{ℕ, ◌≡◌, ◌≤◌, ◌+◌, ◌⊎◌, true, List, ◌++◌, length, Option, Some}
 use Rattle.bt_base.specs.Streams.{GainedFront}
 use Rattle.push_terms.specs.declared.word.Side.{Side}
 use Rattle.push_terms.specs.declared.word.Word.{Word}

@@ -18,7 +18,7 @@ use Rattle.rest_laws.specs.Premises.{AreOrderly}
 use Rattle.radio_world.specs.Hosts.{answering}
 use Rattle.radio_world.specs.Scenes.{first_scene, Stage}
 use Rattle.radio_world.specs.Standing.{starting}
-use Rattle.radio_world.specs.Shortages.{Overruns, Lingers, Wants, most_rounds}
+use Rattle.radio_world.specs.Shortages.{Overruns, Wants}
 
 -- nothing has happened yet; what its machines are at first is theirs
 pub record IsNew {S T G H P Q : Type 0} (U : Upper S G) (V : Upper T H) (size count : ℕ) (names : List (List ℕ)) (s : S) (t : T) (at : Stage S T G H P Q) : Type 0 where
@@ -36,21 +36,16 @@ OverrunsAreCrowded {S} {T} {G} {H} {P} {Q} U V AnswersA AnswersB =
     → TellsHosts (starting s U) (starting t V) hosts over.advances.happenings (first_world (starting s U) (starting t V) size count names)
     → IsCrowded hosts size (all_entries over.advances.happenings) × (trace ≡ gained old.trace (capture_octets (all_entries over.advances.happenings)))
 
--- And where its trace is told, it lingers only if that has at least 2^64 - 1 octets.
-abbrev pub LingeringIsTold : {S T G H P Q : Type 0} → Upper S G → Upper T H → (P → List G → P → Type 0) → (Q → List H → Q → Type 0) → Type 0
-LingeringIsTold {S} {T} {G} {H} {P} {Q} U V AnswersA AnswersB =
-    (words : List Word) (old : Stage S T G H P Q) (shelf : P) (inbox : Q) (octets : List ℕ) → Lingers U V AnswersA AnswersB words old shelf inbox (Some octets) → most_rounds ≤ length octets
-
 -- the words of a script of at most 2^32 lines can be counted
 abbrev pub ScriptsAreCounted : Type 0
 ScriptsAreCounted = (script : List (ℕ × Word)) → AllByRecursion IsRun script → length script ≤ 2 ^ 32 → length (words_of script) < 2 ^ 64
 
--- So from a new world on, with a script of at most 2^32 lines and a trace that is told and that memory holds, a world wants memory only
--- where a port lacked some, or where the capture so far is crowded.
+-- So from a new world on, with a script of at most 2^32 lines and a trace that is told, a world wants memory only where a port lacked
+-- some, or where the capture so far is crowded.
 abbrev pub WantsAreTold : {S T G H P Q : Type 0} → Upper S G → Upper T H → (P → List G → P → Type 0) → (Q → List H → Q → Type 0) → (P → P → Type 0) → (Q → Q → Type 0) → Type 0
 WantsAreTold {S} {T} {G} {H} {P} {Q} U V AnswersA AnswersB LackedA LackedB =
     (hosts : Hosts) (size count : ℕ) (names : List (List ℕ)) (s : S) (t : T) (script : List (ℕ × Word)) (old : Stage S T G H P Q) (shelf : P) (inbox : Q) (before octets : List ℕ)
-    → AreOrderly U V → IsSize size → IsNew U V size count names s t old → AllByRecursion IsRun script → length script ≤ 2 ^ 32 → old.trace ≡ Some before → length octets < most_rounds
+    → AreOrderly U V → IsSize size → IsNew U V size count names s t old → AllByRecursion IsRun script → length script ≤ 2 ^ 32 → old.trace ≡ Some before
     → ((happenings : List Happening) → TellsHosts (starting s U) (starting t V) hosts happenings (first_world (starting s U) (starting t V) size count names))
     → Wants U V AnswersA AnswersB LackedA LackedB (words_of script) old shelf inbox (Some octets)
     → (LackedA old.shelf shelf ⊎ LackedB old.inbox inbox) ⊎ ((entries : List Entry) × (octets ≡ before ++ capture_octets entries) × IsCrowded hosts size entries)

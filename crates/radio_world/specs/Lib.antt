@@ -6,6 +6,7 @@ pub mod Turning
 pub mod Standing
 pub mod Both
 pub mod Measures
+pub mod Speaking
 pub mod Causes
 pub mod Counting
 pub mod Shortages

@@ -1,5 +1,5 @@
 -- What a call says of want of memory (this project's own).
-use Rattle.std.specs.Prelude.{ℕ, ◌≡◌, ◌≤◌, ◌+◌, ◌-◌, ◌^◌, ◌⊎◌, ◌||◌, true, List, [], ◌∷◌, ◌++◌, length, Option, Result, IsErrOf}
+use Rattle.std.specs.Prelude.{ℕ, ◌≡◌, ◌≤◌, ◌+◌, ◌^◌, ◌⊎◌, ◌||◌, true, List, [], ◌∷◌, ◌++◌, length, Option, Result, IsErrOf}
 use Rattle.bt_base.specs.Counts.{HasRisen}
 use Rattle.bt_base.specs.Streams.{gained}
 use Rattle.push_terms.specs.declared.word.Side.{Side}
@@ -10,7 +10,6 @@ use Rattle.radio_air.specs.Owed.{owes_many, wants_memory}
 use Rattle.radio_air.specs.Radio.{Radio}
 use Rattle.world_model.specs.Machines.{Upper}
 use Rattle.world_model.specs.Stations.{Order}
-use Rattle.world_model.specs.Worlds.{all_entries}
 use Rattle.radio_world.specs.declared.fault.WorldFault.{WorldFault}
 use Rattle.radio_world.specs.declared.fault.WorldFault.TheVariants.{NoMemory}
 use Rattle.radio_world.specs.Leaving.{Medium, after_all, leaving_entries}
@@ -63,29 +62,10 @@ pub record Overruns {S T G H P Q : Type 0} (U : Upper S G) (V : Upper T H) (Answ
   pub inbox_is : new.inbox ≡ inbox
   pub trace_is : new.trace ≡ trace
 
--- so many rounds has a settling at most
-abbrev pub most_rounds : ℕ
-most_rounds = 2 ^ 64 - 1
-
--- From somewhere on the capture has so many entries without a word that its rounds could not be counted. No memory holds them.
-pub record Lingers {S T G H P Q : Type 0} (U : Upper S G) (V : Upper T H) (AnswersA : P → List G → P → Type 0) (AnswersB : Q → List H → Q → Type 0) (words : List Word) (old : Stage S T G H P Q) (shelf : P) (inbox : Q) (trace : Option (List ℕ)) : Type 0 where
-  pub mid : Stage S T G H P Q
-  pub new : Stage S T G H P Q
-  pub turned : List Word
-  pub later : List Word
-  pub words_are : words ≡ turned ++ later
-  pub before : Advances U V AnswersA AnswersB turned old mid
-  pub settling : Advances U V AnswersA AnswersB [] mid new
-  pub long : most_rounds ≤ length (all_entries settling.happenings)
-  pub shelf_is : new.shelf ≡ shelf
-  pub inbox_is : new.inbox ≡ inbox
-  pub trace_is : new.trace ≡ trace
-
 -- Why a world may want memory where the trace did not: a port lacked some, or the air is crowded, or more words would have been turned
--- than can be counted, or it did not come to rest in so many rounds.
+-- than can be counted.
 pub data Wants {S T G H P Q : Type 0} (U : Upper S G) (V : Upper T H) (AnswersA : P → List G → P → Type 0) (AnswersB : Q → List H → Q → Type 0) (LackedA : P → P → Type 0) (LackedB : Q → Q → Type 0) (words : List Word) (old : Stage S T G H P Q) (shelf : P) (inbox : Q) (trace : Option (List ℕ)) : Type 0 where
   ShelfLacked : LackedA old.shelf shelf → Wants U V AnswersA AnswersB LackedA LackedB words old shelf inbox trace
   InboxLacked : LackedB old.inbox inbox → Wants U V AnswersA AnswersB LackedA LackedB words old shelf inbox trace
   AirCrowded : Overruns U V AnswersA AnswersB words old shelf inbox trace → Wants U V AnswersA AnswersB LackedA LackedB words old shelf inbox trace
   WordsFull : 2 ^ 64 ≤ old.scene.turned + length words → Wants U V AnswersA AnswersB LackedA LackedB words old shelf inbox trace
-  NoRest : Lingers U V AnswersA AnswersB words old shelf inbox trace → Wants U V AnswersA AnswersB LackedA LackedB words old shelf inbox trace

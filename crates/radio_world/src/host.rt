@@ -6,6 +6,7 @@ ghost use Rattle.push_terms.specs.declared.word.Side.{Side};
 ghost use Rattle.world_model.specs.Machines.{Upper, TimerFired, Cancelled, Opening};
 ghost use Rattle.world_model.specs.Stations.{IsStopped, told};
 ghost use Rattle.radio_world.specs.Measures.{IsMostOf};
+ghost use Rattle.radio_world.specs.Speaking.{SpeaksWithin};
 ghost use Rattle.radio_world.specs.Hosts.{Asking, answering, order_octets, AreSent, Reacts, Hears, JoinAnswers};
 
 use bt_base::NoMemory;
@@ -23,6 +24,9 @@ pub trait Host<P>: Drop {
 
     /// What its port answers to one call.
     ghost Answer: { Type 0 };
+
+    /// How many PDUs more it has left to say with one thing that it hears, at most.
+    ghost most_more: { ℕ };
 
     /// The machine.
     ghost machine: { Upper State Answer };
@@ -89,6 +93,9 @@ pub trait Host<P>: Drop {
 
     /// Memory that is found wanting later was found wanting.
     ghost lacks: { (first mid last : P) (used : List Answer) → answers first used mid → lacked mid last → lacked first last };
+
+    /// It says no more than that, whatever its port answers: so the world comes to rest.
+    ghost speaks: { SpeaksWithin machine station most_more };
 
     /// Where all that it put out was taken, it can do nothing more by itself.
     ghost stops: { (host : Self) (port : P) → is_sound host port → (station host port).out ≡ [] → (rest : List Answer) → IsStopped machine side (answering rest (station host port)) };

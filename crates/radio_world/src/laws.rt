@@ -1,6 +1,6 @@
 //! Laws of want of memory in a world.
 
-ghost use Rattle.radio_world.specs.Crowds.{LingeringIsTold, OverrunsAreCrowded, ScriptsAreCounted, WantsAreTold};
+ghost use Rattle.radio_world.specs.Crowds.{OverrunsAreCrowded, ScriptsAreCounted, WantsAreTold};
 
 use crate::host::Host;
 
@@ -9,18 +9,13 @@ pub fn overruns_are_crowded<P, A: Host<P>, Q, B: Host<Q>>()
     ensures { OverrunsAreCrowded A.machine B.machine A.answers B.answers }
 {}
 
-/// It lingers only where its trace, if that is told, has at least 2^64 - 1 octets: no memory holds them.
-pub fn lingering_is_told<P, A: Host<P>, Q, B: Host<Q>>()
-    ensures { LingeringIsTold A.machine B.machine A.answers B.answers }
-{}
-
 /// The words of a script of at most 2^32 lines can be counted.
 pub fn scripts_are_counted()
     ensures { ScriptsAreCounted }
 {}
 
-/// So a new world that plays such a script, with a trace that is told and that memory holds, wants memory only where a port
-/// lacked some, or where the capture so far is crowded.
+/// So a new world that plays such a script, with a trace that is told, wants memory only where a port lacked some, or where
+/// the capture so far is crowded.
 pub fn wants_are_told<P, A: Host<P>, Q, B: Host<Q>>()
     ensures { WantsAreTold A.machine B.machine A.answers B.answers A.lacked B.lacked }
 {}

@@ -28,10 +28,6 @@ use capture::Entry;
 use push_terms::{Outcome, Side};
 use std::marker::Model;
 
-/// How many rounds a settling has at most. It ends far earlier, when nothing moves any more: each
-/// round before writes to the trace.
-const MOST_ROUNDS: u64 = u64::MAX;
-
 /// What lies between the two hosts, and the pushes of a scenario. A clause sees both, and how many
 /// words were turned.
 #[derive(Drop)]
@@ -183,7 +179,8 @@ impl Scene {
         Ok(began | moved_a | moved_b | ended)
     }
 
-    /// Rounds, until in one nothing happens: then all is settled. It needs what `round` does.
+    /// Rounds, until in one nothing happens: then all is settled. It comes to that, since each round before lowers what
+    /// is left to happen. It needs what `round` does.
     pub(crate) fn settle<P, A: Client<P>, Q, B: Host<Q>, T: Sink>(
         &mut self,
         a: &mut A,
@@ -207,11 +204,7 @@ impl Scene {
         ensures lacks { Lacks (T.shortages trace.old) (T.shortages trace.new) (Wants A.Host.machine B.machine A.Host.answers B.answers A.Host.lacked B.lacked [] (stage self.old (A.Host.station a.old shelf.old) (B.station b.old inbox.old) shelf.old inbox.old (T.content trace.old)) shelf.new inbox.new (T.content trace.new)) result }
         ensures breaks { OnErr result (Broken A.Host.machine B.machine A.Host.answers B.answers A.Host.lacked B.lacked B.station [] (stage self.old (A.Host.station a.old shelf.old) (B.station b.old inbox.old) shelf.old inbox.old (T.content trace.old)) shelf.new inbox.new (T.content trace.new)) }
     {
-        for done in 0..MOST_ROUNDS {
-            if !self.round(a, shelf, b, inbox, trace)? {
-                return Ok(());
-            }
-        }
-        Err(WorldFault::NoMemory)
+        'rounds: while self.round(a, shelf, b, inbox, trace)? {}
+        Ok(())
     }
 }

@@ -32,7 +32,7 @@ use Rattle.request_laws.proofs.Feeding.{all_both, strand_so, pushed-both, served
 
 -- ---- what a run hands up
 
-abbrev ups_from : Policy → Channels → List Occurrence → List Handed
+abbrev pub ups_from : Policy → Channels → List Occurrence → List Handed
 ups_from policy v [] = []
 ups_from policy v (one ∷ list) = up_with one v ∷ ups_from policy (value_after policy one v) list
 
@@ -40,17 +40,17 @@ ups_on : (policy : Policy) (list : List Occurrence) (run : Run) → (fold (run_o
 ups_on policy [] run = sym (append-nil run.up)
 ups_on policy (one ∷ list) run = ups_on policy list (run_on policy run one) ∙ append_assoc run.up (up_with one run.value ∷ []) (ups_from policy (value_after policy one run.value) list)
 
-ups_of : (policy : Policy) (list : List Occurrence) → (run_of policy list).up ≡ ups_from policy no_channels list
+pub ups_of : (policy : Policy) (list : List Occurrence) → (run_of policy list).up ≡ ups_from policy no_channels list
 ups_of policy list = ups_on policy list new_link
 
 ups_both : (policy : Policy) (xs ys : List Occurrence) (v : Channels) → ups_from policy v (xs ++ ys) ≡ ups_from policy v xs ++ ups_from policy (values_after policy v xs) ys
 ups_both policy [] ys v = refl
 ups_both policy (x ∷ xs) ys v = ap (λ (l : List Handed). up_with x v ∷ l) (ups_both policy xs ys (value_after policy x v))
 
-abbrev handed_from : Policy → Channels → List Occurrence → List (List ℕ)
+abbrev pub handed_from : Policy → Channels → List Occurrence → List (List ℕ)
 handed_from policy v list = handed_for object_psm (ups_from policy v list)
 
-handed_both : (policy : Policy) (xs ys : List Occurrence) (v : Channels) → handed_from policy v (xs ++ ys) ≡ handed_from policy v xs ++ handed_from policy (values_after policy v xs) ys
+pub handed_both : (policy : Policy) (xs ys : List Occurrence) (v : Channels) → handed_from policy v (xs ++ ys) ≡ handed_from policy v xs ++ handed_from policy (values_after policy v xs) ys
 handed_both policy xs ys v = ap (handed_for object_psm) (ups_both policy xs ys v) ∙ filter_map-append (up_for object_psm) (ups_from policy v xs) (ups_from policy (values_after policy v xs) ys)
 
 call_hands : (policy : Policy) (call : Option Call) (v : Channels) → handed_from policy v (from_call call) ≡ []
@@ -79,7 +79,7 @@ module _ (settings : Settings) (content : Option Contents) (asks : Asks (server_
   told_come [] v p = refl
   told_come (event ∷ events) v p = quiet_flat (event_served event ++ []) (all_both ComesNone (event_served event) [] (event_shape event) tt)
 
-  strand_come : (strand : Strand) (v : Channels) (p : ServerProfile) → flat_map come_by (served_from settings content p (strand_feeds strand v)) ≡ handed_from (policy settings true) v (strand_list (server_profile settings content) asks strand v p)
+  pub strand_come : (strand : Strand) (v : Channels) (p : ServerProfile) → flat_map come_by (served_from settings content p (strand_feeds strand v)) ≡ handed_from (policy settings true) v (strand_list (server_profile settings content) asks strand v p)
   strand_come (Hearing pdu) v p = come_up (up (channel_of pdu) pdu v) p
   strand_come (Giving pdu) v p = refl
   strand_come Firing v p = refl
@@ -107,16 +107,16 @@ module _ (settings : Settings) (content : Option Contents) (asks : Asks (server_
 
 -- ---- the client
 
-abbrev heard_in : Affair → List (List ℕ)
+abbrev pub heard_in : Affair → List (List ℕ)
 heard_in affair = flat_map heard_by (deeds_in affair)
 
-abbrev Unheard : Affair → Type 0
+abbrev pub Unheard : Affair → Type 0
 Unheard affair = heard_in affair ≡ []
 
 unheard_holds : Holds Unheard
 unheard_holds = record { asks = λ parts. refl; finishes = refl; cancels = refl; down = λ reason. refl; failed = λ status. refl; opened = λ psm mtu. refl; closed = λ psm cause. refl; told = refl; lost = refl; timer = refl }
 
-heard_flat : (affairs : List Affair) → AllByRecursion Unheard affairs → flat_map heard_by (all_deeds affairs) ≡ []
+pub heard_flat : (affairs : List Affair) → AllByRecursion Unheard affairs → flat_map heard_by (all_deeds affairs) ≡ []
 heard_flat [] none = refl
 heard_flat (one ∷ rest) none = flat_map-append heard_by (deeds_in one) (all_deeds rest) ∙ ap₂ (λ (a b : List (List ℕ)). a ++ b) none.0 (heard_flat rest none.1)
 
@@ -140,7 +140,7 @@ module _ (settings : Settings) (asks : Asks (client_profile settings)) where
   learned_quiet circumstances TimerFired none = (tt, tt)
   learned_quiet circumstances Cancelled none = (tt, tt)
 
-  strand_heard : (strand : Strand) (v : Channels) (p : ClientProfile) → OpensNone strand → flat_map heard_by (all_deeds (pushed_from settings p (strand_feeds strand v))) ≡ handed_from (policy settings false) v (strand_list (client_profile settings) asks strand v p)
+  pub strand_heard : (strand : Strand) (v : Channels) (p : ClientProfile) → OpensNone strand → flat_map heard_by (all_deeds (pushed_from settings p (strand_feeds strand v))) ≡ handed_from (policy settings false) v (strand_list (client_profile settings) asks strand v p)
   strand_heard (Hearing pdu) v p none = heard_up (up (channel_of pdu) pdu v) p
   strand_heard (Giving pdu) v p none = refl
   strand_heard Firing v p none = refl

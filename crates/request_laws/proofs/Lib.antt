@@ -16,4 +16,14 @@ pub mod HandedUp
 pub mod Behind
 pub mod Paired
 pub mod Firsts
+pub mod Accepted
+pub mod Sole
+pub mod Takes
+pub mod ClientTakes
+pub mod ServerTakes
+pub mod Summing
+pub mod AlongPairs
+pub mod ObjectPipes
+pub mod Unheard
+pub mod Linked
 pub mod Together

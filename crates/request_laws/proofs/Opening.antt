@@ -29,7 +29,7 @@ use Rattle.push_laws.specs.Sending.{packets_through}
 use Rattle.world_model.specs.Machines.{LinkEvent, News, Linked, Up, Down, Failed, Heard, TimerFired, Cancelled, Opening}
 use Rattle.host_model.specs.Circumstances.{Circumstance, size_in}
 use Rattle.host_model.specs.Clients as profile
-use Rattle.host_model.specs.Clients.{ClientProfile, Bid, NoBid, Paging, Parting, is_paging, ended, after_end, after_call, client_profile}
+use Rattle.host_model.specs.Clients.{ClientProfile, Bid, NoBid, Paging, is_paging, ended, after_end, after_call, client_profile}
 use Rattle.host_model.specs.Endpoints.{endpoint_of, takes_sdu}
 use Rattle.host_model.specs.Pdus.{sdu_of}
 use Rattle.host_laws.specs.Calls.{Asks as Asking, values_after}

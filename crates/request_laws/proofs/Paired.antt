@@ -28,7 +28,7 @@ use Rattle.request_laws.proofs.Timely.{is_up, goes_down, is_deaf, is_down}
 use Rattle.request_laws.proofs.Behind.{nothing_comes_behind}
 use Rattle.request_laws.proofs.Runs.{is_in_order, servers_serve_in_order}
 
-abbrev lists_of : List Span → List channels.Occurrence → List (List channels.Occurrence)
+abbrev pub lists_of : List Span → List channels.Occurrence → List (List channels.Occurrence)
 lists_of spans now = map (λ (span : Span). span.list) spans ++ now ∷ []
 
 -- on a link that went down one channel carried packets
@@ -87,7 +87,7 @@ module _ (set : Set) (near far : ℕ → List channels.Occurrence) (pairs : Pair
       )
 
 pub paired_servers_serve : PairedServersServe
-paired_servers_serve asks scenario before capture ran direct pairs serves within nothing free =
+paired_servers_serve asks scenario before capture ran direct pairs serves within nothing =
     let set = over_stored asks scenario.settings before in
     let A = client_profile scenario.settings in
     let B = serving scenario.settings before in
@@ -96,7 +96,7 @@ paired_servers_serve asks scenario before capture ran direct pairs serves within
     let a = pairs.a.fed.so.lives in
     let b = pairs.b.fed.so.lives in
     let both : BothCameFed asks scenario (holding before) capture ran = record { a = record { came = pairs.a.came; fed = pairs.a.fed }; b = record { came = pairs.b.came; fed = pairs.b.fed } } in
-    let order = is_in_order asks scenario before capture ran direct free nothing pairs.b.came pairs.b.fed.so (pairs-are_whole asks scenario (holding before) capture ran pairs within).b in
+    let order = is_in_order asks scenario before capture ran direct nothing pairs.b.came pairs.b.fed.so (pairs-are_whole asks scenario (holding before) capture ran pairs within).b in
     servers_serve_in_order asks scenario before capture ran direct both
     (record {
       heard = record {
@@ -106,4 +106,4 @@ paired_servers_serve asks scenario before capture ran direct pairs serves within
       };
       whole = (pairs-are_whole asks scenario (holding before) capture ran pairs within).b;
     })
-    nothing free
+    nothing

@@ -21,34 +21,33 @@ use Rattle.host_laws.proofs.OverLinks.{hosts_talk_fed}
 use Rattle.scenario_laws.specs.Captures.{Ran}
 use Rattle.scenario_laws.specs.Coming.{CameOver}
 use Rattle.scenario_laws.specs.Gains.{holding, serving, asked_by}
-use Rattle.scenario_laws.specs.Gentle.{RestsAreFree}
 use Rattle.scenario_laws.proofs.Free.{free_runs_are_gentle}
 use Rattle.scenario_laws.proofs.Orderly.{parts_asked, asked_talks, servers-are_asked_once}
 use Rattle.request_laws.specs.Runs.{RunsAreFed, ServersServeInOrder}
 use Rattle.request_laws.proofs.Heard.{requests_of_links_are_heard}
 
 pub runs_are_fed : RunsAreFed
-runs_are_fed asks scenario content capture ran free =
-    let gentle = free_runs_are_gentle scenario content capture ran free in
+runs_are_fed asks scenario content capture ran =
+    let gentle = free_runs_are_gentle scenario content capture ran in
     record {
       a = record { came = gentle.a.came; fed = hosts_talk_fed (client_profile scenario.settings) (asks.clients scenario.settings) gentle.a.came.talk ran.world.a.upper gentle.a.came.over gentle.a.gently };
       b = record { came = gentle.b.came; fed = hosts_talk_fed (server_profile scenario.settings content) (asks.servers scenario.settings content) gentle.b.came.talk ran.world.b.upper gentle.b.came.over gentle.b.gently };
     }
 
 -- host b of a run is served in order
-pub is_in_order : (asks : HostsAsk) (scenario : Scenario) (before : List Object) (capture : List Entry) (ran : Ran scenario (holding before) capture) → scenario.settings.transport ≡ L2cap → RestsAreFree scenario (holding before) ran.happenings
+pub is_in_order : (asks : HostsAsk) (scenario : Scenario) (before : List Object) (capture : List Entry) (ran : Ran scenario (holding before) capture) → scenario.settings.transport ≡ L2cap
     → AsksNoChannels (serving scenario.settings before) (asked_by asks scenario.settings before) → (came : CameOver (serving scenario.settings before) sides.B capture ran.world.b.upper) (so : TalksOverLinks (serving scenario.settings before) (asked_by asks scenario.settings before) came.talk ran.world.b.upper)
     → AllByRecursion (IsWhole (policy scenario.settings true)) (on_links (serving scenario.settings before) (asked_by asks scenario.settings before) (flat_map talk_marks came.talk) ran.world.b.upper so.lives)
     → IsServedInOrder scenario.settings (holding before) (asked_by asks scenario.settings before) came.talk ran.world.b.upper so
-is_in_order asks scenario before capture ran direct free nothing came so whole =
-    let asked = servers-are_asked_once scenario (holding before) capture ran direct free in
+is_in_order asks scenario before capture ran direct nothing came so whole =
+    let asked = servers-are_asked_once scenario (holding before) capture ran direct in
     let sought = parts_asked (parts came.talk) (map pdus (links sides.B capture)) came.fall (asked_talks (links sides.B capture) asked) in
     servers-are_served_in_order scenario.settings (holding before) (asked_by asks scenario.settings before) came.talk ran.world.b.upper so nothing sought whole
 
 pub servers_serve_in_order : ServersServeInOrder
-servers_serve_in_order asks scenario before capture ran direct both serves nothing free =
+servers_serve_in_order asks scenario before capture ran direct both serves nothing =
     let came = both.b.came in
-    let order = is_in_order asks scenario before capture ran direct free nothing came both.b.fed.so serves.whole in
+    let order = is_in_order asks scenario before capture ran direct nothing came both.b.fed.so serves.whole in
     record {
       came = came;
       so = both.b.fed.so;

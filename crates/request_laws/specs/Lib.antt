@@ -5,6 +5,8 @@ pub mod Runs
 pub mod HandedUp
 pub mod Paired
 pub mod Firsts
-pub mod Together
 pub mod Behind
 pub mod Alternating
+pub mod ObjectPipes
+pub mod Linked
+pub mod Together

@@ -17,7 +17,6 @@ use Rattle.host_laws.specs.Pushing.{pushed_from}
 use Rattle.host_laws.specs.Woven.{Strand}
 use Rattle.scenario_laws.specs.Captures.{Ran}
 use Rattle.scenario_laws.specs.Gains.{holding, serving, asked_by, OrderlyServer}
-use Rattle.scenario_laws.specs.Gentle.{RestsAreFree}
 use Rattle.pair_laws.specs.OnLinks.{happened_on, ArePairs}
 use Rattle.pair_laws.specs.Orders.{joints_from}
 use Rattle.pair_laws.specs.Pairs.{PairOnLink}
@@ -53,9 +52,9 @@ pub record PairsServe (asks : HostsAsk) (scenario : Scenario) (before : List Obj
   pub answered : AllAnswered (pushed_from scenario.settings (client_profile scenario.settings).first pairs.a.fed.so.lives.feeds) (client_profile scenario.settings).first.client
   pub granted : AllByRecursion GrantsAll pairs.b.fed.so.lives.feeds
 
--- Then host b serves in order: no request is ignored, where the client's channels are steady at rest.
+-- Then host b serves in order: no request is ignored.
 abbrev pub PairedServersServe : Type 0
 PairedServersServe = (asks : HostsAsk) (scenario : Scenario) (before : List Object) (capture : List Entry) (ran : Ran scenario (holding before) capture) → scenario.settings.transport ≡ L2cap
     → (pairs : ArePairs asks scenario (holding before) capture ran) → PairsServe asks scenario before capture ran pairs → BothSendWithin asks
-    → AsksNoChannels (serving scenario.settings before) (asked_by asks scenario.settings before) → RestsAreFree scenario (holding before) ran.happenings
+    → AsksNoChannels (serving scenario.settings before) (asked_by asks scenario.settings before)
     → OrderlyServer asks scenario.settings before capture ran.world.b.upper

@@ -20,7 +20,6 @@ use Rattle.host_laws.specs.OverLinks.{talk_marks}
 use Rattle.scenario_laws.specs.Captures.{Ran}
 use Rattle.scenario_laws.specs.Coming.{CameOver}
 use Rattle.scenario_laws.specs.Gains.{holding, serving, asked_by, OrderlyServer}
-use Rattle.scenario_laws.specs.Gentle.{RestsAreFree}
 use Rattle.request_laws.specs.BothFed.{over_stored, BothAreHeard}
 
 -- ---- both hosts of a run
@@ -35,9 +34,9 @@ pub record BothCameFed (asks : HostsAsk) (scenario : Scenario) (content : Option
   pub a : CameFed (client_profile scenario.settings) (asks.clients scenario.settings) sides.A capture ran.world.a.upper
   pub b : CameFed (server_profile scenario.settings content) (asks.servers scenario.settings content) sides.B capture ran.world.b.upper
 
--- So both did at each moment of each run whose client's channels are steady wherever it is at rest.
+-- So both did at each moment of each run.
 abbrev pub RunsAreFed : Type 0
-RunsAreFed = (asks : HostsAsk) (scenario : Scenario) (content : Option Contents) (capture : List Entry) (ran : Ran scenario content capture) → RestsAreFree scenario content ran.happenings → BothCameFed asks scenario content capture ran
+RunsAreFed = (asks : HostsAsk) (scenario : Scenario) (content : Option Contents) (capture : List Entry) (ran : Ran scenario content capture) → BothCameFed asks scenario content capture ran
 
 -- ---- the law
 
@@ -48,9 +47,9 @@ pub record BothServe (asks : HostsAsk) (scenario : Scenario) (before : List Obje
   pub whole : AllByRecursion (IsWhole (policy scenario.settings true))
       (on_links (serving scenario.settings before) (asked_by asks scenario.settings before) (flat_map talk_marks both.b.came.talk) ran.world.b.upper both.b.fed.so.lives)
 
--- Then host b serves in order: no request is ignored, where the client's channels are steady at rest.
+-- Then host b serves in order: no request is ignored.
 abbrev pub ServersServeInOrder : Type 0
 ServersServeInOrder = (asks : HostsAsk) (scenario : Scenario) (before : List Object) (capture : List Entry) (ran : Ran scenario (holding before) capture) → scenario.settings.transport ≡ L2cap
     → (both : BothCameFed asks scenario (holding before) capture ran) → BothServe asks scenario before capture ran both
-    → AsksNoChannels (serving scenario.settings before) (asked_by asks scenario.settings before) → RestsAreFree scenario (holding before) ran.happenings
+    → AsksNoChannels (serving scenario.settings before) (asked_by asks scenario.settings before)
     → OrderlyServer asks scenario.settings before capture ran.world.b.upper

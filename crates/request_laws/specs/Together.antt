@@ -1,6 +1,7 @@
--- What host b serves and its inbox gains in each run of a scenario over L2CAP, with all that is still asked of both hosts (Object Push
--- Profile 1.2, 4.3).
+-- What host b serves and its inbox gains in each run of a scenario over L2CAP, with all that is still asked of its ports (Object Push Profile
+-- 1.2, 4.3).
 use Rattle.std.specs.Prelude.{◌≡◌, List, ◌++◌, Some}
+use Rattle.std.specs.List.{AllByRecursion}
 use Rattle.bt_base.specs.declared.settings.Transport.TheVariants.{L2cap}
 use Rattle.bt_base.specs.Objects.{Object}
 use Rattle.push_script.specs.declared.scenario.Scenario.{Scenario}
@@ -8,28 +9,34 @@ use Rattle.push_terms.specs.declared.word.Side.TheVariants as sides
 use Rattle.capture.specs.Entries.{Entry}
 use Rattle.link_talk.specs.Captures.{objects_heard}
 use Rattle.push_laws.specs.Laws.{stored_in}
+use Rattle.host_model.specs.Clients.{client_profile}
 use Rattle.host_laws.specs.Calls.{HostsAsk}
+use Rattle.host_laws.specs.Pushing.{pushed_from}
 use Rattle.scenario_laws.specs.Captures.{Ran}
 use Rattle.scenario_laws.specs.Gains.{holding, OrderlyServer}
-use Rattle.scenario_laws.specs.Gentle.{RestsAreFree}
 use Rattle.scenario_laws.specs.Parties.{party_of}
+use Rattle.pair_laws.specs.InTurn.{PairsInTurn}
 use Rattle.pair_laws.specs.OnLinks.{ArePairs}
-use Rattle.request_laws.specs.Paired.{PairsServe}
+use Rattle.request_laws.specs.BothFed.{AllAnswered, GrantsAll}
 
 -- host b serves in order, and so its inbox gained exactly the objects that the packets spell which it heard, as the capture has them
 pub record ServesAll (asks : HostsAsk) (scenario : Scenario) (before : List Object) (capture : List Entry) (ran : Ran scenario (holding before) capture) : Type 0 where
   pub orderly : OrderlyServer asks scenario.settings before capture ran.world.b.upper
   pub gained : stored_in ran.world.b.upper.profile.inbox.content ≡ Some (before ++ objects_heard (party_of scenario.settings sides.B) sides.B capture)
 
--- the channels of both hosts are pairs; and so it is, where along these their channels of the object are pipes, links come up as the client
--- wants them, and the ports answer as they are asked
-pub record ServesTogether (asks : HostsAsk) (scenario : Scenario) (before : List Object) (capture : List Entry) (ran : Ran scenario (holding before) capture) : Type 0 where
-  pub pairs : ArePairs asks scenario (holding before) capture ran
-  pub serves : PairsServe asks scenario before capture ran pairs → ServesAll asks scenario before capture ran
+-- what is asked of the ports in a run: the shelf answered as it was asked, and the inbox granted all calls
+pub record PortsAnswer (asks : HostsAsk) (scenario : Scenario) (before : List Object) (capture : List Entry) (ran : Ran scenario (holding before) capture) (pairs : ArePairs asks scenario (holding before) capture ran) : Type 0 where
+  pub answered : AllAnswered (pushed_from scenario.settings (client_profile scenario.settings).first pairs.a.fed.so.lives.feeds) (client_profile scenario.settings).first.client
+  pub granted : AllByRecursion GrantsAll pairs.b.fed.so.lives.feeds
 
--- So it is at each moment of each run over L2CAP, wherever it broke off, where the client's channels are steady at rest. Nothing more is asked
--- of what both hosts ask of their channels.
+-- the channels of both hosts are pairs, and their links go side by side; and where the ports answer, host b serves in order and its inbox gained
+-- what the capture spells
+pub record ServesTogether (asks : HostsAsk) (scenario : Scenario) (before : List Object) (capture : List Entry) (ran : Ran scenario (holding before) capture) : Type 0 where
+  pub turns : PairsInTurn asks scenario (holding before) capture ran
+  pub serves : PortsAnswer asks scenario before capture ran turns.pairs → ServesAll asks scenario before capture ran
+
+-- So it is at each moment of each run over L2CAP, wherever it broke off. Nothing more is asked of what both hosts ask of their channels.
 pub record RunsServeTogether : Type 0 where
   pub asks : HostsAsk
-  pub runs : (scenario : Scenario) (before : List Object) (capture : List Entry) (ran : Ran scenario (holding before) capture) → scenario.settings.transport ≡ L2cap → RestsAreFree scenario (holding before) ran.happenings
+  pub runs : (scenario : Scenario) (before : List Object) (capture : List Entry) (ran : Ran scenario (holding before) capture) → scenario.settings.transport ≡ L2cap
       → ServesTogether asks scenario before capture ran

@@ -11,11 +11,11 @@ use Rattle.push_model.specs.Steps.{Step, Wait, MakeLink, AskFeatures, OpenChanne
 use Rattle.push_laws.specs.Occurrences.{Occurrence}
 use Rattle.push_laws.specs.Readings.{closes}
 use Rattle.push_laws.specs.Parties.{Move, OfServer, OfClient, client_after, Pipes, no_pipes, pipes_after, ArePipes, come_by}
-use Rattle.world_model.specs.Machines.{Linked, Failed, Heard, TimerFired, Cancelled, Opening}
 use Rattle.host_model.specs.Clients.{ClientProfile, client_profile}
 use Rattle.host_model.specs.Endpoints.{Endpoint, endpoint_of, takes_sdu}
 use Rattle.host_model.specs.Pdus.{sdu_of}
 use Rattle.host_model.specs.Servers.{ServerProfile, server_profile}
+use Rattle.host_laws.specs.Asked.{BeginsNone}
 use Rattle.host_laws.specs.Calls.{HostsAsk, values_after}
 use Rattle.host_laws.specs.Fed.{strand_feeds, woven_feeds}
 use Rattle.host_laws.specs.Pushing.{Affair, Begins, Does, pushed_from}
@@ -132,19 +132,7 @@ served_on set weave server = served_from set.settings set.content server (woven_
 
 -- no push begins there, and it hears nothing of its link
 abbrev pub OpensNone : Strand → Type 0
-OpensNone (Hearing pdu) = Unit {0}
-OpensNone (Giving pdu) = Unit {0}
-OpensNone Firing = Unit {0}
-OpensNone Telling = Unit {0}
-OpensNone (Gifting circumstances) = Unit {0}
-OpensNone (Learning circumstances (Linked event)) = ⊥
-OpensNone (Learning circumstances (Failed status)) = ⊥
-OpensNone (Learning circumstances (Heard pdu)) = Unit {0}
-OpensNone (Learning circumstances TimerFired) = Unit {0}
-OpensNone (Learning circumstances Cancelled) = Unit {0}
-OpensNone (Learning circumstances (Opening name)) = ⊥
-OpensNone Checking = Unit {0}
-OpensNone Stepping = Unit {0}
+OpensNone strand = BeginsNone strand
 
 -- Both went through this while a link was up, and no push began meanwhile: at each moment their channels of the object were pipes.
 pub record Twined (set : Set) (near far : List Strand) (client : ClientProfile) (server : ServerProfile) : Type 0 where

@@ -7,6 +7,8 @@ ghost use Rattle.request_laws.specs.BothFed.{RequestsOfLinksAreHeard};
 ghost use Rattle.request_laws.specs.Firsts.{FirstHostsAreHeard};
 ghost use Rattle.request_laws.specs.HandedUp.{ObjectsAreHandedUp};
 ghost use Rattle.request_laws.specs.Joined.{JoinedAreTwined};
+ghost use Rattle.request_laws.specs.Linked.{RunsAreLinked};
+ghost use Rattle.request_laws.specs.ObjectPipes.{ChannelsOfObjectsArePipes};
 ghost use Rattle.request_laws.specs.Paired.{PairedServersServe};
 ghost use Rattle.request_laws.specs.Runs.{RunsAreFed, ServersServeInOrder};
 ghost use Rattle.request_laws.specs.Together.{RunsServeTogether};
@@ -29,7 +31,7 @@ pub fn joined_are_twined()
 {}
 
 /// At each moment of a run, wherever it broke off, all that the profile of each host went through stands in one order with what happened to
-/// its channels; where no bound on what a host says held a PDU back and its firings said what waits behind them.
+/// its channels.
 pub fn runs_are_fed()
     ensures { RunsAreFed }
 {}
@@ -46,18 +48,18 @@ pub fn objects_are_handed_up()
     ensures { ObjectsAreHandedUp }
 {}
 
-/// And where both hosts' channels on each link are a pair, as they are in each run whose client's channels are steady at rest: where along
+/// And where both hosts' channels on each link are a pair, as they are in each run: where along
 /// the turns of these pairs what came to one host on the channel of the object is a front of what the channel of the other took, each link
 /// comes up where the client wants it, host b is never two turns of its link ahead, and the ports answer as they are asked.
 pub fn paired_servers_serve()
     ensures { PairedServersServe }
 {}
 
-/// So in each run over L2CAP, wherever it broke off, host b serves in order and its inbox gained exactly what the capture spells: where its
-/// client's channels are steady at rest, the channels of the object are pipes along the pairs of both hosts' channels, links come up as the
-/// client wants them and go down in turn for both, the shelf answers as it is asked, and the inbox grants all calls.
-pub fn runs_serve_together()
-    ensures { RunsServeTogether }
+/// In each run, wherever it broke off, the links of both hosts go side by side: the n-th link of host a is the n-th of host b. It comes up where
+/// the client wants it, no push begins on it, host b is never two turns of its link ahead, and on a link of which host a has not heard
+/// nothing comes to it.
+pub fn runs_are_linked()
+    ensures { RunsAreLinked }
 {}
 
 /// On a link where one channel alone carries packets, nothing comes to a server once it was told that this channel is closed.
@@ -68,4 +70,17 @@ pub fn nothing_comes_behind()
 /// Links of a host come up and go down in turn: it hears first that one comes up, then that it goes down, and so on.
 pub fn links_alternate()
     ensures { LinksAlternate }
+{}
+
+/// In each run over L2CAP, wherever it broke off, the channels of the object are pipes along the pair of both hosts' channels on each link: at each
+/// moment the requests that came are a front of those that the client's end of the channel took of its profile, and the responses that came
+/// of those that the server's end took.
+pub fn channels_of_objects_are_pipes()
+    ensures { ChannelsOfObjectsArePipes }
+{}
+
+/// So in each run over L2CAP, wherever it broke off, host b serves in order and its inbox gained exactly what the capture spells: where the
+/// shelf answers as it is asked, and the inbox grants all calls.
+pub fn runs_serve_together()
+    ensures { RunsServeTogether }
 {}

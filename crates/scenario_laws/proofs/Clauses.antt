@@ -28,9 +28,9 @@ ends_so scenario before capture finished came ends transport orderly =
     let ran = finished.ran in
     let content = holding before in
     let stated = outcomes_stated scenario content capture ran in
-    let plain = free_hosts_are_plain hosts_ask scenario content ran.happenings orderly.free orderly.keeps in
+    let plain = free_hosts_are_plain hosts_ask scenario content ran.happenings orderly.keeps in
     record {
-      gained = gains_exactly hosts_ask scenario before capture ran transport (serves-in_order scenario before capture ran transport orderly.free orderly.serves);
+      gained = gains_exactly hosts_ask scenario before capture ran transport (serves-in_order scenario before capture ran transport orderly.serves);
       within_a = buffers_kept scenario content capture A ran;
       within_b = buffers_kept scenario content capture B ran;
       window_a = windows_kept hosts_ask scenario content capture A ran finished.rests plain;

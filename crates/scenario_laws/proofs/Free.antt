@@ -1,8 +1,8 @@
 -- Where both hosts are free wherever a run is at rest, they came gently to what the capture has, and at rest they live through it.
-use Rattle.std.proofs.Common.{◌≡◌, Bool, true, false, List, [], ◌∷◌, ◌++◌, Option, Some, None, refl, sym, ap, ◌∙◌}
+use Rattle.std.proofs.Common.{◌≡◌, Bool, true, false, List, [], ◌∷◌, Option, Some, None, refl, sym, ap, ◌∙◌}
 use Rattle.std.specs.List.{flat_map}
 use Rattle.std.specs.Option.{option_map}
-use Rattle.std.proofs.lemmas.List.{append-nil, append_assoc}
+use Rattle.std.proofs.lemmas.List.{append-nil}
 use Rattle.bt_base.specs.Objects.{Contents}
 use Rattle.push_script.specs.declared.scenario.Scenario.{Scenario}
 use Rattle.push_terms.specs.declared.word.Side.{Side}
@@ -12,7 +12,6 @@ use Rattle.capture.specs.Links.{Link, linking, link_up}
 use Rattle.capture.specs.Moves.{moves}
 use Rattle.capture.specs.Pdus.{Pdu, pdus}
 use Rattle.link_talk.specs.declared.party.Party.{Party}
-use Rattle.turn_laws.specs.Laws.{IsFront}
 use Rattle.world_model.specs.Machines.{Linked, Failed, Heard, TimerFired, Cancelled, Opening}
 use Rattle.world_model.specs.Talks.{Talk}
 use Rattle.world_model.specs.PerLink.{Linkage, linkage, captured}
@@ -30,7 +29,7 @@ use Rattle.host_laws.specs.OverLinks.{is_up_behind}
 use Rattle.host_laws.specs.Seen.{FiresPlainly}
 use Rattle.scenario_laws.specs.Captures.{client_of, server_of, beginning}
 use Rattle.scenario_laws.specs.Coming.{CameUp}
-use Rattle.scenario_laws.specs.Gentle.{IsFreeAct, AreFreeUp, LivesThrough, IsFreeAt, HostsAreFree, RestsAreFree, FreeRunsAreGentle, CameSoAt, FreeRestsAreLived}
+use Rattle.scenario_laws.specs.Gentle.{IsFreeAct, AreFreeUp, LivesThrough, IsFreeAt, HostsAreFree, FreeRunsAreGentle, CameSoAt, FreeRestsAreLived}
 use Rattle.scenario_laws.specs.Parties.{party_of}
 use Rattle.scenario_laws.specs.Plain.{IsPlainAt, KeepsOn, FreeHostsArePlain}
 use Rattle.scenario_laws.proofs.Acting.{Anyhow, IsActSo, AreSo, Acted, ActedSo, SinceSo, since_up}
@@ -86,8 +85,8 @@ rests_hold scenario content happenings free front mid talk_a talk_b is there res
 -- ---- at each moment
 
 pub free_runs_are_gentle : FreeRunsAreGentle
-free_runs_are_gentle scenario content capture ran fires =
-    let free = runs_are_free scenario content ran.happenings fires in
+free_runs_are_gentle scenario content capture ran =
+    let free = runs_are_free scenario content ran.happenings in
     let client = client_profile scenario.settings in
     let server = server_profile scenario.settings content in
     let U = client_of scenario in
@@ -129,8 +128,8 @@ came_so A asks side past false now talk acted known lives free = by (link_up sid
     by (Some link) is = cc
 
 pub free_rests_are_lived : FreeRestsAreLived
-free_rests_are_lived asks scenario content happenings world happened rests fires =
-    let free = runs_are_free scenario content happenings fires in
+free_rests_are_lived asks scenario content happenings world happened rests =
+    let free = runs_are_free scenario content happenings in
     let client = client_profile scenario.settings in
     let server = server_profile scenario.settings content in
     let U = client_of scenario in
@@ -150,24 +149,16 @@ free_rests_are_lived asks scenario content happenings world happened rests fires
 
 -- ---- so they are plain
 
-front_of : {X : Type 0} (one two all : List X) → IsFront one two → IsFront two all → IsFront one all
-front_of one two all (rest, is) (more, so) = (rest ++ more, so ∙ (ap (λ (l : List _). l ++ more) is ∙ append_assoc one rest more))
-
-pub free_front : (scenario : Scenario) (content : Option Contents) (front happenings : List Happening) → IsFront front happenings → RestsAreFree scenario content happenings → RestsAreFree scenario content front
-free_front scenario content front happenings is free = record {
-  a = λ one world before. free.a one world (front_of one front happenings before is);
-}
-
 pub plain_at : {P : Type 0} (A : Profile P) (asks : Asks A) (party : Party) (link : Option Link) (now : Host P) → CameSoAt A asks link now → KeepsOn A asks party link now → IsPlainAt A asks party link now
 plain_at A asks party None now came keeps = tt
 plain_at A asks party (Some link) now came keeps = let on = keeps came in record { came = came.came; so = came.so; keeps_on = on.0; awaits = on.1 }
 
 pub free_hosts_are_plain : FreeHostsArePlain
-free_hosts_are_plain asks scenario content happenings free keeps = record {
+free_hosts_are_plain asks scenario content happenings keeps = record {
   a = λ front world is there rest.
-      let came = free_rests_are_lived asks scenario content front world there rest (free_front scenario content front happenings is free) in
+      let came = free_rests_are_lived asks scenario content front world there rest in
       plain_at (client_profile scenario.settings) (asks.clients scenario.settings) (party_of scenario.settings sides.A) (link_up sides.A (all_entries front)) world.a.upper came.a (keeps.a front world is there rest);
   b = λ front world is there rest.
-      let came = free_rests_are_lived asks scenario content front world there rest (free_front scenario content front happenings is free) in
+      let came = free_rests_are_lived asks scenario content front world there rest in
       plain_at (server_profile scenario.settings content) (asks.servers scenario.settings content) (party_of scenario.settings sides.B) (link_up sides.B (all_entries front)) world.b.upper came.b (keeps.b front world is there rest);
 }

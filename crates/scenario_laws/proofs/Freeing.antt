@@ -22,11 +22,10 @@ use Rattle.host_laws.specs.Calm.{HoldsNothingBack}
 use Rattle.host_laws.specs.Free.{HoldsBackNothing}
 use Rattle.host_laws.specs.Read.{IsActSo}
 use Rattle.host_laws.specs.Seen.{IsOneCommand, FiresPlainly}
-use Rattle.host_laws.proofs.Asking.{hosts_ask}
-use Rattle.host_laws.proofs.Freeing.{hosts_hold_back_nothing, servers_fire_plainly, steady_fires}
+use Rattle.host_laws.proofs.Freeing.{hosts_hold_back_nothing, servers_fire_plainly, clients_fire_plainly}
 use Rattle.scenario_laws.specs.Captures.{BothHosts, Happened, Ran}
 use Rattle.scenario_laws.specs.Coming.{CameOver}
-use Rattle.scenario_laws.specs.Gentle.{IsFreeAt, IsSteadyOn, RunsHoldBackNothing, RunsAreFree}
+use Rattle.scenario_laws.specs.Gentle.{IsFreeAt, IsSteadyOn, RunsHoldBackNothing, RunsRestFree, RunsAreFree}
 use Rattle.scenario_laws.proofs.Coming.{runs_have_talks}
 use Rattle.scenario_laws.proofs.Gentle.{IsTameAct, AreTameLinks, both_tame, heard_tame}
 
@@ -56,12 +55,6 @@ free_at : {P : Type 0} (A : Profile P) (link : Option Link) (now : Host P) → H
 free_at A None now back fires = tt
 free_at A (Some link) now back fires = record { back = back; fires = λ armed. fires armed tt }
 
--- the client fires where it is steady, and the server always
-client_fires : (scenario : Scenario) (capture : List Entry) (link : Option Link) (now : Host ClientProfile) → CameOver (client_profile scenario.settings) sides.A capture now → IsSteadyOn (client_profile scenario.settings) link now
-    → (upper (client_profile scenario.settings)).armed now ≡ true → link_is link → FiresPlainly (client_profile scenario.settings).policy now.channels
-client_fires scenario capture None now came steady armed up = absurd up
-client_fires scenario capture (Some link) now came steady armed up = steady_fires (client_profile scenario.settings) (hosts_ask.clients scenario.settings) came.over.acts now came.over.acting (steady armed)
-
 server_fires : (scenario : Scenario) (content : Option Contents) (capture : List Entry) (now : Host ServerProfile) → AreTameLinks (map pdus (links sides.B capture)) → CameOver (server_profile scenario.settings content) sides.B capture now → FiresPlainly (server_profile scenario.settings content).policy now.channels
 server_fires scenario content capture now tame came =
     servers_fire_plainly scenario.settings content came.over.acts now (all_one came.over.acts (heard_tame (server_profile scenario.settings content) sides.B capture now came tame)) came.over.acting
@@ -88,11 +81,22 @@ server-free_at scenario content front world there =
     free_at (server_profile scenario.settings content) (link_up sides.B past) world.b.upper (runs_hold_back_nothing scenario content front world there).b
     (λ armed up. server_fires scenario content past world.b.upper (both_tame scenario content past ran).b (runs_have_talks scenario content past ran).b)
 
+steady_on : (scenario : Scenario) (capture : List Entry) (link : Option Link) (now : Host ClientProfile) → CameOver (client_profile scenario.settings) sides.A capture now → IsSteadyOn (client_profile scenario.settings) link now
+steady_on scenario capture None now came = tt
+steady_on scenario capture (Some link) now came = λ armed empty. clients_fire_plainly.steady scenario.settings came.over.acts now came.over.acting empty
+
+pub rests_are_free : RunsRestFree
+rests_are_free scenario content happenings = record {
+  a = λ front world is there rest.
+      let past = all_entries front in steady_on scenario past (link_up sides.A past) world.a.upper (runs_have_talks scenario content past (ran_so scenario content front world there)).a;
+}
+
 pub runs_are_free : RunsAreFree
-runs_are_free scenario content happenings steady = record {
+runs_are_free scenario content happenings = record {
   a = λ front world is there rest.
       let past = all_entries front in
       let came = (runs_have_talks scenario content past (ran_so scenario content front world there)).a in
-      free_at (client_profile scenario.settings) (link_up sides.A past) world.a.upper (runs_hold_back_nothing scenario content front world there).a (client_fires scenario past (link_up sides.A past) world.a.upper came (steady.a front world is there rest));
+      free_at (client_profile scenario.settings) (link_up sides.A past) world.a.upper (runs_hold_back_nothing scenario content front world there).a
+      (λ armed up. clients_fire_plainly.fires scenario.settings came.over.acts world.a.upper came.over.acting);
   b = λ front world is there rest. server-free_at scenario content front world there;
 }

@@ -41,7 +41,7 @@ use Rattle.scenario_laws.specs.Plain.{IsPlainAt, KeepsOn}
 use Rattle.scenario_laws.proofs.Acting.{Anyhow, ActedSo, Acted, SinceSo, since_up}
 use Rattle.scenario_laws.proofs.Both.{AreReady, idle_acted, both_acted}
 use Rattle.scenario_laws.proofs.Carrying.{carried, carried_so}
-use Rattle.scenario_laws.proofs.Free.{free_where, free_acts, rests_hold, free_rests_are_lived, free_front, plain_at}
+use Rattle.scenario_laws.proofs.Free.{free_where, free_acts, rests_hold, free_rests_are_lived, plain_at}
 use Rattle.scenario_laws.proofs.Gentle.{client_woven}
 use Rattle.scenario_laws.proofs.Freeing.{runs_are_free}
 use Rattle.scenario_laws.proofs.Fronts.{fits}
@@ -81,9 +81,9 @@ server_keeps asks scenario content front world there rest sends free =
     (λ on. (idle.idle_b.said_all on).none_next) (λ on. idle.calm.no_fall_b (sym (idle_linked V _ _ idle.idle_b both.1.b) ∙ on))
 
 pub free_servers_keep_on : FreeServersKeepOn
-free_servers_keep_on asks scenario content happenings free sends clients = record {
+free_servers_keep_on asks scenario content happenings sends clients = record {
   a = clients;
-  b = λ front world is there rest. server_keeps asks scenario content front world there rest sends ((runs_are_free scenario content happenings free).b front world is there rest);
+  b = λ front world is there rest. server_keeps asks scenario content front world there rest sends ((runs_are_free scenario content happenings).b front world is there rest);
 }
 
 -- ---- the client
@@ -115,12 +115,12 @@ as_quiet : (v w : Channels) → v ≡ w → v.events ≡ [] → w.events ≡ []
 as_quiet v w same none = ap (λ (x : Channels). x.events) (sym same) ∙ none
 
 pub pushes_are_plain : PushesArePlain
-pushes_are_plain asks scenario content happenings free sends goes awaits = record {
+pushes_are_plain asks scenario content happenings sends goes awaits = record {
   a = client;
   b = λ front world is there rest.
-      let came = free_rests_are_lived asks scenario content front world there rest (free_front scenario content front happenings is free) in
+      let came = free_rests_are_lived asks scenario content front world there rest in
       plain_at (server_profile scenario.settings content) (asks.servers scenario.settings content) (party_of scenario.settings sides.B) (link_up sides.B (all_entries front)) world.b.upper came.b
-      (server_keeps asks scenario content front world there rest sends ((runs_are_free scenario content happenings free).b front world is there rest));
+      (server_keeps asks scenario content front world there rest sends ((runs_are_free scenario content happenings).b front world is there rest));
 }
   where
     client : (front : List Happening) (world : BothHosts) → IsFront front happenings → Happened scenario content front world → IsAtRest (client_of scenario) (server_of scenario content) world
@@ -137,11 +137,10 @@ pushes_are_plain asks scenario content happenings free sends goes awaits = recor
             let V = server_of scenario content in
             let W = free_where A in
             let X = free_where (server_profile scenario.settings content) in
-            let early = free_front scenario content front happenings is free in
-            let all = carried_so U V (AreReady U V W X) scenario.acl_length scenario.acl_count scenario.names front world (fits scenario content) there (rests_hold scenario content front (runs_are_free scenario content front early)) in
+            let all = carried_so U V (AreReady U V W X) scenario.acl_length scenario.acl_count scenario.names front world (fits scenario content) there (rests_hold scenario content front (runs_are_free scenario content front)) in
             let both = (both_acted U V W X scenario.acl_length scenario.names all.doings _ all.so).0 in
             let idle = all.rests rest in
-            let now = free_at A link (link_up sides.A (all_entries front)) world.a.upper up ((runs_are_free scenario content happenings free).a front world is there rest) in
+            let now = free_at A link (link_up sides.A (all_entries front)) world.a.upper up ((runs_are_free scenario content happenings).a front world is there rest) in
             let (came, on) = came_free A sides.A (all_entries front) world.radio.a.up world.a.upper all.talk_a (idle_acted U W _ idle.idle_a both.a) all.links_a link up now in
             let lived = client_woven asks scenario content front world there rest on link up came.came came.free in
             let lives = lived.so.lives in

@@ -31,3 +31,4 @@ pub mod FreeServers
 pub mod Keeping
 pub mod Broken
 pub mod Onward
+pub mod FreeClients

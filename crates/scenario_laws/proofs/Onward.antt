@@ -34,14 +34,14 @@ use Rattle.world_model.specs.Worlds.{all_entries}
 use Rattle.host_model.specs.Circumstances.{Circumstance, size_in}
 use Rattle.host_model.specs.Hosts.{Host, most_steps, hears_news as host_hears, ready, hear, tells_events, with_channels, next}
 use Rattle.host_model.specs.Clients as clients
-use Rattle.host_model.specs.Clients.{Bid, NoBid, Paging, Parting, is_paging, is_parting, ClientProfile, client_profile, after_call, calls, ended}
+use Rattle.host_model.specs.Clients.{Bid, NoBid, Paging, is_paging, is_at_end, ClientProfile, client_profile, after_call, calls, ended}
 use Rattle.host_model.specs.Machines.{client_host}
 use Rattle.host_model.proofs.Keeping.{drives_on, hears_on, goes_next}
 use Rattle.host_laws.specs.Leaving.{is_off}
 use Rattle.host_laws.specs.Onward.{Befits, IsOfPush}
 use Rattle.host_laws.proofs.OnwardSteps.{StepSo, steps_so, IsSo, ended_stays, keeps_so, learns_so}
 use Rattle.scenario_laws.specs.Captures.{client_of, server_of}
-use Rattle.scenario_laws.specs.Onward.{AskedPushesArePlain, PushesGoOnward}
+use Rattle.scenario_laws.specs.Onward.{AwaitingPushesArePlain, PushesGoOnward}
 use Rattle.scenario_laws.proofs.Acting.{Anyhow, Acted}
 use Rattle.scenario_laws.proofs.Both.{idle_acted, both_acted}
 use Rattle.scenario_laws.proofs.Carrying.{carried}
@@ -55,7 +55,6 @@ use Rattle.scenario_laws.proofs.UnlinkedClients.{clients_keep}
 -- where a link is asked for, its push waits for it
 paged_at : (stage : Stage) (bid : Bid) → Befits stage bid → is_paging bid ≡ true → stage ≡ Paged Asked
 paged_at (Paged Asked) bid so on = refl
-paged_at (LinkEnd Asked) bid so on = let never : false ≡ true = sym (ap is_paging so) ∙ on in cc
 paged_at Rest bid so on = let never : false ≡ true = sym so ∙ on in cc
 paged_at (Paged Due) bid so on = let never : false ≡ true = sym so ∙ on in cc
 paged_at (SearchChannel point) bid so on = let never : false ≡ true = sym so ∙ on in cc
@@ -65,7 +64,7 @@ paged_at (Features point) bid so on = let never : false ≡ true = sym so ∙ on
 paged_at (ObjectChannel point) bid so on = let never : false ≡ true = sym so ∙ on in cc
 paged_at Object bid so on = let never : false ≡ true = sym so ∙ on in cc
 paged_at (ObjectEnd point) bid so on = let never : false ≡ true = sym so ∙ on in cc
-paged_at (LinkEnd Due) bid so on = let never : false ≡ true = sym so ∙ on in cc
+paged_at (LinkEnd point) bid so on = let never : false ≡ true = sym so ∙ on in cc
 paged_at Over bid so on = let never : false ≡ true = sym so ∙ on in cc
 
 -- without a link it asks for nothing that does not suit it
@@ -291,22 +290,21 @@ module _ (settings : Settings) where
 -- ---- at rest
 
 -- it does not end its link
-stays_on : (settings : Settings) (now : Host ClientProfile) → next_given now.channels ≡ None → (client_host settings).leaves_link now ≡ false → is_parting now.profile.bid ≡ false
-stays_on settings now none stays = sym (ap (λ b. not b && is_parting now.profile.bid) (ap (λ g. nat_lt 0 now.may_say && is_some g) none ∙ and_off (nat_lt 0 now.may_say))) ∙ stays
+stays_on : (settings : Settings) (now : Host ClientProfile) → next_given now.channels ≡ None → (client_host settings).leaves_link now ≡ false → is_at_end now.profile.client.stage ≡ false
+stays_on settings now none stays = sym (ap (λ b. not b && is_at_end now.profile.client.stage) (ap (λ g. nat_lt 0 now.may_say && is_some g) none ∙ and_off (nat_lt 0 now.may_say))) ∙ stays
 
-goes_on : (stage : Stage) (bid : Bid) → Befits stage bid → is_linked stage ≡ true → is_parting bid ≡ false → stage ≢ LinkEnd Due → is_off stage ≡ false
-goes_on Rest bid suits linked stays asked = cc
-goes_on (Paged point) bid suits linked stays asked = cc
-goes_on (SearchChannel point) bid suits linked stays asked = refl
-goes_on Search bid suits linked stays asked = refl
-goes_on (SearchEnd point) bid suits linked stays asked = refl
-goes_on (Features point) bid suits linked stays asked = refl
-goes_on (ObjectChannel point) bid suits linked stays asked = refl
-goes_on Object bid suits linked stays asked = refl
-goes_on (ObjectEnd point) bid suits linked stays asked = refl
-goes_on (LinkEnd Due) bid suits linked stays asked = absurd (asked refl)
-goes_on (LinkEnd Asked) bid suits linked stays asked = let never : true ≡ false = sym (ap is_parting suits) ∙ stays in cc
-goes_on Over bid suits linked stays asked = cc
+goes_on : (stage : Stage) → is_linked stage ≡ true → is_at_end stage ≡ false → is_off stage ≡ false
+goes_on Rest linked stays = cc
+goes_on (Paged point) linked stays = cc
+goes_on (SearchChannel point) linked stays = refl
+goes_on Search linked stays = refl
+goes_on (SearchEnd point) linked stays = refl
+goes_on (Features point) linked stays = refl
+goes_on (ObjectChannel point) linked stays = refl
+goes_on Object linked stays = refl
+goes_on (ObjectEnd point) linked stays = refl
+goes_on (LinkEnd point) linked stays = cc
+goes_on Over linked stays = cc
 
 -- it knows of the link that is up
 told_of : {S G : Type 0} (V : Upper S G) (past : List Entry) (linked : Bool) (now : S) (talk : List Talk) → Acted V linked now [] talk → linkage talk ≡ captured sides.A past → (link : Link) → link_up sides.A past ≡ Some link → linked ≡ true
@@ -317,7 +315,7 @@ told_of V past false now talk acted known link is =
     cc
 
 pub pushes_go_onward : PushesGoOnward
-pushes_go_onward scenario content happenings asked front world link is there rest up =
+pushes_go_onward scenario content happenings front world link is there rest up =
     let U = client_of scenario in
     let V = server_of scenario content in
     let now = world.a.upper in
@@ -328,7 +326,7 @@ pushes_go_onward scenario content happenings asked front world link is there res
     let onto = all_onto scenario.settings V scenario.acl_length scenario.names all.doings _ all.carries in
     let none = (runs_hold_back_nothing scenario content front world there).a ((idle.idle_a.said_all linked).none_next) in
     let stays = stays_on scenario.settings now none (idle.calm.no_fall_a (sym (idle_linked U _ _ idle.idle_a both.1.a) ∙ linked)) in
-    goes_on now.profile.client.stage now.profile.bid onto.so.suits (onto.so.linked linked) stays (asked front world link is there rest up)
+    goes_on now.profile.client.stage (onto.so.linked linked) stays
 
-pub asked_pushes_are_plain : AskedPushesArePlain
-asked_pushes_are_plain asks scenario content happenings free sends asked awaits = pushes_are_plain asks scenario content happenings free sends (pushes_go_onward scenario content happenings asked) awaits
+pub awaiting_pushes_are_plain : AwaitingPushesArePlain
+awaiting_pushes_are_plain asks scenario content happenings sends awaits = pushes_are_plain asks scenario content happenings sends (pushes_go_onward scenario content happenings) awaits

@@ -49,7 +49,6 @@ use Rattle.host_laws.proofs.Seeking.{out-calls}
 use Rattle.scenario_laws.specs.Captures.{client_of, server_of, Ran}
 use Rattle.scenario_laws.specs.Coming.{out_of, FallTo}
 use Rattle.scenario_laws.specs.Gains.{holding, asked_by, OrderlyServer}
-use Rattle.scenario_laws.specs.Gentle.{RestsAreFree}
 use Rattle.scenario_laws.specs.Orderly.{AsksOnce, ClientsAskOnce, ServersAreAskedOnce, HostsLiveOverLinks, ServesSo, ServersAreOrderly}
 use Rattle.scenario_laws.specs.Reaching.{calls_by, heard_of, said_of, turn_of, turns, at_turn}
 use Rattle.scenario_laws.proofs.Both.{AreReady, both_acted}
@@ -487,7 +486,7 @@ clients-ask_once scenario content capture ran came direct free =
     asked_once scenario.settings came.talk ran.world.a.upper came.over direct ((hosts_are_gentle scenario content capture ran).a came free)
 
 pub servers-are_asked_once : ServersAreAskedOnce
-servers-are_asked_once scenario content capture ran direct free =
+servers-are_asked_once scenario content capture ran direct =
     let client = client_profile scenario.settings in
     let server = server_profile scenario.settings content in
     let U = client_of scenario in
@@ -495,7 +494,7 @@ servers-are_asked_once scenario content capture ran direct free =
     let W = free_where client in
     let X = free_where server in
     let past = all_entries ran.happenings in
-    let all = carried_so U V (AreReady U V W X) scenario.acl_length scenario.acl_count scenario.names ran.happenings ran.world (fits scenario content) ran.happened (rests_hold scenario content ran.happenings (runs_are_free scenario content ran.happenings free)) in
+    let all = carried_so U V (AreReady U V W X) scenario.acl_length scenario.acl_count scenario.names ran.happenings ran.world (fits scenario content) ran.happened (rests_hold scenario content ran.happenings (runs_are_free scenario content ran.happenings)) in
     let acted = (both_acted U V W X scenario.acl_length scenario.names all.doings _ all.so).0 in
     let same : (side : Side) → linking (moves side capture) ≡ linking (moves side past) = λ side. ap (λ (es : List Entry). linking (moves side es)) ran.capture_is ∙ ended_all side ran.world.pushes past ran.ends ran.last in
     let one = host-tames client IsLowClient (client-keeps scenario.settings) in
@@ -513,10 +512,10 @@ servers-are_asked_once scenario content capture ran direct free =
 
 -- ---- host b serves in order
 
-pub serves-in_order : (scenario : Scenario) (before : List Object) (capture : List Entry) (ran : Ran scenario (holding before) capture) → scenario.settings.transport ≡ L2cap → RestsAreFree scenario (holding before) ran.happenings
+pub serves-in_order : (scenario : Scenario) (before : List Object) (capture : List Entry) (ran : Ran scenario (holding before) capture) → scenario.settings.transport ≡ L2cap
     → ServesSo hosts_ask scenario.settings before capture ran.world.b.upper → OrderlyServer hosts_ask scenario.settings before capture ran.world.b.upper
-serves-in_order scenario before capture ran direct free serves =
-    let asked = servers-are_asked_once scenario (holding before) capture ran direct free in
+serves-in_order scenario before capture ran direct serves =
+    let asked = servers-are_asked_once scenario (holding before) capture ran direct in
     let sought = parts_asked (parts serves.came.talk) (map pdus (links sides.B capture)) serves.came.fall (asked_talks (links sides.B capture) asked) in
     let order = servers-are_served_in_order scenario.settings (holding before) (asked_by hosts_ask scenario.settings before) serves.came.talk ran.world.b.upper serves.so (asks-nothing scenario.settings (holding before)) sought serves.whole in
     record {

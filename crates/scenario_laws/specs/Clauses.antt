@@ -19,17 +19,15 @@ use Rattle.scenario_laws.specs.Accounts.{KeepsWindow}
 use Rattle.scenario_laws.specs.Air.{hosts_of}
 use Rattle.scenario_laws.specs.Captures.{Ran, Finished}
 use Rattle.scenario_laws.specs.Gains.{holding}
-use Rattle.scenario_laws.specs.Gentle.{RestsAreFree}
 use Rattle.scenario_laws.specs.Orderly.{ServesSo}
 use Rattle.scenario_laws.specs.Outcomes.{outcomes_of}
 use Rattle.scenario_laws.specs.Parties.{party_of}
 use Rattle.scenario_laws.specs.Plain.{RestsKeepOn}
 
--- All that is asked of both hosts in a run: the client's channels are steady where it is at rest, and there no request was given up and each profile
+-- All that is asked of both hosts in a run: where it is at rest no request was given up and each profile
 -- waits for services as its own talk says; and of host b, that no call of its inbox fails, no request is ignored, and all that comes on its
 -- channels is handed up.
 pub record Orderly (asks : HostsAsk) (scenario : Scenario) (before : List Object) (capture : List Entry) (ran : Ran scenario (holding before) capture) : Type 0 where
-  pub free : RestsAreFree scenario (holding before) ran.happenings
   pub keeps : RestsKeepOn asks scenario (holding before) ran.happenings
   pub serves : ServesSo asks scenario.settings before capture ran.world.b.upper
 

@@ -125,20 +125,23 @@ pub record BothHoldBackNothing (scenario : Scenario) (content : Option Contents)
 abbrev pub RunsHoldBackNothing : Type 0
 RunsHoldBackNothing = (scenario : Scenario) (content : Option Contents) (happenings : List Happening) (world : BothHosts) → Happened scenario content happenings world → BothHoldBackNothing scenario content world
 
--- On the link that is up, if there is one: where its timer is armed, each channel whose end was asked for as often as may be asks for its
--- options no more often.
+-- On the link that is up, if there is one: where its timer is armed and no command waits, each channel whose end was asked for as often as may be
+-- asks for its options no more often.
 abbrev pub IsSteadyOn : {P : Type 0} → Profile P → Option Link → Host P → Type 0
 IsSteadyOn A None now = Unit {0}
-IsSteadyOn A (Some link) now = (upper A).armed now ≡ true → IsSteady A.policy.tries now.channels
+IsSteadyOn A (Some link) now = (upper A).armed now ≡ true → now.channels.queue ≡ [] → IsSteady A.policy.tries now.channels
 
--- This is asked of a run: host a is so wherever it is at rest on its way.
+-- host a is so wherever a run is at rest on its way
 pub record RestsAreFree (scenario : Scenario) (content : Option Contents) (happenings : List Happening) : Type 0 where
   pub a : (front : List Happening) (world : BothHosts) → IsFront front happenings → Happened scenario content front world → IsAtRest (client_of scenario) (server_of scenario content) world
       → IsSteadyOn (client_profile scenario.settings) (link_up sides.A (all_entries front)) world.a.upper
 
--- All else holds of every run: so both hosts are free.
+-- So it is of every run, and both hosts are free.
+abbrev pub RunsRestFree : Type 0
+RunsRestFree = (scenario : Scenario) (content : Option Contents) (happenings : List Happening) → RestsAreFree scenario content happenings
+
 abbrev pub RunsAreFree : Type 0
-RunsAreFree = (scenario : Scenario) (content : Option Contents) (happenings : List Happening) → RestsAreFree scenario content happenings → HostsAreFree scenario content happenings
+RunsAreFree = (scenario : Scenario) (content : Option Contents) (happenings : List Happening) → HostsAreFree scenario content happenings
 
 -- Then each host came gently to what the capture has of its links, at each moment.
 pub record CameGently {P : Type 0} (A : Profile P) (side : Side) (capture : List Entry) (now : Host P) : Type 0 where
@@ -150,7 +153,7 @@ pub record BothCameGently (scenario : Scenario) (content : Option Contents) (cap
   pub b : CameGently (server_profile scenario.settings content) sides.B capture ran.world.b.upper
 
 abbrev pub FreeRunsAreGentle : Type 0
-FreeRunsAreGentle = (scenario : Scenario) (content : Option Contents) (capture : List Entry) (ran : Ran scenario content capture) → RestsAreFree scenario content ran.happenings → BothCameGently scenario content capture ran
+FreeRunsAreGentle = (scenario : Scenario) (content : Option Contents) (capture : List Entry) (ran : Ran scenario content capture) → BothCameGently scenario content capture ran
 
 -- And where it is at rest, each came to what moved on the link that is up, and lives so that what its channels said and heard is that.
 pub record CameSo {P : Type 0} (A : Profile P) (asks : Asks A) (moved : List Pdu) (now : Host P) : Type 0 where
@@ -167,4 +170,4 @@ pub record BothCameSo (asks : HostsAsk) (scenario : Scenario) (content : Option 
 
 abbrev pub FreeRestsAreLived : Type 0
 FreeRestsAreLived = (asks : HostsAsk) (scenario : Scenario) (content : Option Contents) (happenings : List Happening) (world : BothHosts) → Happened scenario content happenings world → IsAtRest (client_of scenario) (server_of scenario content) world
-    → RestsAreFree scenario content happenings → BothCameSo asks scenario content (all_entries happenings) world
+    → BothCameSo asks scenario content (all_entries happenings) world

@@ -14,7 +14,7 @@ use Rattle.host_laws.specs.Calls.{HostsAsk}
 use Rattle.host_laws.specs.Keeping.{SendsAsItLends}
 use Rattle.host_laws.specs.Leaving.{is_off}
 use Rattle.scenario_laws.specs.Captures.{client_of, server_of, BothHosts, Happened}
-use Rattle.scenario_laws.specs.Gentle.{RestsAreFree, CameSo}
+use Rattle.scenario_laws.specs.Gentle.{CameSo}
 use Rattle.scenario_laws.specs.Parties.{party_of}
 use Rattle.scenario_laws.specs.Plain.{ArePlain, KeepsOn, RestsKeepOn}
 
@@ -24,10 +24,10 @@ ClientsKeepOn asks scenario content happenings =
     (front : List Happening) (world : BothHosts) → IsFront front happenings → Happened scenario content front world → IsAtRest (client_of scenario) (server_of scenario content) world
     → KeepsOn (client_profile scenario.settings) (asks.clients scenario.settings) (party_of scenario.settings sides.A) (link_up sides.A (all_entries front)) world.a.upper
 
--- Where the client's channels are steady at rest, the server gives up no request while its link goes on, and waits for no services: so
--- what is asked of both hosts is asked of the client alone.
+-- The server gives up no request while its link goes on, and waits for no services: so what is asked of both hosts is asked of the client
+-- alone.
 abbrev pub FreeServersKeepOn : Type 0
-FreeServersKeepOn = (asks : HostsAsk) (scenario : Scenario) (content : Option Contents) (happenings : List Happening) → RestsAreFree scenario content happenings → SendsAsItLends scenario.settings content (asks.servers scenario.settings content)
+FreeServersKeepOn = (asks : HostsAsk) (scenario : Scenario) (content : Option Contents) (happenings : List Happening) → SendsAsItLends scenario.settings content (asks.servers scenario.settings content)
     → ClientsKeepOn asks scenario content happenings → RestsKeepOn asks scenario content happenings
 
 -- ---- the client
@@ -44,7 +44,7 @@ ClientsAwait asks scenario content happenings =
     (front : List Happening) (world : BothHosts) (link : Link) → IsFront front happenings → Happened scenario content front world → IsAtRest (client_of scenario) (server_of scenario content) world → link_up sides.A (all_entries front) ≡ Some link
     → (came : CameSo (client_profile scenario.settings) (asks.clients scenario.settings) (pdus link) world.a.upper) → AwaitsServices (client_profile scenario.settings) (party_of scenario.settings sides.A) world.a.upper came.so.lives.now
 
--- Then both hosts are plain where the run is free at rest: neither gave up a request.
+-- Then both hosts are plain: neither gave up a request.
 abbrev pub PushesArePlain : Type 0
-PushesArePlain = (asks : HostsAsk) (scenario : Scenario) (content : Option Contents) (happenings : List Happening) → RestsAreFree scenario content happenings → SendsAsItLends scenario.settings content (asks.servers scenario.settings content)
+PushesArePlain = (asks : HostsAsk) (scenario : Scenario) (content : Option Contents) (happenings : List Happening) → SendsAsItLends scenario.settings content (asks.servers scenario.settings content)
     → PushesGoOn scenario content happenings → ClientsAwait asks scenario content happenings → ArePlain asks scenario content happenings

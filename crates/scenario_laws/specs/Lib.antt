@@ -16,3 +16,4 @@ pub mod FreeServers
 pub mod Keeping
 pub mod Broken
 pub mod Onward
+pub mod FreeClients

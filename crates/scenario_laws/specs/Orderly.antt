@@ -25,7 +25,7 @@ use Rattle.host_laws.specs.Lives.{on_links}
 use Rattle.host_laws.specs.OverLinks.{parts, moved_in, talk_marks, TalksOverLinks}
 use Rattle.scenario_laws.specs.Captures.{Ran}
 use Rattle.scenario_laws.specs.Coming.{CameOver}
-use Rattle.scenario_laws.specs.Gentle.{AreFreeUp, RestsAreFree}
+use Rattle.scenario_laws.specs.Gentle.{AreFreeUp}
 use Rattle.scenario_laws.specs.Gains.{holding, serving, asked_by, all_served, OrderlyServer}
 
 -- ---- requests for channels
@@ -39,9 +39,9 @@ abbrev pub ClientsAskOnce : Type 0
 ClientsAskOnce = (scenario : Scenario) (content : Option Contents) (capture : List Entry) (ran : Ran scenario content capture) (came : CameOver (client_profile scenario.settings) sides.A capture ran.world.a.upper)
     → scenario.settings.transport ≡ L2cap → AreFreeUp (client_profile scenario.settings) false came.over.acts (first_host (client_profile scenario.settings)) → AsksOnce came.talk
 
--- So it comes to host b on each link of the capture, whatever the air left out and repeated, where the client's channels are steady at rest.
+-- So it comes to host b on each link of the capture, whatever the air left out and repeated.
 abbrev pub ServersAreAskedOnce : Type 0
-ServersAreAskedOnce = (scenario : Scenario) (content : Option Contents) (capture : List Entry) (ran : Ran scenario content capture) → scenario.settings.transport ≡ L2cap → RestsAreFree scenario content ran.happenings → AllByRecursion AsksForOneObject (talks sides.B capture)
+ServersAreAskedOnce = (scenario : Scenario) (content : Option Contents) (capture : List Entry) (ran : Ran scenario content capture) → scenario.settings.transport ≡ L2cap → AllByRecursion AsksForOneObject (talks sides.B capture)
 
 -- ---- how both live
 
@@ -68,9 +68,8 @@ pub record ServesSo (asks : HostsAsk) (settings : Settings) (before : List Objec
 
 -- ---- the law
 
--- At each moment of each run over L2CAP, wherever it broke off, host b serves in order, where the client's channels are steady at rest: it asks for no
--- channel, its client gives each of its endpoints to one channel, one channel carries packets on each link, and nothing comes over RFCOMM.
+-- At each moment of each run over L2CAP, wherever it broke off, host b serves in order: it asks for no channel, its client gives each of its endpoints to one channel, one channel carries packets on each link, and nothing comes over RFCOMM.
 pub record ServersAreOrderly : Type 0 where
   pub asks : HostsAsk
-  pub orderly : (scenario : Scenario) (before : List Object) (capture : List Entry) (ran : Ran scenario (holding before) capture) → scenario.settings.transport ≡ L2cap → RestsAreFree scenario (holding before) ran.happenings
+  pub orderly : (scenario : Scenario) (before : List Object) (capture : List Entry) (ran : Ran scenario (holding before) capture) → scenario.settings.transport ≡ L2cap
       → ServesSo asks scenario.settings before capture ran.world.b.upper → OrderlyServer asks scenario.settings before capture ran.world.b.upper

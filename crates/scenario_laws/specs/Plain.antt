@@ -23,7 +23,7 @@ use Rattle.host_laws.specs.Calm.{TalksSo}
 use Rattle.host_laws.specs.Seen.{spoken_of}
 use Rattle.scenario_laws.specs.Captures.{client_of, server_of, BothHosts, Happened}
 use Rattle.scenario_laws.specs.Coming.{CameUp}
-use Rattle.scenario_laws.specs.Gentle.{RestsAreFree, CameSo}
+use Rattle.scenario_laws.specs.Gentle.{CameSo}
 use Rattle.scenario_laws.specs.Parties.{party_of}
 
 -- A host waits for its timer, and looks for check words, where this talk says so.
@@ -67,6 +67,6 @@ pub record RestsKeepOn (asks : HostsAsk) (scenario : Scenario) (content : Option
   pub b : (front : List Happening) (world : BothHosts) → IsFront front happenings → Happened scenario content front world → IsAtRest (client_of scenario) (server_of scenario content) world
       → KeepsOn (server_profile scenario.settings content) (asks.servers scenario.settings content) (party_of scenario.settings sides.B) (link_up sides.B (all_entries front)) world.b.upper
 
--- Then both hosts are plain: all else is so of every run that is free at rest.
+-- Then both hosts are plain: all else is so of every run.
 abbrev pub FreeHostsArePlain : Type 0
-FreeHostsArePlain = (asks : HostsAsk) (scenario : Scenario) (content : Option Contents) (happenings : List Happening) → RestsAreFree scenario content happenings → RestsKeepOn asks scenario content happenings → ArePlain asks scenario content happenings
+FreeHostsArePlain = (asks : HostsAsk) (scenario : Scenario) (content : Option Contents) (happenings : List Happening) → RestsKeepOn asks scenario content happenings → ArePlain asks scenario content happenings

@@ -9,12 +9,13 @@ ghost use Rattle.scenario_laws.specs.Captures.{FrontsRan};
 ghost use Rattle.scenario_laws.specs.Clauses.{ScenariosEnd};
 ghost use Rattle.scenario_laws.specs.Coming.{RestsHaveTalks, RunsHaveTalks};
 ghost use Rattle.scenario_laws.specs.Early.{BrokenGoesOn, EarlyEndsGain, FrontsSpellFronts};
+ghost use Rattle.scenario_laws.specs.FreeClients.{ClientsAreFree, ClientsLiveOverLinks};
 ghost use Rattle.scenario_laws.specs.FreeServers.{ServersAreFree, ServersLiveOverLinks, ServersRestSo, ServersServeSo};
-ghost use Rattle.scenario_laws.specs.Gentle.{FreeRestsAreLived, FreeRunsAreGentle, HostsAreGentle, PdusHaveOneCommand, RestsAreLived, RunsAreFree, RunsHoldBackNothing};
+ghost use Rattle.scenario_laws.specs.Gentle.{FreeRestsAreLived, FreeRunsAreGentle, HostsAreGentle, PdusHaveOneCommand, RestsAreLived, RunsAreFree, RunsHoldBackNothing, RunsRestFree};
 ghost use Rattle.scenario_laws.specs.Gains.{FirstServersAreOrderly, GainsExactly, GainsOverEither};
 ghost use Rattle.scenario_laws.specs.Orderly.{ClientsAskOnce, HostsLiveOverLinks, ServersAreAskedOnce, ServersAreOrderly};
 ghost use Rattle.scenario_laws.specs.Keeping.{FreeServersKeepOn, PushesArePlain};
-ghost use Rattle.scenario_laws.specs.Onward.{AskedPushesArePlain, PushesGoOnward};
+ghost use Rattle.scenario_laws.specs.Onward.{AwaitingPushesArePlain, PushesGoOnward};
 ghost use Rattle.scenario_laws.specs.Outcomes.{OutcomesAreStated};
 ghost use Rattle.scenario_laws.specs.Plain.{FreeHostsArePlain};
 ghost use Rattle.scenario_laws.specs.Played.{CallsArePlayed, PlaysAreFinished, SetHostsAreHosts};
@@ -105,13 +106,17 @@ pub fn runs_hold_back_nothing()
     ensures { RunsHoldBackNothing }
 {}
 
-/// So both hosts are free wherever a run is at rest, where host a's channels are steady there: none whose end was asked for as often as may be
-/// asks for its options more often.
+/// Wherever a run is at rest host a's channels are steady: none whose end was asked for as often as may be asks for its options more often.
+pub fn rests_are_free()
+    ensures { RunsRestFree }
+{}
+
+/// So both hosts are free wherever a run is at rest.
 pub fn runs_are_free()
     ensures { RunsAreFree }
 {}
 
-/// Where host a's channels are steady wherever a run is at rest, both hosts came gently to what the capture has of their links.
+/// Both hosts of a run came gently to what the capture has of their links.
 pub fn free_runs_are_gentle()
     ensures { FreeRunsAreGentle }
 {}
@@ -121,7 +126,7 @@ pub fn free_rests_are_lived()
     ensures { FreeRestsAreLived }
 {}
 
-/// So both hosts are plain wherever such a run is at rest, where neither gave up a request and each profile waits for services as its own
+/// So both hosts are plain wherever a run is at rest, where neither gave up a request and each profile waits for services as its own
 /// talk says.
 pub fn free_hosts_are_plain()
     ensures { FreeHostsArePlain }
@@ -144,13 +149,12 @@ pub fn clients_ask_once()
     ensures { ClientsAskOnce }
 {}
 
-/// So it comes to host b, whatever the air left out and repeated, where the client's channels are steady wherever the run is at rest.
+/// So it comes to host b, whatever the air left out and repeated.
 pub fn servers_are_asked_once()
     ensures { ServersAreAskedOnce }
 {}
 
-/// At each moment of each run over L2CAP host b serves in order, where the client's channels are steady at rest, no call of its inbox fails, no request
-/// is ignored and all that comes on its channels is handed up.
+/// At each moment of each run over L2CAP host b serves in order, where no call of its inbox fails, no request is ignored and all that comes on its channels is handed up.
 pub fn servers_are_orderly()
     ensures { ServersAreOrderly }
 {}
@@ -210,6 +214,16 @@ pub fn servers_live_over_links()
     ensures { ServersLiveOverLinks }
 {}
 
+/// Nor was anything held back in host a, however it came to what the capture has, and its firings too said what waits behind them.
+pub fn clients_are_free()
+    ensures { ClientsAreFree }
+{}
+
+/// So host a of every run lives through its talk in the same way.
+pub fn clients_live_over_links()
+    ensures { ClientsLiveOverLinks }
+{}
+
 /// Wherever a run is at rest, host b came by a talk to what moved on the link that is up, and lives so that what its channels said and heard
 /// is that, but for what it gave up.
 pub fn servers_rest_so()
@@ -222,13 +236,12 @@ pub fn servers_serve_so()
     ensures { ServersServeSo }
 {}
 
-/// Where the client's channels are steady at rest, the server gives up no request while its link goes on, and waits for no services: what
-/// is asked of both hosts so that they are plain is asked of the client alone.
+/// The server of a run gives up no request while its link goes on, and waits for no services: what is asked of both hosts so that they are plain is asked of the client alone.
 pub fn free_servers_keep_on()
     ensures { FreeServersKeepOn }
 {}
 
-/// Where a run is free at rest, and there a push of host a goes on over each link that is up, neither host gave up a request: so both are plain, where the
+/// Where a push of host a goes on over each link that is up at rest, neither host gave up a request: so both are plain, where the
 /// profile of host a waits for services as its own talk says.
 pub fn pushes_are_plain()
     ensures { PushesArePlain }
@@ -246,14 +259,13 @@ pub fn crowds_are_told()
     ensures { CrowdsAreTold }
 {}
 
-/// A link comes up only for a push of host a that waits for it: wherever a run is at rest with a link up, a push goes on over it, where host a has asked
-/// for the end of its link wherever nothing else is left to its push.
+/// A link comes up only for a push of host a that waits for it, and host a ends it where nothing else is left to its push: wherever a run is at rest with
+/// a link up, a push goes on over it.
 pub fn pushes_go_onward()
     ensures { PushesGoOnward }
 {}
 
-/// So both hosts are plain where a run is free at rest, where host a has asked there for the end of its link wherever nothing else is left to its push,
-/// and its profile waits for services as its own talk says.
-pub fn asked_pushes_are_plain()
-    ensures { AskedPushesArePlain }
+/// So both hosts are plain where the profile of host a waits at rest for services as its own talk says.
+pub fn awaiting_pushes_are_plain()
+    ensures { AwaitingPushesArePlain }
 {}

@@ -1,5 +1,5 @@
 -- The world of two new hosts from its beginning to where it broke off.
-use Rattle.std.proofs.Common.{◌≡◌, ℕ, ◌+◌, ◌≤◌, ◌||◌, ◌⊎◌, Bool, true, false, cond, List, [], ◌∷◌, ◌++◌, length, Option, unwrap_or, inl, inr, refl, sym, ap, ◌∙◌, subst, append_assoc, arith, length-append}
+use Rattle.std.proofs.Common.{◌≡◌, ℕ, ◌+◌, ◌≤◌, ◌||◌, ◌⊎◌, Bool, true, false, cond, List, [], ◌∷◌, ◌++◌, length, Option, unwrap_or, inl, inr, refl, sym, ap, ◌∙◌, subst, append_assoc, arith}
 use Rattle.std.proofs.lemmas.List.{append-nil}
 use Rattle.std.proofs.lemmas.Grind.{flat_map-append}
 use Rattle.bt_base.specs.Counts.{HasRisen}
@@ -11,7 +11,7 @@ use Rattle.push_terms.specs.declared.outcome.Outcome.{Outcome}
 use Rattle.push_terms.specs.declared.outcome.Outcome.TheVariants.{ScriptEnded}
 use Rattle.push_terms.specs.declared.word.Word.{Word}
 use Rattle.capture.specs.Air.{words_of}
-use Rattle.capture.specs.Entries.{Entry, Ended, capture_octets}
+use Rattle.capture.specs.Entries.{Ended, capture_octets}
 use Rattle.radio_air.specs.Queues.{is_crowded}
 use Rattle.radio_air.specs.Radio.{Radio}
 use Rattle.world_model.specs.Machines.{Upper}
@@ -19,12 +19,12 @@ use Rattle.world_model.specs.Pushes.{Pushes}
 use Rattle.world_model.specs.Worlds.{Happening, all_entries, all_words, entries_of, words_in}
 use Rattle.air_laws.specs.AirLaws.{IsLastEnd}
 use Rattle.radio_world.specs.Both.{Both}
-use Rattle.radio_world.specs.Hosts.{Asking, answering, JoinAnswers}
+use Rattle.radio_world.specs.Hosts.{Asking, answering}
 use Rattle.radio_world.specs.Scenes.{Moment, moment, world_at, Plays, Stage, stage, moment_of, Advances}
 use Rattle.radio_world.specs.Standing.{starting, first_moment, last_entries}
-use Rattle.radio_world.specs.Shortages.{Wants, ShelfLacked, InboxLacked, AirCrowded, WordsFull, NoRest}
+use Rattle.radio_world.specs.Shortages.{Wants, ShelfLacked, InboxLacked, AirCrowded, WordsFull}
 use Rattle.radio_world.specs.Breaking.{Broken}
-use Rattle.radio_world.proofs.Advancing.{plays_then, advances_then}
+use Rattle.radio_world.proofs.Advancing.{plays_then}
 use Rattle.radio_world.proofs.Standing.{runs_of}
 use Rattle.host_model.specs.Circumstances.{Circumstance}
 use Rattle.host_model.specs.Clients.{ClientProfile}
@@ -43,7 +43,7 @@ use Rattle.scenario_laws.proofs.Played.{last_is}
 use Rattle.scenario_laws.proofs.SetHosts.{set_hosts_are_hosts}
 use Rattle.scenario_play.specs.Playing.{fresh_world, KeepsShelf}
 use Rattle.scenario_play.specs.Breaking as breaking
-use Rattle.scenario_play.specs.Breaking.{BreaksThrough, OnItsWay, AtItsEnd, MayWant, IsBroken, IsWanting, NothingYet, ShelfWants, InboxWants, ManyWords, ManyRounds}
+use Rattle.scenario_play.specs.Breaking.{BreaksThrough, OnItsWay, AtItsEnd, MayWant, IsBroken, IsWanting, NothingYet, ShelfWants, InboxWants, ManyWords}
 use Rattle.scenario_play.proofs.Newness.{new_client, new_server, client_twins, server_twins, beginning, hosts_begin}
 use Rattle.scenario_play.specs.Noting.{plain_set}
 use Rattle.scenario_play.proofs.Plainness.{PlainWorld, plain_world, plain_runs}
@@ -84,14 +84,14 @@ shelf_left {P = P} {old = old} content faults shortages shelf shelf' (AtItsEnd m
 -- the count of shortages of an inbox does not fall
 pub inbox_left :
     {S T G P Q Y : Type 0} {U : Upper S G} {V : Upper T Circumstance} {RA : P → List G → P → Type 0} {LA : P → P → Type 0} {station_b : Y → Q → Asking T Circumstance} {words : List Word} {old : Stage S T G Circumstance P Q} {shelf : P} {trace : Option (List ℕ)}
-    (shortages : Q → ℕ) (inbox inbox' : Q) → BreaksThrough U V RA (Asks shortages) LA (NoInbox shortages) station_b words old shelf inbox' trace → old.inbox ≡ inbox → shortages inbox ≤ shortages inbox'
-inbox_left {old = old} shortages inbox inbox' (OnItsWay broken) same =
+    (faults shortages : Q → ℕ) (inbox inbox' : Q) → BreaksThrough U V RA (Asks faults shortages) LA (NoInbox shortages) station_b words old shelf inbox' trace → old.inbox ≡ inbox → shortages inbox ≤ shortages inbox'
+inbox_left {old = old} faults shortages inbox inbox' (OnItsWay broken) same =
     let first = ap shortages same in
-    let before = broken.advances.answered_b in
+    let before = broken.advances.answered_b.shortages_stay in
     elim broken.inbox_left [ inl stays ↦ (let last = ap shortages stays in omega arith) | inr lacked ↦ (let last = lacked.1 in omega arith) ]
-inbox_left {old = old} shortages inbox inbox' (AtItsEnd mid run own front same_shelf same_inbox) same =
+inbox_left {old = old} faults shortages inbox inbox' (AtItsEnd mid run own front same_shelf same_inbox) same =
     let first = ap shortages same in
-    let before = run.answered_b in
+    let before = run.answered_b.shortages_stay in
     let last = ap shortages same_inbox in
     omega arith
 
@@ -251,19 +251,14 @@ module _ {P Q : Type 0} (content : Q → Option Contents) (AnswersA : P → List
   crowded_at : (one other : Radio) → one ≡ other → (is_crowded other.a.waiting || is_crowded other.b.waiting) ≡ true → (is_crowded one.a.waiting || is_crowded one.b.waiting) ≡ true
   crowded_at one other same crowded = subst (λ (r : Radio). (is_crowded r.a.waiting || is_crowded r.b.waiting) ≡ true) (sym same) crowded
 
-  many_entries : (n : ℕ) (xs ys : List Happening) → n ≤ length (all_entries ys) → n ≤ length (all_entries (xs ++ ys))
-  many_entries n xs ys long =
-      let both = ap (λ (l : List Entry). length l) (flat_map-append entries_of xs ys) ∙ length-append (all_entries xs) (all_entries ys) in
-      omega arith
-
   pub wanting :
-      (first : Hosts) (shelf shelf' : P) (inbox inbox' : Q) (trace trace' : Option (List ℕ)) (NoShelf NoInbox : Type 0) → JoinAnswers AnswersA → JoinAnswers AnswersB → first ≡ fresh_world scenario → (LackedA shelf shelf' → NoShelf) → (LackedB inbox inbox' → NoInbox)
+      (first : Hosts) (shelf shelf' : P) (inbox inbox' : Q) (trace trace' : Option (List ℕ)) (NoShelf NoInbox : Type 0) → first ≡ fresh_world scenario → (LackedA shelf shelf' → NoShelf) → (LackedB inbox inbox' → NoInbox)
       → MayWant noted_client_machine noted_server_machine AnswersA AnswersB LackedA LackedB (words_of scenario.script) (staged first shelf inbox trace) shelf' inbox' trace' → IsWanting scenario (content inbox) (content inbox') trace trace' NoShelf NoInbox
-  unfolding advances_then course
-  wanting first shelf shelf' inbox inbox' trace trace' NoShelf NoInbox joins_a joins_b fresh no_shelf no_inbox (inl none) = NothingYet (ap content none.inbox_is) none.trace_is
-  wanting first shelf shelf' inbox inbox' trace trace' NoShelf NoInbox joins_a joins_b fresh no_shelf no_inbox (inr (ShelfLacked lacked)) = ShelfWants (no_shelf lacked)
-  wanting first shelf shelf' inbox inbox' trace trace' NoShelf NoInbox joins_a joins_b fresh no_shelf no_inbox (inr (InboxLacked lacked)) = InboxWants (no_inbox lacked)
-  wanting first shelf shelf' inbox inbox' trace trace' NoShelf NoInbox joins_a joins_b fresh no_shelf no_inbox (inr (AirCrowded over)) =
+  unfolding course
+  wanting first shelf shelf' inbox inbox' trace trace' NoShelf NoInbox fresh no_shelf no_inbox (inl none) = NothingYet (ap content none.inbox_is) none.trace_is
+  wanting first shelf shelf' inbox inbox' trace trace' NoShelf NoInbox fresh no_shelf no_inbox (inr (ShelfLacked lacked)) = ShelfWants (no_shelf lacked)
+  wanting first shelf shelf' inbox inbox' trace trace' NoShelf NoInbox fresh no_shelf no_inbox (inr (InboxLacked lacked)) = InboxWants (no_inbox lacked)
+  wanting first shelf shelf' inbox inbox' trace trace' NoShelf NoInbox fresh no_shelf no_inbox (inr (AirCrowded over)) =
       let run = course over.turned first shelf inbox trace over.new fresh over.advances in
       let so = like shelf inbox run.for_a run.for_b run.happenings (moment_of over.new [] []) run.plays in
       breaking.AirCrowded (record {
@@ -273,18 +268,6 @@ module _ {P Q : Type 0} (content : Q → Option Contents) (AnswersA : P → List
         crowded = crowded_at so.world.radio over.new.scene.medium.radio (radio_is shelf inbox run.for_a run.for_b run.happenings (plain_at (moment_of over.new [] [])) so) over.crowded;
         written = sym over.trace_is ∙ run.written;
       })
-  wanting first shelf shelf' inbox inbox' trace trace' NoShelf NoInbox joins_a joins_b fresh no_shelf no_inbox (inr (WordsFull full)) =
+  wanting first shelf shelf' inbox inbox' trace trace' NoShelf NoInbox fresh no_shelf no_inbox (inr (WordsFull full)) =
       let none = ap (λ (w : Hosts). w.scene.turned) fresh in
       ManyWords (omega arith)
-  wanting first shelf shelf' inbox inbox' trace trace' NoShelf NoInbox joins_a joins_b fresh no_shelf no_inbox (inr (NoRest lingers)) =
-      let before = lingers.before in
-      let settling = lingers.settling in
-      let run = course (lingers.turned ++ []) first shelf inbox trace lingers.new fresh (advances_then noted_client_machine noted_server_machine AnswersA AnswersB lingers.turned [] _ _ _ joins_a joins_b before settling) in
-      let so = like shelf inbox run.for_a run.for_b run.happenings (moment_of lingers.new [] []) run.plays in
-      ManyRounds (record {
-        happenings = run.happenings;
-        world = so.world;
-        happened = so.happened;
-        long = many_entries _ before.happenings settling.happenings lingers.long;
-        written = sym lingers.trace_is ∙ run.written;
-      })

@@ -1,16 +1,14 @@
 -- What the capture of a scenario that broke off says, and why it wanted memory.
-use Rattle.std.proofs.Common.{◌≡◌, ℕ, ◌≤◌, ◌⊎◌, List, ◌++◌, length, Option, Some, inl, inr, sym, ap, subst, ◌∙◌, arith, length-append}
+use Rattle.std.proofs.Common.{◌≡◌, ℕ, ◌⊎◌, List, ◌++◌, Option, Some, inl, inr, sym, subst, arith}
 use Rattle.bt_base.specs.Objects.{Object, Contents}
-use Rattle.bt_base.specs.Streams.{gained}
-use Rattle.capture.specs.Entries.{Entry, entry_octets, capture_octets}
+use Rattle.capture.specs.Entries.{Entry, capture_octets}
 use Rattle.push_laws.specs.Laws.{stored_in}
 use Rattle.world_model.specs.Worlds.{all_entries}
 use Rattle.radio_world.proofs.Runs.{scripts_are_counted}
-use Rattle.radio_world.proofs.Overrunning.{all_octets}
 use Rattle.scenario_laws.specs.Broken.{BrokeOff}
 use Rattle.scenario_laws.specs.Gains.{holding}
 use Rattle.scenario_laws.proofs.Broken.{scenarios_break_off, crowds_are_told}
-use Rattle.scenario_play.specs.Breaking.{NothingYet, ShelfWants, InboxWants, AirCrowded, ManyWords, ManyRounds}
+use Rattle.scenario_play.specs.Breaking.{NothingYet, ShelfWants, InboxWants, AirCrowded, ManyWords}
 use Rattle.scenario_play.specs.Ending.{PlaysBreakOff, WantsAreTold}
 
 unless : {X Y : Type 0} → X ⊎ Y → (Y → ⊥) → X
@@ -28,19 +26,12 @@ same_octets : (x y : List ℕ) → Some x ≡ Some y → x ≡ y
 same_octets x y same = cc
 
 pub wants_are_told : WantsAreTold
-wants_are_told asks scenario content after before octets of_shelf of_shelf' of_inbox of_inbox' are few short plain (NothingYet stored written) = inl (stored, same_octets octets before written)
-wants_are_told asks scenario content after before octets of_shelf of_shelf' of_inbox of_inbox' are few short plain (ShelfWants lacked) = inr (inl (inl lacked))
-wants_are_told asks scenario content after before octets of_shelf of_shelf' of_inbox of_inbox' are few short plain (InboxWants lacked) = inr (inl (inr lacked))
-wants_are_told asks scenario content after before octets of_shelf of_shelf' of_inbox of_inbox' are few short plain (AirCrowded run) =
+wants_are_told asks scenario content after before octets of_shelf of_shelf' of_inbox of_inbox' are few plain (NothingYet stored written) = inl (stored, same_octets octets before written)
+wants_are_told asks scenario content after before octets of_shelf of_shelf' of_inbox of_inbox' are few plain (ShelfWants lacked) = inr (inl (inl lacked))
+wants_are_told asks scenario content after before octets of_shelf of_shelf' of_inbox of_inbox' are few plain (InboxWants lacked) = inr (inl (inr lacked))
+wants_are_told asks scenario content after before octets of_shelf of_shelf' of_inbox of_inbox' are few plain (AirCrowded run) =
     let entries : List Entry = all_entries run.happenings in
     inr (inr (entries, same_octets octets (before ++ capture_octets entries) run.written, crowds_are_told asks scenario content run.happenings run.world run.happened (plain run.happenings) run.crowded))
-wants_are_told asks scenario content after before octets of_shelf of_shelf' of_inbox of_inbox' are few short plain (ManyWords many) =
+wants_are_told asks scenario content after before octets of_shelf of_shelf' of_inbox of_inbox' are few plain (ManyWords many) =
     let words = scripts_are_counted scenario.script are few in
-    absurd (omega arith)
-wants_are_told asks scenario content after before octets of_shelf of_shelf' of_inbox of_inbox' are few short plain (ManyRounds run) =
-    let entries : List Entry = all_entries run.happenings in
-    let long = run.long in
-    let each = all_octets entries in
-    let same = ap (λ (l : List ℕ). length l) (same_octets octets (before ++ capture_octets entries) run.written) in
-    let both = length-append before (capture_octets entries) in
     absurd (omega arith)

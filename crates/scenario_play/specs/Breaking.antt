@@ -12,7 +12,7 @@ use Rattle.world_model.specs.Worlds.{Happening, all_entries, all_words}
 use Rattle.radio_world.specs.Hosts.{Asking}
 use Rattle.radio_world.specs.Scenes.{Stage, Advances}
 use Rattle.radio_world.specs.Standing.{last_entries}
-use Rattle.radio_world.specs.Shortages.{Wants, most_rounds}
+use Rattle.radio_world.specs.Shortages.{Wants}
 use Rattle.radio_world.specs.Breaking.{IsOf, Broken}
 use Rattle.scenario_laws.specs.Captures.{BothHosts, Happened, Ran}
 
@@ -59,20 +59,11 @@ pub record IsCrowdedRun (scenario : Scenario) (before : Option Contents) (trace 
   pub crowded : (is_crowded world.radio.a.waiting || is_crowded world.radio.b.waiting) ≡ true
   pub written : trace' ≡ gained trace (capture_octets (all_entries happenings))
 
--- a run has so many entries that the rounds of its settling could not be counted
-pub record IsLongRun (scenario : Scenario) (before : Option Contents) (trace trace' : Option (List ℕ)) : Type 0 where
-  pub happenings : List Happening
-  pub world : BothHosts
-  pub happened : Happened scenario before happenings world
-  pub long : most_rounds ≤ length (all_entries happenings)
-  pub written : trace' ≡ gained trace (capture_octets (all_entries happenings))
-
 -- Why a scenario may want memory where the trace did not: for what is reserved before anything happens; for its shelf or its inbox, which
--- lacked some; for the air, which is crowded; or since its words, or the rounds of a settling, cannot be counted.
+-- lacked some; for the air, which is crowded; or since its words cannot be counted.
 pub data IsWanting (scenario : Scenario) (before after : Option Contents) (trace trace' : Option (List ℕ)) (ShelfLacked InboxLacked : Type 0) : Type 0 where
   NothingYet : after ≡ before → trace' ≡ trace → IsWanting scenario before after trace trace' ShelfLacked InboxLacked
   ShelfWants : ShelfLacked → IsWanting scenario before after trace trace' ShelfLacked InboxLacked
   InboxWants : InboxLacked → IsWanting scenario before after trace trace' ShelfLacked InboxLacked
   AirCrowded : IsCrowdedRun scenario before trace trace' → IsWanting scenario before after trace trace' ShelfLacked InboxLacked
   ManyWords : 2 ^ 64 ≤ length (words_of scenario.script) → IsWanting scenario before after trace trace' ShelfLacked InboxLacked
-  ManyRounds : IsLongRun scenario before trace trace' → IsWanting scenario before after trace trace' ShelfLacked InboxLacked

@@ -1,5 +1,5 @@
 -- What the capture of a played scenario says (this project's own).
-use Rattle.std.specs.Prelude.{ℕ, ◌≡◌, ◌≤◌, ◌<◌, ◌⊎◌, ◌^◌, List, ◌++◌, length, Option, Some}
+use Rattle.std.specs.Prelude.{ℕ, ◌≡◌, ◌≤◌, ◌⊎◌, ◌^◌, List, ◌++◌, length, Option, Some}
 use Rattle.std.specs.List.{AllByRecursion}
 use Rattle.bt_base.specs.Counts.{HasRisen}
 use Rattle.bt_base.specs.Objects.{Object, Contents}
@@ -11,7 +11,6 @@ use Rattle.push_terms.specs.declared.peaks.Peaks.{Peaks}
 use Rattle.capture.specs.Entries.{Entry, capture_octets}
 use Rattle.air_laws.specs.Crowded.{IsCrowded}
 use Rattle.world_model.specs.Worlds.{Happening, all_entries}
-use Rattle.radio_world.specs.Shortages.{most_rounds}
 use Rattle.push_laws.specs.Laws.{stored_in}
 use Rattle.host_laws.specs.Calls.{HostsAsk}
 use Rattle.scenario_laws.specs.Clauses.{Orderly, Ends}
@@ -36,9 +35,9 @@ PlaysBreakOff = (asks : HostsAsk) (scenario : Scenario) (before : List Object) (
     → scenario.settings.transport ≡ L2cap → OrderlyServer asks scenario.settings before (all_entries broken.happenings) broken.world.b.upper → ArePlain asks scenario (holding before) broken.ran.happenings
     → BrokeOff scenario before (stored_in after) (all_entries broken.happenings) (all_entries broken.happenings ++ broken.next)
 
--- With a script of at most 2^32 lines and a trace that is told and that memory holds, a scenario wants memory only before anything happened,
--- where a port lacked some, or where the capture so far is crowded; where both hosts are plain.
+-- With a script of at most 2^32 lines and a trace that is told, a scenario wants memory only before anything happened, where a port lacked
+-- some, or where the capture so far is crowded; where both hosts are plain.
 abbrev pub WantsAreTold : Type 0
-WantsAreTold = (asks : HostsAsk) (scenario : Scenario) (content after : Option Contents) (before octets : List ℕ) (of_shelf of_shelf' of_inbox of_inbox' : ℕ) → AllByRecursion IsRun scenario.script → length scenario.script ≤ 2 ^ 32 → length octets < most_rounds
+WantsAreTold = (asks : HostsAsk) (scenario : Scenario) (content after : Option Contents) (before octets : List ℕ) (of_shelf of_shelf' of_inbox of_inbox' : ℕ) → AllByRecursion IsRun scenario.script → length scenario.script ≤ 2 ^ 32
     → ((happenings : List Happening) → ArePlain asks scenario content happenings) → IsWanting scenario content after (Some before) (Some octets) (HasRisen of_shelf of_shelf') (HasRisen of_inbox of_inbox')
     → ((after ≡ content) × (octets ≡ before)) ⊎ ((HasRisen of_shelf of_shelf' ⊎ HasRisen of_inbox of_inbox') ⊎ ((entries : List Entry) × (octets ≡ before ++ capture_octets entries) × IsCrowded (hosts_of scenario.settings) scenario.acl_length entries))

@@ -1,6 +1,6 @@
 //! A scenario is played to its end.
 
-ghost use Rattle.std.specs.Prelude.{◌≡◌, ◌≤◌, ◌⊎◌, false, IfOk, OnErr, OnOk};
+ghost use Rattle.std.specs.Prelude.{◌≡◌, ◌≤◌, ◌⊎◌, false, length, IfOk, OnErr, OnOk};
 ghost use Rattle.bt_base.specs.Counts.{HasRisen};
 ghost use Rattle.radio_world.specs.Causes.{Blames};
 ghost use Rattle.radio_world.specs.Shortages.{Lacks};
@@ -48,6 +48,7 @@ fn play_in<F: Shelf, I: Inbox, T: Sink>(
     requires fresh { world ≡ fresh_world scenario.now }
     requires none_pending { I.is_pending inbox.old ≡ false }
     ensures plays { IfOk result (λ played. IsPlayed scenario.now (I.content inbox.old) (I.content inbox.new) (T.content trace.old) (T.content trace.new) played.outcomes.items played.peaks) }
+    ensures each { IfOk result (λ played. length played.outcomes.items ≡ length scenario.now.names) }
     ensures shelf { OnOk result (KeepsShelf (F.content shelf.old) (F.content shelf.new) (F.faults shelf.old) (F.faults shelf.new) (F.shortages shelf.old) (F.shortages shelf.new)) }
     ensures breaks { OnErr result (IsBroken scenario.now (I.content inbox.old) (I.content inbox.new) (T.content trace.old) (T.content trace.new) (HasRisen (I.shortages inbox.old) (I.shortages inbox.new))) }
     ensures left { OnErr result (KeepsShelf (F.content shelf.old) (F.content shelf.new) (F.faults shelf.old) (F.faults shelf.new) (F.shortages shelf.old) (F.shortages shelf.new) ⊎ HasRisen (F.shortages shelf.old) (F.shortages shelf.new)) }
@@ -75,6 +76,7 @@ pub fn play<F: Shelf, I: Inbox, T: Sink>(
 ) -> Result<Played, WorldFault>
     requires none_pending { I.is_pending inbox.old ≡ false }
     ensures plays { IfOk result (λ played. IsPlayed scenario.now (I.content inbox.old) (I.content inbox.new) (T.content trace.old) (T.content trace.new) played.outcomes.items played.peaks) }
+    ensures each { IfOk result (λ played. length played.outcomes.items ≡ length scenario.now.names) }
     ensures shelf { OnOk result (KeepsShelf (F.content shelf.old) (F.content shelf.new) (F.faults shelf.old) (F.faults shelf.new) (F.shortages shelf.old) (F.shortages shelf.new)) }
     ensures breaks { OnErr result (IsBroken scenario.now (I.content inbox.old) (I.content inbox.new) (T.content trace.old) (T.content trace.new) (HasRisen (I.shortages inbox.old) (I.shortages inbox.new))) }
     ensures left { OnErr result (KeepsShelf (F.content shelf.old) (F.content shelf.new) (F.faults shelf.old) (F.faults shelf.new) (F.shortages shelf.old) (F.shortages shelf.new) ⊎ HasRisen (F.shortages shelf.old) (F.shortages shelf.new)) }

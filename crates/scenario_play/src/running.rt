@@ -74,6 +74,7 @@ pub(crate) fn play_out<P, A: Client<P>, Q, B: Host<Q>, T: Sink>(
     requires sound { A.Host.is_sound world.a shelf.old × B.is_sound world.b inbox.old }
     ensures runs { IfOk result (λ end. RunsThrough A.Host.machine B.machine A.Host.answers B.answers (words_of script.now) (stage world.scene (A.Host.station world.a shelf.old) (B.station world.b inbox.old) shelf.old inbox.old (T.content trace.old)) (stage end.1.scene (A.Host.station end.1.a shelf.new) (B.station end.1.b inbox.new) shelf.new inbox.new (T.content trace.new))) }
     ensures outcomes { IfOk result (λ end. end.0.items ≡ end.1.scene.pushes.outcomes) }
+    ensures each { IfOk result (λ end. length end.0.items ≡ length world.scene.pushes.names) }
     ensures breaks { OnErr result (BreaksThrough A.Host.machine B.machine A.Host.answers B.answers A.Host.lacked B.lacked B.station (words_of script.now) (stage world.scene (A.Host.station world.a shelf.old) (B.station world.b inbox.old) shelf.old inbox.old (T.content trace.old)) shelf.new inbox.new (T.content trace.new)) }
     ensures blames { Blames (T.faults trace.old) (T.faults trace.new) result }
     ensures lacks { Lacks (T.shortages trace.old) (T.shortages trace.new) (MayWant A.Host.machine B.machine A.Host.answers B.answers A.Host.lacked B.lacked (words_of script.now) (stage world.scene (A.Host.station world.a shelf.old) (B.station world.b inbox.old) shelf.old inbox.old (T.content trace.old)) shelf.new inbox.new (T.content trace.new)) result }

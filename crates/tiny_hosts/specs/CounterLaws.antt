@@ -7,12 +7,13 @@ use Rattle.push_terms.specs.declared.word.Side.{Side}
 use Rattle.push_terms.specs.declared.word.Side.TheVariants.{A, B}
 use Rattle.world_model.specs.Machines.{News, Linked, Up, Down, Failed, Heard, TimerFired, Cancelled, Opening}
 use Rattle.line_laws.specs.Seeing.{SaysOctets}
+use Rattle.settling_laws.specs.Weights.{SaysAtMost}
 use Rattle.tiny_hosts.specs.declared.counter.Counter.{Counter}
 use Rattle.tiny_hosts.specs.declared.counter.Stage.{Stage}
 use Rattle.tiny_hosts.specs.declared.counter.Stage.TheVariants.{Resting, Calling, Saying, Waiting, Leaving}
 use Rattle.tiny_hosts.specs.Minds.{Unasked, IsCounted}
 use Rattle.tiny_hosts.specs.Talking.{octet_in, one_more}
-use Rattle.tiny_hosts.specs.Counting.{counter, said_at, goes_on, heard_at, up_at, fired_at, is_talking, last_number}
+use Rattle.tiny_hosts.specs.Counting.{counter, said_at, goes_on, heard_at, up_at, fired_at, left_at, is_talking, last_number}
 use Rattle.tiny_hosts.specs.TalkLaws.{pdu_octets, one_more_more, said}
 
 -- it is above host a
@@ -78,3 +79,14 @@ counter_counted = record { hears = hears; says = λ mind pdu after is. said_coun
     hears answers TimerFired mind = let same = fired_alike mind.stage mind in omega (arith, same)
     hears answers Cancelled mind = let same = alike_if (is_talking mind.stage) (record mind { stage = Leaving; outcome = Some outcomes.Cancelled }) mind mind.heard refl refl in omega (arith, same)
     hears answers (Opening name) mind = omega arith
+
+left_few : (stage : Stage) → left_at stage ≤ 1
+left_few Saying = omega arith
+left_few Resting = omega arith
+left_few Calling = omega arith
+left_few Waiting = omega arith
+left_few Leaving = omega arith
+
+-- it has one PDU to say at most
+pub counter_one_more : SaysAtMost 1 counter
+counter_one_more answers news mind = let few = left_few (counter.hear answers news mind).stage in omega (arith, few)

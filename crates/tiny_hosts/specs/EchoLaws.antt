@@ -4,10 +4,11 @@ use Rattle.std.proofs.Common.{ap, subst, arith}
 use Rattle.bt_base.specs.Octets.{IsOctets}
 use Rattle.world_model.specs.Machines.{News, Linked, Failed, Heard, TimerFired, Cancelled, Opening}
 use Rattle.line_laws.specs.Seeing.{SaysOctets}
+use Rattle.settling_laws.specs.Weights.{SaysAtMost}
 use Rattle.tiny_hosts.specs.declared.echo.Echo.{Echo}
 use Rattle.tiny_hosts.specs.Minds.{Unasked, IsCounted}
 use Rattle.tiny_hosts.specs.Talking.{one_more}
-use Rattle.tiny_hosts.specs.Echoing.{echo, echo_next, said_by}
+use Rattle.tiny_hosts.specs.Echoing.{echo, echo_next, left_by, said_by}
 use Rattle.tiny_hosts.specs.TalkLaws.{pdu_octets, one_more_more, said}
 
 said_octets : (answer : Option ℕ) (mind : Echo) (pdu : List ℕ) (after : Echo) → said_by answer mind ≡ Some (pdu, after) → IsOctets pdu
@@ -31,3 +32,11 @@ echo_counted = record { hears = hears; says = λ mind pdu after is. said_counted
     hears answers TimerFired mind = omega arith
     hears answers Cancelled mind = omega arith
     hears answers (Opening name) mind = omega arith
+
+left_few : (answer : Option ℕ) → left_by answer ≤ 1
+left_few None = omega arith
+left_few (Some octet) = omega arith
+
+-- it has one PDU to say at most
+pub echo_one_more : SaysAtMost 1 echo
+echo_one_more answers news mind = let few = left_few (echo.hear answers news mind).answer in omega (arith, few)

@@ -7,6 +7,8 @@ use Rattle.world_model.specs.Machines.{News, Upper}
 use Rattle.world_model.specs.Stations.{IsStopped}
 use Rattle.radio_world.specs.Hosts.{answering, order_octets, JoinAnswers}
 use Rattle.radio_world.specs.Measures.{IsMostOf}
+use Rattle.radio_world.specs.Speaking.{SpeaksWithin}
+use Rattle.settling_laws.specs.Weights.{SaysAtMost}
 use Rattle.line_laws.proofs.Stopping.{spent_hosts_stop}
 use Rattle.tiny_hosts.specs.Minds.{Unasked, IsCounted}
 use Rattle.tiny_hosts.specs.Hosting.{Tiny, asking, IsReady, Unaltered}
@@ -22,6 +24,10 @@ pub stops : {M : Type 0} (U : Upper M Unasked) (side : Side) (mind : M) (line : 
 stops U side mind line ready none rest =
     let over : line.out ≡ [] = ready.is_seen.octets ∙ ap (order_octets side) none in
     spent_hosts_stop U side mind line ready.is_seen (ready.spent over) over
+
+-- nothing is asked, so nothing that is answered says more
+pub speaks : {M P : Type 0} (U : Upper M Unasked) → SaysAtMost 1 U → SpeaksWithin {P = P} U (λ (host : Tiny M) port. asking host.mind host.line) 1
+speaks U few = record { few = few; steady = λ host port rest. refl }
 
 -- nothing is held, and nothing noted
 pub none_is_noted : {M P : Type 0} (U : Upper M Unasked) → IsMostOf {P = P} U (λ (host : Tiny M) port. asking host.mind host.line) (λ host. 0)

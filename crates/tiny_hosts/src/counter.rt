@@ -77,7 +77,7 @@ impl Counter {
 impl Mind for Counter {
     ghost use Rattle.push_terms.specs.declared.word.Side.TheVariants.{A};
     ghost use Rattle.tiny_hosts.specs.Counting.{counter};
-    ghost use Rattle.tiny_hosts.specs.CounterLaws.{counter_called, counter_octets, counter_counted};
+    ghost use Rattle.tiny_hosts.specs.CounterLaws.{counter_called, counter_octets, counter_counted, counter_one_more};
 
     ghost machine = { counter };
 
@@ -155,6 +155,8 @@ impl Mind for Counter {
     ghost called = { counter_called };
 
     ghost octets = { counter_octets };
+
+    ghost one_more = { counter_one_more };
 
     ghost counted = { counter_counted };
 }

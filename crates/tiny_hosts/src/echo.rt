@@ -62,7 +62,7 @@ impl Mind for Echo {
     ghost use Rattle.std.specs.Prelude.{refl};
     ghost use Rattle.push_terms.specs.declared.word.Side.TheVariants.{B};
     ghost use Rattle.tiny_hosts.specs.Echoing.{echo};
-    ghost use Rattle.tiny_hosts.specs.EchoLaws.{echo_octets, echo_counted};
+    ghost use Rattle.tiny_hosts.specs.EchoLaws.{echo_octets, echo_counted, echo_one_more};
 
     ghost machine = { echo };
 
@@ -134,6 +134,8 @@ impl Mind for Echo {
     ghost called = { λ is mind. refl };
 
     ghost octets = { echo_octets };
+
+    ghost one_more = { echo_one_more };
 
     ghost counted = { echo_counted };
 }

@@ -16,11 +16,13 @@ use radio_world::{Client, Host, Keeps, Measured};
 const ACL_LIMIT: u16 = 1_021;
 
 impl<P, M: Mind> Host<P> for TinyHost<M> {
-    ghost use Rattle.tiny_hosts.specs.HostLaws.{joins, stops};
+    ghost use Rattle.tiny_hosts.specs.HostLaws.{joins, speaks, stops};
 
     ghost State = { M };
 
     ghost Answer = { Unasked };
+
+    ghost most_more = { 1 };
 
     ghost machine = { M.machine };
 
@@ -71,6 +73,8 @@ impl<P, M: Mind> Host<P> for TinyHost<M> {
     ghost joins = { joins };
 
     ghost lacks = { λ first mid last used answered lacked. tt };
+
+    ghost speaks = { speaks M.machine M.one_more };
 
     ghost stops = { λ host port. stops M.machine M.side host.mind host.line };
 }

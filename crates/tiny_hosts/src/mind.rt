@@ -5,6 +5,7 @@ ghost use Rattle.push_terms.specs.declared.word.Side.{Side};
 ghost use Rattle.push_terms.specs.declared.word.Side.TheVariants.{B};
 ghost use Rattle.world_model.specs.Machines.{Upper};
 ghost use Rattle.line_laws.specs.Seeing.{SaysOctets};
+ghost use Rattle.settling_laws.specs.Weights.{SaysAtMost};
 ghost use Rattle.tiny_hosts.specs.Minds.{Unasked, news_told, IsCounted};
 
 use crate::told::Told;
@@ -74,6 +75,9 @@ pub trait Mind: Drop {
 
     /// It says octets.
     ghost octets: { SaysOctets machine };
+
+    /// With each thing that it hears it has one PDU more to say at most.
+    ghost one_more: { SaysAtMost 1 machine };
 
     /// It never heard fewer PDUs.
     ghost counted: { IsCounted machine count };

@@ -18,7 +18,7 @@ fn push_entries(octets: &mut Vec<u8>, entries: &[(u8, &[u8])]) -> Result<(), Fai
 }
 
 /// The octets of a capture: the start of both hosts, the opening of a channel, and what follows.
-fn octets_of(alloc: Global, follows: &[(u8, &[u8])]) -> Result<Vec<u8>, Fail> {
+pub(crate) fn octets_of(alloc: Global, follows: &[(u8, &[u8])]) -> Result<Vec<u8>, Fail> {
     let mut octets = Vec::new(alloc);
     push_entries(&mut octets, START)?;
     push_entries(&mut octets, OPENING)?;

@@ -1,6 +1,9 @@
+use crate::capture_reader_tests::octets_of;
+use crate::capture_samples::{CUT_OFF, NAMELESS, PUSH, REFUSED, TWO_CHANNELS};
 use bt_base::{MemSink, MemSource, NoMemory};
 use codec_tests::tables::rows;
 use h4_view::*;
+use object_lines::view_tagged;
 use std::alloc::Global;
 use std::test::*;
 
@@ -95,5 +98,45 @@ fn first_faults_of_captures(rt: HostRuntime) -> Result<(), Fail> {
     for (octets, text) in rows(&FAULTS) {
         assert!(rt; is_shown(rt.alloc(), octets, text.as_bytes())?);
     }
+    Ok(())
+}
+
+/// The lines of the entries of a capture alone.
+fn entries_shown(alloc: Global, octets: &[u8]) -> Result<MemSink, NoMemory> {
+    let mut source = MemSource::new(alloc, octets, 65_536, &[])?;
+    let mut sink = MemSink::new(alloc, &[])?;
+    match view_entries(alloc, &mut source, &mut sink) {
+        Err(ViewFault::NoMemory) => Err(NoMemory),
+        _ => Ok(sink),
+    }
+}
+
+/// Captures, and the lines of the objects that host b heard in each.
+const PUSHES: [(&[(u8, &[u8])], &str); 5] = [
+    (PUSH, "object 0061 2\n"),
+    (CUT_OFF, ""),
+    (TWO_CHANNELS, "object 0061 2\nobject 0062 0\n"),
+    (REFUSED, ""),
+    (NAMELESS, ""),
+];
+
+#[test]
+fn objects_stand_behind_the_entries(rt: HostRuntime) -> Result<(), Fail> {
+    for (follows, lines) in rows(&PUSHES) {
+        let octets = octets_of(rt.alloc(), follows)?;
+        let mut text = Vec::from_slice(rt.alloc(), entries_shown(rt.alloc(), &octets)?.octets())?;
+        text.extend_from_slice(lines.as_bytes())?;
+        assert!(rt; is_shown(rt.alloc(), &octets, &text)?);
+    }
+    Ok(())
+}
+
+#[test]
+fn cut_captures_have_no_objects(rt: HostRuntime) -> Result<(), Fail> {
+    let mut octets = octets_of(rt.alloc(), PUSH)?;
+    octets.push(0x09)?;
+    let text = entries_shown(rt.alloc(), &octets)?;
+    assert!(rt; text.octets().ends_with(b" BadTag\n"));
+    assert!(rt; is_shown(rt.alloc(), &octets, text.octets())?);
     Ok(())
 }

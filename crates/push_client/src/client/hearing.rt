@@ -32,7 +32,7 @@ fn is_asking_features(stage: Stage) -> bool
 
 impl PushClient {
     /// Where the push is.
-    pub(super) fn stage(&self) -> Stage
+    pub fn stage(&self) -> Stage
         ensures { result ≡ self.now.stage }
     {
         self.reception.dialog.course.stage

@@ -1,9 +1,8 @@
-use Rattle.std.proofs.Common.{◌∙◌, Ok, None, map, string_bytes, ap, subst}
+use Rattle.std.proofs.Common.{◌∙◌, Ok, None, map, string_bytes, ap}
+use Rattle.btpush_forms.specs.Words.{hosted_form}
 use Rattle.command_words.proofs.Asking.{asks_once}
-use Rattle.command_words.specs.Forms.{AsksFor}
-use Rattle.command_words.specs.declared.form.Form.{Form}
-use Rattle.command_words.specs.declared.form.Form.TheVariants.{Push, Wire}
-use Rattle.btpush_forms.proofs.Asked.{found, found_none, none_built, is_unbuilt, not_written, nothing_done}
+use Rattle.command_words.specs.declared.form.Form.TheVariants.{Wire}
+use Rattle.btpush_forms.proofs.Asked.{found, found_none, none_built, is_unbuilt, not_written, nothing_done, hosted_short, asked_so}
 use Rattle.btpush_forms.proofs.alone.run_alone.Goals as goal
 
 -- ---- a form was found
@@ -23,14 +22,14 @@ returns-in-Ok-Some-clause-bad_words g c = λ is. none_built _ c.in-Ok-Some.form 
 pub returns-in-Ok-Some-clause-trace : goal.returns-in-Ok-Some-clause-trace
 returns-in-Ok-Some-clause-trace g c = λ none. c.run_form.ensures.trace (not_written _ c.in-Ok-Some.form (found _ _ c.form_of.result c.in-Ok-Some.form (ap (λ ws. map string_bytes ws) c.deref.ensures.value) c.form_of.ensures (c.in-Ok-Some.is ∙ ap Ok c.in-Ok-Some.field-0-is)) none)
 
-pub returns-in-Ok-Some-clause-push : goal.returns-in-Ok-Some-clause-push
-returns-in-Ok-Some-clause-push g c = λ asks. rw (c.run_form.ensures.push (asks_once _ c.in-Ok-Some.form Push (found _ _ c.form_of.result c.in-Ok-Some.form (ap (λ ws. map string_bytes ws) c.deref.ensures.value) c.form_of.ensures (c.in-Ok-Some.is ∙ ap Ok c.in-Ok-Some.field-0-is)) asks)) tt
+pub returns-in-Ok-Some-clause-hosted : goal.returns-in-Ok-Some-clause-hosted
+returns-in-Ok-Some-clause-hosted g c = λ hosted asks. hosted_short c.run_form.result hosted (c.run_form.ensures.hosted hosted (asks_once _ c.in-Ok-Some.form (hosted_form hosted) (found _ _ c.form_of.result c.in-Ok-Some.form (ap (λ ws. map string_bytes ws) c.deref.ensures.value) c.form_of.ensures (c.in-Ok-Some.is ∙ ap Ok c.in-Ok-Some.field-0-is)) asks))
 
-pub returns-in-Ok-Some-clause-none : goal.returns-in-Ok-Some-clause-none
-returns-in-Ok-Some-clause-none g c = λ is. subst (λ (f : Form). AsksFor (map string_bytes c.args.words.now.items) f) (c.run_form.ensures.none is) (found _ _ c.form_of.result c.in-Ok-Some.form (ap (λ ws. map string_bytes ws) c.deref.ensures.value) c.form_of.ensures (c.in-Ok-Some.is ∙ ap Ok c.in-Ok-Some.field-0-is))
+pub returns-in-Ok-Some-clause-asked : goal.returns-in-Ok-Some-clause-asked
+returns-in-Ok-Some-clause-asked g c = asked_so c.run_form.result _ c.in-Ok-Some.form (found _ _ c.form_of.result c.in-Ok-Some.form (ap (λ ws. map string_bytes ws) c.deref.ensures.value) c.form_of.ensures (c.in-Ok-Some.is ∙ ap Ok c.in-Ok-Some.field-0-is)) c.run_form.ensures.asked
 
 pub returns-in-Ok-Some-clause-untouched : goal.returns-in-Ok-Some-clause-untouched
-returns-in-Ok-Some-clause-untouched g c = λ asks. c.run_form.ensures.untouched (asks_once _ c.in-Ok-Some.form Push (found _ _ c.form_of.result c.in-Ok-Some.form (ap (λ ws. map string_bytes ws) c.deref.ensures.value) c.form_of.ensures (c.in-Ok-Some.is ∙ ap Ok c.in-Ok-Some.field-0-is)) asks)
+returns-in-Ok-Some-clause-untouched g c = λ hosted asks. c.run_form.ensures.untouched hosted (asks_once _ c.in-Ok-Some.form (hosted_form hosted) (found _ _ c.form_of.result c.in-Ok-Some.form (ap (λ ws. map string_bytes ws) c.deref.ensures.value) c.form_of.ensures (c.in-Ok-Some.is ∙ ap Ok c.in-Ok-Some.field-0-is)) asks)
 
 -- ---- no form is found
 
@@ -40,14 +39,14 @@ returns-in-Ok-None-clause-does g c = λ form asks. absurd ((found_none _ _ c.for
 pub returns-in-Ok-None-clause-wire_clean : goal.returns-in-Ok-None-clause-wire_clean
 returns-in-Ok-None-clause-wire_clean g c = λ asks. absurd ((found_none _ _ c.form_of.result (ap (λ ws. map string_bytes ws) c.deref.ensures.value) c.form_of.ensures (c.in-Ok-None.is ∙ ap Ok c.in-Ok-None.field-0-is)) (Wire None) asks)
 
-pub returns-in-Ok-None-clause-push : goal.returns-in-Ok-None-clause-push
-returns-in-Ok-None-clause-push g c = λ asks. absurd ((found_none _ _ c.form_of.result (ap (λ ws. map string_bytes ws) c.deref.ensures.value) c.form_of.ensures (c.in-Ok-None.is ∙ ap Ok c.in-Ok-None.field-0-is)) Push asks)
+pub returns-in-Ok-None-clause-hosted : goal.returns-in-Ok-None-clause-hosted
+returns-in-Ok-None-clause-hosted g c = λ hosted asks. absurd ((found_none _ _ c.form_of.result (ap (λ ws. map string_bytes ws) c.deref.ensures.value) c.form_of.ensures (c.in-Ok-None.is ∙ ap Ok c.in-Ok-None.field-0-is)) (hosted_form hosted) asks)
 
 pub returns-in-Ok-None-clause-bad_words : goal.returns-in-Ok-None-clause-bad_words
 returns-in-Ok-None-clause-bad_words g c = λ is form built. (found_none _ _ c.form_of.result (ap (λ ws. map string_bytes ws) c.deref.ensures.value) c.form_of.ensures (c.in-Ok-None.is ∙ ap Ok c.in-Ok-None.field-0-is)) form
 
 pub returns-in-Ok-None-clause-untouched : goal.returns-in-Ok-None-clause-untouched
-returns-in-Ok-None-clause-untouched g c = λ asks. absurd ((found_none _ _ c.form_of.result (ap (λ ws. map string_bytes ws) c.deref.ensures.value) c.form_of.ensures (c.in-Ok-None.is ∙ ap Ok c.in-Ok-None.field-0-is)) Push asks)
+returns-in-Ok-None-clause-untouched g c = λ hosted asks. absurd ((found_none _ _ c.form_of.result (ap (λ ws. map string_bytes ws) c.deref.ensures.value) c.form_of.ensures (c.in-Ok-None.is ∙ ap Ok c.in-Ok-None.field-0-is)) (hosted_form hosted) asks)
 
 -- ---- there was no memory to read the words
 

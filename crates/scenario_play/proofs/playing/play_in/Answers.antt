@@ -9,11 +9,8 @@ use Rattle.host_model.specs.Clients.{ClientProfile}
 use Rattle.bt_host.specs.Noting.{Noted}
 use Rattle.bt_host.specs.NotedHosts.{client_noting, server_noting, noted_client_machine, noted_server_machine}
 use Rattle.bt_host.specs.Pushing.{Lacks as NoShelf}
-use Rattle.bt_host.specs.PushingLaws as pushing_laws
 use Rattle.bt_host.specs.PushingLaws.{Answers}
-use Rattle.bt_host.specs.ServingLaws as serving_laws
 use Rattle.bt_host.specs.ServingLaws.{lacks as served_lacks}
-use Rattle.bt_host.specs.PlayingLaws.{joined}
 use Rattle.bt_host.specs.Serving.{Served, Asks, Lacks as NoInbox}
 use Rattle.bt_host.specs.Shells.{Shelled}
 use Rattle.bt_host.specs.Playing.{playing, PushesSoundly, ServesSoundly}
@@ -69,8 +66,11 @@ returns-clause-plays g c =
     let inbox = c.play_out.new.inbox in
     let last : NotedMoment = moment c.in_ok-outcomes.world.scene (answering [] (playing client_noting shelf c.in_ok-outcomes.world.a.stack)) (answering [] (playing (server_noting g.I.Inbox.content) inbox c.in_ok-outcomes.world.b.stack)) in
     let noted : AreNoted c.in_ok-outcomes.world.scene.medium last c.peaks_of-peaks.result = record { buffers = c.peaks_of-peaks.ensures.buffers; windows = c.peaks_of-peaks.ensures.windows; credits = c.peaks_of-peaks.ensures.credits } in
-    played g.I.Inbox.content (Answers g.F.Shelf.content g.F.Shelf.faults g.F.Shelf.shortages) (Asks g.I.Inbox.shortages) c.args.scenario.now c.args.world c.in_ok-outcomes.world
+    played g.I.Inbox.content (Answers g.F.Shelf.content g.F.Shelf.faults g.F.Shelf.shortages) (Asks g.I.Inbox.faults g.I.Inbox.shortages) c.args.scenario.now c.args.world c.in_ok-outcomes.world
     c.args.shelf.now shelf c.args.inbox.now inbox (traced c.args.trace.now) (traced c.play_out.new.trace) c.in_ok-outcomes.outcomes.items c.peaks_of-peaks.result c.requires.fresh c.in_ok-outcomes.ensures.runs c.in_ok-outcomes.ensures.outcomes noted
+
+pub returns-clause-each : goal.returns-clause-each
+returns-clause-each g c = c.in_ok-outcomes.ensures.each ∙ ap (λ (w : Both (Shelled (Noted ClientProfile)) (Shelled (Noted Served))). length w.scene.pushes.names) c.requires.fresh
 
 pub returns-clause-shelf : goal.returns-clause-shelf
 returns-clause-shelf g c =
@@ -82,7 +82,7 @@ returns-clause-shelf g c =
     runs.starts.used_a runs.turns.used_a runs.starts.answered_a runs.turns.answered_a
 
 pub returns-clause-inbox : goal.returns-clause-inbox
-returns-clause-inbox g c = let runs = c.in_ok-outcomes.ensures.runs in omega (arith, runs.starts.answered_b, runs.turns.answered_b)
+returns-clause-inbox g c = let runs = c.in_ok-outcomes.ensures.runs in omega (arith, runs.starts.answered_b.shortages_stay, runs.turns.answered_b.shortages_stay)
 
 pub returns-clause-blames : goal.returns-clause-blames
 returns-clause-blames g c = record { stays = c.play_out.ensures.blames.stays; failed = λ is. cc }
@@ -98,9 +98,9 @@ returns-in_err-outcomes-clause-breaks g c =
     let inbox = g.I.Inbox in
     let traced = g.T.Sink.content in
     any_err c.from_residual.result
-    (broke inbox.content (Answers shelf.content shelf.faults shelf.shortages) (Asks inbox.shortages) (NoShelf shelf.shortages) (NoInbox inbox.shortages) c.args.scenario.now c.args.world
+    (broke inbox.content (Answers shelf.content shelf.faults shelf.shortages) (Asks inbox.faults inbox.shortages) (NoShelf shelf.shortages) (NoInbox inbox.shortages) c.args.scenario.now c.args.world
     c.args.shelf.now c.play_out.new.shelf c.args.inbox.now c.play_out.new.inbox (traced c.args.trace.now) (traced c.play_out.new.trace) (HasRisen (inbox.shortages c.args.inbox.now) (inbox.shortages c.play_out.new.inbox)) c.requires.fresh
-    (λ mid used asked lacked. (served_lacks inbox.shortages c.args.inbox.now mid c.play_out.new.inbox used asked lacked).0) c.in_err-outcomes.ensures.breaks)
+    (λ mid used asked lacked. (served_lacks inbox.faults inbox.shortages c.args.inbox.now mid c.play_out.new.inbox used asked lacked).0) c.in_err-outcomes.ensures.breaks)
 
 pub returns-in_err-outcomes-clause-left : goal.returns-in_err-outcomes-clause-left
 returns-in_err-outcomes-clause-left g c =
@@ -108,7 +108,7 @@ returns-in_err-outcomes-clause-left g c =
     any_err c.from_residual.result (shelf_left shelf.content shelf.faults shelf.shortages c.args.shelf.now c.play_out.new.shelf c.in_err-outcomes.ensures.breaks refl)
 
 pub returns-in_err-outcomes-clause-inbox : goal.returns-in_err-outcomes-clause-inbox
-returns-in_err-outcomes-clause-inbox g c = inbox_left g.I.Inbox.shortages c.args.inbox.now c.play_out.new.inbox c.in_err-outcomes.ensures.breaks refl
+returns-in_err-outcomes-clause-inbox g c = inbox_left g.I.Inbox.faults g.I.Inbox.shortages c.args.inbox.now c.play_out.new.inbox c.in_err-outcomes.ensures.breaks refl
 
 pub returns-in_err-outcomes-clause-lacks : goal.returns-in_err-outcomes-clause-lacks
 returns-in_err-outcomes-clause-lacks g c =
@@ -116,7 +116,6 @@ returns-in_err-outcomes-clause-lacks g c =
     let inbox = g.I.Inbox in
     let traced = g.T.Sink.content in
     lacks_on _ _ _ _ _ c.play_out.result c.from_residual.result c.in_err-outcomes.field-0.0 c.from_residual.ensures.1 c.in_err-outcomes.was (omega arith)
-    (λ cause. wanting inbox.content (Answers shelf.content shelf.faults shelf.shortages) (Asks inbox.shortages) (NoShelf shelf.shortages) (NoInbox inbox.shortages) c.args.scenario.now c.args.world
+    (λ cause. wanting inbox.content (Answers shelf.content shelf.faults shelf.shortages) (Asks inbox.faults inbox.shortages) (NoShelf shelf.shortages) (NoInbox inbox.shortages) c.args.scenario.now c.args.world
     c.args.shelf.now c.play_out.new.shelf c.args.inbox.now c.play_out.new.inbox (traced c.args.trace.now) (traced c.play_out.new.trace) _ _
-    (joined (Answers shelf.content shelf.faults shelf.shortages) (pushing_laws.joins shelf.content shelf.faults shelf.shortages)) (joined (Asks inbox.shortages) (serving_laws.joins inbox.shortages)) c.requires.fresh
-    (λ lacked. lacked.0) (λ lacked. lacked.0) cause) c.play_out.ensures.lacks
+    c.requires.fresh (λ lacked. lacked.0) (λ lacked. lacked.0) cause) c.play_out.ensures.lacks

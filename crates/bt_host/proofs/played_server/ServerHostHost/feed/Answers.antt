@@ -18,7 +18,7 @@ feed_stack-fed-requires-clause-rests g c =
 pub returns-clause-hears : goal.returns-clause-hears
 returns-clause-hears g c =
     let served = server_noting g.I.Inbox.content in
-    let answers = Asks g.I.Inbox.shortages in
+    let answers = Asks g.I.Inbox.faults g.I.Inbox.shortages in
     let new = c.feed_stack-fed.new in
     let after : Shelled (Noted Served) = record { framing = new.framer; stack = new.stack; refusal = c.err-self-inside.result } in
     let sound = ServesSoundly g.I.Inbox.content g.I.Inbox.is_pending after new.port in
@@ -26,12 +26,12 @@ returns-clause-hears g c =
     both_ok c.want.result c.want.ensures.went c.want.ensures.went
     (λ some again.
     subst (λ (h : Shelled (Noted Served)). world.Hears noted_server_machine B answers h.framing.held c.args.octets.now new.framer.held (playing served c.args.port.now h.stack) (playing served new.port new.stack) c.args.port.now new.port sound) c.self.view_is
-    (fed_played noted_server answers served B (laws.joins g.I.Inbox.shortages) (Lacks g.I.Inbox.shortages) (Works new.stack.upper.end.end (g.I.Inbox.is_pending new.port)) c.args.octets.now c.self.inside.framer new.framer c.self.inside.stack new.stack
+    (fed_played noted_server answers served B (laws.joins g.I.Inbox.faults g.I.Inbox.shortages) (Lacks g.I.Inbox.shortages) (Works new.stack.upper.end.end (g.I.Inbox.is_pending new.port)) c.args.octets.now c.self.inside.framer new.framer c.self.inside.stack new.stack
     c.args.port.now new.port c.err-self-inside.result (server_pages B c.self.inside.stack.paged) is c.feed_stack-fed.ensures.settings c.feed_stack-fed.result some c.feed_stack-fed.ensures.reads
     (c.err-self-inside.ensures.value ∙ same_refusal c.feed_stack-fed.result) c.feed_stack-fed.ensures.sound c.feed_stack-fed.ensures.rests))
 
 pub returns-clause-lacked : goal.returns-clause-lacked
 returns-clause-lacked g c =
     on_err c.want.result c.want.ensures.wanted
-    (λ is. lacked_so noted_server (Asks g.I.Inbox.shortages) (server_noting g.I.Inbox.content) B (Lacks g.I.Inbox.shortages) c.args.octets.now c.self.inside.framer c.feed_stack-fed.new.framer c.self.inside.stack c.feed_stack-fed.new.stack
+    (λ is. lacked_so noted_server (Asks g.I.Inbox.faults g.I.Inbox.shortages) (server_noting g.I.Inbox.content) B (Lacks g.I.Inbox.shortages) c.args.octets.now c.self.inside.framer c.feed_stack-fed.new.framer c.self.inside.stack c.feed_stack-fed.new.stack
     c.args.port.now c.feed_stack-fed.new.port c.feed_stack-fed.result is c.feed_stack-fed.ensures.reads)

@@ -12,7 +12,7 @@ use Rattle.bt_host.proofs.played_server.ServerHostHost.on_timer.Goals as goal
 pub returns-clause-reacts : goal.returns-clause-reacts
 returns-clause-reacts g c =
     both_ok c.on_timer.result c.on_timer.ensures.hears c.on_timer.ensures.rests
-    (λ hears rests. (told_host noted_server (Asks g.I.Inbox.shortages) (server_noting g.I.Inbox.content) B TimerFired c.args.self.now c.on_timer.new.self c.args.port.now c.on_timer.new.inbox
+    (λ hears rests. (told_host noted_server (Asks g.I.Inbox.faults g.I.Inbox.shortages) (server_noting g.I.Inbox.content) B TimerFired c.args.self.now c.on_timer.new.self c.args.port.now c.on_timer.new.inbox
     (server_pages B c.args.self.now.stack.paged) c.requires.sound.2 hears rests).0)
 
 pub returns-clause-held : goal.returns-clause-held
@@ -24,6 +24,6 @@ returns-clause-sound g c =
     (λ stays works went rests. (
       ap (λ (h : Shelled (Noted Served)). h.refusal) stays ∙ c.requires.sound.0,
       works,
-      (told_host noted_server (Asks g.I.Inbox.shortages) (server_noting g.I.Inbox.content) B TimerFired c.args.self.now c.on_timer.new.self c.args.port.now c.on_timer.new.inbox
+      (told_host noted_server (Asks g.I.Inbox.faults g.I.Inbox.shortages) (server_noting g.I.Inbox.content) B TimerFired c.args.self.now c.on_timer.new.self c.args.port.now c.on_timer.new.inbox
           (server_pages B c.args.self.now.stack.paged) c.requires.sound.2 went rests).1,
     ))

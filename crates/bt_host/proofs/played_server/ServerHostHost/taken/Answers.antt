@@ -10,7 +10,7 @@ use Rattle.bt_host.proofs.played_server.ServerHostHost.taken.Goals as goal
 
 pub taken-requires : goal.taken-requires
 taken-requires g c =
-    let same = taken_octets noted_server (Asks g.I.Inbox.shortages) (server_noting g.I.Inbox.content) B c.args.self.now.stack c.args.port.now c.args.n c.requires.sound.2 c.requires.all in
+    let same = taken_octets noted_server (Asks g.I.Inbox.faults g.I.Inbox.shortages) (server_noting g.I.Inbox.content) B c.args.self.now.stack c.args.port.now c.args.n c.requires.sound.2 c.requires.all in
     omega (arith, same)
 
 pub put_out-requires-clause-sound : goal.put_out-requires-clause-sound
@@ -19,7 +19,7 @@ put_out-requires-clause-sound g c = ap (λ (h : Shelled (Noted Served)). h.refus
 pub returns-clause-goes : goal.returns-clause-goes
 returns-clause-goes g c =
     both_ok c.put_out.result c.put_out.ensures.goes c.put_out.ensures.rests
-    (λ goes rests. (taken_host noted_server (Asks g.I.Inbox.shortages) (server_noting g.I.Inbox.content) B c.args.self.now c.taken.new.self c.put_out.new.self c.args.port.now c.put_out.new.inbox c.args.n
+    (λ goes rests. (taken_host noted_server (Asks g.I.Inbox.faults g.I.Inbox.shortages) (server_noting g.I.Inbox.content) B c.args.self.now c.taken.new.self c.put_out.new.self c.args.port.now c.put_out.new.inbox c.args.n
     (server_pages B c.args.self.now.stack.paged) c.requires.sound.2 c.requires.all c.taken.ensures goes rests).0)
 
 pub returns-clause-held : goal.returns-clause-held
@@ -33,6 +33,6 @@ returns-clause-sound g c =
     (λ stays works went rests. (
       ap (λ (h : Shelled (Noted Served)). h.refusal) stays ∙ ap (λ (h : Shelled (Noted Served)). h.refusal) c.taken.ensures ∙ c.requires.sound.0,
       works,
-      (taken_host noted_server (Asks g.I.Inbox.shortages) (server_noting g.I.Inbox.content) B c.args.self.now c.taken.new.self c.put_out.new.self c.args.port.now c.put_out.new.inbox c.args.n
+      (taken_host noted_server (Asks g.I.Inbox.faults g.I.Inbox.shortages) (server_noting g.I.Inbox.content) B c.args.self.now c.taken.new.self c.put_out.new.self c.args.port.now c.put_out.new.inbox c.args.n
           (server_pages B c.args.self.now.stack.paged) c.requires.sound.2 c.requires.all c.taken.ensures went rests).1,
     ))

@@ -3,5 +3,5 @@ use Rattle.bt_host.proofs.server_end.ServerEndEnd.link_down.Goals as goal
 
 pub returns-clause-does : goal.returns-clause-does
 returns-clause-does g c =
-    link_down_does g.B.Inbox.content g.B.Inbox.shortages c.self.inside.server c.link_down.new.self c.self.inside.endpoints c.self.inside.breaks _ c.args.self.now c.unlink.new.self c.args._reason c.args.port.now c.link_down.new.inbox
+    link_down_does g.B.Inbox.content g.B.Inbox.faults g.B.Inbox.shortages c.self.inside.server c.link_down.new.self c.self.inside.endpoints c.self.inside.breaks _ c.args.self.now c.unlink.new.self c.args._reason c.args.port.now c.link_down.new.inbox
     c.self.view_is c.unlink.ensures c.link_down.ensures.comes

@@ -7,7 +7,7 @@ use Rattle.bt_host.proofs.server_host.ServerHost.feed.Goals as goal
 
 pub returns-clause-feeds : goal.returns-clause-feeds
 returns-clause-feeds g c =
-    fed_host noted_server (Asks g.B.Inbox.shortages) (Lacks g.B.Inbox.shortages) (server_noting g.B.Inbox.content) c.args.piece.now c.self.inside.framer c.feed_on-fed.new.framer c.self.inside.stack c.feed_on-fed.new.stack
+    fed_host noted_server (Asks g.B.Inbox.faults g.B.Inbox.shortages) (Lacks g.B.Inbox.shortages) (server_noting g.B.Inbox.content) c.args.piece.now c.self.inside.framer c.feed_on-fed.new.framer c.self.inside.stack c.feed_on-fed.new.stack
     c.self.inside.refusal c.err-self-inside.result c.args.self.now c.args.inbox.now c.feed_on-fed.new.port c.feed_on-fed.result c.self.view_is (search rules) (search rules) c.feed_on-fed.ensures.feeds
 
 pub returns-clause-rests : goal.returns-clause-rests

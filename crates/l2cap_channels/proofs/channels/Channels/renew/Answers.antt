@@ -1,14 +1,11 @@
-use Rattle.std.proofs.Common.{◌≤◌, ◌∙◌, ap, rules}
+use Rattle.std.proofs.Common.{◌∙◌, ap, rules}
 use Rattle.std.specs.Prelude.{slice_get}
-use Rattle.l2cap_channels.specs.Finding.{place_setup}
 use Rattle.l2cap_channels.specs.Machine.{with_channels}
-use Rattle.l2cap_channels.specs.Steps.{renewed_on}
 use Rattle.l2cap_channels.proofs.Following.{renewed_by}
 use Rattle.l2cap_channels.proofs.channels.Channels.renew.Goals as goal
 
-pub returns-then-renewed-ge-MOST_REFUSALS-clause-after : goal.returns-then-renewed-ge-MOST_REFUSALS-clause-after
-returns-then-renewed-ge-MOST_REFUSALS-clause-after c =
+pub returns-then-asks_no_more-clause-after : goal.returns-then-asks_no_more-clause-after
+returns-then-asks_no_more-clause-after c =
     let m = c.args.self.now in
     let o = slice_get m.channels.held c.args.at in
-    let many : 2 ≤ renewed_on (place_setup o) = search rules in
-    c.close.ensures.closes ∙ ap (with_channels m) (renewed_by o c.args.options m.channels many)
+    c.close.ensures.closes ∙ ap (with_channels m) (renewed_by o c.args.options m.channels (search rules))

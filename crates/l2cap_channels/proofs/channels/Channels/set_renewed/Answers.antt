@@ -1,17 +1,16 @@
-use Rattle.std.proofs.Common.{◌<◌, length, subst, sym, ap}
+use Rattle.std.proofs.Common.{◌≡◌, ◌<◌, length, false, subst, sym, ap}
 use Rattle.std.specs.Prelude.{Option}
 use Rattle.channel_model.specs.Value.{Held}
 use Rattle.l2cap_channels.specs.Parts.{request_value}
-use Rattle.l2cap_channels.specs.Steps.{with_change, asked_anew, renewed_on}
+use Rattle.l2cap_channels.specs.Steps.{with_change, asked_anew, is_past_asking_at}
 use Rattle.l2cap_channels.specs.Machine.{Machine}
-use Rattle.l2cap_channels.specs.Finding.{place_setup}
 use Rattle.l2cap_channels.proofs.Changed.{sound_set, set_machine}
 use Rattle.l2cap_channels.proofs.Giving.{place_read}
 use Rattle.l2cap_channels.proofs.channels.Channels.set_renewed.Goals as goal
 
 pub renew-requires : goal.renew-requires
 renew-requires c =
-    subst (λ (o : Option Held). renewed_on (place_setup o) < 2)
+    subst (λ (o : Option Held). is_past_asking_at o ≡ false)
     (place_read c.self.inside c.args.self.now c.args.at c.index_mut-place.result.now c.self.view_is c.requires.place c.index_mut-place.ensures.value) c.requires.few
 
 pub invariant_of-self : goal.invariant_of-self

@@ -1,6 +1,7 @@
 use Rattle.std.proofs.Common.{◌≡◌, true, false, ap, ◌∙◌, sym, subst}
 use Rattle.bt_base.specs.declared.settings.Transport.{Transport}
 use Rattle.bt_base.specs.declared.settings.Transport.TheVariants.{L2cap, Rfcomm}
+use Rattle.obex_session.specs.Counting.{counts_of}
 use Rattle.push_model.specs.Sessions.{Sessions, session_of, other_of, is_naming, has_object, is_pending}
 use Rattle.push_profile.specs.Reactions.{AnswersTo}
 use Rattle.push_profile.proofs.HearingLaws.{answers, after_of, and_swap, or_swap}
@@ -11,18 +12,18 @@ returns-in-L2cap-clause-answers g c =
     let before : Sessions = record { direct = c.self.inside.direct; carried = c.self.inside.carried } in
     let done = c.on_packet in
     let count = c.count_of in
-    subst (λ (t : Transport). AnswersTo t c.args.self.now (record { direct = done.new.self; carried = c.self.inside.carried }) c.args.packet.now (g.B.Inbox.content c.args.inbox.now) (g.B.Inbox.content done.new.inbox) (g.B.Inbox.shortages c.args.inbox.now) (g.B.Inbox.shortages done.new.inbox) c.args.into.now done.new.into count.result) (sym c.in-L2cap.is)
-    (subst (λ (s : Sessions). AnswersTo L2cap s (record { direct = done.new.self; carried = c.self.inside.carried }) c.args.packet.now (g.B.Inbox.content c.args.inbox.now) (g.B.Inbox.content done.new.inbox) (g.B.Inbox.shortages c.args.inbox.now) (g.B.Inbox.shortages done.new.inbox) c.args.into.now done.new.into count.result) c.self.view_is
-    (answers L2cap before done.new.self c.args.packet.now _ _ _ _ _ _ _ _ done.result count.result done.ensures.hears count.ensures.count count.ensures.lacks))
+    subst (λ (t : Transport). AnswersTo t c.args.self.now (record { direct = done.new.self; carried = c.self.inside.carried }) c.args.packet.now (g.B.Inbox.content c.args.inbox.now) (g.B.Inbox.content done.new.inbox) (counts_of g.B.Inbox.faults g.B.Inbox.shortages c.args.inbox.now) (counts_of g.B.Inbox.faults g.B.Inbox.shortages done.new.inbox) c.args.into.now done.new.into count.result) (sym c.in-L2cap.is)
+    (subst (λ (s : Sessions). AnswersTo L2cap s (record { direct = done.new.self; carried = c.self.inside.carried }) c.args.packet.now (g.B.Inbox.content c.args.inbox.now) (g.B.Inbox.content done.new.inbox) (counts_of g.B.Inbox.faults g.B.Inbox.shortages c.args.inbox.now) (counts_of g.B.Inbox.faults g.B.Inbox.shortages done.new.inbox) c.args.into.now done.new.into count.result) c.self.view_is
+    (answers L2cap before done.new.self c.args.packet.now _ _ _ _ _ _ done.result count.result done.ensures.hears count.ensures.count count.ensures.lacks))
 
 pub returns-in-Rfcomm-clause-answers : goal.returns-in-Rfcomm-clause-answers
 returns-in-Rfcomm-clause-answers g c =
     let before : Sessions = record { direct = c.self.inside.direct; carried = c.self.inside.carried } in
     let done = c.on_packet-in-Rfcomm in
     let count = c.count_of-in-Rfcomm in
-    subst (λ (t : Transport). AnswersTo t c.args.self.now (record { direct = c.self.inside.direct; carried = done.new.self }) c.args.packet.now (g.B.Inbox.content c.args.inbox.now) (g.B.Inbox.content done.new.inbox) (g.B.Inbox.shortages c.args.inbox.now) (g.B.Inbox.shortages done.new.inbox) c.args.into.now done.new.into count.result) (sym c.in-Rfcomm.is)
-    (subst (λ (s : Sessions). AnswersTo Rfcomm s (record { direct = c.self.inside.direct; carried = done.new.self }) c.args.packet.now (g.B.Inbox.content c.args.inbox.now) (g.B.Inbox.content done.new.inbox) (g.B.Inbox.shortages c.args.inbox.now) (g.B.Inbox.shortages done.new.inbox) c.args.into.now done.new.into count.result) c.self.view_is
-    (answers Rfcomm before done.new.self c.args.packet.now _ _ _ _ _ _ _ _ done.result count.result done.ensures.hears count.ensures.count count.ensures.lacks))
+    subst (λ (t : Transport). AnswersTo t c.args.self.now (record { direct = c.self.inside.direct; carried = done.new.self }) c.args.packet.now (g.B.Inbox.content c.args.inbox.now) (g.B.Inbox.content done.new.inbox) (counts_of g.B.Inbox.faults g.B.Inbox.shortages c.args.inbox.now) (counts_of g.B.Inbox.faults g.B.Inbox.shortages done.new.inbox) c.args.into.now done.new.into count.result) (sym c.in-Rfcomm.is)
+    (subst (λ (s : Sessions). AnswersTo Rfcomm s (record { direct = c.self.inside.direct; carried = done.new.self }) c.args.packet.now (g.B.Inbox.content c.args.inbox.now) (g.B.Inbox.content done.new.inbox) (counts_of g.B.Inbox.faults g.B.Inbox.shortages c.args.inbox.now) (counts_of g.B.Inbox.faults g.B.Inbox.shortages done.new.inbox) c.args.into.now done.new.into count.result) c.self.view_is
+    (answers Rfcomm before done.new.self c.args.packet.now _ _ _ _ _ _ done.result count.result done.ensures.hears count.ensures.count count.ensures.lacks))
 
 pub returns-in-L2cap-clause-pending : goal.returns-in-L2cap-clause-pending
 returns-in-L2cap-clause-pending g c =

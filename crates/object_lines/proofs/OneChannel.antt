@@ -1,0 +1,122 @@
+-- The objects of a link on which one channel alone has some.
+use Rattle.std.proofs.Common.{◌≡◌, ℕ, ◌+◌, ◌<◌, List, [], ◌∷◌, ◌++◌, Bool, true, false, cond, eqb, map, drop, get_or, length, Option, Some, None, refl, sym, ap, subst, ◌∙◌, append-nil, add-one, drop-cons, arith}
+use Rattle.std.specs.List.{AllByRecursion}
+use Rattle.std.specs.Prelude.{find}
+use Rattle.std.proofs.lemmas.Bool.{eqb-true, eq-eqb}
+use Rattle.std.proofs.lemmas.List.Elements.{filter_map-append}
+use Rattle.bt_base.specs.Objects.{Object}
+use Rattle.obex_headers.specs.declared.runs.SpelledObject.{SpelledObject}
+use Rattle.obex_headers.specs.Reader.{objects_seen}
+use Rattle.capture.specs.declared.flow.Flow.{Flow}
+use Rattle.capture.specs.declared.flow.Flow.TheVariants.{Out, Into}
+use Rattle.capture.specs.Histories.{given_by}
+use Rattle.l2cap_config.specs.declared.wish.Mode.{Mode}
+use Rattle.link_talk.specs.declared.channel.Channel.{Channel}
+use Rattle.link_talk.specs.declared.party.Party.{Party}
+use Rattle.link_talk.specs.Sayings.{Saying}
+use Rattle.link_talk.specs.Channels.{Entry, Reading, reading}
+use Rattle.link_talk.specs.Carriages.{Carriage, pdus_of, one_way, stretch, mode_of, has_own}
+use Rattle.link_talk.specs.Sdus.{sdus_of, sdus_by, spoken_as, spoken_with, spoken_way, spoken_one_way, spoken}
+use Rattle.link_talk.specs.Packets.{packets_heard}
+use Rattle.link_talk.specs.ObjectsHeard.{spelled_within, channel_objects, objects}
+use Rattle.link_readers.specs.declared.entries.Entry.{Entry as LentEntry}
+use Rattle.link_readers.specs.Lent.{plain_entry, plain_entries}
+use Rattle.link_talk.proofs.Ways.{over_l2cap, over_nothing}
+use Rattle.talk_laws.specs.Sdus.{Ears, sdus_with, ears_so_far, spoken_now, ear_of, heard_so_far}
+use Rattle.talk_laws.proofs.Passes.{from_end}
+use Rattle.talk_laws.proofs.Sdus.{sdus-grow, sdus-look_back}
+use Rattle.talk_laws.proofs.Owning.{found_passes, some_is}
+use Rattle.talk_laws.proofs.LinkObjects.{objects-fall_to_channels}
+use Rattle.object_lines.specs.Alone.{has_endpoint, IsSilent, AreSilent, IsSole}
+
+-- ---- the SDUs that come in
+
+same_way : (list : List (List ℕ)) → spoken_one_way Into (map (spoken_as Into) list) ≡ list
+same_way [] = refl
+same_way (octets ∷ list) = ap (λ xs. octets ∷ xs) (same_way list)
+
+other_way : (list : List (List ℕ)) → spoken_one_way Into (map (spoken_as Out) list) ≡ []
+other_way [] = refl
+other_way (octets ∷ list) = other_way list
+
+abbrev came : Party → Mode → List Carriage → List (List ℕ)
+came party mode past = sdus_by party.frame mode (pdus_of Into past)
+
+comes : (party : Party) (mode : Mode) (past : List Carriage) (flow : Flow) (pdu : List ℕ)
+    → came party mode past ++ spoken_one_way Into (spoken_now party mode (ears_so_far party past) (record { flow = flow; pdu = pdu })) ≡ came party mode (past ++ record { flow = flow; pdu = pdu } ∷ [])
+comes party mode past Into pdu =
+    ap (λ xs. came party mode past ++ xs) (same_way (sdus_with party.frame mode (ear_of Into (ears_so_far party past)) pdu))
+    ∙ ap (λ ear. came party mode past ++ sdus_with party.frame mode ear pdu) (sdus-look_back.ways party Into past)
+    ∙ sym (sdus-grow.one_way party.frame mode (pdus_of Into past) pdu)
+    ∙ ap (sdus_by party.frame mode) (sym (filter_map-append (one_way Into) past (record { flow = Into; pdu = pdu } ∷ [])))
+comes party mode past Out pdu =
+    ap (λ xs. came party mode past ++ xs) (other_way (sdus_with 65535 mode (ear_of Out (ears_so_far party past)) pdu))
+    ∙ append-nil (came party mode past)
+    ∙ ap (sdus_by party.frame mode) (sym (append-nil (pdus_of Into past)))
+    ∙ ap (sdus_by party.frame mode) (sym (filter_map-append (one_way Into) past (record { flow = Out; pdu = pdu } ∷ [])))
+
+abbrev HeardIs : Party → Mode → List Carriage → Type 0
+HeardIs party mode past = spoken_one_way Into (given_by (spoken_with party mode) past) ≡ came party mode past
+
+heard_more : (party : Party) (mode : Mode) (past : List Carriage) (more : Carriage) → HeardIs party mode past → HeardIs party mode (past ++ more ∷ [])
+heard_more party mode past more held =
+    let now = spoken_now party mode (ears_so_far party past) more in
+    ap (spoken_one_way Into) (sdus-grow.both_ways party mode past more)
+    ∙ filter_map-append (spoken_way Into) (given_by (spoken_with party mode) past) now
+    ∙ ap (λ xs. xs ++ spoken_one_way Into now) held
+    ∙ comes party mode past more.flow more.pdu
+
+none_heard : (party : Party) (mode : Mode) → HeardIs party mode []
+none_heard party Mode.Basic = refl
+none_heard party Mode.Enhanced = refl
+
+heard_is : (party : Party) (mode : Mode) (carriages : List Carriage) → HeardIs party mode carriages
+heard_is party mode carriages = from_end (HeardIs party mode) (none_heard party mode) (heard_more party mode) carriages
+
+-- over L2CAP each SDU that comes in is a packet
+pub packets_are : (party : Party) (channel : Channel) (said : List Saying) → channel.psm ≡ 4097 → sdus_of party (mode_of channel said) Into (stretch channel said) ≡ packets_heard party channel said
+packets_are party channel said is = sym (heard_is party (mode_of channel said) (stretch channel said)) ∙ ap (spoken_one_way Into) (over_l2cap party channel.psm (spoken party channel said) is)
+
+-- other protocols than the two carry no packets
+pub no_objects : (party : Party) (channel : Channel) (said : List Saying) → (channel.psm ≡ 4097 → ⊥) → (channel.psm ≡ 3 → ⊥) → [] ≡ channel_objects party channel said
+no_objects party channel said first second = ap (λ sdus. spelled_within party.packet (spoken_one_way Into sdus)) (over_nothing party channel.psm (spoken party channel said) first second)
+
+-- ---- one channel alone
+
+holds_at : (P : Entry → Type 0) (p : Entry → Bool) (one : Entry) (entries : List Entry) (entry : Entry) (passes : Bool) → p one ≡ passes → P one → find p (one ∷ entries) ≡ Some entry → (find p entries ≡ Some entry → P entry) → P entry
+holds_at P p one entries entry true passes here is rest = subst P (some_is one entry (sym (ap (λ b. cond b (Some one) (find p entries)) passes) ∙ is)) here
+holds_at P p one entries entry false fails here is rest = rest (sym (ap (λ b. cond b (Some one) (find p entries)) fails) ∙ is)
+
+holds_of : (P : Entry → Type 0) (p : Entry → Bool) (entries : List Entry) (entry : Entry) → AllByRecursion P entries → find p entries ≡ Some entry → P entry
+holds_of P p [] entry all is = cc
+holds_of P p (one ∷ entries) entry all is = holds_at P p one entries entry (p one) refl all.0 is (holds_of P p entries entry all.1)
+
+-- the objects of a channel are those of its link where none with another endpoint has any
+pub alone_are : (party : Party) (said : List Saying) (own : ℕ) (entry : Entry) → find (has_endpoint own) (reading said).entries ≡ Some entry → AreSilent party said own (reading said).entries → channel_objects party entry.channel said ≡ objects party said
+alone_are party said own entry is silent =
+    let same = eqb-true entry.channel.own own (found_passes (has_endpoint own) (reading said).entries entry is) in
+    sym (objects-fall_to_channels.alone party said entry (ap (λ n. find (has_endpoint n) (reading said).entries) same ∙ is)
+    (λ other found apart. holds_of (IsSilent party said own) (has_own other.channel) (reading said).entries other silent found (ap (λ n. eqb other.channel.own n) (sym same) ∙ apart)))
+
+pub sole_are : (party : Party) (said : List Saying) (held : Reading) (entries : List Entry) (entry : Entry) → entries ≡ held.entries → held ≡ reading said → IsSole party said entries entry → channel_objects party entry.channel said ≡ objects party said
+sole_are party said held entries entry same is sole =
+    let all : entries ≡ (reading said).entries = same ∙ ap (λ (r : Reading). r.entries) is in
+    alone_are party said sole.own entry (subst (λ (es : List Entry). find (has_endpoint sole.own) es ≡ Some entry) all sole.first) (subst (AreSilent party said sole.own) all sole.silent)
+
+-- ---- one channel more
+
+pub silent_more : (party : Party) (said : List Saying) (own i : ℕ) (d : LentEntry) (raw : List LentEntry) → i < length raw → IsSilent party said own (plain_entry (get_or raw i d)) → AreSilent party said own (plain_entries (drop (i + 1) raw)) → AreSilent party said own (plain_entries (drop i raw))
+silent_more party said own i d raw below here rest = subst (λ (es : List LentEntry). AreSilent party said own (plain_entries es)) (sym (drop-cons raw i d below)) (here, subst (λ n. AreSilent party said own (plain_entries (drop n raw))) (add-one i) rest)
+
+true_false : true ≡ false → ⊥
+true_false e = cc
+
+pub same_silent : (party : Party) (said : List Saying) (own : ℕ) (entry : Entry) → entry.channel.own ≡ own → IsSilent party said own entry
+same_silent party said own entry same apart = absurd (true_false (sym (eq-eqb entry.channel.own own same) ∙ apart))
+
+none_of : (found : List SpelledObject) → length found ≡ 0 → objects_seen found ≡ []
+none_of [] is = refl
+none_of (one ∷ found) is = absurd (omega (arith, is))
+
+pub seen_none : (found : List SpelledObject) (len : ℕ) → len ≡ length found → eqb len 0 ≡ true → objects_seen found ≡ []
+seen_none found len same is = none_of found (sym same ∙ eqb-true len 0 is)

@@ -1,0 +1,135 @@
+//! The objects of a link where one channel alone has some. The plain reader of a link reads its whole talk
+//! anew at each saying; here each channel is read once or twice.
+
+ghost use Rattle.std.specs.Prelude.{◌≡◌, find, IfOk, IfSome, IsTrue, MatchOption, Some, None};
+ghost use Rattle.obex_headers.specs.Reader.{octets_of_all, objects_seen};
+ghost use Rattle.link_talk.specs.Packets.{packets_heard};
+ghost use Rattle.link_talk.specs.ObjectsHeard.{channel_objects, objects};
+ghost use Rattle.link_readers.specs.Lent.{plain_sayings, plain_entry, plain_entries};
+ghost use Rattle.object_lines.specs.Alone.{has_endpoint, AreSilent, IsSole};
+
+use bt_base::NoMemory;
+use capture::Flow;
+use link_readers::{
+    Entry, Saying, channel_objects, link_objects, mode_of, reading_of, sdus_of, spelled_within,
+    stretch,
+};
+use link_talk::{Channel, Party};
+use obex_headers::runs::SpelledObject;
+use std::alloc::Global;
+
+/// The PSM of Object Push.
+const OBJECT_PUSH: u16 = 0x1001;
+
+/// The PSM of RFCOMM.
+const RFCOMM: u16 = 0x0003;
+
+/// The packets that a host heard on a channel of Object Push.
+fn packets_on(
+    alloc: Global,
+    party: &Party,
+    channel: &Channel,
+    said: &[Saying<'_>],
+) -> Result<Vec<Vec<u8>>, NoMemory>
+    requires { channel.now.psm ≡ 4097 }
+    ensures { IfOk result (λ found. octets_of_all found.items ≡ packets_heard party.now channel.now (plain_sayings said.now)) }
+{
+    let mode = mode_of(alloc, channel, said)?;
+    let carriages = stretch(alloc, channel, said)?;
+    let packets = sdus_of(alloc, party, mode, Flow::Into, &carriages)?;
+    Ok(packets)
+}
+
+/// The objects that the packets spell which a host heard on a channel.
+fn objects_on(
+    alloc: Global,
+    party: &Party,
+    channel: &Channel,
+    said: &[Saying<'_>],
+) -> Result<Vec<SpelledObject>, NoMemory>
+    ensures { IfOk result (λ found. objects_seen found.items ≡ channel_objects party.now channel.now (plain_sayings said.now)) }
+{
+    if channel.psm == OBJECT_PUSH {
+        let packets = packets_on(alloc, party, channel, said)?;
+        let found = spelled_within(alloc, party.packet, &packets)?;
+        return Ok(found);
+    }
+    if channel.psm == RFCOMM {
+        return channel_objects(alloc, party, channel, said);
+    }
+    Ok(Vec::new(alloc))
+}
+
+/// The first channel with that endpoint.
+fn channel_with(entries: &[Entry], own: u16) -> Option<&Entry>
+    ensures { MatchOption result
+        (find (has_endpoint own) (plain_entries entries.now) ≡ None)
+        (λ entry. find (has_endpoint own) (plain_entries entries.now) ≡ Some (plain_entry entry.now)) }
+{
+    for entry in entries {
+        if entry.channel.own == own {
+            return Some(entry);
+        }
+    }
+    None
+}
+
+/// Whether no channel with another endpoint has objects.
+fn is_alone(
+    alloc: Global,
+    party: &Party,
+    own: u16,
+    entries: &[Entry],
+    said: &[Saying<'_>],
+) -> Result<bool, NoMemory>
+    ensures { IfOk result (λ alone. IsTrue alone → AreSilent party.now (plain_sayings said.now) own (plain_entries entries.now)) }
+{
+    for entry in entries {
+        if entry.channel.own != own {
+            let found = objects_on(alloc, party, &entry.channel, said)?;
+            if !found.is_empty() {
+                return Ok(false);
+            }
+        }
+    }
+    Ok(true)
+}
+
+/// The channel that alone has objects, or one of those without any. There is none where several have objects.
+fn sole_channel<'e>(
+    alloc: Global,
+    party: &Party,
+    entries: &'e [Entry],
+    said: &[Saying<'_>],
+) -> Result<Option<&'e Entry>, NoMemory>
+    ensures { IfOk result (λ sole. IfSome sole (λ entry. IsSole party.now (plain_sayings said.now) (plain_entries entries.now) (plain_entry entry.now))) }
+{
+    for entry in entries {
+        let own = entry.channel.own;
+        if is_alone(alloc, party, own, entries, said)? {
+            if let Some(sole) = channel_with(entries, own) {
+                return Ok(Some(sole));
+            }
+        }
+    }
+    Ok(None)
+}
+
+/// The objects of a link, in the order of their last packets. `NoMemory` is answered for want of
+/// memory alone.
+pub(crate) fn objects_said(
+    alloc: Global,
+    party: &Party,
+    said: &[Saying<'_>],
+) -> Result<Vec<SpelledObject>, NoMemory>
+    ensures { IfOk result (λ found. objects_seen found.items ≡ objects party.now (plain_sayings said.now)) }
+{
+    let held = reading_of(alloc, said)?;
+    match sole_channel(alloc, party, &held.entries, said)? {
+        Some(entry) => {
+            let found = objects_on(alloc, party, &entry.channel, said)?;
+            Ok(found)
+        }
+        None => link_objects(alloc, party, said),
+    }
+}

@@ -1,0 +1,49 @@
+-- A scenario that was played to its end is one that broke off behind its last entry.
+use Rattle.std.proofs.Common.{◌≡◌, ℕ, ◌≤◌, Bool, true, false, cond, List, [], ◌∷◌, ◌++◌, length, Option, unwrap_or, inl, refl, sym, ap, subst, ◌∙◌, arith}
+use Rattle.std.proofs.lemmas.List.{append-nil}
+use Rattle.std.proofs.lemmas.Grind.{flat_map-append}
+use Rattle.bt_base.specs.Objects.{Contents}
+use Rattle.bt_base.specs.Streams.{gained, GainedFront}
+use Rattle.bt_base.proofs.PortLaws.{gained-gained, front_whole}
+use Rattle.push_script.specs.declared.scenario.Scenario.{Scenario}
+use Rattle.push_terms.specs.declared.outcome.Outcome.{Outcome}
+use Rattle.push_terms.specs.declared.outcome.Outcome.TheVariants.{ScriptEnded}
+use Rattle.push_terms.specs.declared.peaks.Peaks.{Peaks}
+use Rattle.push_terms.specs.declared.word.Word.{Word}
+use Rattle.capture.specs.Entries.{Entry, Ended, entry_octets, capture_octets}
+use Rattle.world_model.specs.Pushes.{Pushes}
+use Rattle.world_model.specs.Worlds.{all_entries, all_words}
+use Rattle.radio_world.specs.Standing.{last_entries}
+use Rattle.scenario_laws.specs.Captures.{client_of}
+use Rattle.scenario_play.specs.Breaking.{IsBroken}
+use Rattle.scenario_play.specs.Playing.{IsPlayed}
+
+-- one entry at most ends the last push
+few_last : (came : Option Outcome) (pushes : Pushes) → length (last_entries came pushes) ≤ 1
+few_last came pushes = by pushes.going
+  where
+    by : (going : Bool) → length (cond going (Ended pushes.begun (unwrap_or came ScriptEnded) ∷ []) []) ≤ 1
+    by true = omega arith
+    by false = omega arith
+
+written_behind : (trace trace' : Option (List ℕ)) (past ends capture : List Entry) → capture ≡ past ++ ends → trace' ≡ gained trace (capture_octets capture) → GainedFront (gained trace (capture_octets past)) trace' (capture_octets ends)
+written_behind trace trace' past ends capture is written =
+    front_whole (gained trace (capture_octets past)) trace' (capture_octets ends)
+    (written ∙ ap (λ (es : List Entry). gained trace (capture_octets es)) is ∙ ap (λ (os : List ℕ). gained trace os) (flat_map-append entry_octets past ends) ∙ sym (gained-gained trace (capture_octets past) (capture_octets ends)))
+
+pub broken_at_end : (scenario : Scenario) (before after : Option Contents) (trace trace' : Option (List ℕ)) (outcomes : List Outcome) (peaks : Peaks) (Lacked : Type 0) → IsPlayed scenario before after trace trace' outcomes peaks
+    → IsBroken scenario before after trace trace' Lacked
+broken_at_end scenario before after trace trace' outcomes peaks Lacked played =
+    let ran = played.finished.ran in
+    record {
+      happenings = ran.happenings;
+      world = ran.world;
+      happened = ran.happened;
+      next = ran.ends;
+      few = subst (λ (es : List Entry). length es ≤ 1) (sym played.ends) (few_last ((client_of scenario).outcome ran.world.a.upper) ran.world.pushes);
+      ran = record { happenings = ran.happenings; world = ran.world; happened = ran.happened; ends = ran.ends; last = ran.last; capture_is = refl };
+      later = [];
+      words_are = sym played.finished.words_are ∙ sym (append-nil (all_words ran.happenings));
+      written = written_behind trace trace' (all_entries ran.happenings) ran.ends played.capture ran.capture_is played.written;
+      stored = inl played.stored;
+    }

@@ -1,0 +1,7 @@
+pub mod Ended
+pub mod Gained
+pub mod Reasons
+pub mod Handing
+pub mod Going
+pub mod Causes
+pub mod Taking

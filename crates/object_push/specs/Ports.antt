@@ -1,0 +1,46 @@
+-- The ports of a push beside its source (this project's own).
+use Rattle.std.specs.Prelude.{ℕ, List, Option}
+use Rattle.bt_base.specs.Objects.{Object, Contents}
+use Rattle.bt_base.specs.declared.ports.Sink as sink
+use Rattle.bt_base.specs.declared.ports.Shelf as shelf
+use Rattle.bt_base.specs.declared.ports.Inbox as inbox
+
+-- a sink: what was written to it, where it tells that, and how often it failed and found no memory
+pub record Written : Type 0 where
+  pub content : Option (List ℕ)
+  pub faults : ℕ
+  pub shortages : ℕ
+
+-- a shelf: its objects, where it tells them, and how often it failed, found no memory, and was asked for what it lacks
+pub record Shelved : Type 0 where
+  pub content : Option (List Object)
+  pub faults : ℕ
+  pub shortages : ℕ
+  pub absences : ℕ
+
+-- an inbox: what it holds, where it tells that, and how often it failed and found no memory
+pub record Kept : Type 0 where
+  pub content : Option Contents
+  pub faults : ℕ
+  pub shortages : ℕ
+
+-- the ports of a push: its sink, for the report, its trace, its shelf and its inbox
+pub record Ports : Type 0 where
+  pub sink : Written
+  pub trace : Written
+  pub shelf : Shelved
+  pub inbox : Kept
+
+abbrev pub written : {K : Type 0} → sink.Ghosts K → K → Written
+written port at = record { content = port.content at; faults = port.faults at; shortages = port.shortages at }
+
+abbrev pub shelved : {F : Type 0} → shelf.Ghosts F → F → Shelved
+shelved port at = record { content = port.content at; faults = port.faults at; shortages = port.shortages at; absences = port.absences at }
+
+abbrev pub kept : {B : Type 0} → inbox.Ghosts B → B → Kept
+kept port at = record { content = port.content at; faults = port.faults at; shortages = port.shortages at }
+
+-- what ports of these kinds are
+abbrev pub ports_of : {K T F B : Type 0} → sink.Ghosts K → sink.Ghosts T → shelf.Ghosts F → inbox.Ghosts B → K → T → F → B → Ports
+ports_of of_sink of_trace of_shelf of_inbox sink trace shelf inbox =
+    record { sink = written of_sink sink; trace = written of_trace trace; shelf = shelved of_shelf shelf; inbox = kept of_inbox inbox }

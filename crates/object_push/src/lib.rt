@@ -1,0 +1,9 @@
+//! The form `push` for every scenario: both hosts of Object Push play it in their world.
+#![tactic(auto)]
+
+mod halting;
+mod pushing;
+mod reporting;
+mod running;
+
+pub use pushing::push;

@@ -1,0 +1,124 @@
+-- A host at its beginning.
+use Rattle.std.proofs.Common.{◌≡◌, ◌∙◌, ℕ, Bool, true, false, not, nat_lt, List, [], ◌++◌, length, refl, sym, ap, subst, true≢false, arith}
+use Rattle.std.specs.Prelude.{Option, Some, None, Result, Ok, Err}
+use Rattle.std.proofs.lemmas.List.{append-nil}
+use Rattle.bt_base.specs.Objects.{Contents}
+use Rattle.bt_base.specs.PlainSettings.{IsPlain}
+use Rattle.bt_base.specs.Streams.{gained, GainedFront}
+use Rattle.bt_base.proofs.PortLaws.{front_none}
+use Rattle.btpush_forms.specs.declared.status.Status.TheVariants as status
+use Rattle.h4_framing.specs.Framing.{Framing}
+use Rattle.h4_framing.specs.Stream.{IsUnfinished}
+use Rattle.h4_framing.proofs.TakingLemmas.{nothing_unfinished}
+use Rattle.host_link.specs.declared.role.Role.TheVariants.{Server}
+use Rattle.host_link.specs.PuttingOut.{started}
+use Rattle.host_model.specs.Circumstances.{Circumstance}
+use Rattle.host_model.specs.Profiles.{Profile}
+use Rattle.host_model.specs.Hosts.{Host}
+use Rattle.host_model.specs.Settings.{plain_settings}
+use Rattle.bt_host.specs.NotedHosts.{noted_server}
+use Rattle.bt_host.specs.Refusals.{acl_limit, fresh_framing}
+use Rattle.bt_host.specs.Stacks.{Standing, Rests}
+use Rattle.receiving.specs.declared.fault.ListenFault.{ListenFault}
+use Rattle.receiving.specs.declared.fault.ListenFault.TheVariants.{Refused, ReadFault, WriteFault, NoMemory}
+use Rattle.receiving.specs.Turns.{Stand, HasRest, Begun, begun, emptied}
+use Rattle.receiving.specs.Coming.{Halts, Comes}
+use Rattle.receiving.specs.Faring.{Fares, IsOfSink}
+use Rattle.receiving.specs.Receiving.{Receives, new_server_host}
+use Rattle.receiving.proofs.Still.{rests_emptied}
+use Rattle.receiving.proofs.Streams.{took_nothing}
+
+-- ---- nothing was fed
+
+began : {S : Type 0} (A : Profile S) (first : Begun S) (source : Option (List ℕ)) (stands : Stand S) (sink sink' : Option (List ℕ)) (result : Result (Unit {0}) ListenFault) → Halts A first [] [] source stands sink sink' result
+    → Comes A first source source stands sink sink' result
+began A first source stands sink sink' result halts = record { octets = []; behind = []; took = took_nothing source source refl; within = omega arith; halts = halts }
+
+-- there was no memory
+pub nothing_comes : {S : Type 0} (A : Profile S) (first : Begun S) (source : Option (List ℕ)) (stands : Stand S) (sink : Option (List ℕ)) → Comes A first source source stands sink sink (Err NoMemory)
+nothing_comes A first source stands sink = began A first source stands sink sink (Err NoMemory) (record {
+  turns = [];
+  last = first.posture;
+  runs = refl;
+  each = tt;
+  rest = [];
+  whole = refl;
+  ends = tt;
+  wrote = front_none sink (first.said ++ []);
+  there = tt;
+})
+
+-- what it said at first could not be written
+pub breaks_first : {S : Type 0} (A : Profile S) (first : Begun S) (source : Option (List ℕ)) (stands : Stand S) (sink sink' : Option (List ℕ)) → GainedFront sink sink' first.said → stands ≡ first.posture.stands → (why : ListenFault) → IsOfSink why
+    → Comes A first source source stands sink sink' (Err why)
+breaks_first A first source stands sink sink' front is (Refused refusal place) of = absurd of
+breaks_first A first source stands sink sink' front is ReadFault of = absurd of
+breaks_first A first source stands sink sink' front is WriteFault of = began A first source stands sink sink' (Err WriteFault) (record {
+  turns = [];
+  last = first.posture;
+  runs = refl;
+  each = tt;
+  rest = [];
+  whole = refl;
+  ends = tt;
+  wrote = subst (λ (xs : List ℕ). GainedFront sink sink' xs) (sym (append-nil first.said)) front;
+  there = is;
+})
+breaks_first A first source stands sink sink' front is NoMemory of = began A first source stands sink sink' (Err NoMemory) (record {
+  turns = [];
+  last = first.posture;
+  runs = refl;
+  each = tt;
+  rest = [];
+  whole = refl;
+  ends = tt;
+  wrote = subst (λ (xs : List ℕ). GainedFront sink sink' xs) (sym (append-nil first.said)) front;
+  there = tt;
+})
+
+-- it was written, and the host goes on
+pub fares_first : {S : Type 0} (A : Profile S) (framing : Framing) (old now : Stand S) (sink sink' : Option (List ℕ)) → framing ≡ fresh_framing → HasRest A old → ((rest : List Circumstance) → nat_lt (length ((old rest).line.out)) 65536 ≡ true)
+    → now ≡ (λ rest. emptied (old rest)) → sink' ≡ gained sink (old []).line.out → Fares A (begun old) [] framing now sink sink'
+fares_first A framing old now sink sink' fresh rests room is wrote =
+    subst (λ (s : Stand _). Fares A (begun old) [] framing s sink sink') (sym is)
+    (subst (λ (f : Framing). Fares A (begun old) [] f (λ rest. emptied (old rest)) sink sink') (sym fresh)
+    (record {
+      turns = [];
+      full = false;
+      runs = refl;
+      each = tt;
+      whole = refl;
+      place = refl;
+      limit = refl;
+      sound = refl;
+      unfinished = nothing_unfinished acl_limit;
+      wrote = wrote ∙ ap (gained sink) (sym (append-nil (old []).line.out));
+      empty = λ rest. refl;
+      rests = λ off rest. rests_emptied A (old rest) (rests rest) (room rest);
+    }))
+
+-- ---- a new server
+
+pub new_rests : {S : Type 0} (A : Profile S) (host : Host S) (paged : List ℕ) → A.wants_link host.profile ≡ false → Rests A (record { line = started Server; host = host; paged = paged })
+new_rests A host paged wants_none = record {
+  pieces = refl;
+  command = refl;
+  said = λ may. absurd (true≢false (sym may));
+  keeps = λ none more leaves. refl;
+  asks = λ wants off few. absurd (true≢false (sym wants ∙ wants_none));
+}
+
+pub plain : IsPlain plain_settings
+plain = record { transport = refl; serves = refl; mtu = refl; mps = refl; window = refl; tries = refl; credits = refl; obex = refl; srm = refl }
+
+-- there was no memory
+pub nothing_received : (source sink trace : Option (List ℕ)) (inbox : Option Contents) → Receives source source sink sink trace trace inbox inbox status.NoMemory
+nothing_received source sink trace inbox = record {
+  settings = plain_settings;
+  plain = plain;
+  stands = new_server_host plain_settings inbox;
+  end = Err NoMemory;
+  comes = nothing_comes (noted_server plain_settings) (begun (new_server_host plain_settings inbox)) source (new_server_host plain_settings inbox) sink;
+  stored = tt;
+  tells = (refl, refl);
+}

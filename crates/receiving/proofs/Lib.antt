@@ -1,0 +1,11 @@
+pub mod Lists
+pub mod Still
+pub mod Turning
+pub mod Following
+pub mod Octets
+pub mod Counting
+pub mod Streams
+pub mod Beginning
+pub mod Received
+pub mod Serving
+pub mod HeardStreams
