@@ -1,4 +1,4 @@
-ghost use Rattle.std.specs.Prelude.{◌≡◌, None, false};
+ghost use Rattle.std.specs.Prelude.{◌≡◌, ◌≤◌, ◌<◌, ◌⊎◌, None, Err, false};
 
 use crate::ports::{Content, Failing, WELL, contains, empty_inbox, ports_of, pushed};
 use bt_base::{Inbox, PortFault};
@@ -200,46 +200,62 @@ fn texts_are_refused(rt: HostRuntime) -> Result<(), Fail> {
     Ok(())
 }
 
-/// An inbox that finds no memory for any object.
+/// An inbox that finds no memory. An object that is pending is dropped then.
 #[derive(Drop)]
 struct Full {
+    pending: bool,
     shortages: u64,
 }
 
+impl Full {
+    /// It finds no memory once more.
+    fn short(&mut self) -> Result<(), PortFault>
+        ensures dropped { self.new.pending ≡ false }
+        ensures count { (self.old.shortages < self.new.shortages) ⊎ (18446744073709551615 ≤ self.old.shortages) }
+        ensures stays { self.old.shortages ≤ self.new.shortages }
+        ensures answer { result ≡ Err PortFault.NoMemory }
+    {
+        self.pending = false;
+        self.shortages = self.shortages.saturating_add(1);
+        Err(PortFault::NoMemory)
+    }
+}
+
 impl Inbox for Full {
-    ghost content = { λ inbox. None };
+    ghost content = { λ _. None };
 
-    ghost is_pending = { λ inbox. false };
+    ghost is_pending = { λ inbox. inbox.pending };
 
-    ghost faults = { λ inbox. 0 };
+    ghost faults = { λ _. 0 };
 
     ghost shortages = { λ inbox. inbox.shortages };
 
-    ghost told = { λ inbox. tt };
-
     fn begin(&mut self, _name: &[u16]) -> Result<(), PortFault> {
-        self.shortages = self.shortages.saturating_add(1);
-        Err(PortFault::NoMemory)
+        self.short()
     }
 
     fn append(&mut self, _piece: &[u8]) -> Result<(), PortFault> {
-        self.shortages = self.shortages.saturating_add(1);
-        Err(PortFault::NoMemory)
+        self.short()
     }
 
     fn commit(&mut self) -> Result<(), PortFault> {
-        self.shortages = self.shortages.saturating_add(1);
-        Err(PortFault::NoMemory)
+        self.short()
     }
 
     fn abort(&mut self) -> Result<(), PortFault> {
+        self.pending = false;
         Ok(())
     }
+
+    ghost told = { λ _. tt };
 }
 
 /// What a push into a full inbox answers, and how much the sink has then.
 fn pushed_full(alloc: Global) -> Result<(Status, usize), Fail> {
-    let mut inbox = Full { shortages: 0 };
+    let mut inbox = Full {
+        pending: false,
+        shortages: 0,
+    };
     let mut ports = ports_of(alloc, SMALL, &[("a", HI)], WELL)?;
     let status = push(
         alloc,

@@ -16,7 +16,7 @@ pub(crate) enum Content {
 }
 
 /// The octet at a place of content that is filled.
-fn octet_at(place: u32) -> u8 {
+fn octet_at(place: usize) -> u8 {
     (place % 251) as u8
 }
 
@@ -27,7 +27,7 @@ pub(crate) fn is_content(octets: &[u8], content: Content) -> bool {
         Content::Filled(length) => {
             let mut same = octets.len() == length as usize;
             for (place, octet) in octets.iter().enumerate() {
-                same = same && *octet == octet_at(place as u32);
+                same = same && *octet == octet_at(place);
             }
             same
         }
@@ -38,7 +38,7 @@ pub(crate) fn is_content(octets: &[u8], content: Content) -> bool {
 fn filled(alloc: Global, length: u32) -> Result<Vec<u8>, Fail> {
     let mut octets = Vec::new(alloc);
     for place in 0..length {
-        octets.push(octet_at(place))?;
+        octets.push(octet_at(place as usize))?;
     }
     Ok(octets)
 }

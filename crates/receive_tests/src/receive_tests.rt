@@ -346,30 +346,33 @@ fn ports_may_fail(rt: HostRuntime) -> Result<(), Fail> {
     Ok(())
 }
 
-/// An inbox that finds no memory.
+/// An inbox that finds no memory. An object that is pending is dropped then.
 #[derive(Drop)]
 struct FullInbox {
+    pending: bool,
     shortages: u64,
 }
 
 impl FullInbox {
     /// It finds no memory once more.
     fn short(&mut self) -> Result<(), PortFault>
+        ensures dropped { self.new.pending ≡ false }
         ensures count { (self.old.shortages < self.new.shortages) ⊎ (18446744073709551615 ≤ self.old.shortages) }
         ensures stays { self.old.shortages ≤ self.new.shortages }
         ensures answer { result ≡ Err PortFault.NoMemory }
     {
+        self.pending = false;
         self.shortages = self.shortages.saturating_add(1);
         Err(PortFault::NoMemory)
     }
 }
 
 impl Inbox for FullInbox {
-    ghost use Rattle.std.specs.Prelude.{None, false};
+    ghost use Rattle.std.specs.Prelude.{None};
 
     ghost content = { λ _. None };
 
-    ghost is_pending = { λ _. false };
+    ghost is_pending = { λ inbox. inbox.pending };
 
     ghost faults = { λ _. 0 };
 
@@ -388,6 +391,7 @@ impl Inbox for FullInbox {
     }
 
     fn abort(&mut self) -> Result<(), PortFault> {
+        self.pending = false;
         Ok(())
     }
 
@@ -399,7 +403,10 @@ fn is_short(rt: &HostRuntime) -> Result<bool, Fail> {
     let octets = said_in(rt, &[&START, &OPENING, &OBJECT], b"", false)?;
     let said = said_in(rt, &[&START, &OPENING], b"", true)?;
     let mut ports = ports_of(rt, &octets, 1000, &SOUND)?;
-    let mut inbox = FullInbox { shortages: 0 };
+    let mut inbox = FullInbox {
+        pending: false,
+        shortages: 0,
+    };
     let status = received(rt, &mut ports, &mut inbox);
     Ok(status == Status::NoMemory && ports.sink.octets() == said.as_slice() && inbox.shortages == 1)
 }
