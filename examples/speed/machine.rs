@@ -140,6 +140,7 @@ impl Ertm {
         }
     }
 
+    #[allow(dead_code)]
     fn reset(&mut self) {
         self.ring.clear();
         self.heads.clear();
