@@ -3,7 +3,8 @@ use Rattle.std.proofs.Common.{◌≡◌, ℕ, ◌-◌, ◌==◌, ◌&&◌, ◌||
 use Rattle.push_terms.specs.declared.word.Side.{Side}
 use Rattle.push_terms.specs.declared.word.Side.TheVariants.{A, B}
 use Rattle.push_terms.specs.declared.word.Way.TheVariants.{Ab, Ba}
-use Rattle.acl_fragments.specs.Pieces.{Piece, channel_of}
+use Rattle.acl_fragments.specs.Answers.{Answer as Joined, Pdu, answer as joined_by}
+use Rattle.acl_fragments.specs.Pieces.{Piece, starts, channel_of}
 use Rattle.byteorder.specs.Endian.{little_number}
 use Rattle.radio_air.specs.declared.deed.Deed.{Deed}
 use Rattle.radio_air.specs.declared.deed.Deed.TheVariants.{Nothing, Meets, Fires, FiresBoth, Breaks, Cancels}
@@ -12,14 +13,15 @@ use Rattle.radio_air.specs.Radio.{with_controller, after_meeting, found, is_toge
 use Rattle.world_model.specs.Machines.{LinkEvent, News, Linked, Heard, TimerFired, Cancelled, Opening, Upper}
 use Rattle.world_model.specs.Pushes.{Pushes}
 use Rattle.world_model.specs.Turns.{IsCalm, FindsNothing}
-use Rattle.world_model.specs.Stations.{Accept, Station, longest_pdu, Effort, Taking, Putting, Asking, Leaving, Commanding, MakesEffort, gives, holds, hears_each, is_handle, hears_piece, answered, learns, may_accept, after_answer, event_in, upper_told, hears_answer, told}
+use Rattle.world_model.specs.Stations.{Accept, Station, longest_pdu, Effort, Taking, Putting, Asking, Leaving, Commanding, MakesEffort, whole_in, holds, hears_each, is_handle, hears_piece, answered, learns, may_accept, after_answer, event_in, upper_told, hears_answer, told}
 use Rattle.world_model.specs.Worlds.{World, Happening, Tries, Departure, GivingBack, Piecemeal, Answering, Turns, Misses, Opens, Closes, IsStill, IsAtRest, fired, checks, Acts, Does, Runs}
 use Rattle.run_laws.specs.Embedding.{station_as}
 use Rattle.alike_laws.specs.Twins.{world_with, WorldsAlike}
 
--- Where the relation holds both machines say and tell the same, and it holds again after what they hear and say.
-pub record AreAlike {S T G : Type 0} (R : S → T → Type 0) (U : Upper S G) (V : Upper T G) : Type 0 where
-  pub hear : (answers : List G) (news : News) (s : S) (t : T) → R s t → R (U.hear answers news s) (V.hear answers news t)
+-- Where the relation holds both machines say and tell the same, and it holds again after what they hear and say, whatever the ports of the
+-- one answer, and for some answers of those of the other.
+pub record AreAlike {S T G H : Type 0} (R : S → T → Type 0) (U : Upper S G) (V : Upper T H) : Type 0 where
+  pub hear : (answers : List G) (news : News) (s : S) (t : T) → R s t → (others : List H) × R (U.hear answers news s) (V.hear others news t)
   pub says : (s : S) (t : T) → R s t → (pdu : List ℕ) (after : S) → U.next s ≡ Some (pdu, after) → (now : T) × R after now × (V.next t ≡ Some (pdu, now))
   pub silent : (s : S) (t : T) → R s t → U.next s ≡ None → V.next t ≡ None
   pub wants_link : (s : S) (t : T) → R s t → V.wants_link t ≡ U.wants_link s
@@ -67,7 +69,7 @@ event_with x (GivenBack handle count) old = refl
 
 -- ---- one host
 
-module _ {S S' G : Type 0} (R : S → S' → Type 0) (U : Upper S G) (U' : Upper S' G) (e : AreAlike R U U') where
+module _ {S S' G G' : Type 0} (R : S → S' → Type 0) (U : Upper S G) (U' : Upper S' G') (e : AreAlike R U U') where
   -- a machine of the other kind, to which what this station now has is related, and which makes of it that station
   abbrev Goes : Station S → Station S' → Type 0
   Goes new other = (y : S') × R new.upper y × (other ≡ with y new)
@@ -101,39 +103,48 @@ module _ {S S' G : Type 0} (R : S → S' → Type 0) (U : Upper S G) (U' : Upper
 
   -- ---- what it hears
 
-  pub told_on : (answers : List G) (news : News) (x : S') (old : Station S) → R old.upper x → Goes (told U answers news old) (told U' answers news (with x old))
-  told_on answers news x old r = (U'.hear answers news x, e.hear answers news old.upper x r, refl)
+  -- the same with some answers of its own ports
+  abbrev GoesBy : Station S → (List G' → Station S') → Type 0
+  GoesBy new other = (others : List G') × Goes new (other others)
 
-  each_on : (answers : List G) (pdus : List (List ℕ)) (x : S') (s : S) → R s x → R (hears_each U answers pdus s) (hears_each U' answers pdus x)
-  each_on answers [] x s r = r
-  each_on answers (pdu ∷ pdus) x s r = each_on answers pdus (U'.hear answers (Heard pdu) x) (U.hear answers (Heard pdu) s) (e.hear answers (Heard pdu) s x r)
+  pub told_on : (answers : List G) (news : News) (x : S') (old : Station S) → R old.upper x → GoesBy (told U answers news old) (λ others. told U' others news (with x old))
+  told_on answers news x old r = let (others, now) = e.hear answers news old.upper x r in (others, (U'.hear others news x, now, refl))
 
-  piece_if : (test : Bool) (answers : List G) (pdus : List (List ℕ)) (joining : List ℕ) (x : S') (old : Station S) → R old.upper x
-      → (let heard : Station S' = record (with x old) { upper = hears_each U' answers pdus x; joining = joining } in
-      let now : Station S = record old { upper = hears_each U answers pdus old.upper; joining = joining } in
-      Goes (if test then now else old) (if test then heard else with x old))
-  piece_if true answers pdus joining x old r = (hears_each U' answers pdus x, each_on answers pdus x old.upper r, refl)
-  piece_if false answers pdus joining x old r = (x, r, refl)
+  -- a piece completes one PDU at most
+  each_on : (answers : List G) (joined : Joined) (x : S') (s : S) → R s x → (others : List G') × R (hears_each U answers (whole_in joined) s) (hears_each U' others (whole_in joined) x)
+  each_on answers (Pdu channel octets) x s r = e.hear answers (Heard octets) s x r
+  each_on answers joined x s r = ([], r)
 
-  pub piece_on : (answers : List G) (handle : ℕ) (piece : Piece) (x : S') (old : Station S) → R old.upper x → Goes (hears_piece U answers handle piece old) (hears_piece U' answers handle piece (with x old))
-  piece_on answers handle piece x old r = piece_if (is_handle handle old.link) answers (gives longest_pdu old.joining piece) (holds longest_pdu old.joining piece) x old r
+  piece_if : (test : Bool) (answers : List G) (joined : Joined) (joining : List ℕ) (x : S') (old : Station S) → R old.upper x
+      → (let now : Station S = record old { upper = hears_each U answers (whole_in joined) old.upper; joining = joining } in
+      GoesBy (if test then now else old)
+      (λ others. let heard : Station S' = record (with x old) { upper = hears_each U' others (whole_in joined) x; joining = joining } in if test then heard else with x old))
+  piece_if true answers joined joining x old r = let (others, now) = each_on answers joined x old.upper r in (others, (hears_each U' others (whole_in joined) x, now, refl))
+  piece_if false answers joined joining x old r = ([], (x, r, refl))
 
-  upper_on : (answers : List G) (event : Option LinkEvent) (x : S') (s : S) → R s x → R (upper_told U answers event s) (upper_told U' answers event x)
-  upper_on answers None x s r = r
+  pub piece_on : (answers : List G) (handle : ℕ) (piece : Piece) (x : S') (old : Station S) → R old.upper x → GoesBy (hears_piece U answers handle piece old) (λ others. hears_piece U' others handle piece (with x old))
+  piece_on answers handle piece x old r = piece_if (is_handle handle old.link) answers (joined_by longest_pdu old.joining (starts piece.boundary) piece.octets) (holds longest_pdu old.joining piece) x old r
+
+  upper_on : (answers : List G) (event : Option LinkEvent) (x : S') (s : S) → R s x → (others : List G') × R (upper_told U answers event s) (upper_told U' others event x)
+  upper_on answers None x s r = ([], r)
   upper_on answers (Some event) x s r = e.hear answers (Linked event) s x r
 
-  pub hears_on : (answers : List G) (side : Side) (answer : Answer) (x : S') (old : Station S) → R old.upper x → Goes (hears_answer U answers side answer old) (hears_answer U' answers side answer (with x old))
-  hears_on answers side answer x old r = (
-    upper_told U' answers (event_in answer old) x,
-    upper_on answers (event_in answer old) x old.upper r,
-    ap₂ (λ (one : Station S') (event : Option LinkEvent). let after : Station S' = record one { upper = upper_told U' answers event x } in after) (answer_with x side answer old) (event_with x answer old),
-  )
+  pub hears_on : (answers : List G) (side : Side) (answer : Answer) (x : S') (old : Station S) → R old.upper x → GoesBy (hears_answer U answers side answer old) (λ others. hears_answer U' others side answer (with x old))
+  hears_on answers side answer x old r =
+      let (others, now) = upper_on answers (event_in answer old) x old.upper r in (
+        others,
+        (
+          upper_told U' others (event_in answer old) x,
+          now,
+          ap₂ (λ (one : Station S') (event : Option LinkEvent). let after : Station S' = record one { upper = upper_told U' others event x } in after) (answer_with x side answer old) (event_with x answer old),
+        ),
+      )
 
-  fired_if : (test : Bool) (answers : List G) (x : S') (old : Station S) → R old.upper x → Goes (if test then told U answers TimerFired old else old) (if test then told U' answers TimerFired (with x old) else with x old)
+  fired_if : (test : Bool) (answers : List G) (x : S') (old : Station S) → R old.upper x → GoesBy (if test then told U answers TimerFired old else old) (λ others. if test then told U' others TimerFired (with x old) else with x old)
   fired_if true answers x old r = told_on answers TimerFired x old r
-  fired_if false answers x old r = (x, r, refl)
+  fired_if false answers x old r = ([], (x, r, refl))
 
-  pub fired_on : (answers : List G) (x : S') (old : Station S) → R old.upper x → Goes (fired U answers old) (fired U' answers (with x old))
+  pub fired_on : (answers : List G) (x : S') (old : Station S) → R old.upper x → GoesBy (fired U answers old) (λ others. fired U' others (with x old))
   fired_on answers x old r =
       rw (e.armed old.upper x r) (fired_if (U.armed old.upper) answers x old r)
 
@@ -155,7 +166,7 @@ module _ {S S' G : Type 0} (R : S → S' → Type 0) (U : Upper S G) (U' : Upper
 
 -- ---- both hosts
 
-module _ {S S' T T' G H : Type 0} (R : S → S' → Type 0) (Q : T → T' → Type 0) (U : Upper S G) (U' : Upper S' G) (V : Upper T H) (V' : Upper T' H) (e : AreAlike R U U') (f : AreAlike Q V V') where
+module _ {S S' T T' G G' H H' : Type 0} (R : S → S' → Type 0) (Q : T → T' → Type 0) (U : Upper S G) (U' : Upper S' G') (V : Upper T H) (V' : Upper T' H') (e : AreAlike R U U') (f : AreAlike Q V V') where
   calm_on : (link : Bool) (pushes : Pushes) (s : S) (t : T) (x : S') (y : T') → R s x → Q t y → IsCalm U V link pushes s t → IsCalm U' V' link pushes x y
   calm_on link pushes s t x y r q calm = record {
     no_rise = λ off going. e.wants_link s x r ∙ calm.no_rise off going;
@@ -201,12 +212,12 @@ module _ {S S' T T' G H : Type 0} (R : S → S' → Type 0) (Q : T → T' → Ty
   acts_on (Meets Ba fate) x y old new r q acts =
       rw acts (x, y, r, q, ap (λ (test : Bool). let one : World S' T' = record (world_with x y old) { radio = after_meeting Ba fate test old.radio.b.waiting old.radio } in one) (sym (checks_on R U U' e old.radio.b.waiting x old.a r)))
   acts_on (Fires A) x y old new r q (armed, g, same) =
-      rw same (U'.hear g TimerFired x, y, e.hear g TimerFired old.a.upper x r, q, (e.armed old.a.upper x r ∙ armed, g, refl))
+      let (others, now) = e.hear g TimerFired old.a.upper x r in rw same (U'.hear others TimerFired x, y, now, q, (e.armed old.a.upper x r ∙ armed, others, refl))
   acts_on (Fires B) x y old new r q (armed, h, same) =
-      rw same (x, V'.hear h TimerFired y, r, f.hear h TimerFired old.b.upper y q, (f.armed old.b.upper y q ∙ armed, h, refl))
+      let (others, now) = f.hear h TimerFired old.b.upper y q in rw same (x, V'.hear others TimerFired y, r, now, (f.armed old.b.upper y q ∙ armed, others, refl))
   acts_on FiresBoth x y old new r q (armed, g, h, same) =
-      let (m, one, is_a) = fired_on R U U' e g x old.a r in
-      let (n, two, is_b) = fired_on Q V V' f h y old.b q in
+      let (g', (m, one, is_a)) = fired_on R U U' e g x old.a r in
+      let (h', (n, two, is_b)) = fired_on Q V V' f h y old.b q in
       rw same (
         m,
         n,
@@ -214,14 +225,15 @@ module _ {S S' T T' G H : Type 0} (R : S → S' → Type 0) (Q : T → T' → Ty
         two,
         (
           ap₂ (λ (i j : Bool). i || j) (e.armed old.a.upper x r) (f.armed old.b.upper y q) ∙ armed,
-          g,
-          h,
+          g',
+          h',
           ap₂ (λ (i : Station S') (j : Station T'). let after : World S' T' = record (world_with x y old) { a = i; b = j } in after) (sym is_a) (sym is_b),
         ),
       )
   acts_on Breaks x y old new r q acts = rw acts (x, y, r, q, refl)
   acts_on Cancels x y old new r q (may, g, same) =
-      rw same (U'.hear g Cancelled x, y, e.hear g Cancelled old.a.upper x r, q, (ap (λ (m : Bool). old.pushes.going && m) (e.may_cancel old.a.upper x r) ∙ may, g, refl))
+      let (others, now) = e.hear g Cancelled old.a.upper x r in
+      rw same (U'.hear others Cancelled x, y, now, q, (ap (λ (m : Bool). old.pushes.going && m) (e.may_cancel old.a.upper x r) ∙ may, others, refl))
 
   abbrev DoesOn : Happening → S' → T' → World S T → World S T → Type 0
   DoesOn happening x y old new = Leads (Does U' V' happening (world_with x y old)) new
@@ -235,24 +247,25 @@ module _ {S S' T T' G H : Type 0} (R : S → S' → Type 0) (Q : T → T' → Ty
   does_on (Departure B order) x y old new r q (rest, first, same) = rw same (x, y, r, q, (rest, first, refl))
   does_on (GivingBack side) x y old new r q same = rw same (x, y, r, q, refl)
   does_on (Piecemeal A handle piece) x y old new r q (rest, first, number, g, same) =
-      let (m, one, is) = piece_on R U U' e g handle piece x old.a r in
-      rw same (m, y, one, q, (rest, first, number, g, ap (λ (i : Station S'). let after : World S' T' = record (world_with x y old) { radio = with_controller A (after_handing old.radio.a) old.radio; a = i } in after) (sym is)))
+      let (others, (m, one, is)) = piece_on R U U' e g handle piece x old.a r in
+      rw same (m, y, one, q, (rest, first, number, others, ap (λ (i : Station S'). let after : World S' T' = record (world_with x y old) { radio = with_controller A (after_handing old.radio.a) old.radio; a = i } in after) (sym is)))
   does_on (Piecemeal B handle piece) x y old new r q (rest, first, number, h, same) =
-      let (n, two, is) = piece_on Q V V' f h handle piece y old.b q in
-      rw same (x, n, r, two, (rest, first, number, h, ap (λ (i : Station T'). let after : World S' T' = record (world_with x y old) { radio = with_controller B (after_handing old.radio.b) old.radio; b = i } in after) (sym is)))
+      let (others, (n, two, is)) = piece_on Q V V' f h handle piece y old.b q in
+      rw same (x, n, r, two, (rest, first, number, others, ap (λ (i : Station T'). let after : World S' T' = record (world_with x y old) { radio = with_controller B (after_handing old.radio.b) old.radio; b = i } in after) (sym is)))
   does_on (Answering A answer) x y old new r q (rest, none, first, g, same) =
-      let (m, one, is) = hears_on R U U' e g A answer x old.a r in
-      rw same (m, y, one, q, (rest, none, first, g, ap (λ (i : Station S'). let after : World S' T' = record (world_with x y old) { radio = with_controller A (after_handing old.radio.a) old.radio; a = i } in after) (sym is)))
+      let (others, (m, one, is)) = hears_on R U U' e g A answer x old.a r in
+      rw same (m, y, one, q, (rest, none, first, others, ap (λ (i : Station S'). let after : World S' T' = record (world_with x y old) { radio = with_controller A (after_handing old.radio.a) old.radio; a = i } in after) (sym is)))
   does_on (Answering B answer) x y old new r q (rest, none, first, h, same) =
-      let (n, two, is) = hears_on Q V V' f h B answer y old.b q in
-      rw same (x, n, r, two, (rest, none, first, h, ap (λ (i : Station T'). let after : World S' T' = record (world_with x y old) { radio = with_controller B (after_handing old.radio.b) old.radio; b = i } in after) (sym is)))
+      let (others, (n, two, is)) = hears_on Q V V' f h B answer y old.b q in
+      rw same (x, n, r, two, (rest, none, first, others, ap (λ (i : Station T'). let after : World S' T' = record (world_with x y old) { radio = with_controller B (after_handing old.radio.b) old.radio; b = i } in after) (sym is)))
   does_on (Turns ordinal word) x y old new r q (rest, spelled, number, mid, acts, same) =
       let (m, n, one, two, acts') = acts_on (found word old.radio) x y old mid r q acts in
       rw same (m, n, one, two, (rest_with old x y r q rest, spelled, number, world_with m n mid, acts', refl))
   does_on (Misses word) x y old new r q (rest, finds, same) =
       rw same (x, y, r, q, (rest_with old x y r q rest, finds_on (found word old.radio) old.pushes old.a.upper old.b.upper x y r q finds, refl))
   does_on (Opens push name) x y old new r q (idle, next, number, g, same) =
-      rw same (U'.hear g (Opening name) x, y, e.hear g (Opening name) old.a.upper x r, q, (e.is_idle old.a.upper x r ∙ idle, next, number, g, refl))
+      let (others, now) = e.hear g (Opening name) old.a.upper x r in
+      rw same (U'.hear others (Opening name) x, y, now, q, (e.is_idle old.a.upper x r ∙ idle, next, number, others, refl))
   does_on (Closes push outcome) x y old new r q (going, number, idle, came, apart, owed_a, owed_b, coming_a, coming_b, same) =
       rw same (x, y, r, q, (going, number, e.is_idle old.a.upper x r ∙ idle, e.outcome old.a.upper x r ∙ came, apart, owed_a, owed_b, coming_a, coming_b, refl))
 

@@ -15,7 +15,7 @@ module _ {S G : Type 0} (U : Upper S G) (first other : S) (twins : AreTwins U fi
 
   pub alike : AreAlike R U U
   alike = record {
-    hear = λ answers news s t r. inl (tells (λ (x : S). U.hear answers news x) (twins.hear answers news) s t r);
+    hear = λ answers news s t r. (answers, inl (tells (λ (x : S). U.hear answers news x) (twins.hear answers news) s t r));
     says = λ s t r pdu after is. (after, inl refl, tells U.next twins.next s t r ∙ is);
     silent = λ s t r is. tells U.next twins.next s t r ∙ is;
     wants_link = λ s t r. tells U.wants_link twins.wants_link s t r;

@@ -8,7 +8,7 @@ use Rattle.obex_session.specs.PutPackets.{place_of}
 use Rattle.push_model.proofs.LinkLaws as LinkLaws
 use Rattle.push_model.proofs.LinkLaws.{steps_keep}
 use Rattle.bt_base.specs.Numbers.{IsPsm}
-use Rattle.std.proofs.lemmas.Bool.{cases_Bool, eqb-true, false≢true}
+use Rattle.std.proofs.lemmas.Bool.{cases_Bool, cond-true, eqb-true, eq-eqb, false≢true}
 use Rattle.channel_model.specs.declared.event.ChannelEvent.{ChannelEvent}
 use Rattle.channel_model.specs.declared.event.ChannelEvent.TheVariants as event
 use Rattle.world_model.specs.Machines as machines
@@ -47,6 +47,8 @@ use Rattle.host_model.specs.Clients.{ClientProfile, client_profile, after_end}
 use Rattle.host_model.specs.Endpoints.{Endpoint, endpoint_of, takes_sdu}
 use Rattle.host_model.specs.Pdus.{sdu_of}
 use Rattle.host_model.specs.Profiles.{Stride}
+use Rattle.host_model.specs.Shelves.{measured, fitting, unused}
+use Rattle.host_model.proofs.Shelves.{unused_none, unused_one}
 use Rattle.bt_host.specs.Calls.{Does}
 use Rattle.bt_host.specs.Uppers.{IsAside}
 use Rattle.bt_host.specs.Pushing.{pushing, HasCid, Pushes, IsOf, is_failure, AreOf}
@@ -163,6 +165,12 @@ stands : (content : Option (List Object)) (name : List ℕ) (at : ℕ) (part : L
 stands None name at part is = tt
 stands (Some objects) name at part is = (name, at, is)
 
+-- answers fit what was asked, and behind the step those that were left over are left, whichever they are
+record Fits (client : Client) (used rest : List Octs) (new : Client) (result : Step) : Type 0 where
+  left : List Octs
+  stepped_is : steps client (fitting client (used ++ rest)) ≡ gone new result left
+  left_is : unused left (used ++ rest) ≡ rest
+
 module _ (client : Client) (content : Option (List Object)) (f f' s s' : ℕ) where
   one_is : (answer : Octs) → IsAnswer client content f f' s s' answer → IsOf content (Part answer)
   one_is (Ok part) is = stands content client.name (place_of client.session.put) part is.1
@@ -178,6 +186,17 @@ module _ (client : Client) (content : Option (List Object)) (f f' s s' : ℕ) wh
   answers_of content' (answer ∷ []) answers stays faults shortages =
       record { content_stays = stays; faults_stay = faults; shortages_stay = shortages; each = (one_is answer answers, tt); failed = one_fails answer answers }
   answers_of content' (answer ∷ other ∷ more) answers stays faults shortages = absurd answers
+
+  -- and they fit
+  one_fits : (answer : Octs) → IsAnswer client content f f' s s' answer → measured (course.put_count client) answer ≡ answer
+  one_fits (Ok part) is = cond-true (length part == course.put_count client) (Ok part) (Err fault.Failed) (eq-eqb (length part) (course.put_count client) is.0)
+  one_fits (Err cause) is = refl
+
+  all_fit : (used rest : List Octs) (new : Client) (result : Step) → AreAnswers client content f f' s s' used → ((rest : List Octs) → steps client (used ++ rest) ≡ gone new result rest) → Fits client used rest new result
+  all_fit [] rest new result answers comes = record { left = fitting client rest; stepped_is = comes (fitting client rest); left_is = unused_none client rest }
+  all_fit (answer ∷ []) rest new result answers comes =
+      record { left = rest; stepped_is = ap (λ (a : Octs). steps client (a ∷ rest)) (one_fits answer answers) ∙ comes rest; left_is = unused_one answer rest }
+  all_fit (answer ∷ other ∷ more) rest new result answers comes = absurd answers
 
 -- ---- a step
 
@@ -228,8 +247,10 @@ module _ {P : Type 0} (content : P → Option (List Object)) (faults shortages :
     does = λ rest.
         let one = step_of (payload_in new) result in
         let none : link_steps one ≡ 0 = ap (λ (s : Stepped). link_steps s.step) (sym (k.comes (parts_in rest))) ∙ asks_none end.client (k.used ++ parts_in rest) called in
+        let fits = all_fit end.client (content first) (faults first) (faults last) (shortages first) (shortages last) k.used (parts_in rest) new result k.answers k.comes in
         ap (λ (xs : List Octs). model.next_stride v (record end { parts = xs })) (parts_of k.used rest)
-        ∙ ap (λ (s : Stepped). model.takes s.step v (record end { client = s.client; parts = s.left }) (record end { parts = k.used ++ parts_in rest })) (k.comes (parts_in rest))
+        ∙ ap (λ (s : Stepped). model.takes s.step v (record end { client = s.client; parts = unused s.left (k.used ++ parts_in rest) }) (record end { parts = k.used ++ parts_in rest })) fits.stepped_is
+        ∙ ap (λ (xs : List Octs). model.takes one v (record end { client = new; parts = xs }) (record end { parts = k.used ++ parts_in rest })) fits.left_is
         ∙ takes_with one v (record end { client = new }) (record end { parts = k.used ++ parts_in rest }) (parts_in rest) none
         ∙ ap (λ (m : ClientProfile). with_parts (parts_in rest) (model.takes (step_of (payload_in m.client) result) v m m)) (sym mid_is)
         ∙ ap (with_parts (parts_in rest)) (sym takes_is);

@@ -9,6 +9,7 @@ use Rattle.bt_base.specs.Numbers.{IsPsm}
 use Rattle.bt_base.specs.Objects.{Object, octets_of}
 use Rattle.bt_base.specs.declared.ports.PortFault.{PortFault}
 use Rattle.bt_base.specs.declared.ports.PortFault.TheVariants as fault
+use Rattle.obex_session.specs.PutPackets.{units_in}
 use Rattle.push_model.specs.declared.course.Point.TheVariants.{Due, Asked}
 use Rattle.push_model.specs.declared.course.Stage.{Stage}
 use Rattle.push_model.specs.declared.course.Stage.TheVariants.{Rest, Link, SearchChannel, Search, SearchEnd, Features, ObjectChannel, Object as Carries, ObjectEnd, LinkEnd, Over}
@@ -24,6 +25,8 @@ use Rattle.world_model.specs.Machines.{Opening}
 use Rattle.host_model.specs.Circumstances.{Circumstance, Size, parts_in}
 use Rattle.host_model.specs.Clients as model
 use Rattle.host_model.specs.Clients.{ClientProfile, calls, after_call}
+use Rattle.host_model.specs.Shelves.{name_for}
+use Rattle.host_model.proofs.Shelves.{name_stays, size_stays}
 use Rattle.bt_host.specs.Calls.{Does}
 use Rattle.bt_host.specs.Pushing.{pushing, Pushes, IsDue, IsOf, is_failure, AreOf}
 use Rattle.bt_host.specs.PushingLaws.{Answers, joins}
@@ -188,17 +191,19 @@ size_answered old new name content content' f f' s s' works b stays =
     }
 
 module _ {P : Type 0} (content : P → Option (List Object)) (faults shortages : P → ℕ) where
-  pub begin_does : (end new : ClientProfile) (mid after : Client) (name : List ℕ) (first second last : P) → end.client.failed ≡ false
+  pub begin_does : (end new : ClientProfile) (mid after : Client) (name : List ℕ) (first second last : P) → length (units_in name) ≤ 100 → end.client.failed ≡ false
       → (b : Begins end.client mid name (content first) (faults first) (faults second) (shortages first) (shortages second)) → content second ≡ content first → after ≡ push.ended mid → new ≡ calls (opening end after)
       → Answers content faults shortages second [] last
       → Does (Answers content faults shortages) (λ rest. model.told rest (Opening name) (pushing end rest)) (pushing new) first last
-  begin_does end new mid after name first second last works b stays is new_is behind = record {
+  begin_does end new mid after name first second last few works b stays is new_is behind = record {
     used = Size b.size ∷ [];
     answered = (joins content faults shortages).then first second last (Size b.size ∷ []) []
         (size_answered end.client mid name (content first) (content second) (faults first) (faults second) (shortages first) (shortages second) works b stays) behind;
     does = λ rest.
         let client_is : model.ended (begins b.size name end.client) ≡ after = ap model.ended (sym b.client) ∙ ended_is mid ∙ sym is in
-        ap (λ (c : Client). calls (record (opening end c) { parts = parts_in rest })) client_is
+        ap (λ (s : Result ℕ PortFault). model.opens s (name_for name) (record end { parts = parts_in rest })) (size_stays b.size name few)
+        ∙ ap (λ (n : List ℕ). model.opens b.size n (record end { parts = parts_in rest })) (name_stays name few)
+        ∙ ap (λ (c : Client). calls (record (opening end c) { parts = parts_in rest })) client_is
         ∙ after_with (steps after []).step (steps after []).client (opening end after) (parts_in rest)
         ∙ ap (λ (e : ClientProfile). record e { parts = parts_in rest }) (sym new_is);
   }

@@ -13,6 +13,7 @@ use Rattle.channel_model.specs.Value.{Channels}
 use Rattle.channel_model.specs.Calls.{sends}
 use Rattle.l2cap_channels.specs.Machine.{Machine, with_channels}
 use Rattle.l2cap_channels.specs.Sending.{takes}
+use Rattle.obex_session.specs.PutPackets.{units_in}
 use Rattle.push_model.specs.Client.{Client, cancelled, is_idle}
 use Rattle.push_model.specs.Payloads.{Payload, IsSaid}
 use Rattle.push_model.specs.Steps as course
@@ -148,10 +149,10 @@ module _ {P : Type 0} (content : P → Option (List Object)) (faults shortages :
       subst (λ (e : ClientProfile). Does (Answers content faults shortages) (λ rest. (client_profile settings).steps v (pushing e rest)) (λ rest. record { channels = v'; profile = pushing after rest; more = more }) first last) view
       (step_does content faults shortages end mid after new result lacks more v v' first last mid_is (subst Pushes (sym view) sound).called k stays takes_is settings)
 
-  pub begun_does : (end now new : ClientProfile) (mid after : Client) (name : List ℕ) (first second last : P) → end ≡ now → Pushes now
+  pub begun_does : (end now new : ClientProfile) (mid after : Client) (name : List ℕ) (first second last : P) → length (units_in name) ≤ 100 → end ≡ now → Pushes now
       → (b : Begins end.client mid name (content first) (faults first) (faults second) (shortages first) (shortages second)) → content second ≡ content first → after ≡ push.ended mid → new ≡ calls (opening end after)
       → Answers content faults shortages second [] last
       → Does (Answers content faults shortages) (λ rest. model.told rest (Opening name) (pushing now rest)) (pushing new) first last
-  begun_does end now new mid after name first second last view sound b stays is new_is behind =
+  begun_does end now new mid after name first second last few view sound b stays is new_is behind =
       subst (λ (e : ClientProfile). Does (Answers content faults shortages) (λ rest. model.told rest (Opening name) (pushing e rest)) (pushing new) first last) view
-      (begin_does content faults shortages end new mid after name first second last (subst Pushes (sym view) sound).works b stays is new_is behind)
+      (begin_does content faults shortages end new mid after name first second last few (subst Pushes (sym view) sound).works b stays is new_is behind)

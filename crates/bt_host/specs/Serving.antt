@@ -28,9 +28,10 @@ serving end content rest = record {
   breaks = end.breaks;
 }
 
--- the profile of a server; what its inbox holds at first is told by its port
+-- The profile of a server: it reads what its inbox answers off its own state, and is given no more of it. What its inbox holds at first is
+-- told by its port.
 abbrev pub profile_of : Settings → Profile ServerProfile
-profile_of settings = server_profile settings None
+profile_of settings = record (server_profile settings None) { given = λ circumstances serving. serving }
 
 -- its inbox has an object pending exactly where one is under way, and was not short of memory
 pub record Works (end : Served) (pending : Bool) : Type 0 where

@@ -62,14 +62,14 @@ says_alike : (identifier : ℕ) (response : Option Content) (v : Channels) → I
 says_alike identifier None v = same_alike v
 says_alike identifier (Some content) v = record { held_is = refl; next_is = refl; identifier_is = refl; features_is = refl; events_are = refl }
 
-answers_more : (queue : List Queued) (command : Command) → answers_of (queue ++ Answer command ∷ []) ≡ answers_of queue ++ command ∷ []
-answers_more [] command = refl
-answers_more (Answer other ∷ queue) command = ap (λ cs. other ∷ cs) (answers_more queue command)
-answers_more (Ask errand ∷ queue) command = answers_more queue command
+pub answers-more : (queue : List Queued) (command : Command) → answers_of (queue ++ Answer command ∷ []) ≡ answers_of queue ++ command ∷ []
+answers-more [] command = refl
+answers-more (Answer other ∷ queue) command = ap (λ cs. other ∷ cs) (answers-more queue command)
+answers-more (Ask errand ∷ queue) command = answers-more queue command
 
 says_waits : (identifier : ℕ) (response : Option Content) (v t : Channels) → t.queue ≡ v.queue → can_say response v ≡ true → WaitsSo v (says identifier response t) identifier response
 says_waits identifier None v t same can = inl (ap answers_of same)
-says_waits identifier (Some content) v t same can = inr (content, refl, can, answers_more t.queue (command_with identifier content) ∙ ap (λ q. answers_of q ++ command_with identifier content ∷ []) same)
+says_waits identifier (Some content) v t same can = inr (content, refl, can, answers-more t.queue (command_with identifier content) ∙ ap (λ q. answers_of q ++ command_with identifier content ∷ []) same)
 
 pub says_memory : (identifier : ℕ) (response : Option Content) (v : Channels) → (says identifier response v).memory ≡ v.memory
 says_memory identifier None v = refl

@@ -58,6 +58,7 @@ pub mod Saying
 pub mod Origins
 pub mod Trying
 pub mod Sparing
+mod Dispatching
 pub mod Spending
 pub mod Demanding
 pub mod Wishing
@@ -125,3 +126,12 @@ pub mod Trusting
 pub mod Hushed
 pub mod Ordered
 pub mod PlainTaken
+mod Counting
+mod Costing
+mod Meeting
+mod Concluding
+mod Responding
+mod Enquiring
+mod Deciding
+pub mod Exchanged
+pub mod Ready

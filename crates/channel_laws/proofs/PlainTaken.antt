@@ -219,7 +219,7 @@ psm_at policy front behind channel held setup has at is = sym (ap (λ (c : Chann
     same : r.entry.channel ≡ channel
     same = same_channel r.entry.channel channel (read_at channel.own (reading (run_of policy (front ++ behind)).said).entries) (endpoints-name_one policy front behind channel.own r.entry r.found) has
 
-wished_basic : (policy : Policy) (all : List Occurrence) (channel : Channel) → IsOf channel (read_at channel.own (reading (run_of policy all).said).entries) → (policy.wish channel.psm).mode ≡ Basic → (front behind : List Occurrence) → all ≡ front ++ behind → IsBasic channel.own (run_of policy front).value
+pub wished_basic : (policy : Policy) (all : List Occurrence) (channel : Channel) → IsOf channel (read_at channel.own (reading (run_of policy all).said).entries) → (policy.wish channel.psm).mode ≡ Basic → (front behind : List Occurrence) → all ≡ front ++ behind → IsBasic channel.own (run_of policy front).value
 wished_basic policy all channel has mode front behind is held setup carrier at talks carrier_is =
     subst (CarrierIs (policy.wish held.psm)) carrier_is r.agrees.carrier_is
     ∙ (ap (λ psm. (policy.wish psm).mode) (psm_at policy front behind channel held setup (subst (λ l. IsOf channel (read_at channel.own (reading (run_of policy l).said).entries)) is has) at talks) ∙ mode)
@@ -231,7 +231,7 @@ taken_sent : (policy : Policy) (list : List Occurrence) (channel : Channel) → 
 taken_sent policy list channel uttered has mode = all_taken policy channel list [] list refl (wished_basic policy list channel has mode) uttered refl
 
 -- its talk has it so
-basic_mode : (policy : Policy) (list : List Occurrence) (channel : Channel) → IsOf channel (read_at channel.own (reading (run_of policy list).said).entries) → (policy.wish channel.psm).mode ≡ Basic → mode_of channel (run_of policy list).said ≡ Basic
+pub basic_mode : (policy : Policy) (list : List Occurrence) (channel : Channel) → IsOf channel (read_at channel.own (reading (run_of policy list).said).entries) → (policy.wish channel.psm).mode ≡ Basic → mode_of channel (run_of policy list).said ≡ Basic
 basic_mode policy list channel has mode = by (read_at channel.own (reading (run_of policy list).said).entries) refl has
   where
     by : (found : Option Entry) → read_at channel.own (reading (run_of policy list).said).entries ≡ found → IsOf channel found → entry_mode found ≡ Basic

@@ -82,39 +82,39 @@ asked_said policy past v u w one identifier response reply (inr (content, is, ro
     by command (inr (inl same)) = (stands-right (spoken command) past said (subst (λ c. StandsIn (spoken c) said) same there), subst (λ (c : Command). is_response c.content ≡ true) same (subst IsReply is reply))
     by command (inr (inr none)) = elim none [ ]
 
-features_same : (identifier : ℕ) (given : Option ℕ) (v : Channels) → answers_of (hears_features identifier given v).queue ≡ answers_of v.queue
-features_same identifier given v = by (has_identifier identifier v.features)
+pub features-same : (identifier : ℕ) (given : Option ℕ) (v : Channels) → answers_of (hears_features identifier given v).queue ≡ answers_of v.queue
+features-same identifier given v = by (has_identifier identifier v.features)
   where
     by : (b : Bool) → answers_of (cond b (tells (Features given) (forgets errands.Features (record v { features = None }))) v).queue ≡ answers_of v.queue
     by true = forgotten errands.Features v.queue
     by false = refl
 
-answered_same : (policy : Policy) (v : Channels) (identifier : ℕ) (content : Content) → is_response content ≡ true → answers_of (hears_content policy identifier content v).queue ≡ answers_of v.queue
-answered_same policy v identifier (reject reason rest) is = features_same identifier None v
-answered_same policy v identifier (connection_request psm source) is = cc
-answered_same policy v identifier (connection_response destination source answer status) is = (grant-lasts v (held_at source v) policy identifier destination answer).2
-answered_same policy v identifier (configuration_request destination flags options) is = cc
-answered_same policy v identifier (configuration_response source flags answer options) is = (response-lasts v (held_at source v) policy identifier answer options).2
-answered_same policy v identifier (disconnection_request destination source) is = cc
-answered_same policy v identifier (disconnection_response destination source) is = (end-lasts v (held_at source v) destination).2
-answered_same policy v identifier (echo_request octets) is = cc
-answered_same policy v identifier (echo_response octets) is = refl
-answered_same policy v identifier (information_request kind) is = cc
-answered_same policy v identifier (information_response kind answer rest) is = features_same identifier (features_in kind answer rest) v
+pub answered-same : (policy : Policy) (v : Channels) (identifier : ℕ) (content : Content) → is_response content ≡ true → answers_of (hears_content policy identifier content v).queue ≡ answers_of v.queue
+answered-same policy v identifier (reject reason rest) is = features-same identifier None v
+answered-same policy v identifier (connection_request psm source) is = cc
+answered-same policy v identifier (connection_response destination source answer status) is = (grant-lasts v (held_at source v) policy identifier destination answer).2
+answered-same policy v identifier (configuration_request destination flags options) is = cc
+answered-same policy v identifier (configuration_response source flags answer options) is = (response-lasts v (held_at source v) policy identifier answer options).2
+answered-same policy v identifier (disconnection_request destination source) is = cc
+answered-same policy v identifier (disconnection_response destination source) is = (end-lasts v (held_at source v) destination).2
+answered-same policy v identifier (echo_request octets) is = cc
+answered-same policy v identifier (echo_response octets) is = refl
+answered-same policy v identifier (information_request kind) is = cc
+answered-same policy v identifier (information_response kind answer rest) is = features-same identifier (features_in kind answer rest) v
 
 -- ---- what the host does
 
-lost_same : (tries : ℕ) (v : Channels) (features : Option Request) → answers_of (times_features features tries v).queue ≡ answers_of v.queue
-lost_same tries v None = refl
-lost_same tries v (Some request) = by (is_due errands.Features v) (nat_le tries request.given)
+pub lost-same : (tries : ℕ) (v : Channels) (features : Option Request) → answers_of (times_features features tries v).queue ≡ answers_of v.queue
+lost-same tries v None = refl
+lost-same tries v (Some request) = by (is_due errands.Features v) (nat_le tries request.given)
   where
     by : (due most : Bool) → answers_of (fires (cond due StillDue (cond most Spent OnceMore)) errands.Features loses_features v).queue ≡ answers_of v.queue
     by true most = refl
     by false true = refl
     by false false = answers-asked v.queue errands.Features
 
-asks_same : (v : Channels) → answers_of (asks_features v).queue ≡ answers_of v.queue
-asks_same v = by (is_some v.features)
+pub asks-same : (v : Channels) → answers_of (asks_features v).queue ≡ answers_of v.queue
+asks-same v = by (is_some v.features)
   where
     by : (some : Bool) → answers_of (cond some v (asks errands.Features (record v { features = Some (new_request v) }))).queue ≡ answers_of v.queue
     by true = refl
@@ -129,27 +129,27 @@ given_spent : (v : Channels) (setup : Option Setup) (held : Held) → (carrier_s
 given_spent v None held = refl
 given_spent v (Some setup) held = refl
 
-given_held : (v : Channels) (held : Option Held) → (held_given held v).queue ≡ v.queue
-given_held v None = refl
-given_held v (Some held) = given_spent v (setup_of held.stage) held
+pub given-held : (v : Channels) (held : Option Held) → (held_given held v).queue ≡ v.queue
+given-held v None = refl
+given-held v (Some held) = given_spent v (setup_of held.stage) held
 
-given_counted : (v : Channels) (errand : _) → (counted errand v).queue ≡ v.queue
-given_counted v (errands.Connection own) = given_stage v connection_given (held_at own v)
-given_counted v (errands.Configuration own) = given_stage v configuration_given (held_at own v)
-given_counted v (errands.Disconnection own) = given_stage v disconnection_given (held_at own v)
-given_counted v errands.Features = refl
+pub given-counted : (v : Channels) (errand : _) → (counted errand v).queue ≡ v.queue
+given-counted v (errands.Connection own) = given_stage v connection_given (held_at own v)
+given-counted v (errands.Configuration own) = given_stage v configuration_given (held_at own v)
+given-counted v (errands.Disconnection own) = given_stage v disconnection_given (held_at own v)
+given-counted v errands.Features = refl
 
 given_said : (past said : List Saying) (v : Channels) (queue : List Queued) → v.queue ≡ queue → AllSaid past v → AllSaid (past ++ said) (queue_given queue v)
-given_said past said v [] is all = said_on past said v (held_given (find gives v.held) v) (ap answers_of (given_held v (find gives v.held))) all
+given_said past said v [] is all = said_on past said v (held_given (find gives v.held) v) (ap answers_of (given-held v (find gives v.held))) all
 given_said past said v (Answer command ∷ behind) is all = λ other waits. let (stands, is_one) = all other (subst (λ q. StandsIn other (answers_of q)) (sym is) (inr waits)) in (stands-left (spoken other) past said stands, is_one)
 given_said past said v (Ask errand ∷ behind) is all =
     let u : Channels = record v { queue = behind } in
-    said_on past said v (counted errand u) (ap answers_of (given_counted u errand) ∙ sym (ap answers_of is)) all
+    said_on past said v (counted errand u) (ap answers_of (given-counted u errand) ∙ sym (ap answers_of is)) all
 
 single_said : (policy : Policy) (past : List Saying) (v : Channels) (more : Occurrence) → is_single more ≡ true → AllSaid past v → AllSaid (past ++ said_in policy more v) (value_after policy more v)
 single_said policy past v (Comes pdu) is all = cc
 single_said policy past v (Connects psm) is all = said_on past (said_in policy (Connects psm) v) v (value_after policy (Connects psm) v) (connects-lasts psm v).2 all
-single_said policy past v AsksFeatures is all = said_on past (said_in policy AsksFeatures v) v (value_after policy AsksFeatures v) (asks_same v) all
+single_said policy past v AsksFeatures is all = said_on past (said_in policy AsksFeatures v) v (value_after policy AsksFeatures v) (asks-same v) all
 single_said policy past v (Disconnects own) is all = said_on past (said_in policy (Disconnects own) v) v (value_after policy (Disconnects own) v) (disconnects-last own v).2 all
 single_said policy past v (Sends own sdu) is all = said_on past (said_in policy (Sends own sdu) v) v (value_after policy (Sends own sdu) v) (sends-last own sdu v).2 all
 single_said policy past v (Gives pdu) is all = given_said past (said_in policy (Gives pdu) v) v v.queue refl all
@@ -161,11 +161,11 @@ converses policy = record {
   first = tt;
   kept = λ v more lone known. tt;
   asked = λ past v u one identifier response content asking reply alike waits sound all after. asked_said policy past v u (follows policy content u) one identifier response reply waits (follows-lasts policy content u).2 all;
-  answered = λ past v identifier content is sound all after. said_on past (exchanged (Ok (command_with identifier content)) None v ++ asked_between v (hears_content policy identifier content v)) v (hears_content policy identifier content v) (answered_same policy v identifier content is) all;
+  answered = λ past v identifier content is sound all after. said_on past (exchanged (Ok (command_with identifier content)) None v ++ asked_between v (hears_content policy identifier content v)) v (hears_content policy identifier content v) (answered-same policy v identifier content is) all;
   taken = λ past v pdu known sound all after. said_on past (Carried Into pdu ∷ asked_between v (takes (channel_of pdu) pdu v)) v (takes (channel_of pdu) pdu v) (takes-lasts (channel_of pdu) pdu v).2 all;
   waits = λ past v tries own sound all after. said_on past (said_on_firing own v (times_held (held_at own v) tries v)) v (times_held (held_at own v) tries v) (times-last tries own v).2 all;
   ends = λ past v tries own sound all after. said_on past (said_on_firing own v (times_end (held_at own v) tries v)) v (times_end (held_at own v) tries v) (ends-last tries own v).2 all;
-  loses = λ past v tries sound all after. said_on past (said_by_features tries v) v (times_features v.features tries v) (lost_same tries v v.features) all;
+  loses = λ past v tries sound all after. said_on past (said_by_features tries v) v (times_features v.features tries v) (lost-same tries v v.features) all;
   single = λ past v more is known sound all after. single_said policy past v more is all;
 }
 

@@ -1,5 +1,5 @@
 -- No step but a firing lets a request be given again.
-use Rattle.std.proofs.Common.{◌≡◌, ℕ, ◌+◌, ◌≤◌, List, [], ◌∷◌, ◌++◌, Bool, true, false, cond, eqb, not, Option, Some, None, Result, Ok, Err, refl, sym, ap, subst, ◌∙◌, ◌⊎◌, inl, inr, arith, ◌||◌}
+use Rattle.std.proofs.Common.{◌≡◌, ℕ, ◌≤◌, List, [], ◌∷◌, ◌++◌, Bool, true, false, cond, eqb, not, Option, Some, None, Result, Ok, Err, refl, sym, ap, subst, ◌∙◌, inl, inr, arith, ◌||◌}
 use Rattle.std.specs.Prelude.{find, filter, option_map, is_some, nat_le}
 use Rattle.std.specs.Option.{option_or}
 use Rattle.l2cap_signal.specs.Commands.{Content, reject, connection_request, connection_response, configuration_request, configuration_response, disconnection_request, disconnection_response, echo_request, echo_response, information_request, information_response}
@@ -35,7 +35,7 @@ use Rattle.channel_model.proofs.Going.{new_held}
 use Rattle.channel_model.proofs.Walking.{found-own, with-found, with-setup}
 use Rattle.channel_model.proofs.Calling.{granted-same}
 use Rattle.channel_laws.specs.Tries.{for_channel, own_request, for_options, for_end, request_at, request_of, copies}
-use Rattle.channel_laws.proofs.Trying.{copies-less, Tame, both-tame, same-tame, Rests, rests-tame, asks-options-tame, asks-end-tame, dropped-tame}
+use Rattle.channel_laws.proofs.Trying.{copies-less, By, Tame, both-tame, same-tame, Rests, rests-tame, asks-options-tame, asks-end-tame, dropped-tame}
 
 either : (b : Bool) (v x y : Channels) → Tame v x → Tame v y → Tame v (cond b x y)
 either true v x y one other = one
@@ -183,11 +183,11 @@ invited_tame v psm source e r is = by e r is
     found : (f : Stage → Option Request) (own : ℕ) (r : Request) → f (Connected source no_setup) ≡ None → request_at f (find (has_own own) (v.held ++ new ∷ [])) ≡ Some r → request_at f (find (has_own own) v.held) ≡ Some r
     found f own r none some = at f (find (has_own own) v.held) (eqb v.next own) r none (sym (ap (request_at f) (find-append own_of own v.held new)) ∙ some)
 
-    by : (e : Errand) (r : Request) → request_of e (with_channel psm (Connected source no_setup) v) ≡ Some r → (copies e v.queue + r.given ≤ 1) ⊎ ((r' : Request) × (request_of e v ≡ Some r') × (copies e v.queue + r.given ≤ copies e v.queue + r'.given))
-    by (errands.Connection own) r some = inr (r, found for_channel own r refl some, omega arith)
-    by (errands.Configuration own) r some = inr (r, found for_options own r refl some, omega arith)
-    by (errands.Disconnection own) r some = inr (r, found for_end own r refl some, omega arith)
-    by errands.Features r some = inr (r, some, omega arith)
+    by : (e : Errand) (r : Request) → request_of e (with_channel psm (Connected source no_setup) v) ≡ Some r → By (copies e v.queue) (copies e v.queue) (request_of e v) r
+    by (errands.Connection own) r some = inr (found for_channel own r refl some, omega arith)
+    by (errands.Configuration own) r some = inr (found for_options own r refl some, omega arith)
+    by (errands.Disconnection own) r some = inr (found for_end own r refl some, omega arith)
+    by errands.Features r some = inr (some, omega arith)
 
 pub follows-tame : (policy : Policy) (content : Content) (v : Channels) → Tame v (follows policy content v)
 follows-tame policy (reject reason rest) v = same-tame v

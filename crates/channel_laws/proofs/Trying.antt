@@ -65,9 +65,9 @@ copies-others e errand queue apart =
 
 -- ---- one step
 
--- a request that waits is new, or was there and was given no more often
+-- a request that waits is new, with at most one copy, or it is as it was, with no more copies
 abbrev pub By : (after before : ℕ) → Option Request → Request → Type 0
-By after before was r = (after + r.given ≤ 1) ⊎ ((r' : Request) × (was ≡ Some r') × (after + r.given ≤ before + r'.given))
+By after before was r = ((r.given ≡ 0) × (after ≤ 1)) ⊎ ((was ≡ Some r) × (after ≤ before))
 
 abbrev pub Tame : Channels → Channels → Type 0
 Tame v w = (e : Errand) (r : Request) → request_of e w ≡ Some r → By (copies e w.queue) (copies e v.queue) (request_of e v) r
@@ -75,13 +75,13 @@ Tame v w = (e : Errand) (r : Request) → request_of e w ≡ Some r → By (copi
 pub both-tame : (v u w : Channels) → Tame v u → Tame u w → Tame v w
 both-tame v u w first second e r is = by (second e r is)
   where
-    through : (r' : Request) → copies e w.queue + r.given ≤ copies e u.queue + r'.given → By (copies e u.queue) (copies e v.queue) (request_of e v) r' → By (copies e w.queue) (copies e v.queue) (request_of e v) r
-    through r' less (inl new) = inl (omega (arith, less, new))
-    through r' less (inr (r'', was, lesser)) = inr (r'', was, omega (arith, less, lesser))
+    through : copies e w.queue ≤ copies e u.queue → By (copies e u.queue) (copies e v.queue) (request_of e v) r → By (copies e w.queue) (copies e v.queue) (request_of e v) r
+    through less (inl (none, few)) = inl (none, omega (arith, less, few))
+    through less (inr (was, lesser)) = inr (was, omega (arith, less, lesser))
 
     by : By (copies e w.queue) (copies e u.queue) (request_of e u) r → By (copies e w.queue) (copies e v.queue) (request_of e v) r
     by (inl new) = inl new
-    by (inr (r', was, less)) = through r' less (first e r' was)
+    by (inr (was, less)) = through less (first e r was)
 
 pub same-requests : (v w : Channels) → w.held ≡ v.held → w.features ≡ v.features → (e : Errand) → request_of e w ≡ request_of e v
 same-requests v w held features (errands.Connection own) = ap (λ hs. request_at for_channel (find (has_own own) hs)) held
@@ -90,80 +90,93 @@ same-requests v w held features (errands.Disconnection own) = ap (λ hs. request
 same-requests v w held features errands.Features = features
 
 pub still-tame : (v w : Channels) → w.held ≡ v.held → w.features ≡ v.features → ((e : Errand) → copies e w.queue ≤ copies e v.queue) → Tame v w
-still-tame v w held features less e r is = inr (r, sym (same-requests v w held features e) ∙ is, let l = less e in omega (arith, l))
+still-tame v w held features less e r is = inr (sym (same-requests v w held features e) ∙ is, less e)
 
 pub same-tame : (v : Channels) → Tame v v
 same-tame v = still-tame v v refl refl (λ e. omega arith)
 
 -- ---- one channel
 
-abbrev pub Here : (after before : ℕ) → (now was : Option Request) → Type 0
-Here after before now was = (r : Request) → now ≡ Some r → By after before was r
+-- how a request that waits comes from what waited, of the copies after and before
+abbrev pub Descent : Type 1
+Descent = (after before : ℕ) → Option Request → Request → Type 0
+
+-- so may one that is as it was
+abbrev pub Spares : Descent → Type 0
+Spares D = (after before : ℕ) (was : Option Request) (r : Request) → was ≡ Some r → after ≤ before → D after before was r
+
+abbrev pub Here : Descent → (after before : ℕ) → (now was : Option Request) → Type 0
+Here D after before now was = (r : Request) → now ≡ Some r → D after before was r
 
 -- a channel goes on to a stage
-pub record Goes (v w : Channels) (held : Held) (stage : Stage) : Type 0 where
+pub record Goes (D : Descent) (v w : Channels) (held : Held) (stage : Stage) : Type 0 where
   pub found : find (has_own held.own) v.held ≡ Some held
   pub held_is : w.held ≡ map (in_place_of (staged held stage)) v.held
   pub features_is : w.features ≡ v.features
   pub others : (e : Errand) → is_about held.own e ≡ false → copies e w.queue ≤ copies e v.queue
-  pub channel : Here (copies (errands.Connection held.own) w.queue) (copies (errands.Connection held.own) v.queue) (for_channel stage) (for_channel held.stage)
-  pub options : Here (copies (errands.Configuration held.own) w.queue) (copies (errands.Configuration held.own) v.queue) (for_options stage) (for_options held.stage)
-  pub ending : Here (copies (errands.Disconnection held.own) w.queue) (copies (errands.Disconnection held.own) v.queue) (for_end stage) (for_end held.stage)
+  pub channel : Here D (copies (errands.Connection held.own) w.queue) (copies (errands.Connection held.own) v.queue) (for_channel stage) (for_channel held.stage)
+  pub options : Here D (copies (errands.Configuration held.own) w.queue) (copies (errands.Configuration held.own) v.queue) (for_options stage) (for_options held.stage)
+  pub ending : Here D (copies (errands.Disconnection held.own) w.queue) (copies (errands.Disconnection held.own) v.queue) (for_end stage) (for_end held.stage)
 
-at_tame : (v w : Channels) (held : Held) (stage : Stage) (f : Stage → Option Request) (after before : ℕ → ℕ) → find (has_own held.own) v.held ≡ Some held → w.held ≡ map (in_place_of (staged held stage)) v.held
-    → ((own : ℕ) → eqb own held.own ≡ false → after own ≤ before own) → Here (after held.own) (before held.own) (f stage) (f held.stage)
-    → (own : ℕ) (r : Request) → request_at f (find (has_own own) w.held) ≡ Some r → By (after own) (before own) (request_at f (find (has_own own) v.held)) r
-at_tame v w held stage f after before found held_is others here own r is = by (eqb held.own own) refl
+at_place : (D : Descent) → Spares D → (v w : Channels) (held : Held) (stage : Stage) (f : Stage → Option Request) (after before : ℕ → ℕ) → find (has_own held.own) v.held ≡ Some held → w.held ≡ map (in_place_of (staged held stage)) v.held
+    → ((own : ℕ) → eqb own held.own ≡ false → after own ≤ before own) → Here D (after held.own) (before held.own) (f stage) (f held.stage)
+    → (own : ℕ) (r : Request) → request_at f (find (has_own own) w.held) ≡ Some r → D (after own) (before own) (request_at f (find (has_own own) v.held)) r
+at_place D spares v w held stage f after before found held_is others here own r is = by (eqb held.own own) refl
   where
-    by : (same : Bool) → eqb held.own own ≡ same → By (after own) (before own) (request_at f (find (has_own own) v.held)) r
+    by : (same : Bool) → eqb held.own own ≡ same → D (after own) (before own) (request_at f (find (has_own own) v.held)) r
     by true now =
         let same : held.own ≡ own = eqb-true held.own own now in
         let w_is : find (has_own held.own) w.held ≡ Some (staged held stage) = ap (find (has_own held.own)) held_is ∙ found-placed (staged held stage) held v.held found in
         let r_is : f stage ≡ Some r = sym (ap (request_at f) w_is) ∙ (ap (λ n. request_at f (find (has_own n) w.held)) same ∙ is) in
-        subst (λ n. By (after n) (before n) (request_at f (find (has_own n) v.held)) r) same
-        (subst (λ h. By (after held.own) (before held.own) (request_at f h) r) (sym found) (here r r_is))
+        subst (λ n. D (after n) (before n) (request_at f (find (has_own n) v.held)) r) same
+        (subst (λ h. D (after held.own) (before held.own) (request_at f h) r) (sym found) (here r r_is))
     by false now =
         let w_is : find (has_own own) w.held ≡ find (has_own own) v.held = ap (find (has_own own)) held_is ∙ find-placed (staged held stage) v.held own now in
-        let less = others own (eqb-away held.own own now) in
-        inr (r, sym (ap (request_at f) w_is) ∙ is, omega (arith, less))
+        spares (after own) (before own) (request_at f (find (has_own own) v.held)) r (sym (ap (request_at f) w_is) ∙ is) (others own (eqb-away held.own own now))
 
-pub goes-tame : (v w : Channels) (held : Held) (stage : Stage) → Goes v w held stage → Tame v w
-goes-tame v w held stage goes (errands.Connection own) r is =
-    at_tame v w held stage for_channel (λ n. copies (errands.Connection n) w.queue) (λ n. copies (errands.Connection n) v.queue) goes.found goes.held_is (λ n apart. goes.others (errands.Connection n) apart) goes.channel own r is
-goes-tame v w held stage goes (errands.Configuration own) r is =
-    at_tame v w held stage for_options (λ n. copies (errands.Configuration n) w.queue) (λ n. copies (errands.Configuration n) v.queue) goes.found goes.held_is (λ n apart. goes.others (errands.Configuration n) apart) goes.options own r is
-goes-tame v w held stage goes (errands.Disconnection own) r is =
-    at_tame v w held stage for_end (λ n. copies (errands.Disconnection n) w.queue) (λ n. copies (errands.Disconnection n) v.queue) goes.found goes.held_is (λ n apart. goes.others (errands.Disconnection n) apart) goes.ending own r is
-goes-tame v w held stage goes errands.Features r is = let less = goes.others errands.Features refl in inr (r, sym goes.features_is ∙ is, omega (arith, less))
+pub goes-so : (D : Descent) → Spares D → (v w : Channels) (held : Held) (stage : Stage) → Goes D v w held stage → (e : Errand) (r : Request) → request_of e w ≡ Some r → D (copies e w.queue) (copies e v.queue) (request_of e v) r
+goes-so D spares v w held stage goes (errands.Connection own) r is =
+    at_place D spares v w held stage for_channel (λ n. copies (errands.Connection n) w.queue) (λ n. copies (errands.Connection n) v.queue) goes.found goes.held_is (λ n apart. goes.others (errands.Connection n) apart) goes.channel own r is
+goes-so D spares v w held stage goes (errands.Configuration own) r is =
+    at_place D spares v w held stage for_options (λ n. copies (errands.Configuration n) w.queue) (λ n. copies (errands.Configuration n) v.queue) goes.found goes.held_is (λ n apart. goes.others (errands.Configuration n) apart) goes.options own r is
+goes-so D spares v w held stage goes (errands.Disconnection own) r is =
+    at_place D spares v w held stage for_end (λ n. copies (errands.Disconnection n) w.queue) (λ n. copies (errands.Disconnection n) v.queue) goes.found goes.held_is (λ n apart. goes.others (errands.Disconnection n) apart) goes.ending own r is
+goes-so D spares v w held stage goes errands.Features r is = spares (copies errands.Features w.queue) (copies errands.Features v.queue) v.features r (sym goes.features_is ∙ is) (goes.others errands.Features refl)
+
+by_same : Spares By
+by_same after before was r is less = inr (is, less)
+
+goes_tame : (v w : Channels) (held : Held) (stage : Stage) → Goes By v w held stage → Tame v w
+goes_tame v w held stage goes = goes-so By by_same v w held stage goes
 
 -- a request that is there no more, or as it was
 abbrev pub Rests : (now was : Option Request) → Type 0
 Rests now was = (now ≡ None) ⊎ (now ≡ was)
 
-pub rests-here : (after before : ℕ) (now was : Option Request) → after ≤ before → Rests now was → Here after before now was
-rests-here after before now was less (inl none) r is = let never : None ≡ Some r = sym none ∙ is in absurd cc
-rests-here after before now was less (inr same) r is = inr (r, sym same ∙ is, omega (arith, less))
+pub rests-here : (D : Descent) → Spares D → (after before : ℕ) (now was : Option Request) → after ≤ before → Rests now was → Here D after before now was
+rests-here D spares after before now was less (inl none) r is = let never : None ≡ Some r = sym none ∙ is in absurd cc
+rests-here D spares after before now was less (inr same) r is = spares after before was r (sym same ∙ is) less
 
 -- it goes on with no new request
 pub rests-tame : (v w : Channels) (held : Held) (stage : Stage) → find (has_own held.own) v.held ≡ Some held → w.held ≡ map (in_place_of (staged held stage)) v.held → w.features ≡ v.features → ((e : Errand) → copies e w.queue ≤ copies e v.queue)
     → Rests (for_channel stage) (for_channel held.stage) → Rests (for_options stage) (for_options held.stage) → Rests (for_end stage) (for_end held.stage) → Tame v w
-rests-tame v w held stage found held_is features_is less a b c = goes-tame v w held stage (record {
+rests-tame v w held stage found held_is features_is less a b c = goes_tame v w held stage (record {
   found = found;
   held_is = held_is;
   features_is = features_is;
   others = λ e apart. less e;
-  channel = rests-here (copies (errands.Connection held.own) w.queue) (copies (errands.Connection held.own) v.queue) (for_channel stage) (for_channel held.stage) (less (errands.Connection held.own)) a;
-  options = rests-here (copies (errands.Configuration held.own) w.queue) (copies (errands.Configuration held.own) v.queue) (for_options stage) (for_options held.stage) (less (errands.Configuration held.own)) b;
-  ending = rests-here (copies (errands.Disconnection held.own) w.queue) (copies (errands.Disconnection held.own) v.queue) (for_end stage) (for_end held.stage) (less (errands.Disconnection held.own)) c;
+  channel = rests-here By by_same (copies (errands.Connection held.own) w.queue) (copies (errands.Connection held.own) v.queue) (for_channel stage) (for_channel held.stage) (less (errands.Connection held.own)) a;
+  options = rests-here By by_same (copies (errands.Configuration held.own) w.queue) (copies (errands.Configuration held.own) v.queue) (for_options stage) (for_options held.stage) (less (errands.Configuration held.own)) b;
+  ending = rests-here By by_same (copies (errands.Disconnection held.own) w.queue) (copies (errands.Disconnection held.own) v.queue) (for_end stage) (for_end held.stage) (less (errands.Disconnection held.own)) c;
 })
 
 -- a new request waits as its one copy
-new_here : (errand : Errand) (queue after : List Queued) (before : ℕ) (request : Request) (now was : Option Request) → after ≡ asked_queue errand queue → now ≡ Some request → request.given ≡ 0 → Here (copies errand after) before now was
+new_here : (errand : Errand) (queue after : List Queued) (before : ℕ) (request : Request) (now was : Option Request) → after ≡ asked_queue errand queue → now ≡ Some request → request.given ≡ 0 → Here By (copies errand after) before now was
 new_here errand queue after before request now was queue_is asks none r is =
     let same : request ≡ r = some_is request r (sym asks ∙ is) in
     let given : r.given ≡ 0 = ap (λ (x : Request). x.given) (sym same) ∙ none in
     let one : copies errand after ≡ 1 = ap (copies errand) queue_is ∙ copies-asked errand queue in
-    inl (omega (arith, given, one))
+    inl (given, omega (arith, one))
   where
     some_is : (x y : Request) → Some x ≡ Some y → x ≡ y
     some_is x y is = cc
@@ -182,14 +195,14 @@ pub asks-options-tame : (v w : Channels) (held : Held) (stage : Stage) (request 
     → for_options stage ≡ Some request → request.given ≡ 0 → Rests (for_channel stage) (for_channel held.stage) → Rests (for_end stage) (for_end held.stage) → Tame v w
 asks-options-tame v w held stage request queue found held_is features_is queue_is less asks none a c =
     let lower = asked_less (errands.Configuration held.own) queue v.queue w.queue queue_is less in
-    goes-tame v w held stage (record {
+    goes_tame v w held stage (record {
       found = found;
       held_is = held_is;
       features_is = features_is;
       others = λ e apart. lower e (about e apart);
-      channel = rests-here (copies (errands.Connection held.own) w.queue) (copies (errands.Connection held.own) v.queue) (for_channel stage) (for_channel held.stage) (lower (errands.Connection held.own) refl) a;
+      channel = rests-here By by_same (copies (errands.Connection held.own) w.queue) (copies (errands.Connection held.own) v.queue) (for_channel stage) (for_channel held.stage) (lower (errands.Connection held.own) refl) a;
       options = new_here (errands.Configuration held.own) queue w.queue (copies (errands.Configuration held.own) v.queue) request (for_options stage) (for_options held.stage) queue_is asks none;
-      ending = rests-here (copies (errands.Disconnection held.own) w.queue) (copies (errands.Disconnection held.own) v.queue) (for_end stage) (for_end held.stage) (lower (errands.Disconnection held.own) refl) c;
+      ending = rests-here By by_same (copies (errands.Disconnection held.own) w.queue) (copies (errands.Disconnection held.own) v.queue) (for_end stage) (for_end held.stage) (lower (errands.Disconnection held.own) refl) c;
     })
   where
     about : (e : Errand) → is_about held.own e ≡ false → same_errand e (errands.Configuration held.own) ≡ false
@@ -204,13 +217,13 @@ pub asks-end-tame : (v w : Channels) (held : Held) (stage : Stage) (request : Re
     → for_end stage ≡ Some request → request.given ≡ 0 → Rests (for_channel stage) (for_channel held.stage) → Rests (for_options stage) (for_options held.stage) → Tame v w
 asks-end-tame v w held stage request queue found held_is features_is queue_is less asks none a b =
     let lower = asked_less (errands.Disconnection held.own) queue v.queue w.queue queue_is less in
-    goes-tame v w held stage (record {
+    goes_tame v w held stage (record {
       found = found;
       held_is = held_is;
       features_is = features_is;
       others = λ e apart. lower e (about e apart);
-      channel = rests-here (copies (errands.Connection held.own) w.queue) (copies (errands.Connection held.own) v.queue) (for_channel stage) (for_channel held.stage) (lower (errands.Connection held.own) refl) a;
-      options = rests-here (copies (errands.Configuration held.own) w.queue) (copies (errands.Configuration held.own) v.queue) (for_options stage) (for_options held.stage) (lower (errands.Configuration held.own) refl) b;
+      channel = rests-here By by_same (copies (errands.Connection held.own) w.queue) (copies (errands.Connection held.own) v.queue) (for_channel stage) (for_channel held.stage) (lower (errands.Connection held.own) refl) a;
+      options = rests-here By by_same (copies (errands.Configuration held.own) w.queue) (copies (errands.Configuration held.own) v.queue) (for_options stage) (for_options held.stage) (lower (errands.Configuration held.own) refl) b;
       ending = new_here (errands.Disconnection held.own) queue w.queue (copies (errands.Disconnection held.own) v.queue) request (for_end stage) (for_end held.stage) queue_is asks none;
     })
   where
@@ -235,7 +248,7 @@ dropped-tame v w held held_is features_is less e r is = by e r is
         here false now = sym (ap (request_at f) (ap (find (has_own own)) held_is ∙ find-others own_of held.own own v.held now)) ∙ is
 
     by : (e : Errand) (r : Request) → request_of e w ≡ Some r → By (copies e w.queue) (copies e v.queue) (request_of e v) r
-    by (errands.Connection own) r is = let l = less (errands.Connection own) in inr (r, at for_channel own r is, omega (arith, l))
-    by (errands.Configuration own) r is = let l = less (errands.Configuration own) in inr (r, at for_options own r is, omega (arith, l))
-    by (errands.Disconnection own) r is = let l = less (errands.Disconnection own) in inr (r, at for_end own r is, omega (arith, l))
-    by errands.Features r is = let l = less errands.Features in inr (r, sym features_is ∙ is, omega (arith, l))
+    by (errands.Connection own) r is = inr (at for_channel own r is, less (errands.Connection own))
+    by (errands.Configuration own) r is = inr (at for_options own r is, less (errands.Configuration own))
+    by (errands.Disconnection own) r is = inr (at for_end own r is, less (errands.Disconnection own))
+    by errands.Features r is = inr (sym features_is ∙ is, less errands.Features)

@@ -35,3 +35,9 @@ pub mod Pace
 pub mod Consent
 pub mod Ordered
 pub mod PlainTaken
+pub mod Adverse
+pub mod Heeded
+pub mod Final
+pub mod Responding
+pub mod Decisive
+pub mod Exchanged

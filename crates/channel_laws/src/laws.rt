@@ -1,22 +1,28 @@
 //! Laws of the channels of one host.
 
 ghost use Rattle.channel_laws.specs.Acceptance.{SendsBehindAcceptance};
+ghost use Rattle.channel_laws.specs.Adverse.{AdverseTurnsAreCounted, DisturbancesAreCounted, FeaturesAreHeeded};
 ghost use Rattle.channel_laws.specs.Agreements.{AgreementsAreOnHeard};
 ghost use Rattle.channel_laws.specs.Armed.{ArmedIsWhatWaits};
 ghost use Rattle.channel_laws.specs.Awaited.{FeaturesAreAwaited, OptionsAreAwaited, RequestsAreAwaited};
 ghost use Rattle.channel_laws.specs.CheckWords.{CheckWordsAreRead, CheckWordsAreWished};
 ghost use Rattle.channel_laws.specs.Consent.{GrantsAreShown, SuccessesAccept};
+ghost use Rattle.channel_laws.specs.Decisive.{AnswersAreDecisive};
 ghost use Rattle.channel_laws.specs.Endpoints.{EndpointsNameOneChannel};
 ghost use Rattle.channel_laws.specs.Endings.{EndsAreTold};
 ghost use Rattle.channel_laws.specs.Ends.{EachEndUtters};
+ghost use Rattle.channel_laws.specs.Final.{FinalResponsesEndWaits};
+ghost use Rattle.channel_laws.specs.Exchanged.{ExchangedIsSpoken};
 ghost use Rattle.channel_laws.specs.Fit.{GivenIsFit};
 ghost use Rattle.channel_laws.specs.Frames.{FramesAreHeld};
+ghost use Rattle.channel_laws.specs.Heeded.{MetIsHeeded};
 ghost use Rattle.channel_laws.specs.Laws.{ChannelsAreRead, EndpointsAreNew};
 ghost use Rattle.channel_laws.specs.Modes.{ModesAreOwn};
 ghost use Rattle.channel_laws.specs.Pace.{OptionsKeepPace};
 ghost use Rattle.channel_laws.specs.Pairs.{EachEndRuns};
 ghost use Rattle.channel_laws.specs.PlainTaken.{PlainTakenGoesOut};
 ghost use Rattle.channel_laws.specs.Repeats.{RepeatsAreAnswered};
+ghost use Rattle.channel_laws.specs.Responding.{CopiesHaveResponses};
 ghost use Rattle.channel_laws.specs.Sdus.{SdusAreRead};
 ghost use Rattle.channel_laws.specs.Services.{ChannelsAloneWait};
 ghost use Rattle.channel_laws.specs.Belonging.{UtteredIsRead, PledgesWereSaid, ChannelsBelong};
@@ -215,4 +221,50 @@ pub fn successes_accept()
 /// What a host's own talk says that went out on a channel of which it wishes basic mode is what the channel took, SDU for SDU.
 pub fn plain_taken_goes_out()
     ensures { PlainTakenGoesOut }
+{}
+
+/// Of each end of a link that loses, repeats and damages: a request that waits was given, with the copies of it that wait, at most once more
+/// often than turns were adverse for it: for the t-th time only behind t - 1 of them. A timer that fires while the link is quiet costs nothing.
+pub fn adverse_turns_are_counted()
+    ensures { AdverseTurnsAreCounted }
+{}
+
+/// Where nothing comes in in vain for it, a request is given for the t-th time only behind t - 1 turns that disturb: they repeat, lose or damage
+/// what is under way, or fire a timer while the link is not quiet.
+pub fn disturbances_are_counted()
+    ensures { DisturbancesAreCounted }
+{}
+
+/// Where an answer has room when something comes in, nothing does so in vain for the question for the peer's features: so it is given again only
+/// behind disturbances.
+pub fn features_are_heeded()
+    ensures { FeaturesAreHeeded }
+{}
+
+/// Where each copy of a request that comes in is responded to, and each response ends the wait, nothing comes in in vain for it.
+pub fn met_is_heeded()
+    ensures { MetIsHeeded }
+{}
+
+/// Whatever a host holds: a response to a request that waits ends its wait where it is final. It is so but where it says that
+/// another one follows, grants an endpoint that another channel has, has options that cannot be read, or names another endpoint of the peer.
+pub fn final_responses_end_waits()
+    ensures { FinalResponsesEndWaits }
+{}
+
+/// A copy of a request of the peer is replied to with a response to it, where there is room: if it asks for a channel or for information, or
+/// is about a channel that the peer has with its endpoint, unless another request with its identifier came last of its kind.
+pub fn copies_have_responses()
+    ensures { CopiesHaveResponses }
+{}
+
+/// Whatever happens to a host, no answer of it says that another one follows: neither of a channel, nor of options.
+pub fn answers_are_decisive()
+    ensures { AnswersAreDecisive }
+{}
+
+/// What a host's own talk says that was spoken on a channel of which it wishes basic mode is what the channel took and what was handed up of
+/// it, SDU for SDU, both ways in the order in which it happened.
+pub fn exchanged_is_spoken()
+    ensures { ExchangedIsSpoken }
 {}

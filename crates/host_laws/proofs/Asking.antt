@@ -12,9 +12,10 @@ use Rattle.host_model.specs.Endpoints.{endpoint_of, takes_sdu}
 use Rattle.host_model.specs.Pdus.{sdu_of}
 use Rattle.host_model.specs.Profiles.{Stride}
 use Rattle.host_model.specs.Clients as clients
-use Rattle.host_model.specs.Clients.{ClientProfile, client_profile}
+use Rattle.host_model.specs.Clients.{ClientProfile, client_profile, fitted}
 use Rattle.host_model.specs.Servers as servers
 use Rattle.host_model.specs.Servers.{ServerProfile, server_profile}
+use Rattle.host_model.specs.Shelves.{unused}
 use Rattle.host_laws.specs.Calls.{Call, Connect, Disconnect, Send, Asks, HostsAsk, from_call, values_after}
 use Rattle.host_laws.specs.Calls as calls
 
@@ -69,12 +70,12 @@ taken policy NoMemory v after before = refl
 
 pub clients_ask : (settings : Settings) → Asks (client_profile settings)
 clients_ask settings = record {
-  call = λ v pushing. let one = steps pushing.client pushing.parts in asked one.step v (record pushing { client = one.client; parts = one.left });
-  steps_are = λ v pushing. let one = steps pushing.client pushing.parts in taken (client_profile settings).policy one.step v (record pushing { client = one.client; parts = one.left }) pushing;
+  call = λ v pushing. let one = steps pushing.client (fitted pushing) in asked one.step v (record pushing { client = one.client; parts = unused one.left pushing.parts });
+  steps_are = λ v pushing. let one = steps pushing.client (fitted pushing) in taken (client_profile settings).policy one.step v (record pushing { client = one.client; parts = unused one.left pushing.parts }) pushing;
 }
 
 -- what a client asks is what its step says
-pub clients-call : (settings : Settings) (v : Channels) (pushing : ClientProfile) → (let one = steps pushing.client pushing.parts in (clients_ask settings).call v pushing ≡ asked one.step v (record pushing { client = one.client; parts = one.left }))
+pub clients-call : (settings : Settings) (v : Channels) (pushing : ClientProfile) → (let one = steps pushing.client (fitted pushing) in (clients_ask settings).call v pushing ≡ asked one.step v (record pushing { client = one.client; parts = unused one.left pushing.parts }))
 unfolding clients_ask
 clients-call settings v pushing = refl
 
@@ -112,3 +113,8 @@ hosts_ask = record { clients = clients_ask; servers = servers_ask }
 pub servers-call : (settings : Settings) (content : Option Contents) (v : Channels) (serving : ServerProfile) → (hosts_ask.servers settings content).call v serving ≡ lent_call (lent_sdu (lends serving.server)) v serving
 unfolding hosts_ask servers_ask
 servers-call settings content v serving = refl
+
+-- what a client asks is what its step says
+pub hosts-call : (settings : Settings) (v : Channels) (pushing : ClientProfile) → (let one = steps pushing.client (fitted pushing) in (hosts_ask.clients settings).call v pushing ≡ asked one.step v (record pushing { client = one.client; parts = unused one.left pushing.parts }))
+unfolding hosts_ask clients_ask
+hosts-call settings v pushing = refl

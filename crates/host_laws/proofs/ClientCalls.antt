@@ -24,11 +24,12 @@ use Rattle.push_model.specs.Payloads.{Payload}
 use Rattle.push_model.specs.Steps.{Step, Wait, MakeLink, AskFeatures, OpenChannel, SendSdu, CloseChannel, BreakLink, Ended, NoMemory, steps, stepped}
 use Rattle.world_model.specs.Talks.{Talk}
 use Rattle.world_model.specs.Machines.{LinkEvent, Up, Down, News, Linked, Failed, Heard, TimerFired, Cancelled, Opening}
-use Rattle.host_model.specs.Circumstances.{Circumstance, size_in}
+use Rattle.host_model.specs.Circumstances.{Circumstance}
 use Rattle.host_model.specs.Endpoints.{endpoint_of, takes_sdu}
 use Rattle.host_model.specs.Pdus.{sdu_of}
 use Rattle.host_model.specs.Hosts.{Host, tells_each, handed}
-use Rattle.host_model.specs.Clients.{ClientProfile, NoBid, client_profile, told, ended, after_call, event_heard, happened, done, sent_on, waiting, submits, takes}
+use Rattle.host_model.specs.Clients.{ClientProfile, NoBid, client_profile, told, ended, after_call, event_heard, happened, done, sent_on, waiting, submits, takes, fitted}
+use Rattle.host_model.specs.Shelves.{size_for, name_for, unused}
 use Rattle.host_laws.specs.Calls.{from_call, values_after}
 use Rattle.host_laws.specs.ClientCalls.{ClientsAskInOrder, ClientsAskOnce}
 use Rattle.host_laws.specs.Feeds.{tidings_by}
@@ -156,9 +157,9 @@ module _ (settings : Settings) where
   news_so front circumstances TimerFired pushing is s = fires-stand (Unheld front) (Single front) (Settled front) pushing.client s
   news_so front circumstances Cancelled pushing is s = ended_so front (cancelled pushing.client) (cancels-stand (Unheld front) (Single front) (Settled front) pushing.client s)
   news_so front circumstances (Opening name) pushing is s =
-      let begun : Client = begins (size_in circumstances) name pushing.client in
+      let begun : Client = begins (size_for circumstances name) (name_for name) pushing.client in
       let over : ClientProfile = record pushing { client = ended begun; submitted = None; bid = NoBid } in
-      let so = ended_so front begun (begins-stand (Unheld front) (Single front) (Settled front) (size_in circumstances) name pushing.client s) in
+      let so = ended_so front begun (begins-stand (Unheld front) (Single front) (Settled front) (size_for circumstances name) (name_for name) pushing.client s) in
       let one = steps (ended begun) [] in call_so front one.step one.client over (steps-stand (Unheld front) (Single front) (Settled front) (ended begun) [] so) so
 
   sent_so : (front : List Occurrence) (found : Option ℕ) (v : Channels) (pushing : ClientProfile) → So front pushing.client → So front (sent_on found v pushing).client
@@ -229,10 +230,10 @@ module _ (settings : Settings) where
   strand_so front (Learning circumstances news) v pushing at on s = no_more front (told circumstances news pushing).client (news_so front circumstances news pushing on s)
   strand_so front Checking v pushing at on s = no_more front (sent_on pushing.submitted v pushing).client (sent_so front pushing.submitted v pushing s)
   strand_so front Stepping v pushing at on s =
-      let one = steps pushing.client pushing.parts in
-      let after : ClientProfile = record pushing { client = one.client; parts = one.left } in
+      let one = steps pushing.client (fitted pushing) in
+      let after : ClientProfile = record pushing { client = one.client; parts = unused one.left pushing.parts } in
       subst (λ call. Goes front (from_call call) (takes one.step v after pushing).profile.client) (sym (clients-call settings v pushing))
-      (step_so front one.step v after pushing (steps-stand (Unheld front) (Single front) (Settled front) pushing.client pushing.parts s) s)
+      (step_so front one.step v after pushing (steps-stand (Unheld front) (Single front) (Settled front) pushing.client (fitted pushing) s) s)
 
   weave_so : (weave : List Strand) → AllByRecursion IsOnLink weave → (front : List Occurrence) (v : Channels) (pushing : ClientProfile) → v ≡ value_of own front → So front pushing.client
       → Goes front (woven_list (client_profile settings) (clients_ask settings) weave v pushing) (woven_profile (client_profile settings) (clients_ask settings) weave v pushing).client

@@ -14,6 +14,7 @@ use Rattle.host_laws.specs.Feeds.{Feed, Happens, all_fed, asked_from, Tiding, Te
 use Rattle.host_laws.specs.Seen.{IsCalm}
 use Rattle.host_laws.specs.Woven.{Strand, IsOnLink, Telling, woven_list, woven_profile}
 use Rattle.host_laws.specs.Fed.{woven_feeds, happenings}
+use Rattle.host_laws.specs.Gifts.{gifts_along}
 use Rattle.host_laws.proofs.Steps.{Grows}
 
 -- one occurrence for each event
@@ -101,3 +102,12 @@ told_plain (event ∷ events) = (tt, told_plain events)
 pub tells-begin_none : {P : Type 0} (A : Profile P) (asks : Asks A) (C : Type 0) (host : Host P) → AllByRecursion BeginsNone (tells_grow A asks C host).weave
 unfolding tells_grow
 tells-begin_none A asks C host = told_plain host.channels.events
+
+-- nor is it given anything with that
+told_alone : (events : List ChannelEvent) → gifts_along (told_strands events) ≡ []
+told_alone [] = refl
+told_alone (event ∷ events) = told_alone events
+
+pub tells-give_none : {P : Type 0} (A : Profile P) (asks : Asks A) (C : Type 0) (host : Host P) → gifts_along (tells_grow A asks C host).weave ≡ []
+unfolding tells_grow
+tells-give_none A asks C host = told_alone host.channels.events

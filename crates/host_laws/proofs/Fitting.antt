@@ -24,15 +24,16 @@ use Rattle.push_model.specs.Events as events
 use Rattle.push_model.specs.Payloads.{Payload}
 use Rattle.push_model.specs.Server.{Server, Lent, lends, lent_sdu}
 use Rattle.push_model.specs.Steps.{Step, Wait, MakeLink, AskFeatures, OpenChannel, SendSdu, CloseChannel, BreakLink, Ended, NoMemory, steps}
-use Rattle.host_model.specs.Circumstances.{Circumstance, size_in}
+use Rattle.host_model.specs.Circumstances.{Circumstance}
 use Rattle.host_model.specs.Endpoints.{endpoint_of, fits, takes_sdu}
 use Rattle.host_model.specs.Pdus.{sdu_of, are_octets}
 use Rattle.host_model.specs.Profiles.{Stride, Profile}
 use Rattle.host_model.specs.Hosts.{Host, first_host, tells_each, tells_events, settles, strides, goes_by, drives, most_steps, steps_behind, handed, hears_pdu, ready, hears_news, hear, after_said}
 use Rattle.host_model.specs.Clients as clients
-use Rattle.host_model.specs.Clients.{ClientProfile, client_profile, after_end, ended, after_call, calls, cause_of, closed_by, opened_by, event_heard, sent_on, NoBid}
+use Rattle.host_model.specs.Clients.{ClientProfile, client_profile, after_end, ended, after_call, calls, cause_of, closed_by, opened_by, event_heard, sent_on, NoBid, fitted}
 use Rattle.host_model.specs.Servers as servers
 use Rattle.host_model.specs.Servers.{ServerProfile, server_profile}
+use Rattle.host_model.specs.Shelves.{size_for, name_for, unused}
 use Rattle.host_laws.specs.Read.{IsSoberPdu, IsHeardSo}
 use Rattle.host_laws.proofs.Reaching.{IsLowNumber, IsLow, opens, news-low, cancelled-low, begins-low, steps-low}
 
@@ -271,8 +272,8 @@ told_low circumstances (Heard pdu) pushing low = low
 told_low circumstances TimerFired pushing low = news-low events.Timer pushing.client low
 told_low circumstances Cancelled pushing low = ended_low (cancelled pushing.client) (cancelled-low pushing.client low)
 told_low circumstances (Opening name) pushing low =
-    let client = begins (size_in circumstances) name pushing.client in
-    calls_low (record pushing { client = ended client; submitted = None; bid = NoBid }) (ended_low client (begins-low (size_in circumstances) name pushing.client low))
+    let client = begins (size_for circumstances name) (name_for name) pushing.client in
+    calls_low (record pushing { client = ended client; submitted = None; bid = NoBid }) (ended_low client (begins-low (size_for circumstances name) (name_for name) pushing.client low))
 
 closed_low : (cause : Option CloseCause) (psm : ℕ) (client : Client) → IsLow client → IsLow (closed_by cause psm client)
 closed_low None psm client low = low
@@ -325,10 +326,10 @@ module _ (policy : Policy) (S : List ℕ → Type 0) (K : Channels → Type 0) (
   stepped_low NoMemory v now before psm_low so fitted low = (fitted, so)
 
   client_steps : (v : Channels) (pushing : ClientProfile) → K v → IsLowClient pushing → IsLowStride (clients.next_stride v pushing)
-  client_steps v pushing fitted low =
-      let one = steps pushing.client pushing.parts in
-      let so = steps-low pushing.client pushing.parts low in
-      stepped_low one.step v (record pushing { client = one.client; parts = one.left }) pushing so.opens so.client fitted low
+  client_steps v pushing fits low =
+      let one = steps pushing.client (fitted pushing) in
+      let so = steps-low pushing.client (fitted pushing) low in
+      stepped_low one.step v (record pushing { client = one.client; parts = unused one.left pushing.parts }) pushing so.opens so.client fits low
 
 pub clients-keep_fit : (settings : Settings) (S : List ℕ → Type 0) (K : Channels → Type 0) → HoldsOn (policy settings false) S K → KeepsFit (client_profile settings) S K IsLowClient
 clients-keep_fit settings S K holds = record {

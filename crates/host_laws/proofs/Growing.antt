@@ -27,8 +27,9 @@ use Rattle.host_laws.specs.Calm.{IsCalmNews, IsReadFrom, IsCalmAct}
 use Rattle.host_laws.specs.Woven.{Strand, IsOnLink, Hearing, Giving, Firing, Gifting, Learning, Checking, Stepping, strand_list, strand_profile, woven_list, woven_profile}
 use Rattle.host_laws.specs.Fed.{feeds_up, strand_feeds, woven_feeds}
 use Rattle.host_laws.specs.Asked.{IsOfLink, BeginsNone, ActsOfLink}
+use Rattle.host_laws.specs.Gifts.{gifts_with, gifts_by, gifts_along}
 use Rattle.host_laws.proofs.Steps.{Grows}
-use Rattle.host_laws.proofs.Draining.{tells_grow, tells-begin_none}
+use Rattle.host_laws.proofs.Draining.{tells_grow, tells-begin_none, tells-give_none}
 
 pub tidings-append : (policy : Policy) (v : Channels) (xs ys : List Occurrence) → tidings_from policy v (xs ++ ys) ≡ tidings_from policy v xs ++ tidings_from policy (values_after policy v xs) ys
 tidings-append policy v [] ys = refl
@@ -91,10 +92,16 @@ none-some (Some x) is = cc
 
 -- ---- what a host does
 
+-- with what it is given of its ports on the way
+pub record Gifted {P : Type 0} (A : Profile P) (asks : Asks A) (C : Type 0) (acted : List Occurrence) (gifts : List (List Circumstance)) (old new : Host P) : Type 0 where
+  pub grows : Grows A asks C acted old new
+  pub gifts_are : gifts_along grows.weave ≡ gifts
+
 -- without the begin of a push, and where it hears nothing of its link
-pub record Plainly {P : Type 0} (A : Profile P) (asks : Asks A) (C : Type 0) (acted : List Occurrence) (old new : Host P) : Type 0 where
+pub record Plainly {P : Type 0} (A : Profile P) (asks : Asks A) (C : Type 0) (acted : List Occurrence) (gifts : List (List Circumstance)) (old new : Host P) : Type 0 where
   pub grows : Grows A asks C acted old new
   pub begins : AllByRecursion BeginsNone grows.weave
+  pub gifts_are : gifts_along grows.weave ≡ gifts
 
 pub both-begin_none : (one two : List Strand) → AllByRecursion BeginsNone one → AllByRecursion BeginsNone two → AllByRecursion BeginsNone (one ++ two)
 both-begin_none [] two first second = second
@@ -150,27 +157,42 @@ module _ {P : Type 0} (A : Profile P) (asks : Asks A) (C : Type 0) where
     feeds_are = sym (ap (λ (l : List Feed). l ++ []) told);
   }
 
-  pub plain_then : (xs ys : List Occurrence) (old mid new : Host P) → Plainly A asks C xs old mid → Plainly A asks C ys mid new → Plainly A asks C (xs ++ ys) old new
+  gifts_then : (one two : List Strand) (gs hs : List (List Circumstance)) → gifts_along one ≡ gs → gifts_along two ≡ hs → gifts_along (one ++ two) ≡ gs ++ hs
+  gifts_then one two gs hs first second = flat_map-append gifts_by one two ∙ ap₂ (λ (x y : List (List Circumstance)). x ++ y) first second
+
+  gifted_then : (xs ys : List Occurrence) (gs hs : List (List Circumstance)) (old mid new : Host P) → Gifted A asks C xs gs old mid → Gifted A asks C ys hs mid new → Gifted A asks C (xs ++ ys) (gs ++ hs) old new
   unfolding grows_then
-  plain_then xs ys old mid new one two = record { grows = grows_then xs ys old mid new one.grows two.grows; begins = both-begin_none one.grows.weave two.grows.weave one.begins two.begins }
+  gifted_then xs ys gs hs old mid new one two = record { grows = grows_then xs ys old mid new one.grows two.grows; gifts_are = gifts_then one.grows.weave two.grows.weave gs hs one.gifts_are two.gifts_are }
 
-  pub tells_plain : (host : Host P) → Plainly A asks C [] host (tells_events A host)
-  tells_plain host = record { grows = tells_grow A asks C host; begins = tells-begin_none A asks C host }
+  pub plain_then : (xs ys : List Occurrence) (gs hs : List (List Circumstance)) (old mid new : Host P) → Plainly A asks C xs gs old mid → Plainly A asks C ys hs mid new → Plainly A asks C (xs ++ ys) (gs ++ hs) old new
+  unfolding grows_then
+  plain_then xs ys gs hs old mid new one two = record {
+    grows = grows_then xs ys old mid new one.grows two.grows;
+    begins = both-begin_none one.grows.weave two.grows.weave one.begins two.begins;
+    gifts_are = gifts_then one.grows.weave two.grows.weave gs hs one.gifts_are two.gifts_are;
+  }
 
-  settles_plain : (host : Host P) → Plainly A asks C [] host (settles A host)
+  gifted_so : (acted : List Occurrence) (gifts : List (List Circumstance)) (old new : Host P) → Plainly A asks C acted gifts old new → Gifted A asks C acted gifts old new
+  gifted_so acted gifts old new plain = record { grows = plain.grows; gifts_are = plain.gifts_are }
+
+  pub tells_plain : (host : Host P) → Plainly A asks C [] [] host (tells_events A host)
+  tells_plain host = record { grows = tells_grow A asks C host; begins = tells-begin_none A asks C host; gifts_are = tells-give_none A asks C host }
+
+  settles_plain : (host : Host P) → Plainly A asks C [] [] host (settles A host)
   unfolding feeds_grow
-  settles_plain host = record { grows = feeds_grow host (feeds.Sent host.channels) Checking host.may_say tt refl refl refl refl refl; begins = (tt, tt) }
+  settles_plain host = record { grows = feeds_grow host (feeds.Sent host.channels) Checking host.may_say tt refl refl refl refl refl; begins = (tt, tt); gifts_are = refl }
 
-  pub readies_plain : (circumstances : List Circumstance) (host : Host P) → Plainly A asks C [] host (ready A circumstances host)
+  pub readies_plain : (circumstances : List Circumstance) (host : Host P) → Plainly A asks C [] (circumstances ∷ []) host (ready A circumstances host)
   unfolding feeds_grow
-  readies_plain circumstances host = record { grows = feeds_grow host (Gifts circumstances) (Gifting circumstances) (ready A circumstances host).may_say tt refl refl refl refl refl; begins = (tt, tt) }
+  readies_plain circumstances host = record { grows = feeds_grow host (Gifts circumstances) (Gifting circumstances) (ready A circumstances host).may_say tt refl refl refl refl refl; begins = (tt, tt); gifts_are = refl }
 
-  learns_grow : (circumstances : List Circumstance) (news : News) (host : Host P) → tidings_by news ≡ [] → Grows A asks C [] host (told A circumstances news host)
-  learns_grow circumstances news host none = feeds_grow host (Learns circumstances news) (Learning circumstances news) host.may_say none refl refl refl none refl
+  learns_gifted : (circumstances : List Circumstance) (news : News) (host : Host P) → tidings_by news ≡ [] → Gifted A asks C [] [] host (told A circumstances news host)
+  unfolding feeds_grow
+  learns_gifted circumstances news host none = record { grows = feeds_grow host (Learns circumstances news) (Learning circumstances news) host.may_say none refl refl refl none refl; gifts_are = refl }
 
-  learns_plain : (circumstances : List Circumstance) (news : News) (host : Host P) → IsOfLink news → tidings_by news ≡ [] → Plainly A asks C [] host (told A circumstances news host)
-  unfolding learns_grow feeds_grow
-  learns_plain circumstances news host of none = record { grows = learns_grow circumstances news host none; begins = (of, tt) }
+  learns_plain : (circumstances : List Circumstance) (news : News) (host : Host P) → IsOfLink news → tidings_by news ≡ [] → Plainly A asks C [] [] host (told A circumstances news host)
+  unfolding feeds_grow
+  learns_plain circumstances news host of none = record { grows = feeds_grow host (Learns circumstances news) (Learning circumstances news) host.may_say none refl refl refl none refl; begins = (of, tt); gifts_are = refl }
 
   -- ---- a PDU comes in
 
@@ -187,26 +209,29 @@ module _ {P : Type 0} (A : Profile P) (asks : Asks A) (C : Type 0) where
   asked_up (Received own psm sdu) p = refl
 
   comes_plain : (pdu : List ℕ) (host : Host P) → (C → IsCalmAt A.policy (Comes pdu) host.channels)
-      → (let after : Host P = record host { channels = channels.hears A.policy (channel_of pdu) pdu host.channels; profile = handed A (channels.up (channel_of pdu) pdu host.channels) host.profile } in Plainly A asks C (Comes pdu ∷ []) host after)
+      → (let after : Host P = record host { channels = channels.hears A.policy (channel_of pdu) pdu host.channels; profile = handed A (channels.up (channel_of pdu) pdu host.channels) host.profile } in Plainly A asks C (Comes pdu ∷ []) [] host after)
   comes_plain pdu host calm =
       let up = channels.up (channel_of pdu) pdu host.channels in
       record {
         grows = record { list = Comes pdu ∷ []; feeds = feeds_up up; channels_are = refl; profile_is = fed_up up host.profile; tidings_are = told_up up; asked_is = sym (asked_up up host.profile); acted_is = refl; calm = λ c. (calm c, tt); weave = Hearing pdu ∷ []; woven_is = refl; last_is = refl; on_link = (tt, tt); feeds_are = sym (append-nil (feeds_up up)) };
         begins = (tt, tt);
+        gifts_are = refl;
       }
 
   -- ---- the timer fires, a PDU is given
 
-  fires_plain : (host : Host P) → (C → IsCalmAt A.policy Fires host.channels) → Plainly A asks C (Fires ∷ []) host (with_channels (timed_out A.policy host.channels) host)
+  fires_plain : (host : Host P) → (C → IsCalmAt A.policy Fires host.channels) → Plainly A asks C (Fires ∷ []) [] host (with_channels (timed_out A.policy host.channels) host)
   fires_plain host calm = record {
     grows = record { list = Fires ∷ []; feeds = []; channels_are = refl; profile_is = refl; tidings_are = refl; asked_is = refl; acted_is = refl; calm = λ c. (calm c, tt); weave = Firing ∷ []; woven_is = refl; last_is = refl; on_link = (tt, tt); feeds_are = refl };
     begins = (tt, tt);
+    gifts_are = refl;
   }
 
-  gives_plain : (pdu : List ℕ) (host : Host P) → (C → IsGiven host.channels pdu) → Plainly A asks C (Gives pdu ∷ []) host (with_channels (after_given host.channels) host)
+  gives_plain : (pdu : List ℕ) (host : Host P) → (C → IsGiven host.channels pdu) → Plainly A asks C (Gives pdu ∷ []) [] host (with_channels (after_given host.channels) host)
   gives_plain pdu host calm = record {
     grows = record { list = Gives pdu ∷ []; feeds = []; channels_are = refl; profile_is = refl; tidings_are = refl; asked_is = refl; acted_is = refl; calm = λ c. (calm c, tt); weave = Giving pdu ∷ []; woven_is = refl; last_is = refl; on_link = (tt, tt); feeds_are = refl };
     begins = (tt, tt);
+    gifts_are = refl;
   }
 
   -- ---- a step of its profile
@@ -239,7 +264,7 @@ module _ {P : Type 0} (A : Profile P) (asks : Asks A) (C : Type 0) where
   call_calm (Some (Disconnect own)) v quiet = (quiet, tt)
   call_calm (Some (Send own sdu)) v quiet = (quiet, tt)
 
-  strides_plain : (host : Host P) → IsQuiet host.channels → Plainly A asks C [] host (strides A (A.steps host.channels host.profile) host)
+  strides_plain : (host : Host P) → IsQuiet host.channels → Plainly A asks C [] [] host (strides A (A.steps host.channels host.profile) host)
   strides_plain host quiet =
       let stride = A.steps host.channels host.profile in
       let mid : Host P = record host { channels = stride.channels; profile = stride.profile } in
@@ -259,66 +284,67 @@ module _ {P : Type 0} (A : Profile P) (asks : Asks A) (C : Type 0) where
         woven_is = sym (append-nil (from_call call));
         last_is = refl;
       } in
-      plain_then [] [] host mid (strides A stride host) (record { grows = steps; begins = (tt, tt) }) (tells_plain mid)
+      plain_then [] [] [] [] host mid (strides A stride host) (record { grows = steps; begins = (tt, tt); gifts_are = refl }) (tells_plain mid)
 
   -- ---- all that it does by itself
 
-  plain_on : (more : Host P → Host P) (test : Bool) (host : Host P) → IsQuiet host.channels → ((next : Host P) → Plainly A asks C [] next (more next))
-      → (let after = strides A (A.steps host.channels host.profile) host in Plainly A asks C [] host (if test then more after else after))
-  plain_on more true host quiet goes = let after = strides A (A.steps host.channels host.profile) host in plain_then [] [] host after (more after) (strides_plain host quiet) (goes after)
+  plain_on : (more : Host P → Host P) (test : Bool) (host : Host P) → IsQuiet host.channels → ((next : Host P) → Plainly A asks C [] [] next (more next))
+      → (let after = strides A (A.steps host.channels host.profile) host in Plainly A asks C [] [] host (if test then more after else after))
+  plain_on more true host quiet goes = let after = strides A (A.steps host.channels host.profile) host in plain_then [] [] [] [] host after (more after) (strides_plain host quiet) (goes after)
   plain_on more false host quiet goes = strides_plain host quiet
 
-  plain_goes : (more : Host P → Host P) (test : Bool) (host : Host P) → is_some (next_given host.channels) ≡ test → ((next : Host P) → Plainly A asks C [] next (more next))
-      → Plainly A asks C [] host (if test then host else goes_by A more (A.steps host.channels host.profile) host)
+  plain_goes : (more : Host P → Host P) (test : Bool) (host : Host P) → is_some (next_given host.channels) ≡ test → ((next : Host P) → Plainly A asks C [] [] next (more next))
+      → Plainly A asks C [] [] host (if test then host else goes_by A more (A.steps host.channels host.profile) host)
   unfolding grows_none
-  plain_goes more true host is goes = record { grows = grows_none host; begins = tt }
+  plain_goes more true host is goes = record { grows = grows_none host; begins = tt; gifts_are = refl }
   plain_goes more false host is goes = plain_on more (A.steps host.channels host.profile).more host (none-some (next_given host.channels) is) goes
 
-  pub drives_plain : (count : ℕ) (host : Host P) → Plainly A asks C [] host (drives A count host)
+  pub drives_plain : (count : ℕ) (host : Host P) → Plainly A asks C [] [] host (drives A count host)
   unfolding drives
   drives_plain zero host = settles_plain host
   drives_plain (suc count) host =
       let now = settles A host in
       let more = λ (next : Host P). drives A count next in
       let test = is_some (next_given now.channels) in
-      plain_then [] [] host now (if test then now else goes_by A more (A.steps now.channels now.profile) now) (settles_plain host) (plain_goes more test now refl (λ next. drives_plain count next))
+      plain_then [] [] [] [] host now (if test then now else goes_by A more (A.steps now.channels now.profile) now) (settles_plain host) (plain_goes more test now refl (λ next. drives_plain count next))
 
-  plain_drives : (count : ℕ) (acted : List Occurrence) (old new : Host P) → Plainly A asks C acted old new → Plainly A asks C acted old (drives A count new)
-  plain_drives count acted old new plain =
-      subst (λ (list : List Occurrence). Plainly A asks C list old (drives A count new)) (append-nil acted) (plain_then acted [] old new (drives A count new) plain (drives_plain count new))
+  plain_drives : (count : ℕ) (acted : List Occurrence) (gifts : List (List Circumstance)) (old new : Host P) → Plainly A asks C acted gifts old new → Plainly A asks C acted gifts old (drives A count new)
+  plain_drives count acted gifts old new plain =
+      subst (λ (list : List Occurrence). Plainly A asks C list gifts old (drives A count new)) (append-nil acted)
+      (subst (λ (gs : List (List Circumstance)). Plainly A asks C (acted ++ []) gs old (drives A count new)) (append-nil gifts) (plain_then acted [] gifts [] old new (drives A count new) plain (drives_plain count new)))
 
   -- ---- acts
 
-  plain_hears : (circumstances : List Circumstance) (news : News) (host : Host P) → IsOfLink news → (C → IsCalmNews A.policy news host.channels) → Plainly A asks C (from_news news) host (hears_news A circumstances news host)
+  plain_hears : (circumstances : List Circumstance) (news : News) (host : Host P) → IsOfLink news → (C → IsCalmNews A.policy news host.channels) → Plainly A asks C (from_news news) [] host (hears_news A circumstances news host)
   plain_hears circumstances (Linked event) host of calm = absurd of
   plain_hears circumstances (Failed status) host of calm = absurd of
   plain_hears circumstances (Heard pdu) host of calm =
       let heard : Host P = record host { channels = channels.hears A.policy (channel_of pdu) pdu host.channels; profile = handed A (channels.up (channel_of pdu) pdu host.channels) host.profile } in
-      plain_then (Comes pdu ∷ []) [] host heard (tells_events A heard) (comes_plain pdu host calm) (tells_plain heard)
+      plain_then (Comes pdu ∷ []) [] [] [] host heard (tells_events A heard) (comes_plain pdu host calm) (tells_plain heard)
   plain_hears circumstances TimerFired host of calm =
       let fired = with_channels (timed_out A.policy host.channels) host in
-      plain_then (Fires ∷ []) [] host fired (told A circumstances TimerFired (tells_events A fired)) (fires_plain host calm)
-      (plain_then [] [] fired (tells_events A fired) (told A circumstances TimerFired (tells_events A fired)) (tells_plain fired) (learns_plain circumstances TimerFired (tells_events A fired) tt refl))
+      plain_then (Fires ∷ []) [] [] [] host fired (told A circumstances TimerFired (tells_events A fired)) (fires_plain host calm)
+      (plain_then [] [] [] [] fired (tells_events A fired) (told A circumstances TimerFired (tells_events A fired)) (tells_plain fired) (learns_plain circumstances TimerFired (tells_events A fired) tt refl))
   plain_hears circumstances Cancelled host of calm = learns_plain circumstances Cancelled host tt refl
   plain_hears circumstances (Opening name) host of calm = absurd of
 
-  plain_hear : (circumstances : List Circumstance) (news : News) (host : Host P) → IsOfLink news → (C → IsCalmNews A.policy news host.channels) → Plainly A asks C (from_news news) host (hear A circumstances news host)
+  plain_hear : (circumstances : List Circumstance) (news : News) (host : Host P) → IsOfLink news → (C → IsCalmNews A.policy news host.channels) → Plainly A asks C (from_news news) (circumstances ∷ []) host (hear A circumstances news host)
   plain_hear circumstances news host of calm =
       let old = ready A circumstances host in
-      plain_drives most_steps (from_news news) host (hears_news A circumstances news old)
-      (plain_then [] (from_news news) host old (hears_news A circumstances news old) (readies_plain circumstances host) (plain_hears circumstances news old of calm))
+      plain_drives most_steps (from_news news) (circumstances ∷ []) host (hears_news A circumstances news old)
+      (plain_then [] (from_news news) (circumstances ∷ []) [] host old (hears_news A circumstances news old) (readies_plain circumstances host) (plain_hears circumstances news old of calm))
 
   abbrev Says_plain : Host P → Option (List ℕ × Host P) → Type 0
   Says_plain host None = Unit {0}
-  Says_plain host (Some one) = (C → IsReadFrom one.0 host) → Plainly A asks C (Gives one.0 ∷ []) host one.1
+  Says_plain host (Some one) = (C → IsReadFrom one.0 host) → Plainly A asks C (Gives one.0 ∷ []) [] host one.1
 
-  frames_plain : (old : Host P) (test : Bool) (pdu : List ℕ) (host : Host P) → ((C → IsReadFrom pdu old) → Plainly A asks C (Gives pdu ∷ []) old host) → Says_plain old (if test then Some (pdu, host) else None)
+  frames_plain : (old : Host P) (test : Bool) (pdu : List ℕ) (host : Host P) → ((C → IsReadFrom pdu old) → Plainly A asks C (Gives pdu ∷ []) [] old host) → Says_plain old (if test then Some (pdu, host) else None)
   frames_plain old true pdu host plain = plain
   frames_plain old false pdu host plain = tt
 
   -- how much it may say counts for nothing
-  may_plain : (acted : List Occurrence) (old new : Host P) (count : ℕ) → Plainly A asks C acted old new → (let after : Host P = record new { may_say = count } in Plainly A asks C acted old after)
-  may_plain acted old new count plain =
+  may_plain : (acted : List Occurrence) (gifts : List (List Circumstance)) (old new : Host P) (count : ℕ) → Plainly A asks C acted gifts old new → (let after : Host P = record new { may_say = count } in Plainly A asks C acted gifts old after)
+  may_plain acted gifts old new count plain =
       let grows = plain.grows in
       record {
         grows = record {
@@ -337,6 +363,7 @@ module _ {P : Type 0} (A : Profile P) (asks : Asks A) (C : Type 0) where
           feeds_are = grows.feeds_are;
         };
         begins = plain.begins;
+        gifts_are = plain.gifts_are;
       }
 
   says_plain : (old : Host P) (given : Option Given) (count : ℕ) → next_given old.channels ≡ given → Says_plain old (says A given count old)
@@ -346,11 +373,11 @@ module _ {P : Type 0} (A : Profile P) (asks : Asks A) (C : Type 0) where
       let pdu = pdu_of given in
       let gave = with_channels (after_given old.channels) old in
       frames_plain old (is_frame pdu) pdu (after_said A count old)
-      (λ calm. may_plain (Gives pdu ∷ []) old (drives A (steps_behind count) gave) count (plain_drives (steps_behind count) (Gives pdu ∷ []) old gave (gives_plain pdu old (λ c. record { given = given; is = is; said_as = calm c given is }))))
+      (λ calm. may_plain (Gives pdu ∷ []) [] old (drives A (steps_behind count) gave) count (plain_drives (steps_behind count) (Gives pdu ∷ []) [] old gave (gives_plain pdu old (λ c. record { given = given; is = is; said_as = calm c given is }))))
 
   -- what a host does on its link, where no push begins
-  pub act_plain : (act : Act Circumstance) (old new : Host P) → ActsOfLink act → (C → IsCalmAct A act old) → Does (upper A) act old new → Plainly A asks C (from_act act) old new
-  act_plain (Hears circumstances news) old new of calm does = subst (λ (host : Host P). Plainly A asks C (from_news news) old host) (sym does) (plain_hear circumstances news old of calm)
+  pub act_plain : (act : Act Circumstance) (old new : Host P) → ActsOfLink act → (C → IsCalmAct A act old) → Does (upper A) act old new → Plainly A asks C (from_act act) (gifts_with act) old new
+  act_plain (Hears circumstances news) old new of calm does = subst (λ (host : Host P). Plainly A asks C (from_news news) (circumstances ∷ []) old host) (sym does) (plain_hear circumstances news old of calm)
   act_plain (Says pdu) old new of calm does = subst (Says_plain old) does (says_plain old (next_given old.channels) old.may_say refl) calm
 
   -- ---- whatever it does
@@ -362,23 +389,27 @@ module _ {P : Type 0} (A : Profile P) (asks : Asks A) (C : Type 0) where
   readies circumstances host = (readies_plain circumstances host).grows
 
   -- it hears news that are for its profile alone
-  aside_grows : (circumstances : List Circumstance) (news : News) (host : Host P) → tidings_by news ≡ [] → Grows A asks C [] host (driven A (told A circumstances news (ready A circumstances host)))
-  aside_grows circumstances news host none =
+  aside_gifted : (circumstances : List Circumstance) (news : News) (host : Host P) → tidings_by news ≡ [] → Gifted A asks C [] (circumstances ∷ []) host (driven A (told A circumstances news (ready A circumstances host)))
+  aside_gifted circumstances news host none =
       let old = ready A circumstances host in
       let mid = told A circumstances news old in
-      grows_then [] [] host mid (driven A mid) (grows_then [] [] host old mid (readies circumstances host) (learns_grow circumstances news old none)) (drives_grow most_steps mid)
+      gifted_then [] [] (circumstances ∷ []) [] host mid (driven A mid)
+      (gifted_then [] [] (circumstances ∷ []) [] host old mid (gifted_so [] (circumstances ∷ []) host old (readies_plain circumstances host)) (learns_gifted circumstances news old none)) (gifted_so [] [] mid (driven A mid) (drives_plain most_steps mid))
 
-  hears_grow : (circumstances : List Circumstance) (news : News) (host : Host P) → StaysOnLink (Hears circumstances news) → (C → IsCalmNews A.policy news host.channels) → Grows A asks C (from_news news) host (hear A circumstances news host)
-  hears_grow circumstances (Linked event) host stays calm = absurd stays
-  hears_grow circumstances (Failed status) host stays calm = aside_grows circumstances (Failed status) host refl
-  hears_grow circumstances (Heard pdu) host stays calm = (plain_hear circumstances (Heard pdu) host tt calm).grows
-  hears_grow circumstances TimerFired host stays calm = (plain_hear circumstances TimerFired host tt calm).grows
-  hears_grow circumstances Cancelled host stays calm = (plain_hear circumstances Cancelled host tt calm).grows
-  hears_grow circumstances (Opening name) host stays calm = aside_grows circumstances (Opening name) host refl
+  hears_gifted : (circumstances : List Circumstance) (news : News) (host : Host P) → StaysOnLink (Hears circumstances news) → (C → IsCalmNews A.policy news host.channels) → Gifted A asks C (from_news news) (circumstances ∷ []) host (hear A circumstances news host)
+  hears_gifted circumstances (Linked event) host stays calm = absurd stays
+  hears_gifted circumstances (Failed status) host stays calm = aside_gifted circumstances (Failed status) host refl
+  hears_gifted circumstances (Heard pdu) host stays calm = gifted_so (Comes pdu ∷ []) (circumstances ∷ []) host _ (plain_hear circumstances (Heard pdu) host tt calm)
+  hears_gifted circumstances TimerFired host stays calm = gifted_so (Fires ∷ []) (circumstances ∷ []) host _ (plain_hear circumstances TimerFired host tt calm)
+  hears_gifted circumstances Cancelled host stays calm = gifted_so [] (circumstances ∷ []) host _ (plain_hear circumstances Cancelled host tt calm)
+  hears_gifted circumstances (Opening name) host stays calm = aside_gifted circumstances (Opening name) host refl
+
+  pub act_gifted : (act : Act Circumstance) (old new : Host P) → StaysOnLink act → (C → IsCalmAct A act old) → Does (upper A) act old new → Gifted A asks C (from_act act) (gifts_with act) old new
+  act_gifted (Hears circumstances news) old new stays calm does = subst (λ (host : Host P). Gifted A asks C (from_news news) (circumstances ∷ []) old host) (sym does) (hears_gifted circumstances news old stays calm)
+  act_gifted (Says pdu) old new stays calm does = gifted_so (Gives pdu ∷ []) [] old new (act_plain (Says pdu) old new tt calm does)
 
   pub act_grows : (act : Act Circumstance) (old new : Host P) → StaysOnLink act → (C → IsCalmAct A act old) → Does (upper A) act old new → Grows A asks C (from_act act) old new
-  act_grows (Hears circumstances news) old new stays calm does = subst (λ (host : Host P). Grows A asks C (from_news news) old host) (sym does) (hears_grow circumstances news old stays calm)
-  act_grows (Says pdu) old new stays calm does = (act_plain (Says pdu) old new tt calm does).grows
+  act_grows act old new stays calm does = (act_gifted act old new stays calm does).grows
 
 -- it is so of a host that need not be calm
 abbrev pub without_calm : {P : Type 0} (A : Profile P) (asks : Asks A) (acted : List Occurrence) (old new : Host P) → Grows A asks (Unit {0}) acted old new → Grows A asks ⊥ acted old new

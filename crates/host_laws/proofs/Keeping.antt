@@ -90,6 +90,10 @@ servers_send_as_they_lend = record { asks = hosts_ask; sends = sending }
     sending : (settings : Settings) (content : Option Contents) → SendsAsItLends settings content (hosts_ask.servers settings content)
     sending settings content v serving call is = lending v serving (lent_sdu (lends serving.server)) call refl (sym (servers-call settings content v serving) ∙ is)
 
+pub servers_lend : (settings : Settings) (content : Option Contents) → SendsAsItLends settings content (hosts_ask.servers settings content)
+unfolding servers_send_as_they_lend
+servers_lend = servers_send_as_they_lend.sends
+
 -- ---- it ends the link where it is told of a loss
 
 abbrev breaks_by : Bool → Tiding → Bool

@@ -23,11 +23,12 @@ use Rattle.push_model.specs.Events as events
 use Rattle.push_model.specs.Events.{is_asking_features, hears_news}
 use Rattle.push_model.specs.Steps.{Step, Wait, MakeLink, AskFeatures, OpenChannel, SendSdu, CloseChannel, BreakLink, Ended, NoMemory, Stepped, steps}
 use Rattle.world_model.specs.Machines.{News, Linked, Failed, Heard, TimerFired, Cancelled, Opening}
-use Rattle.host_model.specs.Circumstances.{Circumstance, size_in}
+use Rattle.host_model.specs.Circumstances.{Circumstance}
 use Rattle.host_model.specs.Profiles.{Profile, Stride}
 use Rattle.host_model.specs.Hosts.{handed}
 use Rattle.host_model.specs.Clients as clients
-use Rattle.host_model.specs.Clients.{ClientProfile, client_profile, NoBid, after_end, ended, after_call, calls, opened_by, closed_by, cause_of, event_heard, sent_on, submits, closes, takes}
+use Rattle.host_model.specs.Clients.{ClientProfile, client_profile, NoBid, after_end, ended, after_call, calls, opened_by, closed_by, cause_of, event_heard, sent_on, submits, closes, takes, fitted}
+use Rattle.host_model.specs.Shelves.{size_for, name_for, unused}
 use Rattle.host_laws.specs.Calls.{Call, Connect, AskFeatures as AskThem, Disconnect, Send, Asks, from_call, values_after}
 use Rattle.host_laws.specs.Feeds.{tidings_by}
 use Rattle.host_laws.specs.Keeping.{IsMoreThanAsked, IsThere, TakesNoneBack, is_loss, ClientsKeepOn}
@@ -72,14 +73,14 @@ bare_told : (told : List ChannelEvent) (v w : Channels) → w.held ≡ v.held �
 bare_told told v w held_is features_are notes_are quiet none = record { held_is = held_is ∙ none; quiet = ap is_some features_are ∙ quiet; notes_are = notes_are }
 
 -- the first thing that is to be told is told
-record TellsFirst (v w u : Channels) (event : ChannelEvent) (list : List ChannelEvent) : Type 0 where
-  events_are : v.events ≡ event ∷ list
-  held_is : w.held ≡ v.held
-  features_are : w.features ≡ v.features
-  rest_is : w.events ≡ list
-  seen_is : u.held ≡ v.held
+pub record TellsFirst (v w u : Channels) (event : ChannelEvent) (list : List ChannelEvent) : Type 0 where
+  pub events_are : v.events ≡ event ∷ list
+  pub held_is : w.held ≡ v.held
+  pub features_are : w.features ≡ v.features
+  pub rest_is : w.events ≡ list
+  pub seen_is : u.held ≡ v.held
 
-abbrev Result : (d : Client) (F : Client → Channels → Type 0) (w : Channels) → Type 0
+abbrev pub Result : (d : Client) (F : Client → Channels → Type 0) (w : Channels) → Type 0
 Result d F w = (is_off d.stage ≡ true) ⊎ F d w
 
 opened_clean : (own psm : ℕ) (list : List ChannelEvent) (c : Client) (v w u : Channels) → TellsFirst v w u (Opened own psm) list → Clean c v → Result (opened_by (peer_mtu own u) psm c) Clean w
@@ -128,7 +129,7 @@ opened_fatal own psm list c v w u tells fatal = by (opened_most (peer_mtu own u)
 headed : (v w u : Channels) (event : ChannelEvent) (list told : List ChannelEvent) → TellsFirst v w u event list → notes v.events ≡ told → notes (event ∷ list) ≡ told
 headed v w u event list told tells is = ap notes (sym tells.events_are) ∙ is
 
-event_clean : (event : ChannelEvent) (list : List ChannelEvent) (c : Client) (v w u : Channels) → TellsFirst v w u event list → Clean c v → Result (event_heard event u c) Clean w
+pub event_clean : (event : ChannelEvent) (list : List ChannelEvent) (c : Client) (v w u : Channels) → TellsFirst v w u event list → Clean c v → Result (event_heard event u c) Clean w
 event_clean (Opened own psm) list c v w u tells clean = opened_clean own psm list c v w u tells clean
 event_clean (Closed own psm reason) list c v w u tells (Lives psm' asked leaving uses live) = let is = headed v w u (Closed own psm reason) list [] tells live.none in cc
 event_clean (Closed own psm reason) list c v w u tells (Ends psm' own' used closes' bare) =
@@ -163,7 +164,7 @@ event_clean (DisconnectLost own) list c v w u tells clean = absurd (never clean)
     never (Waits asks waits') = let is = headed v w u (DisconnectLost own) list [] tells waits'.none in cc
     never (Told asks features bare) = let is = headed v w u (DisconnectLost own) list (Features features ∷ []) tells bare.notes_are in cc
 
-event_fatal : (event : ChannelEvent) (list : List ChannelEvent) (c : Client) (v w u : Channels) → TellsFirst v w u event list → Fatal c v → Result (event_heard event u c) Fatal w
+pub event_fatal : (event : ChannelEvent) (list : List ChannelEvent) (c : Client) (v w u : Channels) → TellsFirst v w u event list → Fatal c v → Result (event_heard event u c) Fatal w
 event_fatal (Opened own psm) list c v w u tells fatal = opened_fatal own psm list c v w u tells fatal
 event_fatal (Closed own psm reason) list c v w u tells (Shut own' psm' reason' more used why told) =
     let is = headed v w u (Closed own psm reason) list (Closed own' psm' reason' ∷ more) tells told in
@@ -363,10 +364,10 @@ module _ (settings : Settings) (asks : Asks (client_profile settings)) where
       let c = p.client in let d = cancelled c in moves c (ended d) run (λ off. ended_off d (cancelled_off c off)) (λ on. then_ended c d (cancelled_goes c on)) stands
   learning circumstances (Opening name) run p aside stands =
       let c = p.client in
-      let d = begins (size_in circumstances) name c in
+      let d = begins (size_for circumstances name) (name_for name) c in
       let begun : ClientProfile = record p { client = ended d; submitted = None; bid = NoBid } in
-      moves c (calls begun).client run (λ off. calls_off begun (ended_off d (begins_off (size_in circumstances) name c off)))
-      (λ on. goes_both c (ended d) (calls begun).client (then_ended c d (begins_goes (size_in circumstances) name c)) (calls_off begun) (λ still. calls_goes begun)) stands
+      moves c (calls begun).client run (λ off. calls_off begun (ended_off d (begins_off (size_for circumstances name) (name_for name) c off)))
+      (λ on. goes_both c (ended d) (calls begun).client (then_ended c d (begins_goes (size_for circumstances name) (name_for name) c)) (calls_off begun) (λ still. calls_goes begun)) stands
 
   receiving : (handed_up : Handed) (run : Run) (p : ClientProfile) → Stands p.client run → Stands (handed A handed_up p).client run
   receiving Nothing run p stands = stands
@@ -389,10 +390,10 @@ module _ (settings : Settings) (asks : Asks (client_profile settings)) where
       v = run.value
 
       one : Stepped
-      one = steps p.client p.parts
+      one = steps p.client (fitted p)
 
       after : ClientProfile
-      after = record p { client = one.client; parts = one.left }
+      after = record p { client = one.client; parts = unused one.left p.parts }
 
       stride : Stride ClientProfile
       stride = takes one.step v after p
@@ -412,9 +413,9 @@ module _ (settings : Settings) (asks : Asks (client_profile settings)) where
       result (Stood spoken clean same_events) = Well (subst (Clean stride.profile.client) value_is clean) (quiet_call run (asks.call v p) (ap (λ (w : Channels). w.events) (sym (asks.steps_are v p)) ∙ same_events) spoken)
 
       by : Stands p.client run → Stands stride.profile.client then
-      by (Off off) = Off (takes_off one.step v after p (steps_off p.client p.parts off) off)
-      by (Doomed fatal) = result (step_taken one.step v after p (steps_so p.client p.parts) (inr fatal))
-      by (Well clean spoken) = result (step_taken one.step v after p (steps_so p.client p.parts) (inl (spoken, clean)))
+      by (Off off) = Off (takes_off one.step v after p (steps_off p.client (fitted p) off) off)
+      by (Doomed fatal) = result (step_taken one.step v after p (steps_so p.client (fitted p)) (inr fatal))
+      by (Well clean spoken) = result (step_taken one.step v after p (steps_so p.client (fitted p)) (inl (spoken, clean)))
 
   -- ---- all that happens
 

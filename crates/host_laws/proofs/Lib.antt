@@ -16,6 +16,7 @@ pub mod Calming
 pub mod Uttering
 pub mod Talking
 pub mod OverLinks
+pub mod Gifts
 pub mod Spoken
 pub mod Firing
 pub mod Clearing
@@ -64,3 +65,18 @@ pub mod Onward
 pub mod OnwardSteps
 pub mod Memory
 pub mod MemorySteps
+pub mod Answered
+mod Querying
+mod Alone
+mod Searching
+mod SearchingOn
+mod SearchingTold
+mod SearchingSteps
+mod SearchingWeave
+mod Stepping
+mod Past
+mod SearchOrder
+mod SearchKept
+mod SearchCancelled
+mod SearchMemory
+mod SearchHosts

@@ -1,5 +1,5 @@
 -- A client whose shelf never lacks memory has not failed.
-use Rattle.std.proofs.Common.{◌≡◌, ℕ, List, [], ◌∷◌, eqb, length, drop, ◌-◌, Bool, true, false, cond, not, ◌&&◌, Option, Some, None, Result, Ok, Err, refl, sym, subst}
+use Rattle.std.proofs.Common.{◌≡◌, ℕ, zero, suc, List, [], ◌∷◌, eqb, ◌==◌, length, drop, ◌-◌, Bool, true, false, cond, not, ◌&&◌, Option, Some, None, Result, Ok, Err, refl, sym, subst}
 use Rattle.std.specs.List.{AllByRecursion}
 use Rattle.bt_base.specs.declared.ports.PortFault.{PortFault}
 use Rattle.bt_base.specs.declared.ports.PortFault.TheVariants as fault
@@ -27,13 +27,14 @@ use Rattle.push_model.specs.Events as events
 use Rattle.push_model.specs.Events.{hears_news}
 use Rattle.push_model.specs.Payloads.{Payload, Octets}
 use Rattle.push_model.specs.Steps as course
-use Rattle.push_model.specs.Steps.{Step, Wait, MakeLink, AskFeatures, OpenChannel, SendSdu, CloseChannel, BreakLink, Ended, NoMemory, Stepped, Made, Ask, Connect, Put, Abort, Disconnect, Close, Nothing, steps}
+use Rattle.push_model.specs.Steps.{Step, Wait, MakeLink, AskFeatures, OpenChannel, SendSdu, CloseChannel, BreakLink, Ended, NoMemory, Stepped, Made, Ask, Connect, Put, Abort, Disconnect, Close, Nothing, steps, put_count}
 use Rattle.world_model.specs.Machines.{News, Linked, Up, Down, Failed, Heard, TimerFired, Cancelled, Opening}
 use Rattle.host_model.specs.Circumstances.{Circumstance, Size, Part, Stored, size_in, parts_in}
 use Rattle.host_model.specs.Endpoints.{endpoint_of, takes_sdu}
 use Rattle.host_model.specs.Pdus.{sdu_of}
 use Rattle.host_model.specs.Clients as clients
-use Rattle.host_model.specs.Clients.{NoBid, ClientProfile, client_profile, after_end, ended, after_call, calls, cause_of, closed_by, opened_by, event_heard, sent_on, submits, takes}
+use Rattle.host_model.specs.Clients.{NoBid, ClientProfile, client_profile, after_end, ended, after_call, calls, cause_of, closed_by, opened_by, event_heard, sent_on, submits, takes, fitted}
+use Rattle.host_model.specs.Shelves.{is_short, size_if, size_for, name_for, measured, fitting, unused}
 use Rattle.host_laws.specs.Feeds.{Feed, Gifts, Learns, Receives, Happens, Sent, Steps, fed, all_fed}
 use Rattle.host_laws.specs.Memory.{HasRoom, IsRoomy, IsRoomyFeed, ClientsHaveMemory}
 use Rattle.host_laws.proofs.Memory.{Well, well_if, well_ends, news_well}
@@ -302,6 +303,28 @@ parts_room (Size answer ∷ rest) all = parts_room rest all.1
 parts_room (Part answer ∷ rest) all = (all.0, parts_room rest all.1)
 parts_room (Stored answer ∷ rest) all = parts_room rest all.1
 
+-- the same of what a client makes of them
+named_room : (test : Bool) (size : Result ℕ PortFault) → HasRoom size → HasRoom (size_if test size)
+named_room true size room = room
+named_room false size room = tt
+
+measured_room : (count : ℕ) (part : course.Part) → HasRoom part → HasRoom (measured count part)
+measured_room count (Ok part) room = by (length part == count)
+  where
+    by : (test : Bool) → HasRoom (cond test (Ok part) (Err fault.Failed))
+    by true = tt
+    by false = tt
+measured_room count (Err cause) room = room
+
+fitting_room : (c : Client) (parts : List course.Part) → Rooms parts → Rooms (fitting c parts)
+fitting_room c [] all = tt
+fitting_room c (part ∷ parts) all = (measured_room (put_count c) part all.0, all.1)
+
+rooms_left : (count : ℕ) (parts : List course.Part) → Rooms parts → Rooms (drop count parts)
+rooms_left zero parts all = all
+rooms_left (suc count) [] all = tt
+rooms_left (suc count) (part ∷ parts) all = rooms_left count parts all.1
+
 told_well : (circumstances : List Circumstance) (news : News) (p : ClientProfile) → AllByRecursion IsRoomy circumstances → IsWell p → IsWell (clients.told circumstances news p)
 told_well circumstances (Linked Up) p all so = record { well = news_well events.LinkUp p.client so.well; rooms = so.rooms }
 told_well circumstances (Linked (Down reason)) p all so = record { well = ended_well (hears_news (events.LinkDown reason) p.client) (news_well (events.LinkDown reason) p.client so.well); rooms = so.rooms }
@@ -313,8 +336,8 @@ told_well circumstances Cancelled p all so = record {
   rooms = so.rooms;
 }
 told_well circumstances (Opening name) p all so =
-    let c = begins (size_in circumstances) name p.client in
-    calls_well (record p { client = ended c; submitted = None; bid = NoBid }) (record { well = ended_well c (begins_well (size_in circumstances) name p.client (size_room circumstances all) so.well); rooms = so.rooms })
+    let c = begins (size_for circumstances name) (name_for name) p.client in
+    calls_well (record p { client = ended c; submitted = None; bid = NoBid }) (record { well = ended_well c (begins_well (size_for circumstances name) (name_for name) p.client (named_room (is_short name) (size_in circumstances) (size_room circumstances all)) so.well); rooms = so.rooms })
 
 fed_well : (settings : Settings) (feed : Feed) (p : ClientProfile) → IsRoomyFeed feed → IsWell p → IsWell (fed (client_profile settings) p feed)
 fed_well settings (Gifts circumstances) p all so = record { well = so.well; rooms = parts_room circumstances all }
@@ -323,9 +346,9 @@ fed_well settings (Receives own psm sdu) p all so = record { well = news_well (e
 fed_well settings (Happens event v) p all so = record { well = event_well event v p.client so.well; rooms = so.rooms }
 fed_well settings (Sent v) p all so = sent_well p.submitted v p so
 fed_well settings (Steps v) p all so =
-    let one = steps p.client p.parts in
-    let now = steps_well p.client p.parts so.well so.rooms in
-    takes_so one.step v (record p { client = one.client; parts = one.left }) p (record { well = now.0; rooms = now.1 }) so
+    let one = steps p.client (fitted p) in
+    let now = steps_well p.client (fitted p) so.well (fitting_room p.client p.parts so.rooms) in
+    takes_so one.step v (record p { client = one.client; parts = unused one.left p.parts }) p (record { well = now.0; rooms = rooms_left (length p.parts - length one.left) p.parts so.rooms }) so
 
 all_well : (settings : Settings) (feeds : List Feed) (p : ClientProfile) → AllByRecursion IsRoomyFeed feeds → IsWell p → IsWell (all_fed (client_profile settings) p feeds)
 all_well settings [] p all so = so

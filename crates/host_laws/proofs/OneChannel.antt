@@ -98,7 +98,7 @@ alone v one held is at = by (has_own held.own one) (ap (find (has_own held.own))
     by true found = cc
     by false found = cc
 
-alive_by : (asked leaving : Bool) (stage : Stage) → lives_by asked leaving (kind stage) ≡ true → is_alive stage ≡ true
+pub alive_by : (asked leaving : Bool) (stage : Stage) → lives_by asked leaving (kind stage) ≡ true → is_alive stage ≡ true
 alive_by asked leaving (Requested request) is = refl
 alive_by asked leaving (Connected peer setup) is = refl
 alive_by asked leaving (Leaving peer setup request) is = refl

@@ -35,7 +35,8 @@ use Rattle.host_model.specs.Circumstances.{Circumstance}
 use Rattle.host_model.specs.Endpoints.{endpoint_of, takes_sdu}
 use Rattle.host_model.specs.Pdus.{sdu_of}
 use Rattle.host_model.specs.Clients as clients
-use Rattle.host_model.specs.Clients.{Bid, NoBid, is_paging, ClientProfile, client_profile, after_end, ended, cause_of, closed_by, opened_by, event_heard, sent_on, submits, takes}
+use Rattle.host_model.specs.Clients.{Bid, NoBid, is_paging, ClientProfile, client_profile, after_end, ended, cause_of, closed_by, opened_by, event_heard, sent_on, submits, takes, fitted}
+use Rattle.host_model.specs.Shelves.{unused}
 use Rattle.host_model.proofs.Keeping.{Keeps}
 use Rattle.host_laws.specs.Feeds.{Feed, Gifts, Learns, Receives, Happens, Sent, Steps, fed, all_fed}
 use Rattle.host_laws.specs.Onward.{Befits, IsOfPush, IsFeedOfPush, ClientsGoOnward}
@@ -307,7 +308,7 @@ keeps_so settings up = record {
   received = λ own psm sdu p so. so_by up p (clients.received own psm sdu p) refl (goes_stay p.client (hears_news (events.Sdu psm sdu) p.client) (heard_goes psm sdu p.client)) so;
   happened = λ event v p so. so_by up p (clients.happened event v p) refl (event_stays event v p.client) so;
   sent = λ v p so. sent_so up p.submitted v p so;
-  steps = λ v p so. let one = steps p.client p.parts in takes_so up one.step v (record p { client = one.client; parts = one.left }) p refl (steps_so p.client p.parts) so;
+  steps = λ v p so. let one = steps p.client (fitted p) in takes_so up one.step v (record p { client = one.client; parts = unused one.left p.parts }) p refl (steps_so p.client (fitted p)) so;
 }
 
 -- ---- what it is told

@@ -18,11 +18,12 @@ use Rattle.push_model.specs.Steps.{Part, Step, Wait, MakeLink, AskFeatures, Open
 use Rattle.push_laws.specs.Opening.{way_in, way_by, way_taken, psm_opened, AreTwoAtMost}
 use Rattle.push_laws.proofs.TwoChannels.{opens-two_at_most}
 use Rattle.world_model.specs.Machines.{News, Linked, Up, Down, Failed, Heard, TimerFired, Cancelled, Opening}
-use Rattle.host_model.specs.Circumstances.{Circumstance, size_in}
-use Rattle.host_model.specs.Clients.{ClientProfile, after_end, ended, after_call, calls, told, cause_of, closed_by, opened_by, event_heard, sent_on, submits, waiting, takes, client_profile}
+use Rattle.host_model.specs.Circumstances.{Circumstance}
+use Rattle.host_model.specs.Clients.{ClientProfile, after_end, ended, after_call, calls, told, cause_of, closed_by, opened_by, event_heard, sent_on, submits, waiting, takes, client_profile, fitted}
 use Rattle.host_model.specs.Clients as profile
 use Rattle.host_model.specs.Endpoints.{endpoint_of, takes_sdu}
 use Rattle.host_model.specs.Pdus.{sdu_of}
+use Rattle.host_model.specs.Shelves.{size_for, name_for, unused}
 use Rattle.host_laws.specs.Calls.{from_call}
 use Rattle.host_laws.specs.Feeds.{Feed, Gifts, Learns, Receives, Happens, Sent, Steps, fed, all_fed, asked_with, asked_from}
 use Rattle.host_laws.specs.Pushing.{Affair, Does, client_after, client_behind, end_asked, then_ends, link_asked, then_calls, news_pushed, opened_pushed, closed_pushed, event_pushed, sent_pushed, step_pushed, pushed_with, pushed_from, ClientsArePushed, opened_with, opened_from, psm_asked, ClientsOpen}
@@ -67,7 +68,7 @@ news_so circumstances (Heard pdu) pushing = refl
 news_so circumstances TimerFired pushing = refl
 news_so circumstances Cancelled pushing = ended_so (cancelled pushing.client)
 news_so circumstances (Opening name) pushing =
-    let begun : Client = begins (size_in circumstances) name pushing.client in
+    let begun : Client = begins (size_for circumstances name) (name_for name) pushing.client in
     let over : ClientProfile = record pushing { client = ended begun; submitted = None; bid = profile.NoBid } in
     calls_by (steps (ended begun) []).step over
     ∙ ap (client_behind (then_calls (ended begun))) (ended_so begun)
@@ -119,14 +120,14 @@ steps_so NoMemory v after before parts e = e
 
 -- ---- all feeds
 
-feed_so : (settings : Settings) (pushing : ClientProfile) (feed : Feed) → (fed (client_profile settings) pushing feed).client ≡ client_behind (pushed_with pushing feed) pushing.client
+pub feed_so : (settings : Settings) (pushing : ClientProfile) (feed : Feed) → (fed (client_profile settings) pushing feed).client ≡ client_behind (pushed_with pushing feed) pushing.client
 feed_so settings pushing (Gifts circumstances) = refl
 feed_so settings pushing (Learns circumstances news) = news_so circumstances news pushing
 feed_so settings pushing (Receives own psm sdu) = refl
 feed_so settings pushing (Happens event v) = event_so event v pushing.client
 feed_so settings pushing (Sent v) = sent_so pushing.submitted v pushing
 feed_so settings pushing (Steps v) =
-    let one = steps pushing.client pushing.parts in steps_so one.step v (record pushing { client = one.client; parts = one.left }) pushing pushing.parts refl
+    let one = steps pushing.client (fitted pushing) in steps_so one.step v (record pushing { client = one.client; parts = unused one.left pushing.parts }) pushing (fitted pushing) refl
 
 pub all_pushed : (settings : Settings) (feeds : List Feed) (pushing : ClientProfile) → (all_fed (client_profile settings) pushing feeds).client ≡ client_behind (pushed_from settings pushing feeds) pushing.client
 all_pushed settings [] pushing = refl
@@ -173,7 +174,7 @@ news_open circumstances (Heard pdu) client = refl
 news_open circumstances TimerFired client = refl
 news_open circumstances Cancelled client = let now = cancelled client in none_end (steps now []).step now refl
 news_open circumstances (Opening name) client =
-    let begun : Client = begins (size_in circumstances) name client in
+    let begun : Client = begins (size_for circumstances name) (name_for name) client in
     opened-both (then_ends begun) (then_calls (ended begun)) begun
     ∙ ap (λ (ps : List ℕ). ps ++ opened_from (then_calls (ended begun)) (client_behind (then_ends begun) begun)) (none_end (steps begun []).step begun refl)
     ∙ ap (opened_from (then_calls (ended begun))) (sym (ended_so begun))
@@ -232,8 +233,8 @@ feed_open settings pushing (Learns circumstances news) = sym (news_open circumst
 feed_open settings pushing (Receives own psm sdu) = refl
 feed_open settings pushing (Happens event v) = sym (event_open event v pushing.client)
 feed_open settings pushing (Sent v) = sym (sent_open pushing.submitted v pushing.client)
-feed_open settings pushing (Steps v) = let one = steps pushing.client pushing.parts in
-    ap (λ c. filter_map psm_asked (from_call c)) (clients-call settings v pushing) ∙ step_open one.step v (record pushing { client = one.client; parts = one.left }) pushing.client pushing.parts refl
+feed_open settings pushing (Steps v) = let one = steps pushing.client (fitted pushing) in
+    ap (λ c. filter_map psm_asked (from_call c)) (clients-call settings v pushing) ∙ step_open one.step v (record pushing { client = one.client; parts = unused one.left pushing.parts }) pushing.client (fitted pushing) refl
 
 all_open : (settings : Settings) (feeds : List Feed) (pushing : ClientProfile) → filter_map psm_asked (asked_from (client_profile settings) (clients_ask settings) pushing feeds) ≡ opened_from (pushed_from settings pushing feeds) pushing.client
 all_open settings [] pushing = refl

@@ -27,3 +27,7 @@ pub mod Leaving
 pub mod Onward
 pub mod Memory
 pub mod Asked
+pub mod Answered
+pub mod Gifts
+pub mod Searching
+pub mod SearchOrder

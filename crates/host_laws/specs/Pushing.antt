@@ -17,9 +17,10 @@ use Rattle.push_model.specs.Laws.{Deed, Hears, Asks, Finishes, Cancels, done}
 use Rattle.push_model.specs.Steps.{Part, Step, Wait, MakeLink, AskFeatures, OpenChannel, SendSdu, CloseChannel, BreakLink, Ended, NoMemory, steps}
 use Rattle.push_laws.specs.Opening.{way_by, psm_opened, AreTwoAtMost}
 use Rattle.world_model.specs.Machines.{News, Linked, Up, Down, Failed, Heard, TimerFired, Cancelled, Opening}
-use Rattle.host_model.specs.Circumstances.{Circumstance, size_in}
-use Rattle.host_model.specs.Clients.{ClientProfile, cause_of, ended, client_profile}
+use Rattle.host_model.specs.Circumstances.{Circumstance}
+use Rattle.host_model.specs.Clients.{ClientProfile, cause_of, ended, client_profile, fitted}
 use Rattle.host_model.specs.Hosts.{Host}
+use Rattle.host_model.specs.Shelves.{size_for, name_for}
 use Rattle.host_laws.specs.Calls as asking
 use Rattle.host_laws.specs.Calls.{HostsAsk}
 use Rattle.host_laws.specs.Feeds.{Feed, Gifts, Learns, Receives, Happens, Sent, Steps, fed}
@@ -80,7 +81,7 @@ news_pushed circumstances (Heard pdu) client = []
 news_pushed circumstances TimerFired client = Does (Hears events.Timer) ∷ []
 news_pushed circumstances Cancelled client = Does Cancels ∷ then_ends (cancelled client)
 news_pushed circumstances (Opening name) client =
-    let begun : Client = begins (size_in circumstances) name client in Begins (size_in circumstances) name ∷ (then_ends begun ++ then_calls (ended begun))
+    let begun : Client = begins (size_for circumstances name) (name_for name) client in Begins (size_for circumstances name) (name_for name) ∷ (then_ends begun ++ then_calls (ended begun))
 
 abbrev pub opened_pushed : Option ℕ → ℕ → List Affair
 opened_pushed None psm = []
@@ -120,7 +121,7 @@ pushed_with pushing (Learns circumstances news) = news_pushed circumstances news
 pushed_with pushing (Receives own psm sdu) = Does (Hears (events.Sdu psm sdu)) ∷ []
 pushed_with pushing (Happens event v) = event_pushed event v
 pushed_with pushing (Sent v) = sent_pushed pushing.submitted v
-pushed_with pushing (Steps v) = step_pushed (steps pushing.client pushing.parts).step pushing.parts
+pushed_with pushing (Steps v) = step_pushed (steps pushing.client (fitted pushing)).step (fitted pushing)
 
 -- ---- all of it
 

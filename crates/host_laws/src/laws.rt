@@ -1,5 +1,6 @@
 //! Laws of a host above its line.
 
+ghost use Rattle.host_laws.specs.Answered.{ClientsAreAnswered};
 ghost use Rattle.host_laws.specs.Armed.{ArmedIsRead, ServersAreArmed};
 ghost use Rattle.host_laws.specs.Calls.{HostsAsk};
 ghost use Rattle.host_laws.specs.Carriers.{HostsGainByCarriers};
@@ -19,6 +20,8 @@ ghost use Rattle.host_laws.specs.Onward.{ClientsGoOnward};
 ghost use Rattle.host_laws.specs.Pushing.{ClientsArePushed, ClientsOpen};
 ghost use Rattle.host_laws.specs.OverLinks.{AllLinksAreActs, HostsTalkOverLinks};
 ghost use Rattle.host_laws.specs.Read.{SaidIsRead};
+ghost use Rattle.host_laws.specs.Searching.{ClientsAwaitServices, HostsAskAsTheyStep};
+ghost use Rattle.host_laws.specs.SearchOrder.{CancelsInOrder, ClientsSearchInOrder, ClientsSearchWithMemory, HostsSearchWell, LinksBeginSearches, ProfilesSearchInOrder};
 ghost use Rattle.host_laws.specs.Seen.{OwnTalkMoves};
 ghost use Rattle.host_laws.specs.Serving.{HostsGain, ServersAreServed};
 ghost use Rattle.host_laws.specs.Spoken.{ObjectsMove};
@@ -282,4 +285,52 @@ pub fn clients_go_onward()
 /// failed.
 pub fn clients_have_memory()
     ensures { ClientsHaveMemory }
+{}
+
+/// Whatever its shelf answers, and wherever it begins: the names under which a client pushes have at most 100 UTF-16 units, and each part of an object that it goes
+/// on with has as many octets as its next PUT; any other answer is a fault of the shelf. An object is as long as the shelf told.
+pub fn clients_are_answered()
+    ensures { ClientsAreAnswered }
+{}
+
+/// With each step of its push a client asks its channels for what the step says and for nothing else, and a server has the SDUs sent that it lends.
+pub fn hosts_ask_as_they_step()
+    ensures { HostsAskAsTheyStep }
+{}
+
+/// A client waits for service discovery exactly where its own talk on the link says that a request for services has no reply: where its channels wait for
+/// nothing, a push goes on over the link, and it did not end its search with a request that waits.
+pub fn clients_await_services()
+    ensures { ClientsAwaitServices }
+{}
+
+/// The question of a push is a new one until its channel of service discovery is there, and no request of it waits where the client is to close that
+/// channel, whatever it hears and does, but for a push that is cancelled: that one closes the channel with its next step.
+pub fn clients_search_in_order()
+    ensures { ClientsSearchInOrder }
+{}
+
+/// So it is of a client's profile, whatever it goes through but that its push is cancelled.
+pub fn profiles_search_in_order()
+    ensures { ProfilesSearchInOrder }
+{}
+
+/// So it is behind a push that is cancelled, too, where its channels have no PDU, it has memory and its SDU was sent.
+pub fn cancels_in_order()
+    ensures { CancelsInOrder }
+{}
+
+/// A client has memory while it searches, whatever it hears and does, where each push begins behind the end of the one before.
+pub fn clients_search_with_memory()
+    ensures { ClientsSearchWithMemory }
+{}
+
+/// Each host of a client searches in order, and has memory while it does, in whatever it hears and says.
+pub fn hosts_search_well()
+    ensures { HostsSearchWell }
+{}
+
+/// A link that comes up for a push begins its search, with a new question, or is left at once.
+pub fn links_begin_searches()
+    ensures { LinksBeginSearches }
 {}

@@ -23,8 +23,9 @@ use Rattle.host_model.specs.Endpoints.{endpoint_of, takes_sdu}
 use Rattle.host_model.specs.Pdus.{sdu_of}
 use Rattle.host_model.specs.Profiles.{Stride}
 use Rattle.host_model.specs.Hosts.{Host, settles, strides, most_steps}
-use Rattle.host_model.specs.Clients.{ClientProfile, client_profile, sent_on, done, submits, takes, next_stride, waiting}
+use Rattle.host_model.specs.Clients.{ClientProfile, client_profile, sent_on, done, submits, takes, next_stride, waiting, fitted}
 use Rattle.host_model.specs.Waiting.{waits_within, waits_by, ClientsWait}
+use Rattle.host_model.specs.Shelves.{unused}
 use Rattle.host_model.proofs.Ending.{left, all_low}
 
 -- where a step ends a channel, one less is left to be ended
@@ -157,8 +158,8 @@ taken NoMemory channels after before bound lower more = absurd (true≢false (sy
 
 strides_low : (channels : Channels) (pushing : ClientProfile) → (next_stride channels pushing).more ≡ true → left (next_stride channels pushing).profile.client.stage < left pushing.client.stage
 strides_low channels pushing more =
-    let one = steps pushing.client pushing.parts in
-    taken one.step channels (record pushing { client = one.client; parts = one.left }) pushing (left pushing.client.stage) (lowers pushing.client pushing.parts) more
+    let one = steps pushing.client (fitted pushing) in
+    taken one.step channels (record pushing { client = one.client; parts = unused one.left pushing.parts }) pushing (left pushing.client.stage) (lowers pushing.client (fitted pushing)) more
 
 sent_by : (test : Bool) (pushing : ClientProfile) → left (if test then pushing else done (record pushing { submitted = None })).client.stage ≡ left pushing.client.stage
 sent_by true pushing = refl

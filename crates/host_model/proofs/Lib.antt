@@ -9,3 +9,4 @@ pub mod Stopping
 pub mod Ending
 pub mod Halting
 pub mod Single
+pub mod Shelves

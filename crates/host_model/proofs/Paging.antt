@@ -9,7 +9,8 @@ use Rattle.world_model.specs.Machines.{News, Linked, Up, Down, Failed, Heard, Ti
 use Rattle.turn_laws.specs.Premises.{IsAside}
 use Rattle.host_model.specs.Pdus.{sdu_of}
 use Rattle.host_model.specs.Endpoints.{endpoint_of, takes_sdu}
-use Rattle.host_model.specs.Clients.{ClientProfile, client_profile, sent_on, done, submits, takes, next_stride, waiting, is_paging}
+use Rattle.host_model.specs.Clients.{ClientProfile, client_profile, sent_on, done, submits, takes, next_stride, waiting, is_paging, fitted}
+use Rattle.host_model.specs.Shelves.{unused}
 use Rattle.host_model.proofs.Keeping.{Keeps, KeepsNews}
 
 abbrev pub PagesNot : ClientProfile → Type 0
@@ -45,7 +46,7 @@ taking NoMemory channels after before off same = off
 
 striding : (channels : Channels) (pushing : ClientProfile) → PagesNot pushing → PagesNot (next_stride channels pushing).profile
 striding channels pushing off =
-    let one = steps pushing.client pushing.parts in taking one.step channels (record pushing { client = one.client; parts = one.left }) pushing off off
+    let one = steps pushing.client (fitted pushing) in taking one.step channels (record pushing { client = one.client; parts = unused one.left pushing.parts }) pushing off off
 
 pub keeps_unpaged : (settings : Settings) → Keeps (client_profile settings) PagesNot
 keeps_unpaged settings = record {

@@ -18,7 +18,8 @@ use Rattle.world_model.specs.Machines.{News, Linked, Up, Down, Failed, Heard, Ti
 use Rattle.host_model.specs.Pdus.{sdu_of}
 use Rattle.host_model.proofs.Keeping.{Keeps, KeepsNews}
 use Rattle.host_model.specs.Endpoints.{endpoint_of, takes_sdu}
-use Rattle.host_model.specs.Clients.{ClientProfile, client_profile, ended, after_end, cause_of, closed_by, opened_by, event_heard, sent_on, done, submits, takes, next_stride, waiting}
+use Rattle.host_model.specs.Clients.{ClientProfile, client_profile, ended, after_end, cause_of, closed_by, opened_by, event_heard, sent_on, done, submits, takes, next_stride, waiting, fitted}
+use Rattle.host_model.specs.Shelves.{unused}
 
 abbrev pub Rests : Client → Type 0
 Rests client = client.stage ≡ Rest
@@ -109,8 +110,8 @@ taking NoMemory channels after before rest same = rest
 
 striding : (channels : Channels) (pushing : ClientProfile) → IsResting pushing → IsResting (next_stride channels pushing).profile
 striding channels pushing rest =
-    let one = steps pushing.client pushing.parts in
-    taking one.step channels (record pushing { client = one.client; parts = one.left }) pushing (stepping pushing.client pushing.parts rest) rest
+    let one = steps pushing.client (fitted pushing) in
+    taking one.step channels (record pushing { client = one.client; parts = unused one.left pushing.parts }) pushing (stepping pushing.client (fitted pushing) rest) rest
 
 pub keeps_rest : (settings : Settings) → Keeps (client_profile settings) IsResting
 keeps_rest settings = record {

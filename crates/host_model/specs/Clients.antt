@@ -1,5 +1,6 @@
 -- The profile of a client: its push, the answers of its shelf, its channels and what it asks of its line (Object Push Profile 1.2, 4.3).
-use Rattle.std.specs.Prelude.{ℕ, ◌&&◌, not, Bool, true, false, List, [], Option, Some, None, if◌then◌else◌}
+use Rattle.std.specs.Prelude.{ℕ, ◌&&◌, not, Bool, true, false, List, [], Option, Some, None, Result, if◌then◌else◌}
+use Rattle.bt_base.specs.declared.ports.PortFault.{PortFault}
 use Rattle.bt_base.specs.declared.settings.Settings.{Settings}
 use Rattle.channel_model.specs.declared.event.ChannelEvent.{ChannelEvent}
 use Rattle.channel_model.specs.declared.event.ChannelEvent.TheVariants.{Opened, Closed, Features, FeaturesLost, DisconnectLost}
@@ -19,10 +20,11 @@ use Rattle.push_model.specs.Events.{hears_news, armed}
 use Rattle.push_model.specs.Payloads.{Payload}
 use Rattle.push_model.specs.Steps.{Part, Step, Wait, MakeLink, AskFeatures, OpenChannel, SendSdu, CloseChannel, BreakLink, Ended, NoMemory, steps, stepped}
 use Rattle.world_model.specs.Machines.{News, Linked, Up, Down, Failed, Heard, TimerFired, Cancelled, Opening}
-use Rattle.host_model.specs.Circumstances.{Circumstance, size_in, parts_in}
+use Rattle.host_model.specs.Circumstances.{Circumstance, parts_in}
 use Rattle.host_model.specs.Pdus.{sdu_of}
 use Rattle.host_model.specs.Endpoints.{Endpoint, endpoint_of, with_answer, takes_sdu}
 use Rattle.host_model.specs.Profiles.{Stride, Profile}
+use Rattle.host_model.specs.Shelves.{size_for, name_for, fitting, unused}
 
 -- what it asks of its line: nothing, or that a link be made
 pub data Bid : Type 0 where
@@ -61,6 +63,10 @@ after_call step client pushing = pushing
 abbrev pub calls : ClientProfile → ClientProfile
 calls pushing = let one = steps pushing.client [] in after_call one.step one.client pushing
 
+-- as a push begins the shelf is asked for the object's size
+abbrev pub opens : Result ℕ PortFault → List ℕ → ClientProfile → ClientProfile
+opens size name pushing = calls (record pushing { client = ended (begins size name pushing.client); submitted = None; bid = NoBid })
+
 abbrev pub told : List Circumstance → News → ClientProfile → ClientProfile
 told circumstances (Linked Up) pushing = unlinked (hears_news events.LinkUp pushing.client) pushing
 told circumstances (Linked (Down reason)) pushing = unlinked (ended (hears_news (events.LinkDown reason) pushing.client)) pushing
@@ -68,7 +74,7 @@ told circumstances (Failed status) pushing = unlinked (ended (hears_news (events
 told circumstances (Heard pdu) pushing = pushing
 told circumstances TimerFired pushing = record pushing { client = hears_news events.Timer pushing.client }
 told circumstances Cancelled pushing = record pushing { client = ended (cancelled pushing.client) }
-told circumstances (Opening name) pushing = calls (record pushing { client = ended (begins (size_in circumstances) name pushing.client); submitted = None; bid = NoBid })
+told circumstances (Opening name) pushing = opens (size_for circumstances name) (name_for name) pushing
 
 -- ---- its channels
 
@@ -146,8 +152,12 @@ takes BreakLink channels after before = waiting channels (done (record after { b
 takes (Ended outcome) channels after before = waiting channels after
 takes NoMemory channels after before = waiting channels after
 
+-- it is asked with answers of its shelf that fit; those that the step did not use stay as they are
+abbrev pub fitted : ClientProfile → List Part
+fitted pushing = fitting pushing.client pushing.parts
+
 abbrev pub next_stride : Channels → ClientProfile → Stride ClientProfile
-next_stride channels pushing = let one = steps pushing.client pushing.parts in takes one.step channels (record pushing { client = one.client; parts = one.left }) pushing
+next_stride channels pushing = let one = steps pushing.client (fitted pushing) in takes one.step channels (record pushing { client = one.client; parts = unused one.left pushing.parts }) pushing
 
 -- ---- all of it
 

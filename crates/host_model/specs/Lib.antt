@@ -4,6 +4,7 @@ pub mod Endpoints
 pub mod Profiles
 pub mod Hosts
 pub mod Saying
+pub mod Shelves
 pub mod Clients
 pub mod Servers
 pub mod Waiting

@@ -1,8 +1,7 @@
 -- Answers of an inbox and its counts.
-use Rattle.std.proofs.Common.{◌≡◌, ℕ, ◌≤◌, List, [], ◌∷◌, ◌++◌, Result, Ok, Err, IsErrOf, refl, sym, ap, ◌∙◌, arith, inl, inr}
+use Rattle.std.proofs.Common.{◌≡◌, ℕ, ◌≤◌, List, [], ◌∷◌, ◌++◌, Ok, Err, refl, arith, inl, inr}
 use Rattle.std.specs.List.{AllByRecursion}
 use Rattle.bt_base.specs.Counts.{HasCause, HasRisen}
-use Rattle.bt_base.specs.declared.ports.PortFault.{PortFault}
 use Rattle.bt_base.specs.declared.ports.PortFault.TheVariants.{Failed, NoMemory}
 use Rattle.obex_session.specs.InboxCalls.{InboxCall, Answer, come_of, left_by}
 use Rattle.obex_session.specs.Counting.{Counts, AreCounted}

@@ -25,3 +25,8 @@ pub mod CountingLaws
 pub mod ViewLaws
 pub mod ModeLaws
 pub mod SaidLaws
+pub mod StatingLaws
+pub mod TryingLaws
+pub mod RepliedLaws
+pub mod PassingLaws
+pub mod UnitLaws

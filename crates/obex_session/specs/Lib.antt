@@ -18,3 +18,7 @@ pub mod PutPackets
 pub mod Asking
 pub mod NextPut
 pub mod Views
+pub mod Tried
+pub mod Replied
+pub mod Modes
+pub mod Naming

@@ -3,10 +3,14 @@
 
 ghost use Rattle.obex_session.specs.Exchanges.{ResponsesAreRead, SuccessIsStored};
 ghost use Rattle.obex_session.specs.Laws.{NoRuleFails, StoresWhatIsSpelled};
+ghost use Rattle.obex_session.specs.Modes.{RepliesKeepModes};
+ghost use Rattle.obex_session.specs.Naming.{NamesHaveUnits};
 ghost use Rattle.obex_session.specs.ObjectPuts.{PutsInOrder, SpellsTheObject};
 ghost use Rattle.obex_session.specs.Pairs.{PairsMeanWell};
 ghost use Rattle.obex_session.specs.Pushes.{FrontsArePushed};
 ghost use Rattle.obex_session.specs.PutPackets.{SpellsWhatIsPut};
+ghost use Rattle.obex_session.specs.Replied.{RepliesAreDue};
+ghost use Rattle.obex_session.specs.Tried.{InboxIsCalledAnew, InboxIsCalledInRuns};
 
 /// Where the inbox never failed, the objects that the packets spell were stored.
 pub fn spelled_is_stored()
@@ -53,4 +57,34 @@ pub fn fronts_are_pushed()
 /// its final PUT, the server has stored its object.
 pub fn pairs_mean_well()
     ensures { PairsMeanWell }
+{}
+
+/// The calls that a session makes of its inbox, over any list of packets and whatever the inbox answers: each packet makes those
+/// of its place in its run, up to the first that fails. A Name begins the object, each body is appended, the final PUT commits it,
+/// and what ends a run without an object aborts what is under way, as the end of the link does. A packet at which a call failed
+/// counts as refused: a new run begins behind it, as of a session that heard nothing.
+pub fn inbox_is_called_up_to_faults()
+    ensures always { InboxIsCalledInRuns }
+    ensures anew { InboxIsCalledAnew }
+{}
+
+/// A session replies to each packet, over any list of them and whatever its inbox answers, by the packet's place in its run: D0
+/// where a call failed, else A0 to CONNECT, DISCONNECT and ABORT, D1 to what is not implemented, C0 to what is refused as a packet,
+/// and to a PUT 90, A0 where it stores its object, or C0 or CD by the first rule that is broken. Where no single response mode is
+/// offered that is the reply, octet for octet; where it is, a packet may be passed over in silence.
+pub fn replies_are_due()
+    ensures { RepliesAreDue }
+{}
+
+/// So it is with single response mode, octet for octet: a run is in the mode where the session offers it and the first PUT of the run
+/// wishes it. That PUT is answered with the confirmation, those that go on behind it are heard in silence, and a refusal and the
+/// final PUT are answered. Behind a refusal that the final PUT does not bring, PUTs without a Name are passed over in silence, up to
+/// and with a final one.
+pub fn replies_keep_modes()
+    ensures { RepliesKeepModes }
+{}
+
+/// Each UTF-16 unit of a name that is a text stands in two octets, as the laws on what packets spell ask of it.
+pub fn names_have_units()
+    ensures { NamesHaveUnits }
 {}

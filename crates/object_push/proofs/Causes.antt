@@ -1,10 +1,12 @@
 -- Causes of an answer that one port of several had, as causes among all of them.
-use Rattle.std.proofs.Common.{◌≡◌, ℕ, ◌⊎◌, arith, inl, inr}
+use Rattle.std.proofs.Common.{◌≡◌, ℕ, ◌⊎◌, arith, inl, inr, refl}
 use Rattle.std.proofs.lemmas.Bool.{cases_lt}
 use Rattle.bt_base.specs.Counts.{HasRisen}
 use Rattle.h4_view.specs.View.{IsAnswered}
 use Rattle.btpush_forms.specs.declared.status.Status.{Status}
+use Rattle.btpush_forms.specs.declared.status.Status.TheVariants as status
 use Rattle.btpush_forms.specs.Run.{HasCauses}
+use Rattle.object_push.specs.Pushing.{IsShort}
 
 -- where nothing is answered for a port, its count stands still
 pub still : (count count' : ℕ) (answer : Type 0) → IsAnswered count count' answer → (answer → ⊥) → count' ≡ count
@@ -44,3 +46,11 @@ beside_source {s} {s'} same c = record {
   only_write = c.only_write;
   only_trace = c.only_trace;
 }
+
+-- a port lacked memory, and the trace failed
+pub short_failed : (count count' faults faults' : ℕ) (answer : Type 0) → IsAnswered count count' answer → HasRisen faults faults' → IsAnswered count count' (IsShort faults faults' status.WriteFault)
+short_failed count count' faults faults' answer is rose = record { stays = is.stays; only = λ lt. inr (refl, rose) }
+
+-- or it did not
+pub short_alone : (count count' faults faults' : ℕ) (answer : Type 0) → IsAnswered count count' answer → faults' ≡ faults → IsAnswered count count' (IsShort faults faults' status.NoMemory)
+short_alone count count' faults faults' answer is same = record { stays = is.stays; only = λ lt. inl (refl, same) }

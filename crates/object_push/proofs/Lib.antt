@@ -5,3 +5,4 @@ pub mod Handing
 pub mod Going
 pub mod Causes
 pub mod Taking
+mod Gaining

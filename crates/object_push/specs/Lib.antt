@@ -4,3 +4,4 @@ pub mod Halting
 pub mod Playing
 pub mod Running
 pub mod Pushing
+pub mod Gaining

@@ -1,5 +1,6 @@
 -- The form `push`: a scenario in, its report and its capture out (this project's own).
 use Rattle.std.specs.Prelude.{ℕ, ◌≡◌, ◌⊎◌, List, [], drop, Option, Some, Ok, Err}
+use Rattle.bt_base.specs.Counts.{HasRisen}
 use Rattle.push_script.specs.declared.scenario.Scenario.{Scenario}
 use Rattle.push_script.specs.declared.refusal.ScriptRefusal.{ScriptRefusal}
 use Rattle.push_script.specs.Reading.{reading, script_of}
@@ -28,6 +29,7 @@ pub data Pushes (input : List ℕ) (left : Option (List ℕ)) (old new : Ports) 
   -- it is a scenario, which is run
   Taken : (scenario : Scenario) → left ≡ Some [] → reading [] input ≡ Ok (script_of scenario) → Runs scenario old new result → Pushes input left old new Untouched result
 
--- a status with which a run that stopped short ends
-abbrev pub IsShort : Status → Type 0
-IsShort result = (result ≡ status.NoMemory) ⊎ (result ≡ status.WriteFault)
+-- With what status a run ends whose shelf or inbox found no memory: that memory was wanting where the trace did not fail, and else that it
+-- failed. The numbers are the count of faults of the trace before and after.
+abbrev pub IsShort : (faults faults' : ℕ) → Status → Type 0
+IsShort faults faults' result = ((result ≡ status.NoMemory) × (faults' ≡ faults)) ⊎ ((result ≡ status.WriteFault) × HasRisen faults faults')

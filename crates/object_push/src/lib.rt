@@ -2,6 +2,7 @@
 #![tactic(auto)]
 
 mod halting;
+pub mod laws;
 mod pushing;
 mod reporting;
 mod running;

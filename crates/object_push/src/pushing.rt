@@ -32,9 +32,9 @@ fn run_scenario<K: Sink, T: Sink, F: Shelf, B: Inbox>(
     ensures shelf_content { F.content shelf.new ≡ F.content shelf.old }
     ensures shelf_faults { F.faults shelf.old ≤ F.faults shelf.new }
     ensures shelf_absences { F.absences shelf.old ≤ F.absences shelf.new }
-    ensures shelf_short { IsAnswered (F.shortages shelf.old) (F.shortages shelf.new) (IsShort result) }
+    ensures shelf_short { IsAnswered (F.shortages shelf.old) (F.shortages shelf.new) (IsShort (T.faults trace.old) (T.faults trace.new) result) }
     ensures inbox_faults { B.faults inbox.old ≤ B.faults inbox.new }
-    ensures inbox_short { IsAnswered (B.shortages inbox.old) (B.shortages inbox.new) (IsShort result) }
+    ensures inbox_short { IsAnswered (B.shortages inbox.old) (B.shortages inbox.new) (IsShort (T.faults trace.old) (T.faults trace.new) result) }
 {
     match play_on(alloc, scenario, shelf, inbox, trace) {
         Ok(ended) => report(scenario, &ended, sink),
@@ -48,8 +48,8 @@ fn run_scenario<K: Sink, T: Sink, F: Shelf, B: Inbox>(
 ///
 /// `Ok` comes where every push is done, and `SomeFailed` where one is not. `InputRefused` comes where the text is no scenario, and the sink
 /// gets the line that tells where and why; trace, shelf and inbox are untouched then. `ReadFault` and `WriteFault` come where a port failed.
-/// `NoMemory` comes before the trace has anything, where a port found no memory, or where the air is crowded. No object may be pending in the
-/// inbox.
+/// `NoMemory` comes before the trace has anything, where a port found no memory, or where the air is crowded. Where shelf or inbox found none
+/// and the trace failed, `WriteFault` comes. No object may be pending in the inbox.
 pub fn push<S: Source, K: Sink, T: Sink, F: Shelf, B: Inbox>(
     alloc: Global,
     source: &mut S,
@@ -69,9 +69,9 @@ pub fn push<S: Source, K: Sink, T: Sink, F: Shelf, B: Inbox>(
     ensures shelf_content { F.content shelf.new ≡ F.content shelf.old }
     ensures shelf_faults { F.faults shelf.old ≤ F.faults shelf.new }
     ensures shelf_absences { F.absences shelf.old ≤ F.absences shelf.new }
-    ensures shelf_short { IsAnswered (F.shortages shelf.old) (F.shortages shelf.new) (IsShort result) }
+    ensures shelf_short { IsAnswered (F.shortages shelf.old) (F.shortages shelf.new) (IsShort (T.faults trace.old) (T.faults trace.new) result) }
     ensures inbox_faults { B.faults inbox.old ≤ B.faults inbox.new }
-    ensures inbox_short { IsAnswered (B.shortages inbox.old) (B.shortages inbox.new) (IsShort result) }
+    ensures inbox_short { IsAnswered (B.shortages inbox.old) (B.shortages inbox.new) (IsShort (T.faults trace.old) (T.faults trace.new) result) }
 {
     let text = match gather(alloc, source) {
         Ok(text) => text,

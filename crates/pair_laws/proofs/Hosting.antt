@@ -1,5 +1,5 @@
 -- A host of a run, with what happened to its channels on each of its links, and what it does as turns of the pair that it is in.
-use Rattle.std.proofs.Common.{◌≡◌, ℕ, true, false, suc, ◌+◌, List, [], ◌∷◌, ◌++◌, map, length, Some, refl, sym, ap, subst, ◌∙◌, append-nil, append_assoc, arith, length-append}
+use Rattle.std.proofs.Common.{◌≡◌, ℕ, true, false, suc, ◌+◌, List, [], ◌∷◌, ◌++◌, map, length, Some, refl, sym, ap, ap₂, subst, ◌∙◌, append-nil, append_assoc, arith, length-append}
 use Rattle.std.specs.List.{AllByRecursion, flat_map}
 use Rattle.std.proofs.lemmas.List.{map-append}
 use Rattle.std.proofs.lemmas.List.Concat.{flat_map-append}
@@ -8,7 +8,6 @@ use Rattle.channel_model.specs.Carrying.{Up as Handed, Nothing, Received}
 use Rattle.channel_model.specs.Hearing as channels
 use Rattle.channel_model.specs.Policies.{Policy}
 use Rattle.channel_model.specs.Value.{Channels, no_channels}
-use Rattle.channel_laws.specs.Pairs.{Side}
 use Rattle.channel_laws.specs.Runs.{Occurrence, Comes, Gives, Fires, new_link}
 use Rattle.world_model.specs.Machines.{LinkEvent, News, Linked, Failed, Heard, TimerFired, Cancelled, Opening}
 use Rattle.world_model.specs.Talks.{Talk, Told, Said, Unsent}
@@ -27,13 +26,15 @@ use Rattle.host_laws.specs.Lives.{Mark, Occurred, Turned}
 use Rattle.host_laws.specs.OverLinks.{talk_marks}
 use Rattle.host_laws.specs.Seen.{IsCalmAt, IsCalm}
 use Rattle.host_laws.specs.Fed.{feeds_up}
-use Rattle.host_laws.specs.Woven.{Gifting, Hearing}
-use Rattle.host_laws.proofs.Growing.{calm-both, grows_then, act_grows, both-begin_none, tells_plain, drives_plain, readies_plain, act_plain}
+use Rattle.host_laws.specs.Gifts.{gifts_by, gifts_along}
+use Rattle.host_laws.specs.Woven.{Strand, Gifting, Hearing}
+use Rattle.host_laws.proofs.Gifts.{IsGivenSo, goes-given, turns-given}
+use Rattle.host_laws.proofs.Growing.{calm-both, grows_then, act_gifted, both-begin_none, tells_plain, drives_plain, readies_plain, act_plain}
 use Rattle.host_laws.proofs.Links.{value_run, drives_told, act_told}
 use Rattle.host_laws.proofs.Living.{goes-on, turns-on}
 use Rattle.host_laws.proofs.OverLinks.{Calmly, goes_calmly, turns_calmly, IsAsked, goes-asked, turns-asked, up_turned}
 use Rattle.host_laws.proofs.Steps.{Grows}
-use Rattle.pair_laws.proofs.Facing.{PairFrom, each_split, comes-in}
+use Rattle.pair_laws.proofs.Facing.{View, PairFrom, each_split, comes-in}
 use Rattle.pair_laws.proofs.Walking.{AreMeant, calm-meant, ComesNot, gives_in, outer-gives, outer-comes_not, all_on}
 use Rattle.pair_laws.proofs.Numbered.{ended, Links, DoesMore, does-more, turns-to}
 
@@ -50,24 +51,25 @@ marks_more talk more = flat_map-append talk_marks talk more
 
 -- ---- a host
 
--- it lived calmly through what it was told and said, also of what waits; no push began on its links, and each came up where its profile
--- was so
-pub record HostAt {P : Type 0} (A : Profile P) (asks : Asks A) (W : P → Type 0) (e : carriages.End (Host P)) : Type 0 where
+-- it lived calmly through what it was told and said, also of what waits; no push began on its links, each came up where its profile was
+-- so, and what its ports answered is so
+pub record HostAt {P : Type 0} (A : Profile P) (asks : Asks A) (W : P → Type 0) (G : List Circumstance → Type 0) (e : carriages.End (Host P)) : Type 0 where
   pub marks : List Mark
   pub so : Calmly A asks marks e.upper
   pub marks_are : marks ≡ marks_of (talk_of e)
   pub asked : IsAsked A asks W marks e.upper so
+  pub given : IsGivenSo A asks G marks e.upper so
   pub up_is : up_behind false so.lives.spans ≡ e.linked
 
 -- and is one end of a pair on each link; the other is on its link of number j
-pub record Held {P T : Type 0} (side : Side) (A : Profile P) (asks : Asks A) (W : P → Type 0) (theirs : Policy) (number : ℕ) (e : carriages.End (Host P)) (other : ℕ → List Occurrence) (j : ℕ) (f : carriages.End T) : Type 0 where
-  pub host : HostAt A asks W e
+pub record Held {P T : Type 0} (side : View) (A : Profile P) (asks : Asks A) (W : P → Type 0) (G : List Circumstance → Type 0) (theirs : Policy) (number : ℕ) (e : carriages.End (Host P)) (other : ℕ → List Occurrence) (j : ℕ) (f : carriages.End T) : Type 0 where
+  pub host : HostAt A asks W G e
   pub level : length host.so.lives.spans + length e.owed ≡ number
   pub links : Links side A.policy theirs host.so.lives.spans host.so.lives.now e other j f
 
 -- ---- what a host does
 
-module _ {P : Type 0} (A : Profile P) (asks : Asks A) (W : P → Type 0) where
+module _ {P : Type 0} (A : Profile P) (asks : Asks A) (W : P → Type 0) (G : List Circumstance → Type 0) where
   abbrev Calm : Type 0
   Calm = Unit {0}
 
@@ -121,6 +123,14 @@ module _ {P : Type 0} (A : Profile P) (asks : Asks A) (W : P → Type 0) where
       let drives = drives_plain A asks Calm most_steps (tells_events A mid) in
       (tt, (tt, both-begin_none tells.grows.weave drives.grows.weave tells.begins drives.begins))
 
+  heard_gifts : (gifts : List Circumstance) (pdu : List ℕ) (host : Host P) (calm : IsCalmAt A.policy (Comes pdu) host.channels) → gifts_along (all_heard gifts pdu host calm).weave ≡ gifts ∷ []
+  unfolding grows_then
+  heard_gifts gifts pdu host calm =
+      let mid = heard_by gifts pdu host in
+      let tells = tells_plain A asks Calm mid in
+      let drives = drives_plain A asks Calm most_steps (tells_events A mid) in
+      ap (λ (l : List (List Circumstance)). gifts ∷ l) (flat_map-append gifts_by tells.grows.weave drives.grows.weave ∙ ap₂ (λ (x y : List (List Circumstance)). x ++ y) tells.gifts_are drives.gifts_are)
+
   heard_list : (gifts : List Circumstance) (pdu : List ℕ) (host : Host P) (calm : IsCalmAt A.policy (Comes pdu) host.channels) → (all_heard gifts pdu host calm).list ≡ Comes pdu ∷ (then_heard gifts pdu host).list
   unfolding grows_then
   heard_list gifts pdu host calm = refl
@@ -134,7 +144,7 @@ module _ {P : Type 0} (A : Profile P) (asks : Asks A) (W : P → Type 0) where
       (each_split _ [] so.lives.now grows.list (calm-meant A.policy (so.lives.now ++ grows.list) calm)).1
 
   -- nothing comes in
-  walks : (side : Side) (theirs : Policy) (there : List Occurrence) (marks : List Mark) (acted : List Occurrence) (e e' : carriages.End (Host P)) (so : Calmly A asks marks e.upper) (grows : Grows A asks Calm acted e.upper e'.upper) → AllByRecursion ComesNot acted → e.coming ≡ [] → e'.coming ≡ []
+  walks : (side : View) (theirs : Policy) (there : List Occurrence) (marks : List Mark) (acted : List Occurrence) (e e' : carriages.End (Host P)) (so : Calmly A asks marks e.upper) (grows : Grows A asks Calm acted e.upper e'.upper) → AllByRecursion ComesNot acted → e.coming ≡ [] → e'.coming ≡ []
       → ((far_rest : List (List ℕ)) → (e.owed ≡ [] → far_rest ≡ e.queue ++ e.waiting) → e'.owed ≡ [] → far_rest ++ gives_in acted ≡ e'.queue ++ e'.waiting) → DoesMore side A.policy theirs there so.lives.now (so.lives.now ++ grows.list) e e'
   walks side theirs there marks acted e e' so grows not before none put rest far_coming far_rest p =
       let given : gives_in grows.list ≡ gives_in acted = sym (outer-gives grows.list) ∙ ap gives_in grows.acted_is in
@@ -149,12 +159,16 @@ module _ {P : Type 0} (A : Profile P) (asks : Asks A) (W : P → Type 0) where
   abbrev grown : (marks : List Mark) (acted : List Occurrence) (e e' : carriages.End (Host P)) → Calmly A asks marks e.upper → Grows A asks Calm acted e.upper e'.upper → e'.upper.channels.events ≡ [] → Calmly A asks (marks ++ map Occurred acted) e'.upper
   grown marks acted e e' so grows told = goes_calmly A asks marks acted e.upper e'.upper so grows told
 
+  -- what it is given is so
+  gives_only : (gifts : List (List Circumstance)) (weave : List Strand) → gifts_along weave ≡ gifts → AllByRecursion G gifts → AllByRecursion G (gifts_along weave)
+  gives_only gifts weave same all = subst (AllByRecursion G) (sym same) all
+
   -- something happens on its link
-  grows_held : {T : Type 0} (side : Side) (theirs : Policy) (number : ℕ) (e e' : carriages.End (Host P)) (other : ℕ → List Occurrence) (j : ℕ) (f : carriages.End T) (acted : List Occurrence) (held : Held side A asks W theirs number e other j f) (grows : Grows A asks Calm acted e.upper e'.upper)
-      → e'.upper.channels.events ≡ [] → (e.linked ≡ true → AllByRecursion BeginsNone grows.weave) → e'.linked ≡ e.linked → e'.owed ≡ e.owed → held.host.marks ++ map Occurred acted ≡ marks_of (talk_of e')
-      → DoesMore side A.policy theirs (other (length held.host.so.lives.spans)) held.host.so.lives.now (held.host.so.lives.now ++ grows.list) e e' → Held side A asks W theirs number e' other j f
+  grows_held : {T : Type 0} (side : View) (theirs : Policy) (number : ℕ) (e e' : carriages.End (Host P)) (other : ℕ → List Occurrence) (j : ℕ) (f : carriages.End T) (acted : List Occurrence) (held : Held side A asks W G theirs number e other j f) (grows : Grows A asks Calm acted e.upper e'.upper)
+      → e'.upper.channels.events ≡ [] → (e.linked ≡ true → AllByRecursion BeginsNone grows.weave) → AllByRecursion G (gifts_along grows.weave) → e'.linked ≡ e.linked → e'.owed ≡ e.owed → held.host.marks ++ map Occurred acted ≡ marks_of (talk_of e')
+      → DoesMore side A.policy theirs (other (length held.host.so.lives.spans)) held.host.so.lives.now (held.host.so.lives.now ++ grows.list) e e' → Held side A asks W G theirs number e' other j f
   unfolding goes_calmly goes-on
-  grows_held side theirs number e e' other j f acted held grows told begins linked owed marks does =
+  grows_held side theirs number e e' other j f acted held grows told begins gives linked owed marks does =
       let so = held.host.so in
       record {
         host = record {
@@ -162,6 +176,7 @@ module _ {P : Type 0} (A : Profile P) (asks : Asks A) (W : P → Type 0) where
           so = goes_calmly A asks held.host.marks acted e.upper e'.upper so grows told;
           marks_are = marks;
           asked = goes-asked A asks W held.host.marks acted e.upper e'.upper so grows told (λ up. begins (sym held.host.up_is ∙ up)) held.host.asked;
+          given = goes-given A asks G held.host.marks acted e.upper e'.upper so grows told gives held.host.given;
           up_is = held.host.up_is ∙ sym linked;
         };
         level = ap (λ (l : List LinkEvent). length so.lives.spans + length l) owed ∙ held.level;
@@ -175,15 +190,15 @@ module _ {P : Type 0} (A : Profile P) (asks : Asks A) (W : P → Type 0) where
       sym (marks_more (talk ++ map Unsent waiting) (Unsent pdu ∷ []))
       ∙ (ap marks_of (append_assoc talk (map Unsent waiting) (Unsent pdu ∷ [])) ∙ ap (λ (l : List Talk). marks_of (talk ++ l)) (sym (map-append Unsent waiting (pdu ∷ []))))
 
-  pub says-held : {T : Type 0} (side : Side) (theirs : Policy) (number : ℕ) (e : carriages.End (Host P)) (other : ℕ → List Occurrence) (j : ℕ) (f : carriages.End T) (pdu : List ℕ) (after : Host P) → (upper A).next e.upper ≡ Some (pdu, after) → IsReadFrom pdu e.upper → e.coming ≡ []
-      → Held side A asks W theirs number e other j f → Held side A asks W theirs number (record e { upper = after; waiting = e.waiting ++ pdu ∷ [] }) other j f
+  pub says-held : {T : Type 0} (side : View) (theirs : Policy) (number : ℕ) (e : carriages.End (Host P)) (other : ℕ → List Occurrence) (j : ℕ) (f : carriages.End T) (pdu : List ℕ) (after : Host P) → (upper A).next e.upper ≡ Some (pdu, after) → IsReadFrom pdu e.upper → e.coming ≡ []
+      → Held side A asks W G theirs number e other j f → Held side A asks W G theirs number (record e { upper = after; waiting = e.waiting ++ pdu ∷ [] }) other j f
   says-held side theirs number e other j f pdu after next calm none held =
       let e' : carriages.End (Host P) = record e { upper = after; waiting = e.waiting ++ pdu ∷ [] } in
       let act : Act Circumstance = Says pdu in
       let so = held.host.so in
       let plain = act_plain A asks Calm act e.upper after tt (λ c. calm) next in
       let grows = plain.grows in
-      grows_held side theirs number e e' other j f (Gives pdu ∷ []) held grows (act_told A act e.upper after next so.lives.all_told) (λ on. plain.begins) refl refl
+      grows_held side theirs number e e' other j f (Gives pdu ∷ []) held grows (act_told A act e.upper after next so.lives.all_told) (λ on. plain.begins) (gives_only [] grows.weave plain.gifts_are tt) refl refl
       (ap (λ (m : List Mark). m ++ Occurred (Gives pdu) ∷ []) held.host.marks_are ∙ said_marks e.talk e.waiting pdu)
       (walks side theirs (other (length so.lives.spans)) held.host.marks (Gives pdu ∷ []) e e' so grows (tt, tt) none none
       (λ far_rest was owed. ap (λ (l : List (List ℕ)). l ++ pdu ∷ []) (was owed) ∙ append_assoc e.queue e.waiting (pdu ∷ [])))
@@ -191,13 +206,13 @@ module _ {P : Type 0} (A : Profile P) (asks : Asks A) (W : P → Type 0) where
   moved_marks : (talk : List Talk) (pdu : List ℕ) (left : List (List ℕ)) → marks_of (talk ++ map Unsent (pdu ∷ left)) ≡ marks_of ((talk ++ Said pdu ∷ []) ++ map Unsent left)
   moved_marks talk pdu left = marks_more talk (Unsent pdu ∷ map Unsent left) ∙ (sym (marks_more talk (Said pdu ∷ map Unsent left)) ∙ ap marks_of (sym (append_assoc talk (Said pdu ∷ []) (map Unsent left))))
 
-  pub moves-held : {T : Type 0} (side : Side) (theirs : Policy) (number : ℕ) (e : carriages.End (Host P)) (other : ℕ → List Occurrence) (j : ℕ) (f : carriages.End T) (pdu : List ℕ) (left : List (List ℕ)) → e.waiting ≡ pdu ∷ left
-      → Held side A asks W theirs number e other j f → Held side A asks W theirs number (record e { waiting = left; queue = landed e.owed e.queue pdu; talk = e.talk ++ Said pdu ∷ [] }) other j f
+  pub moves-held : {T : Type 0} (side : View) (theirs : Policy) (number : ℕ) (e : carriages.End (Host P)) (other : ℕ → List Occurrence) (j : ℕ) (f : carriages.End T) (pdu : List ℕ) (left : List (List ℕ)) → e.waiting ≡ pdu ∷ left
+      → Held side A asks W G theirs number e other j f → Held side A asks W G theirs number (record e { waiting = left; queue = landed e.owed e.queue pdu; talk = e.talk ++ Said pdu ∷ [] }) other j f
   moves-held side theirs number e other j f pdu left first held =
       let e' : carriages.End (Host P) = record e { waiting = left; queue = landed e.owed e.queue pdu; talk = e.talk ++ Said pdu ∷ [] } in
       let so = held.host.so in
       record {
-        host = record { marks = held.host.marks; so = so; marks_are = held.host.marks_are ∙ (ap (λ (w : List (List ℕ)). marks_of (e.talk ++ map Unsent w)) first ∙ moved_marks e.talk pdu left); asked = held.host.asked; up_is = held.host.up_is };
+        host = record { marks = held.host.marks; so = so; marks_are = held.host.marks_are ∙ (ap (λ (w : List (List ℕ)). marks_of (e.talk ++ map Unsent w)) first ∙ moved_marks e.talk pdu left); asked = held.host.asked; given = held.host.given; up_is = held.host.up_is };
         level = held.level;
         links = does-more side A.policy theirs so.lives.spans so.lives.now other j f so.lives.now e e' (λ rest far_coming far_rest p. record {
           after = far_rest;
@@ -215,13 +230,13 @@ module _ {P : Type 0} (A : Profile P) (asks : Asks A) (W : P → Type 0) where
       ∙ (ap (λ (m : List Mark). marks_of talk ++ m) (sym is ∙ sym (append-nil (talk_marks one)))
       ∙ (sym (marks_more talk (one ∷ [])) ∙ (ap marks_of (sym (append-nil (talk ++ one ∷ []))) ∙ ap (λ (w : List (List ℕ)). marks_of ((talk ++ one ∷ []) ++ map Unsent w)) (sym none))))
 
-  news_held : {T : Type 0} (side : Side) (theirs : Policy) (number : ℕ) (e : carriages.End (Host P)) (other : ℕ → List Occurrence) (j : ℕ) (f : carriages.End T) (gifts : List Circumstance) (news : News) (acted : List Occurrence) (grows : Grows A asks Calm acted e.upper (hear A gifts news e.upper)) → (e.linked ≡ true → AllByRecursion BeginsNone grows.weave)
-      → AllByRecursion ComesNot acted → gives_in acted ≡ [] → talk_marks (Told news) ≡ map Occurred acted → e.waiting ≡ [] → e.coming ≡ [] → Held side A asks W theirs number e other j f → Held side A asks W theirs number (told (upper A) gifts news e) other j f
-  news_held side theirs number e other j f gifts news acted grows begins not none is waits coming held =
+  news_held : {T : Type 0} (side : View) (theirs : Policy) (number : ℕ) (e : carriages.End (Host P)) (other : ℕ → List Occurrence) (j : ℕ) (f : carriages.End T) (gifts : List Circumstance) (news : News) (acted : List Occurrence) (grows : Grows A asks Calm acted e.upper (hear A gifts news e.upper)) → (e.linked ≡ true → AllByRecursion BeginsNone grows.weave) → gifts_along grows.weave ≡ gifts ∷ [] → G gifts
+      → AllByRecursion ComesNot acted → gives_in acted ≡ [] → talk_marks (Told news) ≡ map Occurred acted → e.waiting ≡ [] → e.coming ≡ [] → Held side A asks W G theirs number e other j f → Held side A asks W G theirs number (told (upper A) gifts news e) other j f
+  news_held side theirs number e other j f gifts news acted grows begins gives allowed not none is waits coming held =
       let e' = told (upper A) gifts news e in
       let so = held.host.so in
       let act : Act Circumstance = Hears gifts news in
-      grows_held side theirs number e e' other j f acted held grows (act_told A act e.upper e'.upper refl so.lives.all_told) begins refl refl
+      grows_held side theirs number e e' other j f acted held grows (act_told A act e.upper e'.upper refl so.lives.all_told) begins (gives_only (gifts ∷ []) grows.weave gives (allowed, tt)) refl refl
       (still_marks held.host.marks e.talk e.waiting (Told news) (map Occurred acted) waits is held.host.marks_are)
       (walks side theirs (other (length so.lives.spans)) held.host.marks acted e e' so grows not coming coming
       (λ far_rest was owed. ap (λ (l : List (List ℕ)). far_rest ++ l) none ∙ (append-nil far_rest ∙ was owed)))
@@ -233,25 +248,26 @@ module _ {P : Type 0} (A : Profile P) (asks : Asks A) (W : P → Type 0) where
   IsWord (Opening name) = Unit {0}
   IsWord news = ⊥
 
-  pub told-held : {T : Type 0} (side : Side) (theirs : Policy) (number : ℕ) (e : carriages.End (Host P)) (other : ℕ → List Occurrence) (j : ℕ) (f : carriages.End T) (gifts : List Circumstance) (news : News) → IsWord news → (e.linked ≡ true → IsOfLink news) → IsCalmNews A.policy news e.upper.channels → e.waiting ≡ [] → e.coming ≡ []
-      → Held side A asks W theirs number e other j f → Held side A asks W theirs number (told (upper A) gifts news e) other j f
-  told-held side theirs number e other j f gifts TimerFired word of calm waits coming held =
+  pub told-held : {T : Type 0} (side : View) (theirs : Policy) (number : ℕ) (e : carriages.End (Host P)) (other : ℕ → List Occurrence) (j : ℕ) (f : carriages.End T) (gifts : List Circumstance) (news : News) → IsWord news → (e.linked ≡ true → IsOfLink news) → IsCalmNews A.policy news e.upper.channels → G gifts → e.waiting ≡ [] → e.coming ≡ []
+      → Held side A asks W G theirs number e other j f → Held side A asks W G theirs number (told (upper A) gifts news e) other j f
+  told-held side theirs number e other j f gifts TimerFired word of calm allowed waits coming held =
       let plain = act_plain A asks Calm (Hears gifts TimerFired) e.upper (hear A gifts TimerFired e.upper) tt (λ c. calm) refl in
-      news_held side theirs number e other j f gifts TimerFired (Fires ∷ []) plain.grows (λ on. plain.begins) (tt, tt) refl refl waits coming held
-  told-held side theirs number e other j f gifts Cancelled word of calm waits coming held =
+      news_held side theirs number e other j f gifts TimerFired (Fires ∷ []) plain.grows (λ on. plain.begins) plain.gifts_are allowed (tt, tt) refl refl waits coming held
+  told-held side theirs number e other j f gifts Cancelled word of calm allowed waits coming held =
       let plain = act_plain A asks Calm (Hears gifts Cancelled) e.upper (hear A gifts Cancelled e.upper) tt (λ c. calm) refl in
-      news_held side theirs number e other j f gifts Cancelled [] plain.grows (λ on. plain.begins) tt refl refl waits coming held
-  told-held side theirs number e other j f gifts (Opening name) word of calm waits coming held =
-      news_held side theirs number e other j f gifts (Opening name) [] (act_grows A asks Calm (Hears gifts (Opening name)) e.upper (hear A gifts (Opening name) e.upper) tt (λ c. calm) refl) (λ on. absurd (of on)) tt refl refl waits coming held
-  told-held side theirs number e other j f gifts (Linked event) word of calm waits coming held = absurd word
-  told-held side theirs number e other j f gifts (Failed status) word of calm waits coming held = absurd word
-  told-held side theirs number e other j f gifts (Heard pdu) word of calm waits coming held = absurd word
+      news_held side theirs number e other j f gifts Cancelled [] plain.grows (λ on. plain.begins) plain.gifts_are allowed tt refl refl waits coming held
+  told-held side theirs number e other j f gifts (Opening name) word of calm allowed waits coming held =
+      let gifted = act_gifted A asks Calm (Hears gifts (Opening name)) e.upper (hear A gifts (Opening name) e.upper) tt (λ c. calm) refl in
+      news_held side theirs number e other j f gifts (Opening name) [] gifted.grows (λ on. absurd (of on)) gifted.gifts_are allowed tt refl refl waits coming held
+  told-held side theirs number e other j f gifts (Linked event) word of calm allowed waits coming held = absurd word
+  told-held side theirs number e other j f gifts (Failed status) word of calm allowed waits coming held = absurd word
+  told-held side theirs number e other j f gifts (Heard pdu) word of calm allowed waits coming held = absurd word
 
   -- ---- a PDU comes in
 
-  pub hears-held : {T : Type 0} (side : Side) (theirs : Policy) (number : ℕ) (e : carriages.End (Host P)) (other : ℕ → List Occurrence) (j : ℕ) (f : carriages.End T) (gifts : List Circumstance) (pdu : List ℕ) → IsCalmNews A.policy (Heard pdu) e.upper.channels → e.waiting ≡ [] → e.coming ≡ pdu ∷ []
-      → Held side A asks W theirs number e other j f → Held side A asks W theirs number (record e { upper = (upper A).hear gifts (Heard pdu) e.upper; coming = []; talk = e.talk ++ Told (Heard pdu) ∷ [] }) other j f
-  hears-held side theirs number e other j f gifts pdu calm waits coming held =
+  pub hears-held : {T : Type 0} (side : View) (theirs : Policy) (number : ℕ) (e : carriages.End (Host P)) (other : ℕ → List Occurrence) (j : ℕ) (f : carriages.End T) (gifts : List Circumstance) (pdu : List ℕ) → IsCalmNews A.policy (Heard pdu) e.upper.channels → G gifts → e.waiting ≡ [] → e.coming ≡ pdu ∷ []
+      → Held side A asks W G theirs number e other j f → Held side A asks W G theirs number (record e { upper = (upper A).hear gifts (Heard pdu) e.upper; coming = []; talk = e.talk ++ Told (Heard pdu) ∷ [] }) other j f
+  hears-held side theirs number e other j f gifts pdu calm allowed waits coming held =
       let e' : carriages.End (Host P) = record e { upper = (upper A).hear gifts (Heard pdu) e.upper; coming = []; talk = e.talk ++ Told (Heard pdu) ∷ [] } in
       let so = held.host.so in
       let now = so.lives.now in
@@ -262,7 +278,7 @@ module _ {P : Type 0} (A : Profile P) (asks : Asks A) (W : P → Type 0) where
       let list_is : grows.list ≡ Comes pdu ∷ then'.list = heard_list gifts pdu e.upper calm in
       let meant : AreMeant A.policy now (Comes pdu ∷ then'.list) = subst (λ (l : List Occurrence). AreMeant A.policy now l) list_is (grown_meant held.host.marks (Comes pdu ∷ []) e.upper e'.upper so grows) in
       let none : gives_in then'.list ≡ [] = sym (outer-gives then'.list) ∙ ap gives_in then'.acted_is in
-      grows_held side theirs number e e' other j f (Comes pdu ∷ []) held grows (act_told A act e.upper e'.upper refl so.lives.all_told) (λ on. heard_begins gifts pdu e.upper calm) refl refl
+      grows_held side theirs number e e' other j f (Comes pdu ∷ []) held grows (act_told A act e.upper e'.upper refl so.lives.all_told) (λ on. heard_begins gifts pdu e.upper calm) (gives_only (gifts ∷ []) grows.weave (heard_gifts gifts pdu e.upper calm) (allowed, tt)) refl refl
       (still_marks held.host.marks e.talk e.waiting (Told (Heard pdu)) (Occurred (Comes pdu) ∷ []) waits refl held.host.marks_are)
       (λ rest far_coming far_rest p.
       let heard = comes-in side A.policy theirs now there far_coming far_rest pdu rest (subst (λ (c : List (List ℕ)). PairFrom side A.policy theirs now there c rest far_coming far_rest) coming p) in
@@ -282,10 +298,10 @@ module _ {P : Type 0} (A : Profile P) (asks : Asks A) (W : P → Type 0) where
       ∙ (sym (marks_more (talk ++ map Unsent waiting) (Told (Linked event) ∷ []))
       ∙ (ap marks_of (append_assoc talk (map Unsent waiting) (Told (Linked event) ∷ [])) ∙ ap marks_of (sym (append-nil (talk ++ (map Unsent waiting ++ Told (Linked event) ∷ [])))))))
 
-  pub turns-held : {T : Type 0} (side : Side) (theirs : Policy) (number : ℕ) (e : carriages.End (Host P)) (other : ℕ → List Occurrence) (j : ℕ) (f : carriages.End T) (gifts : List Circumstance) (event : LinkEvent) (more : List LinkEvent) → e.owed ≡ event ∷ more → IsWantedAt W event (A.given gifts e.upper.profile) → e.coming ≡ [] → e.queue ≡ []
-      → Held side A asks W theirs number e other j f → Held side A asks W theirs number (is_told (upper A) gifts event more e) other j f
+  pub turns-held : {T : Type 0} (side : View) (theirs : Policy) (number : ℕ) (e : carriages.End (Host P)) (other : ℕ → List Occurrence) (j : ℕ) (f : carriages.End T) (gifts : List Circumstance) (event : LinkEvent) (more : List LinkEvent) → e.owed ≡ event ∷ more → IsWantedAt W event (A.given gifts e.upper.profile) → G gifts → e.coming ≡ [] → e.queue ≡ []
+      → Held side A asks W G theirs number e other j f → Held side A asks W G theirs number (is_told (upper A) gifts event more e) other j f
   unfolding goes_calmly goes-on turns_calmly turns-on
-  turns-held {T} side theirs number e other j f gifts event more owed wanted coming queue held =
+  turns-held {T} side theirs number e other j f gifts event more owed wanted allowed coming queue held =
       let marks = held.host.marks in
       let so = held.host.so in
       let mid = ready A gifts e.upper in
@@ -320,6 +336,8 @@ module _ {P : Type 0} (A : Profile P) (asks : Asks A) (W : P → Type 0) where
           marks_are = turned_marks marks e.talk e.waiting event held.host.marks_are;
           asked = goes-asked A asks W ((marks ++ []) ++ Turned event ∷ []) [] after (driven A after) turned two (drives_told A most_steps after turned.lives.all_told) (λ up. two_plain.begins)
               (turns-asked A asks W (marks ++ []) event gifts mid readied wanted (goes-asked A asks W marks [] e.upper mid so one so.lives.all_told (λ up. one_plain.begins) held.host.asked));
+          given = goes-given A asks G ((marks ++ []) ++ Turned event ∷ []) [] after (driven A after) turned two (drives_told A most_steps after turned.lives.all_told) (gives_only [] two.weave two_plain.gifts_are tt)
+              (turns-given A asks G (marks ++ []) event gifts mid readied (goes-given A asks G marks [] e.upper mid so one so.lives.all_told (gives_only (gifts ∷ []) one.weave one_plain.gifts_are (allowed, tt)) held.host.given));
           up_is = up_turned false spans (ended now event);
         };
         level = omega arith;
@@ -328,5 +346,5 @@ module _ {P : Type 0} (A : Profile P) (asks : Asks A) (W : P → Type 0) where
 
   -- ---- nothing that it does
 
-  abbrev pub besides : (e : carriages.End (Host P)) (talk : List Talk) (queue coming : List (List ℕ)) (owed : List LinkEvent) → marks_of (talk_of e) ≡ marks_of (talk ++ map Unsent e.waiting) → HostAt A asks W e → HostAt A asks W (record e { talk = talk; queue = queue; coming = coming; owed = owed })
-  besides e talk queue coming owed same host = record { marks = host.marks; so = host.so; marks_are = host.marks_are ∙ same; asked = host.asked; up_is = host.up_is }
+  abbrev pub besides : (e : carriages.End (Host P)) (talk : List Talk) (queue coming : List (List ℕ)) (owed : List LinkEvent) → marks_of (talk_of e) ≡ marks_of (talk ++ map Unsent e.waiting) → HostAt A asks W G e → HostAt A asks W G (record e { talk = talk; queue = queue; coming = coming; owed = owed })
+  besides e talk queue coming owed same host = record { marks = host.marks; so = host.so; marks_are = host.marks_are ∙ same; asked = host.asked; given = host.given; up_is = host.up_is }

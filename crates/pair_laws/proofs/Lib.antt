@@ -5,10 +5,13 @@ pub mod Abreast
 pub mod Awaiting
 pub mod Hosting
 pub mod Meeting
+pub mod Answered
 pub mod Carrying
+pub mod Wording
 pub mod Pairing
 pub mod Taking
 pub mod Damaging
 pub mod Seeing
 pub mod Whole
 pub mod Fronts
+pub mod PlainPipes

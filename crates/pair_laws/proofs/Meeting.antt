@@ -1,9 +1,10 @@
 -- What becomes of a frame at its receiver, as turns of their pair.
 use Rattle.std.proofs.Common.{◌≡◌, ◌≢◌, ℕ, ◌+◌, ◌≤◌, ◌<◌, Bool, true, false, nat_lt, List, [], ◌∷◌, ◌++◌, length, Option, Some, None, refl, sym, ap, ◌∙◌, ltb-true, if◌then◌else◌}
+use Rattle.std.specs.List.{AllByRecursion}
 use Rattle.std.proofs.lemmas.Bool.{ne_eqb}
 use Rattle.acl_fragments.specs.Pieces.{channel_of}
 use Rattle.capture.specs.Frames.{frame_pieces, way_served}
-use Rattle.push_script.specs.Runs.{IsWord}
+use Rattle.push_script.specs.Runs.{IsWord, is_lossy}
 use Rattle.push_terms.specs.declared.word.Way.{Way}
 use Rattle.push_terms.specs.declared.word.Way.TheVariants.{Ab, Ba}
 use Rattle.push_terms.specs.declared.word.Word.{Word}
@@ -14,12 +15,12 @@ use Rattle.radio_air.specs.declared.fate.Fate.{Fate}
 use Rattle.radio_air.specs.declared.fate.Fate.TheVariants.{Delivered, Lost, Repeated, CutOff, Changed}
 use Rattle.radio_air.specs.Fates.{changed, meets, comes_of, first_can_meet}
 use Rattle.radio_air.specs.Words.{first_meets, meets_on, passing, deed_of}
+use Rattle.world_model.specs.Carriages.{Doing, words_at, all_words}
 use Rattle.channel_model.specs.Calls.{has_fcs}
 use Rattle.channel_model.specs.Policies.{Policy}
-use Rattle.channel_laws.specs.Pairs.{Side}
 use Rattle.channel_laws.specs.Runs.{Occurrence, Run, run_of}
 use Rattle.scenario_laws.proofs.Taming.{changed-channel}
-use Rattle.pair_laws.proofs.Facing.{Whole, Again, Other, PairFrom, loses-it, is-handed}
+use Rattle.pair_laws.proofs.Facing.{View, whole_of, Whole, Again, Other, PairFrom, loses-it, is-handed}
 
 -- ---- what a word does to a frame
 
@@ -30,91 +31,118 @@ pub record IsWithin (place mask : ℕ) (frame : List ℕ) : Type 0 where
   pub some : 1 ≤ mask
   pub two : mask ≤ 65535
 
-abbrev pub IsRight : Fate → List (List ℕ) → Type 0
-IsRight (Changed place mask) (frame ∷ rest) = IsWithin place mask frame
-IsRight fate frames = Unit {0}
+-- and where all comes in whole a frame is delivered
+abbrev pub IsRight : (whole : Bool) → Fate → List (List ℕ) → Type 0
+IsRight whole Delivered frames = Unit {0}
+IsRight whole Lost frames = whole ≡ false
+IsRight whole Repeated frames = whole ≡ false
+IsRight whole (CutOff count) frames = whole ≡ false
+IsRight whole (Changed place mask) [] = whole ≡ false
+IsRight whole (Changed place mask) (frame ∷ rest) = (whole ≡ false) × IsWithin place mask frame
 
-abbrev pub IsRightDeed : Deed → (ab ba : List (List ℕ)) → Type 0
-IsRightDeed (Meets Ab fate) ab ba = IsRight fate ab
-IsRightDeed (Meets Ba fate) ab ba = IsRight fate ba
-IsRightDeed deed ab ba = Unit {0}
+abbrev pub IsRightDeed : (whole : Bool) → Deed → (ab ba : List (List ℕ)) → Type 0
+IsRightDeed whole (Meets Ab fate) ab ba = IsRight whole fate ab
+IsRightDeed whole (Meets Ba fate) ab ba = IsRight whole fate ba
+IsRightDeed whole deed ab ba = Unit {0}
 
--- what a script asks of a change
-abbrev IsAsked : Fate → Type 0
-IsAsked (Changed place mask) = (4 ≤ place) × (1 ≤ mask) × (mask ≤ 65535)
-IsAsked fate = Unit {0}
+-- a doing whose words lose, repeat and damage nothing, where all comes in whole
+abbrev pub IsGentle : (whole : Bool) → Doing → Type 0
+IsGentle whole doing = whole ≡ true → AllByRecursion (λ (word : Word). is_lossy word ≡ false) (words_at doing)
 
-can_right : (fate : Fate) (frames : List (List ℕ)) (others : ℕ) → IsAsked fate → first_can_meet fate frames others ≡ true → IsRight fate frames
-can_right Delivered frames others asked can = tt
-can_right Lost frames others asked can = tt
-can_right Repeated frames others asked can = tt
-can_right (CutOff count) frames others asked can = tt
-can_right (Changed place mask) [] others asked can = tt
-can_right (Changed place mask) (frame ∷ rest) others asked can = record { behind = asked.0; within = ltb-true (place + 1) (length frame) can; some = asked.1; two = asked.2 }
-
-first_right : (fate : Fate) (ab ba : List (List ℕ)) → IsAsked fate → IsRightDeed (first_meets Ab fate ab ba) ab ba × IsRightDeed (first_meets Ba fate ba ab) ab ba
-first_right fate ab ba asked = (one (first_can_meet fate ab (length ba)) refl, other (first_can_meet fate ba (length ab)) refl)
+pub gentle_doings : (whole : Bool) (doings : List Doing) → (whole ≡ true → AllByRecursion (λ (word : Word). is_lossy word ≡ false) (all_words doings)) → AllByRecursion (IsGentle whole) doings
+gentle_doings whole [] all = tt
+gentle_doings whole (doing ∷ doings) all =
+    (λ on. (all_cut (words_at doing) (all_words doings) (all on)).0, gentle_doings whole doings (λ on. (all_cut (words_at doing) (all_words doings) (all on)).1))
   where
-    one : (can : Bool) → first_can_meet fate ab (length ba) ≡ can → IsRightDeed (if can then Meets Ab fate else Nothing) ab ba
-    one true is = can_right fate ab (length ba) asked is
-    one false is = tt
+    all_cut : (xs ys : List Word) → AllByRecursion (λ (word : Word). is_lossy word ≡ false) (xs ++ ys) → AllByRecursion (λ (word : Word). is_lossy word ≡ false) xs × AllByRecursion (λ (word : Word). is_lossy word ≡ false) ys
+    all_cut [] ys both = (tt, both)
+    all_cut (x ∷ xs) ys both = let rest = all_cut xs ys both.1 in ((both.0, rest.0), rest.1)
 
-    other : (can : Bool) → first_can_meet fate ba (length ab) ≡ can → IsRightDeed (if can then Meets Ba fate else Nothing) ab ba
-    other true is = can_right fate ba (length ab) asked is
-    other false is = tt
+-- what a script asks of a fate
+abbrev IsAsked : (whole : Bool) → Fate → Type 0
+IsAsked whole Delivered = Unit {0}
+IsAsked whole Lost = whole ≡ false
+IsAsked whole Repeated = whole ≡ false
+IsAsked whole (CutOff count) = whole ≡ false
+IsAsked whole (Changed place mask) = (whole ≡ false) × (4 ≤ place) × (1 ≤ mask) × (mask ≤ 65535)
 
-on_right : (way : Way) (fate : Fate) (ab ba : List (List ℕ)) → IsAsked fate → IsRightDeed (meets_on way fate ab ba) ab ba
-on_right Ab fate ab ba asked = (first_right fate ab ba asked).0
-on_right Ba fate ab ba asked = (first_right fate ab ba asked).1
+-- a word that loses, repeats or damages stands only where not all comes in whole
+broken_by : (whole : Bool) → (whole ≡ true → true ≡ false) → whole ≡ false
+broken_by false never = refl
+broken_by true never = never refl
 
-passing_right : (on : Option Way) (ab ba : List (List ℕ)) → IsRightDeed (passing on ab ba) ab ba
-passing_right None ab ba = tt
-passing_right (Some way) ab ba = on_right way Delivered ab ba tt
+module _ (whole : Bool) where
+  can_right : (fate : Fate) (frames : List (List ℕ)) (others : ℕ) → IsAsked whole fate → first_can_meet fate frames others ≡ true → IsRight whole fate frames
+  can_right Delivered frames others asked can = tt
+  can_right Lost frames others asked can = asked
+  can_right Repeated frames others asked can = asked
+  can_right (CutOff count) frames others asked can = asked
+  can_right (Changed place mask) [] others asked can = asked.0
+  can_right (Changed place mask) (frame ∷ rest) others asked can = (asked.0, record { behind = asked.1; within = ltb-true (place + 1) (length frame) can; some = asked.2; two = asked.3 })
 
-pub word-right : (word : Word) (served : Option Way) (ab ba : List (List ℕ)) (linked : Bool) → IsWord word → IsRightDeed (deed_of word served ab ba linked) ab ba
-word-right Pass served ab ba linked is = passing_right (way_served served ab ba) ab ba
-word-right (Lose way) served ab ba linked is = on_right way Lost ab ba tt
-word-right (Repeat way) served ab ba linked is = on_right way Repeated ab ba tt
-word-right (Damage way place mask) served ab ba linked is = on_right way (Changed place mask) ab ba (is.0, is.2, is.3)
-word-right (Cut way packets) served ab ba linked is = on_right way (CutOff packets) ab ba tt
-word-right (Timer side) served ab ba linked is = tt
-word-right Drop served ab ba linked is = by linked
-  where
-    by : (up : Bool) → IsRightDeed (if up then Breaks else Nothing) ab ba
-    by true = tt
-    by false = tt
-word-right Cancel served ab ba linked is = tt
+  first_right : (fate : Fate) (ab ba : List (List ℕ)) → IsAsked whole fate → IsRightDeed whole (first_meets Ab fate ab ba) ab ba × IsRightDeed whole (first_meets Ba fate ba ab) ab ba
+  first_right fate ab ba asked = (one (first_can_meet fate ab (length ba)) refl, other (first_can_meet fate ba (length ab)) refl)
+    where
+      one : (can : Bool) → first_can_meet fate ab (length ba) ≡ can → IsRightDeed whole (if can then Meets Ab fate else Nothing) ab ba
+      one true is = can_right fate ab (length ba) asked is
+      one false is = tt
+
+      other : (can : Bool) → first_can_meet fate ba (length ab) ≡ can → IsRightDeed whole (if can then Meets Ba fate else Nothing) ab ba
+      other true is = can_right fate ba (length ab) asked is
+      other false is = tt
+
+  on_right : (way : Way) (fate : Fate) (ab ba : List (List ℕ)) → IsAsked whole fate → IsRightDeed whole (meets_on way fate ab ba) ab ba
+  on_right Ab fate ab ba asked = (first_right fate ab ba asked).0
+  on_right Ba fate ab ba asked = (first_right fate ab ba asked).1
+
+  passing_right : (on : Option Way) (ab ba : List (List ℕ)) → IsRightDeed whole (passing on ab ba) ab ba
+  passing_right None ab ba = tt
+  passing_right (Some way) ab ba = on_right way Delivered ab ba tt
+
+  pub word-right : (word : Word) (served : Option Way) (ab ba : List (List ℕ)) (linked : Bool) → IsWord word → (whole ≡ true → is_lossy word ≡ false) → IsRightDeed whole (deed_of word served ab ba linked) ab ba
+  word-right Pass served ab ba linked is gentle = passing_right (way_served served ab ba) ab ba
+  word-right (Lose way) served ab ba linked is gentle = on_right way Lost ab ba (broken_by whole gentle)
+  word-right (Repeat way) served ab ba linked is gentle = on_right way Repeated ab ba (broken_by whole gentle)
+  word-right (Damage way place mask) served ab ba linked is gentle = on_right way (Changed place mask) ab ba (broken_by whole gentle, is.0, is.2, is.3)
+  word-right (Cut way packets) served ab ba linked is gentle = on_right way (CutOff packets) ab ba (broken_by whole gentle)
+  word-right (Timer side) served ab ba linked is gentle = tt
+  word-right Drop served ab ba linked is gentle = by linked
+    where
+      by : (up : Bool) → IsRightDeed whole (if up then Breaks else Nothing) ab ba
+      by true = tt
+      by false = tt
+  word-right Cancel served ab ba linked is gentle = tt
 
 -- ---- at its receiver
 
-module _ (side : Side) (mine theirs : Policy) (now there : List Occurrence) (waits far_coming far_rest : List (List ℕ)) where
+module _ (side : View) (mine theirs : Policy) (now there : List Occurrence) (waits far_coming far_rest : List (List ℕ)) where
   abbrev Under : (coming rest : List (List ℕ)) → Type 0
   Under coming rest = PairFrom side mine theirs now there coming rest far_coming far_rest
 
   handed_over : (frame : List ℕ) (rest : List (List ℕ)) → Under [] ((frame ∷ rest) ++ waits) → Under (frame ∷ []) (rest ++ waits)
   handed_over frame rest p = is-handed side mine theirs now there far_coming far_rest frame ((frame ∷ rest) ++ waits) (rest ++ waits) (λ end' is run. Whole is) p
 
-  lost : (frame : List ℕ) (rest : List (List ℕ)) → Under [] ((frame ∷ rest) ++ waits) → Under [] (rest ++ waits)
-  lost frame rest p = loses-it side mine theirs now there far_coming far_rest frame (rest ++ waits) p
+  lost : (frame : List ℕ) (rest : List (List ℕ)) → whole_of side ≡ false → Under [] ((frame ∷ rest) ++ waits) → Under [] (rest ++ waits)
+  lost frame rest broken p = loses-it side mine theirs now there far_coming far_rest frame (rest ++ waits) broken p
 
   -- it has a check word there, and so it is no command
-  damaged : (place mask : ℕ) (frame : List ℕ) (rest : List (List ℕ)) → IsWithin place mask frame → has_fcs (channel_of frame) (run_of mine now).value ≡ true → channel_of frame ≢ 0x0001 → Under [] ((frame ∷ rest) ++ waits) → Under (changed place mask frame ∷ []) (rest ++ waits)
-  damaged place mask frame rest right checked apart p =
+  damaged : (place mask : ℕ) (frame : List ℕ) (rest : List (List ℕ)) → whole_of side ≡ false → IsWithin place mask frame → has_fcs (channel_of frame) (run_of mine now).value ≡ true → channel_of frame ≢ 0x0001 → Under [] ((frame ∷ rest) ++ waits) → Under (changed place mask frame ∷ []) (rest ++ waits)
+  damaged place mask frame rest broken right checked apart p =
       is-handed side mine theirs now there far_coming far_rest (changed place mask frame) ((frame ∷ rest) ++ waits) (rest ++ waits)
-      (λ end' is run. Other frame is
+      (λ end' is run. Other broken frame is
       (record { place = place; mask = mask; behind = right.behind; within = right.within; some = right.some; two = right.two; other_is = refl; checked = ap (λ (r : Run). has_fcs (channel_of frame) r.value) run ∙ checked })
       (ne_eqb (channel_of (changed place mask frame)) 0x0001 (λ is. apart (sym (changed-channel place mask frame right.behind) ∙ is)))) p
 
-  pub meets-it : (size : ℕ) (fate : Fate) (checked : Bool) (frame : List ℕ) (rest : List (List ℕ)) → IsRight fate (frame ∷ rest) → (checked ≡ true → (has_fcs (channel_of frame) (run_of mine now).value ≡ true) × (channel_of frame ≢ 0x0001)) → Under [] ((frame ∷ rest) ++ waits)
+  pub meets-it : (size : ℕ) (fate : Fate) (checked : Bool) (frame : List ℕ) (rest : List (List ℕ)) → IsRight (whole_of side) fate (frame ∷ rest) → (checked ≡ true → (has_fcs (channel_of frame) (run_of mine now).value ≡ true) × (channel_of frame ≢ 0x0001)) → Under [] ((frame ∷ rest) ++ waits)
       → Under (comes_of size fate checked frame) (((meets size fate checked frame).stays ++ rest) ++ waits)
   meets-it size Delivered checked frame rest right there_is p = handed_over frame rest p
-  meets-it size Lost checked frame rest right there_is p = lost frame rest p
+  meets-it size Lost checked frame rest right there_is p = lost frame rest right p
   meets-it size Repeated checked frame rest right there_is p =
-      is-handed side mine theirs now there far_coming far_rest frame ((frame ∷ rest) ++ waits) ((frame ∷ rest) ++ waits) (λ end' is run. Again (rest ++ waits) is refl) p
+      is-handed side mine theirs now there far_coming far_rest frame ((frame ∷ rest) ++ waits) ((frame ∷ rest) ++ waits) (λ end' is run. Again right (rest ++ waits) is refl) p
   meets-it size (CutOff count) checked frame rest right there_is p = by (nat_lt count (length (frame_pieces size frame)))
     where
       by : (short : Bool) → Under (if short then [] else frame ∷ []) (rest ++ waits)
-      by true = lost frame rest p
+      by true = lost frame rest right p
       by false = handed_over frame rest p
-  meets-it size (Changed place mask) true frame rest right there_is p = let seen = there_is refl in damaged place mask frame rest right seen.0 seen.1 p
-  meets-it size (Changed place mask) false frame rest right there_is p = lost frame rest p
+  meets-it size (Changed place mask) true frame rest right there_is p = let seen = there_is refl in damaged place mask frame rest right.0 right.1 seen.0 seen.1 p
+  meets-it size (Changed place mask) false frame rest right there_is p = lost frame rest right.0 p

@@ -2,12 +2,11 @@
 use Rattle.std.proofs.Common.{◌≡◌, ◌⊎◌, inl, inr, ℕ, zero, suc, ◌+◌, ◌<◌, List, [], ◌∷◌, ◌++◌, map, length, get_or, refl, sym, ap, subst, ◌∙◌, arith, length-append}
 use Rattle.std.proofs.lemmas.Bool.{cases_eq}
 use Rattle.channel_model.specs.Policies.{Policy}
-use Rattle.channel_laws.specs.Pairs.{Side, Near, Far}
 use Rattle.channel_laws.specs.Runs.{Occurrence}
 use Rattle.host_laws.specs.Lives.{Span}
 use Rattle.world_model.specs.Machines.{LinkEvent, Up, Down}
 use Rattle.world_model.specs.Carriages as carriages
-use Rattle.pair_laws.proofs.Facing.{PairFrom}
+use Rattle.pair_laws.proofs.Facing.{View, NearBy, FarBy, PairFrom}
 
 -- ---- what happened on the link of a number
 
@@ -68,7 +67,7 @@ coming_none k i coming (inr apart) none = refl
 -- The link of number k as the host at one side has it, which is on its link of number i; the other is on its link of number j. On a link that
 -- a host has not come to it has put nothing; and on the one that it is on, where no event is owed to it, all that is under way from it is in
 -- the air or waits.
-pub record LinkAt {S T : Type 0} (side : Side) (mine theirs : Policy) (list other : List Occurrence) (k i : ℕ) (e : carriages.End S) (j : ℕ) (f : carriages.End T) : Type 0 where
+pub record LinkAt {S T : Type 0} (side : View) (mine theirs : Policy) (list other : List Occurrence) (k i : ℕ) (e : carriages.End S) (j : ℕ) (f : carriages.End T) : Type 0 where
   pub rest : List (List ℕ)
   pub far_rest : List (List ℕ)
   pub pair : PairFrom side mine theirs list other (coming_at k i e.coming) rest (coming_at k j f.coming) far_rest
@@ -78,35 +77,35 @@ pub record LinkAt {S T : Type 0} (side : Side) (mine theirs : Policy) (list othe
   pub now_far : k ≡ j → f.owed ≡ [] → rest ≡ f.queue ++ f.waiting
 
 -- all of them
-abbrev pub Links : {S T : Type 0} → Side → (mine theirs : Policy) (spans : List Span) (now : List Occurrence) → carriages.End S → (other : ℕ → List Occurrence) (j : ℕ) → carriages.End T → Type 0
+abbrev pub Links : {S T : Type 0} → View → (mine theirs : Policy) (spans : List Span) (now : List Occurrence) → carriages.End S → (other : ℕ → List Occurrence) (j : ℕ) → carriages.End T → Type 0
 Links side mine theirs spans now e other j f = (k : ℕ) → LinkAt side mine theirs (part_at k spans now) (other k) k (length spans) e j f
 
-abbrev pub opposite : Side → Side
-opposite Near = Far
-opposite Far = Near
+abbrev pub opposite : View → View
+opposite (NearBy whole) = FarBy whole
+opposite (FarBy whole) = NearBy whole
 
-turned_pair : (side : Side) (mine theirs : Policy) (list other : List Occurrence) (c r c' r' : List (List ℕ)) → PairFrom side mine theirs list other c r c' r' → PairFrom (opposite side) theirs mine other list c' r' c r
-turned_pair Near mine theirs list other c r c' r' p = p
-turned_pair Far mine theirs list other c r c' r' p = p
+turned_pair : (side : View) (mine theirs : Policy) (list other : List Occurrence) (c r c' r' : List (List ℕ)) → PairFrom side mine theirs list other c r c' r' → PairFrom (opposite side) theirs mine other list c' r' c r
+turned_pair (NearBy whole) mine theirs list other c r c' r' p = p
+turned_pair (FarBy whole) mine theirs list other c r c' r' p = p
 
 -- as the other host has them
-pub turned-links : {S T : Type 0} (side : Side) (mine theirs : Policy) (spans others : List Span) (now then : List Occurrence) (e : carriages.End S) (f : carriages.End T) → Links side mine theirs spans now e (λ k. part_at k others then) (length others) f
+pub turned-links : {S T : Type 0} (side : View) (mine theirs : Policy) (spans others : List Span) (now then : List Occurrence) (e : carriages.End S) (f : carriages.End T) → Links side mine theirs spans now e (λ k. part_at k others then) (length others) f
     → Links (opposite side) theirs mine others then f (λ k. part_at k spans now) (length spans) e
 turned-links side mine theirs spans others now then e f links k =
     let link = links k in
     record { rest = link.far_rest; far_rest = link.rest; pair = turned_pair side mine theirs (part_at k spans now) (part_at k others then) _ _ _ _ link.pair; none_put = link.none_far; now_put = link.now_far; none_far = link.none_put; now_far = link.now_put }
 
 -- It did more on the link that it is on, and what it put is in the air or waits.
-pub record Later {S : Type 0} (side : Side) (mine theirs : Policy) (there later : List Occurrence) (e e' : carriages.End S) (rest far_coming far_rest : List (List ℕ)) : Type 0 where
+pub record Later {S : Type 0} (side : View) (mine theirs : Policy) (there later : List Occurrence) (e e' : carriages.End S) (rest far_coming far_rest : List (List ℕ)) : Type 0 where
   pub after : List (List ℕ)
   pub pair : PairFrom side mine theirs later there e'.coming rest far_coming after
   pub put : (e.owed ≡ [] → far_rest ≡ e.queue ++ e.waiting) → e'.owed ≡ [] → after ≡ e'.queue ++ e'.waiting
 
 -- so it is whatever is under way
-abbrev pub DoesMore : {S : Type 0} → Side → (mine theirs : Policy) (there now later : List Occurrence) (e e' : carriages.End S) → Type 0
+abbrev pub DoesMore : {S : Type 0} → View → (mine theirs : Policy) (there now later : List Occurrence) (e e' : carriages.End S) → Type 0
 DoesMore side mine theirs there now later e e' = (rest far_coming far_rest : List (List ℕ)) → PairFrom side mine theirs now there e.coming rest far_coming far_rest → Later side mine theirs there later e e' rest far_coming far_rest
 
-module _ {S T : Type 0} (side : Side) (mine theirs : Policy) (spans : List Span) (now : List Occurrence) (other : ℕ → List Occurrence) (j : ℕ) (f : carriages.End T) where
+module _ {S T : Type 0} (side : View) (mine theirs : Policy) (spans : List Span) (now : List Occurrence) (other : ℕ → List Occurrence) (j : ℕ) (f : carriages.End T) where
   -- ---- on the link that it is on
 
   here_on : (later : List Occurrence) (e e' : carriages.End S) → DoesMore side mine theirs (other (length spans)) now later e e' → Links side mine theirs spans now e other j f
@@ -191,7 +190,7 @@ owes_more (Down reason) e = (some e.owed, refl)
     some [] is = cc
     some (one ∷ owed) is = cc
 
-pub owes-both : {S T : Type 0} (side : Side) (mine theirs : Policy) (spans : List Span) (now : List Occurrence) (other : ℕ → List Occurrence) (j : ℕ) (one two : LinkEvent) (e : carriages.End S) (f : carriages.End T) → Links side mine theirs spans now e other j f
+pub owes-both : {S T : Type 0} (side : View) (mine theirs : Policy) (spans : List Span) (now : List Occurrence) (other : ℕ → List Occurrence) (j : ℕ) (one two : LinkEvent) (e : carriages.End S) (f : carriages.End T) → Links side mine theirs spans now e other j f
     → Links side mine theirs spans now (carriages.owing one e) other j (carriages.owing two f)
 owes-both side mine theirs spans now other j one two e f links k =
     let link = links k in
@@ -210,7 +209,7 @@ owes-both side mine theirs spans now other j one two e f links k =
     }
 
 -- what is under way to the host comes to it, or is lost: both are on the same link, and nothing is owed to the other
-pub comes-over : {S T : Type 0} (side : Side) (mine theirs : Policy) (spans : List Span) (now : List Occurrence) (other : ℕ → List Occurrence) (j : ℕ) (e e' : carriages.End S) (f f' : carriages.End T) → length spans ≡ j → f.owed ≡ []
+pub comes-over : {S T : Type 0} (side : View) (mine theirs : Policy) (spans : List Span) (now : List Occurrence) (other : ℕ → List Occurrence) (j : ℕ) (e e' : carriages.End S) (f f' : carriages.End T) → length spans ≡ j → f.owed ≡ []
     → (e'.owed ≡ e.owed) × (e'.queue ++ e'.waiting ≡ e.queue ++ e.waiting) → f'.coming ≡ f.coming
     → ((far_coming far_rest : List (List ℕ)) → PairFrom side mine theirs now (other (length spans)) e.coming (f.queue ++ f.waiting) far_coming far_rest → PairFrom side mine theirs now (other (length spans)) e'.coming (f'.queue ++ f'.waiting) far_coming far_rest)
     → Links side mine theirs spans now e other j f → Links side mine theirs spans now e' other j f'

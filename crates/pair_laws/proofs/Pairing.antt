@@ -1,7 +1,9 @@
 -- The channels of both hosts on each link of a run are the two ends of a pair.
-use Rattle.std.proofs.Common.{◌≡◌, ◌≤◌, ◌+◌, arith, ℕ, List, [], ◌∷◌, ◌++◌, map, length, refl, sym, ap, subst, ◌∙◌, append-nil}
+use Rattle.std.proofs.Common.{◌≡◌, ◌≤◌, ◌+◌, arith, ℕ, Bool, true, false, Option, List, [], ◌∷◌, ◌++◌, map, length, refl, sym, ap, subst, ◌∙◌, append-nil}
 use Rattle.std.specs.List.{AllByRecursion}
 use Rattle.std.proofs.lemmas.Bool.{cases_eq}
+use Rattle.bt_base.specs.Objects.{Contents}
+use Rattle.push_script.specs.declared.scenario.Scenario.{Scenario}
 use Rattle.push_terms.specs.declared.word.Side.{Side}
 use Rattle.push_terms.specs.declared.word.Side.TheVariants as sides
 use Rattle.capture.specs.Entries.{Entry}
@@ -13,28 +15,32 @@ use Rattle.channel_model.specs.Value.{no_channels}
 use Rattle.channel_laws.specs.Belonging.{AreRead}
 use Rattle.channel_laws.specs.Ends.{DoesSo, end_at, AreFair}
 use Rattle.channel_laws.specs.Frames.{AreUttered}
-use Rattle.channel_laws.specs.Pairs.{End, Happening, Acts, Puts, Takes, Repeats, Loses, Damages, Turn, pair_of}
+use Rattle.channel_laws.specs.Ordered.{same_side, AtEnd, KeepsWay, IsBroken, IsOrdered}
+use Rattle.channel_laws.specs.Pairs as Pairs
+use Rattle.channel_laws.specs.Pairs.{End, Happening, Acts, Puts, Takes, Repeats, Loses, Damages, Near, Far, Turn, pair_of}
 use Rattle.channel_laws.specs.Pipes.{IsTakeable, IsCarried, AreCarried}
 use Rattle.channel_laws.specs.Runs.{Occurrence, run_of}
 use Rattle.world_model.specs.Carriages as carriages
 use Rattle.world_model.specs.PerLink.{linkage, captured}
-use Rattle.world_model.specs.Worlds.{all_entries}
+use Rattle.world_model.specs.Worlds.{Happening as Done, Runs, IsAtRest, all_entries, all_words}
 use Rattle.host_model.specs.Hosts.{Host}
 use Rattle.host_model.specs.Profiles.{Profile}
-use Rattle.host_model.specs.Clients.{client_profile}
-use Rattle.host_model.specs.Servers.{server_profile}
+use Rattle.push_laws.specs.Premises.{AllGranted}
+use Rattle.host_model.specs.Circumstances.{Circumstance, Size, Part, Stored, answers_in}
+use Rattle.host_model.specs.Clients.{ClientProfile, client_profile}
+use Rattle.host_model.specs.Servers.{ServerProfile, server_profile}
 use Rattle.host_model.specs.Machines.{upper}
-use Rattle.host_laws.specs.Calls.{Asks}
+use Rattle.host_laws.specs.Calls.{Asks, HostsAsk}
+use Rattle.host_laws.specs.Gifts.{gifts_of}
 use Rattle.host_laws.specs.Lives.{Span}
 use Rattle.host_laws.specs.Seen.{IsCalm}
 use Rattle.host_laws.proofs.Fitting.{AnyServer, IsLowClient}
 use Rattle.host_laws.proofs.OverLinks.{all_spans, calmly_fed}
 use Rattle.host_laws.proofs.Uttering.{calm-utters}
-use Rattle.scenario_laws.specs.Captures.{client_of, server_of}
+use Rattle.scenario_laws.specs.Captures.{client_of, server_of, beginning, Ran}
 use Rattle.scenario_laws.specs.Coming.{CameOver}
 use Rattle.scenario_laws.proofs.Acting.{ActedSo}
 use Rattle.scenario_laws.proofs.Both.{AreReady}
-use Rattle.scenario_laws.proofs.Carrying.{carried_so}
 use Rattle.scenario_laws.proofs.Coming.{ended_all, came_over}
 use Rattle.scenario_laws.proofs.Free.{free_where, rests_hold}
 use Rattle.scenario_laws.proofs.Freeing.{runs_are_free}
@@ -43,18 +49,25 @@ use Rattle.scenario_laws.proofs.Gentle.{client-keeps, server-keeps}
 use Rattle.scenario_laws.proofs.UnlinkedClients.{HasNoLink, clients_keep}
 use Rattle.scenario_laws.proofs.UnlinkedServers.{KnowsNone, servers_keep}
 use Rattle.turn_laws.proofs.Ordering.{at}
-use Rattle.world_model.specs.Machines.{LinkEvent}
-use Rattle.pair_laws.specs.InTurn.{HostsTakeTurns}
+use Rattle.turn_laws.proofs.Recounting.{HoldsAtRests}
+use Rattle.world_model.specs.Machines.{LinkEvent, Upper}
+use Rattle.pair_laws.specs.Granted.{answered_by, granted, GrantedTakeTurns}
+use Rattle.pair_laws.specs.InTurn.{PairsInTurn, HostsTakeTurns}
+use Rattle.pair_laws.specs.GrantedOrder.{GrantedKeepOrder}
+use Rattle.pair_laws.specs.Keeping.{LosesNothing, PairsKeepOrder, RunsKeepOrder}
 use Rattle.pair_laws.specs.Changes.{AreChanged, IsSeenThere, DamageIsSeen}
 use Rattle.pair_laws.specs.OnLinks.{LivedOver, happened_on, IsInAir, HostsArePairs}
 use Rattle.pair_laws.specs.Pairs.{TakesAll, PairOnLink}
 use Rattle.pair_laws.specs.Seen.{IsAddressedAt, AreAddressed}
 use Rattle.pair_laws.proofs.Abreast.{IsShort}
+use Rattle.pair_laws.proofs.Answered.{runs-so, rest-so, rest-back, fits-so, rests-so as carriage_rest}
 use Rattle.pair_laws.proofs.Awaiting.{HasNew, servers-await}
-use Rattle.pair_laws.proofs.Carrying.{Wants, Always, PairsOf, same_number, waits_none, all-sane}
-use Rattle.pair_laws.proofs.Facing.{Goes, AllGo, AllTake, IsComing, PairAt}
+use Rattle.pair_laws.proofs.Carrying.{Wants, Always, as_it_is, PairsOf, same_number, waits_none, all-sane}
+use Rattle.pair_laws.proofs.Facing.{IsKept, AllKept, Goes, AllGo, AllTake, IsComing, PairAt}
 use Rattle.pair_laws.proofs.Hosting.{marks_of, talk_of, HostAt}
+use Rattle.pair_laws.proofs.Meeting.{gentle_doings}
 use Rattle.pair_laws.proofs.Numbered.{part_at, part-get, coming_none}
+use Rattle.pair_laws.proofs.Wording.{carried_worded}
 
 -- ---- what is so of each turn
 
@@ -94,8 +107,8 @@ all_carried near far turns all takes seen =
     (each_zip (λ past turn. Goes turn.happening (there past turn)) (λ past turn. IsSeenThere turn.happening (there past turn)) (λ past turn. Goes turn.happening (there past turn) × IsSeenThere turn.happening (there past turn)) [] turns (λ past turn goes sees. (goes, sees)) all seen)
 
 -- of lists that are these
-abbrev pair_of_two : (near far : Policy) (one other one' other' : List Occurrence) (c r c' r' : List (List ℕ)) → one ≡ one' → other ≡ other' → PairAt near far one other c r c' r' → PairOnLink near far one' other'
-pair_of_two near far one other one' other' c r c' r' same far_same p = record {
+abbrev pair_of_two : (whole : Bool) (near far : Policy) (one other one' other' : List Occurrence) (c r c' r' : List (List ℕ)) → one ≡ one' → other ≡ other' → PairAt whole near far one other c r c' r' → PairOnLink near far one' other'
+pair_of_two whole near far one other one' other' c r c' r' same far_same p = record {
   turns = p.turns;
   near_is = p.near_is ∙ ap (run_of near) same;
   far_is = p.far_is ∙ ap (run_of far) far_same;
@@ -114,18 +127,18 @@ all_utter : (policy : Policy) (lists : List (List Occurrence)) → AllByRecursio
 all_utter policy [] calm = tt
 all_utter policy (list ∷ lists) calm = (calm-utters policy list calm.0, all_utter policy lists calm.1)
 
-unfoldable lived : {P : Type 0} (A : Profile P) (asks : Asks A) (W : P → Type 0) (side : Side) (capture : List Entry) (e : carriages.End (Host P)) (host : HostAt A asks W e) (came : CameOver A side capture e.upper) → came.talk ≡ talk_of e → LivedOver A asks side capture e.upper
+unfoldable lived : {P : Type 0} (A : Profile P) (asks : Asks A) (W : P → Type 0) (G : List Circumstance → Type 0) (side : Side) (capture : List Entry) (e : carriages.End (Host P)) (host : HostAt A asks W G e) (came : CameOver A side capture e.upper) → came.talk ≡ talk_of e → LivedOver A asks side capture e.upper
 unfolding calmly_fed
-lived A asks W side capture e host came talk_is = record {
+lived A asks W G side capture e host came talk_is = record {
   came = came;
   fed = calmly_fed A asks came.talk e.upper came.over host.marks host.so (host.marks_are ∙ ap marks_of (sym talk_is));
   uttered = all_utter A.policy (map (λ (span : Span). span.list) host.so.lives.spans ++ host.so.lives.now ∷ []) (all_spans A.policy host.so.lives.spans host.so.lives.now host.so.spans_calm host.so.now_calm);
 }
 
-lived_at : {P : Type 0} (A : Profile P) (asks : Asks A) (W : P → Type 0) (side : Side) (capture : List Entry) (e : carriages.End (Host P)) (host : HostAt A asks W e) (came : CameOver A side capture e.upper) (talk_is : came.talk ≡ talk_of e) (number : ℕ)
-    → part_at number host.so.lives.spans host.so.lives.now ≡ happened_on A asks side capture e.upper (lived A asks W side capture e host came talk_is) number
+lived_at : {P : Type 0} (A : Profile P) (asks : Asks A) (W : P → Type 0) (G : List Circumstance → Type 0) (side : Side) (capture : List Entry) (e : carriages.End (Host P)) (host : HostAt A asks W G e) (came : CameOver A side capture e.upper) (talk_is : came.talk ≡ talk_of e) (number : ℕ)
+    → part_at number host.so.lives.spans host.so.lives.now ≡ happened_on A asks side capture e.upper (lived A asks W G side capture e host came talk_is) number
 unfolding lived calmly_fed
-lived_at A asks W side capture e host came talk_is number = part-get number host.so.lives.spans host.so.lives.now
+lived_at A asks W G side capture e host came talk_is number = part-get number host.so.lives.spans host.so.lives.now
 
 -- by what it was told and said
 unfoldable came_by : {P : Type 0} (A : Profile P) (side : Side) (past capture : List Entry) (e : carriages.End (Host P)) → ActedSo (upper A) (free_where A) e.linked e.upper e.waiting e.talk → linkage e.talk ≡ captured side past → linking (moves side capture) ≡ linking (moves side past) → CameOver A side capture e.upper
@@ -140,17 +153,17 @@ came_talk A side past capture e acted known same = refl
 -- ---- both
 
 -- where nothing is owed to them and nothing is handed over, all that is under way is in the air
-in_air : {P Q : Type 0} (A : Profile P) (asks_a : Asks A) (B : Profile Q) (asks_b : Asks B) (e : carriages.End (Host P)) (f : carriages.End (Host Q)) (both : PairsOf A asks_a B asks_b e f) → e.owed ≡ [] → f.owed ≡ [] → e.coming ≡ [] → f.coming ≡ [] → e.waiting ≡ [] → f.waiting ≡ []
+in_air : {P Q : Type 0} (whole : Bool) (A : Profile P) (asks_a : Asks A) (B : Profile Q) (asks_b : Asks B) (to : List Circumstance → List Circumstance) (G : List Circumstance → Type 0) (e : carriages.End (Host P)) (f : carriages.End (Host Q)) (both : PairsOf whole A asks_a B asks_b to G e f) → e.owed ≡ [] → f.owed ≡ [] → e.coming ≡ [] → f.coming ≡ [] → e.waiting ≡ [] → f.waiting ≡ []
     → IsInAir A.policy B.policy (both.links (length both.a.so.lives.spans)).pair.turns f.queue e.queue
-in_air A asks_a B asks_b e f both none_a none_b idle_a idle_b quiet_a quiet_b =
+in_air whole A asks_a B asks_b to G e f both none_a none_b idle_a idle_b quiet_a quiet_b =
     let i = length both.a.so.lives.spans in
     let j = length both.b.so.lives.spans in
     let link = both.links i in
     let pair = pair_of A.policy B.policy link.pair.turns in
     record {
-      near_is = subst (λ (c : List (List ℕ)). IsComing pair.near c link.rest) (coming_none i i e.coming (cases_eq i i) idle_a) link.pair.near_comes
-          ∙ (link.now_far (same_number A asks_a B asks_b e f both none_a none_b) none_b ∙ (ap (λ (w : List (List ℕ)). f.queue ++ w) quiet_b ∙ append-nil f.queue));
-      far_is = subst (λ (c : List (List ℕ)). IsComing pair.far c link.far_rest) (coming_none i j f.coming (cases_eq i j) idle_b) link.pair.far_comes
+      near_is = subst (λ (c : List (List ℕ)). IsComing whole pair.near c link.rest) (coming_none i i e.coming (cases_eq i i) idle_a) link.pair.near_comes
+          ∙ (link.now_far (same_number whole A asks_a B asks_b to G e f both none_a none_b) none_b ∙ (ap (λ (w : List (List ℕ)). f.queue ++ w) quiet_b ∙ append-nil f.queue));
+      far_is = subst (λ (c : List (List ℕ)). IsComing whole pair.far c link.far_rest) (coming_none i j f.coming (cases_eq i j) idle_b) link.pair.far_comes
           ∙ (link.now_put refl none_a ∙ (ap (λ (w : List (List ℕ)). e.queue ++ w) quiet_a ∙ append-nil e.queue));
     }
 
@@ -162,44 +175,125 @@ short_length (event ∷ other ∷ more) short = absurd short
 not_ahead : (near far owed other number : ℕ) → near + owed ≡ number → far + other ≡ number → owed ≤ 1 → far ≤ near + 1
 not_ahead near far owed other number one two short = omega (arith, one, two, short)
 
+-- Both hosts of a run are pairs in turn, where the ports of host b answer so; and all that it was given is so. Where the words of the run lose,
+-- repeat and damage nothing, all comes in whole.
+module _ (whole : Bool) (asks : HostsAsk) (scenario : Scenario) (content : Option Contents) (to : List Circumstance → List Circumstance) (G : List Circumstance → Type 0) (allowed : (answers : List Circumstance) → G (to answers)) where
+  abbrev A : Profile ClientProfile
+  A = client_profile scenario.settings
+
+  abbrev B : Profile ServerProfile
+  B = server_profile scenario.settings content
+
+  abbrev asks_a : Asks A
+  asks_a = asks.clients scenario.settings
+
+  abbrev asks_b : Asks B
+  asks_b = asks.servers scenario.settings content
+
+  abbrev U : Upper (Host ClientProfile) Circumstance
+  U = client_of scenario
+
+  abbrev V : Upper (Host ServerProfile) Circumstance
+  V = answered_by to (server_of scenario content)
+
+  abbrev Ready : carriages.Carriage (Host ClientProfile) (Host ServerProfile) → Type 0
+  Ready = AreReady U (server_of scenario content) (free_where A) (free_where B)
+
+  record TurnsSo (capture : List Entry) (ran : Ran scenario content capture) : Type 0 where
+    turns : PairsInTurn asks scenario content capture ran
+    given : AllByRecursion G (gifts_of turns.pairs.b.fed.so.lives.feeds)
+    kept : (number : ℕ) → AllKept whole (turns.pairs.pairs number).turns
+
+  rests_so : (happenings : List Done) → HoldsAtRests U V Ready happenings (beginning scenario content)
+  rests_so happenings front mid talk_a talk_b is there rest =
+      rests_hold scenario content happenings (runs_are_free scenario content happenings) front mid talk_a talk_b is (runs-so U (server_of scenario content) to front (beginning scenario content) mid there) (rest-so U (server_of scenario content) to mid rest)
+
+  takes_turns : (capture : List Entry) (ran : Ran scenario content capture) → Runs U V ran.happenings (beginning scenario content) ran.world → (whole ≡ true → LosesNothing (all_words ran.happenings)) → TurnsSo capture ran
+  unfolding lived calmly_fed
+  takes_turns capture ran happened gentle =
+      let past = all_entries ran.happenings in
+      let worded = carried_worded U V Ready scenario.acl_length scenario.acl_count scenario.names ran.happenings ran.world (fits-so U (server_of scenario content) to scenario.acl_length (fits scenario content)) happened (rests_so ran.happenings) in
+      let all = worded.carried in
+      let c = at ran.world all.talk_a all.talk_b in
+      let sane = all-sane whole A asks_a B asks_b IsLowClient HasNoLink AnyServer KnowsNone (client-keeps scenario.settings) (server-keeps scenario.settings content) (clients_keep scenario.settings) (servers_keep scenario.settings content)
+      HasNew (servers-await scenario.settings content U) (λ gifts p. refl) to G allowed scenario.acl_length scenario.names all.doings c all.of_script (gentle_doings whole all.doings (λ on. subst LosesNothing (sym worded.words_are) (gentle on))) all.so in
+      let same : (side : Side) → linking (moves side capture) ≡ linking (moves side past) = λ side. ap (λ (es : List Entry). linking (moves side es)) ran.capture_is ∙ ended_all side ran.world.pushes past ran.ends ran.last in
+      let came_a = came_by A sides.A past capture c.a sane.acted.a.acted all.links_a (same sides.A) in
+      let came_b = came_by B sides.B past capture c.b sane.acted.b.acted all.links_b (same sides.B) in
+      let talk_a = came_talk A sides.A past capture c.a sane.acted.a.acted all.links_a (same sides.A) in
+      let talk_b = came_talk B sides.B past capture c.b sane.acted.b.acted all.links_b (same sides.B) in
+      let resting : IsAtRest U (server_of scenario content) ran.world → carriages.IsAtRest U (server_of scenario content) c = λ rests. carriage_rest U (server_of scenario content) to c (all.rests (rest-back U (server_of scenario content) to ran.world rests)) in
+      record {
+        turns = record {
+          pairs = record {
+            a = lived A asks_a (Wants A) Always sides.A capture c.a sane.pairs.a came_a talk_a;
+            b = lived B asks_b Always G sides.B capture c.b sane.pairs.b came_b talk_b;
+            pairs = λ number.
+                let a = sane.pairs.a.so.lives in
+                let b = sane.pairs.b.so.lives in
+                pair_of_two whole A.policy B.policy (part_at number a.spans a.now) (part_at number b.spans b.now) _ _ _ _ _ _ (lived_at A asks_a (Wants A) Always sides.A capture c.a sane.pairs.a came_a talk_a number) (lived_at B asks_b Always G sides.B capture c.b sane.pairs.b came_b talk_b number)
+                (sane.pairs.links number).pair;
+            level = λ rests. let rest = resting rests in sym (same_number whole A asks_a B asks_b to G c.a c.b sane.pairs rest.idle_a.none_owed rest.idle_b.none_owed);
+            air = λ rests.
+                let rest = resting rests in
+                in_air whole A asks_a B asks_b to G c.a c.b sane.pairs rest.idle_a.none_owed rest.idle_b.none_owed rest.idle_a.none_comes rest.idle_b.none_comes
+                (waits_none A asks_a IsLowClient HasNoLink (client-keeps scenario.settings) (clients_keep scenario.settings) c.link c.a (record { sound = sane.both.a; acted = sane.acted.a; tame = sane.tame.a }) rest.idle_a)
+                (waits_none B asks_b AnyServer KnowsNone (server-keeps scenario.settings content) (servers_keep scenario.settings content) c.link c.b (record { sound = sane.both.b; acted = sane.acted.b; tame = sane.tame.b }) rest.idle_b);
+          };
+          asked = sane.pairs.a.asked;
+          ahead = not_ahead (length sane.pairs.a.so.lives.spans) (length sane.pairs.b.so.lives.spans) (length c.a.owed) (length c.b.owed) sane.pairs.number sane.pairs.level_a sane.pairs.level_b (short_length c.a.owed sane.abreast.short);
+        };
+        given = sane.pairs.b.given;
+        kept = λ number. (sane.pairs.links number).pair.kept;
+      }
+
 pub hosts-take_turns : HostsTakeTurns
-unfolding lived calmly_fed
-hosts-take_turns asks scenario content capture ran =
-    let client = client_profile scenario.settings in
-    let server = server_profile scenario.settings content in
-    let asks_a = asks.clients scenario.settings in
-    let asks_b = asks.servers scenario.settings content in
-    let U = client_of scenario in
-    let V = server_of scenario content in
-    let past = all_entries ran.happenings in
-    let all = carried_so U V (AreReady U V (free_where client) (free_where server)) scenario.acl_length scenario.acl_count scenario.names ran.happenings ran.world (fits scenario content) ran.happened (rests_hold scenario content ran.happenings (runs_are_free scenario content ran.happenings)) in
-    let c = at ran.world all.talk_a all.talk_b in
-    let sane = all-sane client asks_a server asks_b IsLowClient HasNoLink AnyServer KnowsNone (client-keeps scenario.settings) (server-keeps scenario.settings content) (clients_keep scenario.settings) (servers_keep scenario.settings content)
-    HasNew (servers-await scenario.settings content U) (λ gifts p. refl) scenario.acl_length scenario.names all.doings c all.of_script all.so in
-    let same : (side : Side) → linking (moves side capture) ≡ linking (moves side past) = λ side. ap (λ (es : List Entry). linking (moves side es)) ran.capture_is ∙ ended_all side ran.world.pushes past ran.ends ran.last in
-    let came_a = came_by client sides.A past capture c.a sane.acted.a.acted all.links_a (same sides.A) in
-    let came_b = came_by server sides.B past capture c.b sane.acted.b.acted all.links_b (same sides.B) in
-    let talk_a = came_talk client sides.A past capture c.a sane.acted.a.acted all.links_a (same sides.A) in
-    let talk_b = came_talk server sides.B past capture c.b sane.acted.b.acted all.links_b (same sides.B) in
-    record {
-      pairs = record {
-        a = lived client asks_a (Wants client) sides.A capture c.a sane.pairs.a came_a talk_a;
-        b = lived server asks_b Always sides.B capture c.b sane.pairs.b came_b talk_b;
-        pairs = λ number.
-            let a = sane.pairs.a.so.lives in
-            let b = sane.pairs.b.so.lives in
-            pair_of_two client.policy server.policy (part_at number a.spans a.now) (part_at number b.spans b.now) _ _ _ _ _ _ (lived_at client asks_a (Wants client) sides.A capture c.a sane.pairs.a came_a talk_a number) (lived_at server asks_b Always sides.B capture c.b sane.pairs.b came_b talk_b number)
-            (sane.pairs.links number).pair;
-        level = λ rests. let rest = all.rests rests in sym (same_number client asks_a server asks_b c.a c.b sane.pairs rest.idle_a.none_owed rest.idle_b.none_owed);
-        air = λ rests.
-            let rest = all.rests rests in
-            in_air client asks_a server asks_b c.a c.b sane.pairs rest.idle_a.none_owed rest.idle_b.none_owed rest.idle_a.none_comes rest.idle_b.none_comes
-            (waits_none client asks_a IsLowClient HasNoLink (client-keeps scenario.settings) (clients_keep scenario.settings) c.link c.a (record { sound = sane.both.a; acted = sane.acted.a; tame = sane.tame.a }) rest.idle_a)
-            (waits_none server asks_b AnyServer KnowsNone (server-keeps scenario.settings content) (servers_keep scenario.settings content) c.link c.b (record { sound = sane.both.b; acted = sane.acted.b; tame = sane.tame.b }) rest.idle_b);
-      };
-      asked = sane.pairs.a.asked;
-      ahead = not_ahead (length sane.pairs.a.so.lives.spans) (length sane.pairs.b.so.lives.spans) (length c.a.owed) (length c.b.owed) sane.pairs.number sane.pairs.level_a sane.pairs.level_b (short_length c.a.owed sane.abreast.short);
-    }
+hosts-take_turns asks scenario content capture ran = (takes_turns false asks scenario content as_it_is Always (λ answers. tt) capture ran ran.happened (λ on. cc)).turns
+
+granted_all : (gifts : List Circumstance) → AllGranted (answers_in (map granted gifts))
+granted_all [] = tt
+granted_all (Size answer ∷ gifts) = granted_all gifts
+granted_all (Part answer ∷ gifts) = granted_all gifts
+granted_all (Stored answer ∷ gifts) = (refl, granted_all gifts)
+
+abbrev IsGrant : List Circumstance → Type 0
+IsGrant gift = AllGranted (answers_in gift)
+
+pub granted-take_turns : GrantedTakeTurns
+granted-take_turns asks scenario content capture ran happened =
+    let so = takes_turns false asks scenario content (map granted) IsGrant granted_all capture ran happened (λ on. cc) in
+    record { turns = so.turns; given = so.given }
 
 pub hosts-are_pairs : HostsArePairs
 hosts-are_pairs asks scenario content capture ran = (hosts-take_turns asks scenario content capture ran).pairs
+
+-- ---- each way keeps its order
+
+way_kept : (happening : Happening) (whole broken : Type 0) → IsKept true happening → whole → KeepsWay happening whole broken
+way_kept (Acts occurrence) whole broken kept goes = goes
+way_kept (Puts pdu) whole broken kept goes = goes
+way_kept Takes whole broken kept goes = goes
+way_kept Repeats whole broken kept goes = cc
+way_kept Loses whole broken kept goes = cc
+way_kept (Damages pdu) whole broken kept goes = cc
+
+ordered : (side : Pairs.Side) (turns : List Turn) → AllKept true turns → IsOrdered side turns
+ordered side [] kept = tt
+ordered side (turn ∷ turns) kept = by (same_side turn.side side) (ordered side turns kept.1)
+  where
+    by : (here : Bool) → IsOrdered side turns → AtEnd here (KeepsWay turn.happening (IsOrdered side turns) (IsBroken side turns)) (IsOrdered side turns)
+    by true rest = way_kept turn.happening (IsOrdered side turns) (IsBroken side turns) kept.0 rest
+    by false rest = rest
+
+module _ (asks : HostsAsk) (scenario : Scenario) (content : Option Contents) (to : List Circumstance → List Circumstance) (G : List Circumstance → Type 0) (allowed : (answers : List Circumstance) → G (to answers)) where
+  abbrev in_order : (capture : List Entry) (ran : Ran scenario content capture) → TurnsSo true asks scenario content to G allowed capture ran → PairsKeepOrder asks scenario content capture ran
+  in_order capture ran all = record { turns = all.turns; near = λ number. ordered Near (all.turns.pairs.pairs number).turns (all.kept number); far = λ number. ordered Far (all.turns.pairs.pairs number).turns (all.kept number) }
+
+pub runs-keep_order : RunsKeepOrder
+runs-keep_order asks scenario content capture ran gentle =
+    in_order asks scenario content as_it_is Always (λ answers. tt) capture ran (takes_turns true asks scenario content as_it_is Always (λ answers. tt) capture ran ran.happened (λ on. gentle))
+
+pub granted-keep_order : GrantedKeepOrder
+granted-keep_order asks scenario content capture ran happened gentle =
+    let all = takes_turns true asks scenario content (map granted) IsGrant granted_all capture ran happened (λ on. gentle) in
+    record { order = in_order asks scenario content (map granted) IsGrant granted_all capture ran all; given = all.given }

@@ -14,7 +14,7 @@ use Rattle.channel_laws.specs.Runs.{Occurrence, Run, new_link, run_on, run_of, v
 use Rattle.push_model.specs.Payloads.{Payload}
 use Rattle.push_model.specs.Server.{Lent, lends, lent_sdu}
 use Rattle.push_model.specs.Steps.{Step, Wait, MakeLink, AskFeatures as AskForFeatures, OpenChannel, SendSdu, CloseChannel, BreakLink, Ended, NoMemory, steps}
-use Rattle.host_model.specs.Clients.{ClientProfile, client_profile}
+use Rattle.host_model.specs.Clients.{ClientProfile, client_profile, fitted}
 use Rattle.host_model.specs.Servers.{ServerProfile, server_profile}
 use Rattle.host_model.specs.Endpoints.{endpoint_of, fits, takes_sdu}
 use Rattle.host_model.specs.Pdus.{sdu_of}
@@ -25,6 +25,7 @@ use Rattle.host_laws.specs.Woven.{Strand, Hearing, Giving, Firing, Telling, Gift
 use Rattle.host_laws.specs.Feeds.{Feed}
 use Rattle.host_laws.specs.Fed.{AreFed, behind_span}
 use Rattle.host_model.specs.Pdus.{are_octets}
+use Rattle.host_model.specs.Shelves.{unused}
 use Rattle.host_laws.proofs.Asking.{send_if, sends_on, closes_on, asked, hosts_ask, clients_ask, clients-call, lent_call, servers-call}
 use Rattle.pair_laws.specs.Pairs.{TakesAll}
 use Rattle.pair_laws.proofs.Seeing.{all-damage_is_seen}
@@ -66,8 +67,8 @@ lent_taken (Some lent) v serving own sdu is = on_taken v (endpoint_of lent.psm s
 
 pub clients_within : (settings : Settings) → SendsWithin (client_profile settings) (clients_ask settings)
 clients_within settings v pushing own most sdu is mtu =
-    let one = steps pushing.client pushing.parts in
-    let after : ClientProfile = record pushing { client = one.client; parts = one.left } in
+    let one = steps pushing.client (fitted pushing) in
+    let after : ClientProfile = record pushing { client = one.client; parts = unused one.left pushing.parts } in
     within_most own most sdu v (asked_taken one.step v after own sdu (sym (clients-call settings v pushing) ∙ is)) mtu
 
 pub servers_within : (settings : Settings) (content : Option Contents) → SendsWithin (server_profile settings content) (hosts_ask.servers settings content)

@@ -18,14 +18,13 @@ use Rattle.channel_laws.specs.Belonging.{IsReadAs}
 use Rattle.channel_laws.specs.Fit.{IsSoberFor}
 use Rattle.channel_laws.specs.Frames.{IsSpelled, IsUttered}
 use Rattle.channel_laws.specs.OwnTalk.{spoken}
-use Rattle.channel_laws.specs.Pairs.{Side}
 use Rattle.channel_laws.specs.Pipes.{IsAddressed}
 use Rattle.channel_laws.specs.Runs.{Occurrence, Comes, Connects, AsksFeatures, Disconnects, Sends, Gives, Fires, Tells, Run, new_link, run_on, run_of}
 use Rattle.channel_laws.proofs.Fitted.{Fitted, IsForEndpoint, new-fitted, peer-low, given-endpoint, occurs-fitted}
 use Rattle.channel_laws.proofs.Uttering.{uttered-is_read}
 use Rattle.host_laws.specs.Calls.{outer}
 use Rattle.host_laws.specs.Seen.{IsSaidAs, IsCalmAt, IsCalm}
-use Rattle.pair_laws.proofs.Facing.{PairFrom, does-alone, puts-it}
+use Rattle.pair_laws.proofs.Facing.{View, PairFrom, does-alone, puts-it}
 
 -- ---- what each of them is
 
@@ -162,7 +161,7 @@ outer-comes_not (Tells ∷ list) all = (tt, outer-comes_not list all)
 
 -- ---- one after the other
 
-module _ (side : Side) (mine theirs : Policy) (other : List Occurrence) (rest far_coming : List (List ℕ)) where
+module _ (side : View) (mine theirs : Policy) (other : List Occurrence) (rest far_coming : List (List ℕ)) where
   abbrev At : (list : List Occurrence) (far_rest : List (List ℕ)) → Type 0
   At list far_rest = PairFrom side mine theirs list other [] rest far_coming far_rest
 

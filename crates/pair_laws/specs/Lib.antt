@@ -7,3 +7,7 @@ pub mod Within
 pub mod Whole
 pub mod InTurn
 pub mod Fronts
+pub mod Keeping
+pub mod PlainPipes
+pub mod Granted
+pub mod GrantedOrder

@@ -3,8 +3,12 @@
 
 ghost use Rattle.pair_laws.specs.Changes.{ChangesAreSeen};
 ghost use Rattle.pair_laws.specs.Fronts.{FrontsAreRun};
+ghost use Rattle.pair_laws.specs.Granted.{GrantedTakeTurns};
+ghost use Rattle.pair_laws.specs.GrantedOrder.{GrantedKeepOrder};
 ghost use Rattle.pair_laws.specs.InTurn.{HostsTakeTurns};
+ghost use Rattle.pair_laws.specs.Keeping.{RunsKeepOrder};
 ghost use Rattle.pair_laws.specs.OnLinks.{HostsArePairs};
+ghost use Rattle.pair_laws.specs.PlainPipes.{PlainPairsArePipes};
 ghost use Rattle.pair_laws.specs.Seen.{AllDamageIsSeen};
 ghost use Rattle.pair_laws.specs.Whole.{PairsAreWhole};
 ghost use Rattle.pair_laws.specs.Within.{HostsSendWithin, PairsAreCarried};
@@ -50,4 +54,26 @@ pub fn pairs_are_whole()
 /// which its part of it happened: so the laws on two channels hold at each moment of the order in which both went through a link.
 pub fn fronts_are_run()
     ensures { FrontsAreRun }
+{}
+
+/// Where the words of a run lose, cut, repeat and damage nothing, as those of each script over RFCOMM, each way of each link hands over all in
+/// its order until it breaks: so the laws on basic channels hold along its pairs.
+pub fn runs_keep_order()
+    ensures { RunsKeepOrder }
+{}
+
+/// On each link of such a run, at each moment: over a basic channel that both talks have, as that for service discovery and that of the
+/// multiplexer of RFCOMM, there came up at either host a front of what the channel of the other took of its host, SDU for SDU.
+pub fn plain_pairs_are_pipes()
+    ensures { PlainPairsArePipes }
+{}
+
+/// In a run in which the inbox grants all calls the channels of both hosts are pairs in turn as in any run, and all that host b was given of its inbox are grants.
+pub fn granted_take_turns()
+    ensures { GrantedTakeTurns }
+{}
+
+/// And where besides its words lose, cut, repeat and damage nothing, each way keeps its order.
+pub fn granted_keep_order()
+    ensures { GrantedKeepOrder }
 {}

@@ -38,8 +38,9 @@ use Rattle.push_laws.specs.Carriage.{Carriage, no_carriage, come_by, heard_by, f
 use Rattle.push_laws.specs.Dialogs.{NoPacket, IsCarried, ServesCarried, AllServeCarried, CarriedAreHeard, CarriedAreTaken}
 use Rattle.push_laws.specs.Laws.{new_over}
 use Rattle.push_laws.specs.Occurrences.{Occurrence, Came, Went, Closed, LinkDown, Asked, Answering, done}
+use Rattle.push_laws.specs.Opening.{targets_heard}
 use Rattle.push_laws.specs.Parties.{Move, OfServer, OfClient, server_side, client_side, sdu_if, Push, begun_of, ended_with, over_pushes}
-use Rattle.push_laws.specs.Premises.{may_overtake, AllGranted, NoneShort, IsHeard, IsTaken, RequestsCome, MayCome, AllCome, new_packets, is_under_way}
+use Rattle.push_laws.specs.Premises.{may_overtake, AllGranted, NoneShort, IsHeard, IsTaken, RequestsCome, MayCome, AllCome, AllMayCome, AllMayFail, new_packets, is_under_way}
 use Rattle.push_laws.specs.Readings.{closes, came_on, passed_by, since, octets_heard, packets_over}
 use Rattle.push_laws.specs.Sending.{AllAnswer, AnswersTo, MayPush, packets_by}
 use Rattle.push_laws.proofs.Attending.{Holding, holding_of, sound_more, less_before, up_less, up_whole, same_done, came_octets, same_octets, none_new, none_closed, new_less, new_whole, held_is}
@@ -53,21 +54,22 @@ use Rattle.push_laws.proofs.FramesFit.{no_octets, none_comes, up_of, Stands as S
 use Rattle.push_laws.proofs.Gaining.{first_holds, Clear, clear_more, clean, clean_same}
 use Rattle.push_laws.proofs.Late.{Anchor, anchor_of}
 use Rattle.push_laws.proofs.Muxed.{Marks, marks_more}
-use Rattle.push_laws.proofs.Muxing.{Fair, ready_of, deed_fair}
-use Rattle.push_laws.proofs.Naming.{stays_there}
+use Rattle.push_laws.proofs.Muxing.{Fair, widest, ready_of, widest_ready, early_awaits, deed_fair}
+use Rattle.push_laws.proofs.Naming.{no_other, stays_there}
 use Rattle.push_laws.proofs.Numbers.{K, numbers_stay}
 use Rattle.push_laws.proofs.Pushing.{Task, Stands, Fresh}
 use Rattle.push_laws.proofs.Readings.{read_same, read_closed}
-use Rattle.push_laws.proofs.Replies.{IsAnswer, packet_answer}
+use Rattle.push_laws.proofs.Replies.{packet_answer}
 use Rattle.push_laws.proofs.Requesting.{IsRequest, request_length}
 use Rattle.push_laws.proofs.Sending.{deed_stands}
 use Rattle.push_laws.proofs.Speaking.{Dialog, speaks}
+use Rattle.push_laws.proofs.Stating.{IsAnswer}
 use Rattle.push_laws.proofs.Talks.{talk_of}
 use Rattle.push_laws.proofs.Throughout.{Numbers, numbers_of, Phase, Waits, Goes, none_behind, none_came, none_before, none_goes, opened_linked, down_fits, IsDown, Rests, Fails, is_down}
 use Rattle.push_laws.proofs.Turns.{first_clear}
 use Rattle.push_laws.proofs.Undirected.{IsUndirected, undirected_more, first_undirected, breaks_stay}
 use Rattle.push_laws.proofs.Untouched.{IsUntouched, is_opening, deed_same}
-use Rattle.push_laws.proofs.Working.{transport_stays}
+use Rattle.push_laws.proofs.Working.{transport_stays, unmet}
 
 -- ---- nothing comes over L2CAP
 
@@ -92,17 +94,17 @@ alone_more past one at away a = record { undirected = undirected_more one at awa
 
 -- ---- a client in its push
 
-record Fit (most : ℕ) (w : Task) (client : Client) : Type 0 where
+record Fit (w : Task) (client : Client) : Type 0 where
   sent : List (List ℕ)
   stands : Stands w sent (talk_of client)
-  fair : Fair most (talk_of client)
+  fair : Fair widest (talk_of client)
   muxed : client.transport ≡ Rfcomm
 
-fit_more : (most : ℕ) (w : Task) (deed : Deed) (client : Client) → most < 2 ^ 16 → AnswersTo w.content deed client → Fit most w client → Fit most w (deeds.done deed client)
-fit_more most w deed client fits answers f = record {
+fit_more : (w : Task) (deed : Deed) (client : Client) → AnswersTo w.content deed client → Fit w client → Fit w (deeds.done deed client)
+fit_more w deed client answers f = record {
   sent = f.sent ++ packets_by deed client;
   stands = deed_stands w f.sent deed client answers f.stands;
-  fair = deed_fair most w.content deed client f.muxed answers (ready_of most w f.sent client fits f.stands f.fair) f.fair;
+  fair = deed_fair widest w.content deed client f.muxed answers (widest_ready w f.sent client f.stands f.fair) f.fair;
   muxed = transport_stays deed client f.muxed;
 }
 
@@ -114,8 +116,13 @@ most_of settings = own_maximum Rfcomm settings
 abbrev task_of : Push → Task
 task_of push = record { maximum = push.client.session.maximum; wanted = push.client.session.wanted; name = push.name; size = push.size; content = push.content }
 
-pushed_of : (settings : Settings) (push : Push) → IsCarried settings push → IsPushedMuxed push
-pushed_of settings push c = record { muxed = c.muxed; role = c.role; fits = c.fits; some = c.some; few = c.few; there = stays_there push.client push.name push.size push.moves c.muxed c.named; carried = c.carried }
+-- A push over RFCOMM of a client whose own maximum is a number of two octets, and which is there where it is on the channel of its object.
+pub record Pushes (push : Push) : Type 0 where
+  pub pushed : IsPushedMuxed push
+  pub may : MayPush push.client push.name push.size
+  pub plain : push.client.session.wanted ≡ false
+  pub short : push.client.session.maximum < 2 ^ 16
+  pub answers : AllAnswer push.content (client_side push.moves) (begun_of push)
 
 no_cause : (outcome : Outcome) → None ≡ Some outcome → ⊥
 no_cause outcome e = cc
@@ -149,15 +156,16 @@ opening settings past client at session calm here u none = record {
   quiet = λ works still. none;
   got_is = empty_octets past calm.quiet;
   unbroken = calm.unbroken;
+  bounded = λ met free. unmet (sym u.2.1 ∙ met);
 }
 
-module _ (settings : Settings) (n : Numbers) (mux : Mux) (session : Asking) (role : mux.role ≡ Initiator) (fits : mux.largest < 2 ^ 16) (some : 1 ≤ mux.account.cap) (few : mux.account.cap ≤ 40) (w : Task) (small : most_of settings < 2 ^ 16) where
-  deed_place : (past : List Occurrence) (client : Client) (c : Carriage) (at : Server) (deed : Deed) → AreCarried (carriage_after (OfClient deed) client c) → IsThere (deeds.done deed client) → K n.largest n.cap at.mux → AnswersTo w.content deed client → Fit (most_of settings) w client
+module _ (settings : Settings) (n : Numbers) (mux : Mux) (session : Asking) (role : mux.role ≡ Initiator) (fits : mux.largest < 2 ^ 16) (some : 1 ≤ mux.account.cap) (few : mux.account.cap ≤ 40) (w : Task) (seven : 7 ≤ most_of settings) (small : most_of settings < 2 ^ 16) where
+  deed_place : (past : List Occurrence) (client : Client) (c : Carriage) (at : Server) (deed : Deed) → AreCarried (carriage_after (OfClient deed) client c) → IsThere (deeds.done deed client) → K n.largest n.cap at.mux → AnswersTo w.content deed client → Fit w client
       → Place settings mux session past client c at → Place settings mux session past (deeds.done deed client) (carriage_after (OfClient deed) client c) at
   deed_place past client c at deed are there k answers f (Within anchor muxed psm sums l d) =
       let follows = client_more anchor muxed psm at client c sums l deed are in
       Within anchor muxed psm (record sums { asked = follows.asked; told = follows.told }) follows.linked
-      (speaks (most_of settings) w.content anchor muxed past at client c sums l d (ready_of (most_of settings) w f.sent client small f.stands f.fair) deed (carriage_after (OfClient deed) client c) follows answers)
+      (speaks (most_of settings) w.content anchor muxed past at client c sums l d (ready_of (most_of settings) w f.sent client seven small d.bounded f.stands f.fair) (early_awaits w f.sent client f.stands) deed (carriage_after (OfClient deed) client c) follows answers)
   deed_place past client c at deed are there k answers f (Beyond anchor muxed psm closed calm) = Beyond anchor muxed psm closed calm
   deed_place past client c at deed are there k answers f (Ahead early untouched sent come gone calm) = by (early_deed mux deed client early)
     where
@@ -183,7 +191,7 @@ module _ (Are : List Answer → Type 0) (Comes : List Occurrence → Service →
     (holding : (past : List Occurrence) (at : Reacted) → Kept past at → Holding settings past at)
     (more : (past : List Occurrence) (one : Occurrence) (at : Reacted) → Kept past at → MayCome Are (Comes past at.server.listener.service) settings past at one → Kept (past ++ one ∷ []) (done one at))
     (heard : (past : List Occurrence) (at : Reacted) (packet : List ℕ) → Alone past at.server → at.server.listener.service.answer ≡ [] → Comes past at.server.listener.service Rfcomm packet)
-    (small : most_of settings < 2 ^ 16) where
+    (seven : 7 ≤ most_of settings) (small : most_of settings < 2 ^ 16) where
   abbrev May : List Occurrence → Reacted → Occurrence → Type 0
   May past at one = MayCome Are (Comes past at.server.listener.service) settings past at one
 
@@ -311,6 +319,7 @@ module _ (Are : List Answer → Type 0) (Comes : List Occurrence → Service →
             quiet = d.quiet;
             got_is = same ∙ d.got_is ∙ sym got;
             unbroken = breaks_stay false one at serves.carried on none d.unbroken;
+            bounded = d.bounded;
           });
         }
 
@@ -368,6 +377,7 @@ module _ (Are : List Answer → Type 0) (Comes : List Occurrence → Service →
               quiet = d.quiet;
               got_is = got_now;
               unbroken = ap (λ (x : Listener). x.breaks) same ∙ d.unbroken;
+              bounded = d.bounded;
             });
           }
       by (Whole left got some request told next) =
@@ -380,8 +390,10 @@ module _ (Are : List Answer → Type 0) (Comes : List Occurrence → Service →
           ∙ up_whole most server at.gift d.unbroken h.maximum (up sdu at.server.mux) some (subst (λ (xs : List ℕ). IsRequest most (xs ++ ys)) (sym holds) request) in
           let now : (done (Came rfcomm_psm sdu) at).server.listener ≡ (heeds_carried (left ++ ys) at.server.listener at.gift).listener = heeded ∙ ap (λ (xs : List ℕ). (heeds_carried (xs ++ ys) at.server.listener at.gift).listener) holds in
           let right = request_length most (left ++ ys) request in
-          let answered : IsAnswer (done (Came rfcomm_psm sdu) at).server.listener.service.answer =
-          subst (λ (x : Listener). IsAnswer x.service.answer) (sym now) (packet_answer (left ++ ys) at.server.listener.service at.gift free) in
+          let answering : IsAnswer most (heeds_carried (left ++ ys) at.server.listener at.gift).listener.service.answer =
+          subst (λ (m : ℕ). IsAnswer m (heeds_carried (left ++ ys) at.server.listener at.gift).listener.service.answer) h.maximum
+          (packet_answer (left ++ ys) at.server.listener.service at.gift (subst (λ (m : ℕ). m < 2 ^ 16) (sym h.maximum) small) free) in
+          let answered : IsAnswer most (done (Came rfcomm_psm sdu) at).server.listener.service.answer = subst (λ (x : Listener). IsAnswer most x.service.answer) (sym now) answering in
           let comes = may past at (Came rfcomm_psm sdu) serves fits behinds
           (one_comes past at (Came rfcomm_psm sdu) (left ++ ys) serves.carried (new_whole most past sdu d.packets d.sound left ys whole heard_now some request) (heard past at (left ++ ys) alone free) right) in
           let replied : s.replied ≡ sums.replied ++ (done (Came rfcomm_psm sdu) at).server.listener.service.answer = elim (s.replied_is.2 free) [ inl none ↦ absurd (no_octets sdu none) | inr is ↦ is ] in
@@ -400,6 +412,7 @@ module _ (Are : List Answer → Type 0) (Comes : List Occurrence → Service →
               quiet = d.quiet;
               got_is = got_now;
               unbroken = ap (λ (x : Listener). x.breaks) now ∙ ap (λ (m : ℕ). has_bad_length (packet_in Request m (left ++ ys))) h.maximum ∙ right;
+              bounded = d.bounded;
             });
           }
 
@@ -446,7 +459,7 @@ module _ (Are : List Answer → Type 0) (Comes : List Occurrence → Service →
     GoesOn = (past : List Occurrence) (client : Client) (c : Carriage) (at : Reacted) → K n.largest n.cap at.server.mux → Place settings mux session past client c at.server → Kept past at → Alone past at.server → AllServeCarried Are at tail → AllCome Are Comes settings past at tail
 
     moves_come : (moves : List Move) (past : List Occurrence) (client : Client) (c : Carriage) (at : Reacted) → StaysThere moves client → StayCarried moves client c → AllAnswer w.content (client_side moves) client → AllServeCarried Are at (server_side moves ++ tail)
-        → K n.largest n.cap at.server.mux → Place settings mux session past client c at.server → Kept past at → Alone past at.server → Fit (most_of settings) w client → GoesOn → AllCome Are Comes settings past at (server_side moves ++ tail)
+        → K n.largest n.cap at.server.mux → Place settings mux session past client c at.server → Kept past at → Alone past at.server → Fit w client → GoesOn → AllCome Are Comes settings past at (server_side moves ++ tail)
     moves_come [] past client c at there carried answers serve k place kept alone fit on = on past client c at k place kept alone serve
     moves_come (OfServer one ∷ moves) past client c at there carried answers serve k place kept alone fit on =
         let g = next_place mux session past client c at one kept alone serve.0 carried.0 carried.1 place in (
@@ -455,33 +468,33 @@ module _ (Are : List Answer → Type 0) (Comes : List Occurrence → Service →
         )
     moves_come (OfClient deed ∷ moves) past client c at there carried answers serve k place kept alone fit on =
         moves_come moves past (deeds.done deed client) (carriage_after (OfClient deed) client c) at there.1 carried.2 answers.1 serve k
-        (deed_place settings n mux session role fits some few w small past client c at.server deed carried.0 there.0 k answers.0 fit place) kept alone (fit_more (most_of settings) w deed client small answers.0 fit) on
+        (deed_place settings n mux session role fits some few w seven small past client c at.server deed carried.0 there.0 k answers.0 fit place) kept alone (fit_more w deed client answers.0 fit) on
 
-  begun_fit : (push : Push) → IsCarried settings push → Fit (most_of settings) (task_of push) (begun_of push)
+  begun_fit : (push : Push) → Pushes push → Fit (task_of push) (begun_of push)
   begun_fit push c =
       let may : MayPush push.client push.name push.size = c.may in
-      let pushed : IsPushedMuxed push = pushed_of settings push c in
+      let pushed : IsPushedMuxed push = c.pushed in
       record {
         sent = [];
         stands = (
           record { maximum = refl; wanted = refl; name_is = refl; size_is = refl; short = may.short; small = may.small; least = may.least; most = may.most },
           Fresh refl refl refl refl (λ e. may.own) (λ e. no_cause outcomes.Done e),
         );
-        fair = (c.plain, refl, omega arith, may.own, c.within);
+        fair = (c.plain, refl, omega arith, may.own, (let short = c.short in omega (arith, short)));
         muxed = pushed.muxed;
       }
 
-  push_comes : (n : Numbers) (tail : List Occurrence) (push : Push) (carried : IsCarried settings push) (past : List Occurrence) (at : Reacted) → K n.largest n.cap at.server.mux → IsCalm past at.server → Kept past at → Alone past at.server → AllServeCarried Are at (server_side push.moves ++ tail)
-      → (let pushed : IsPushedMuxed push = pushed_of settings push carried in GoesOn n push.client.mux (begun_of push).session pushed.role pushed.fits pushed.some pushed.few (task_of push) tail) → AllCome Are Comes settings past at (server_side push.moves ++ tail)
+  push_comes : (n : Numbers) (tail : List Occurrence) (push : Push) (carried : Pushes push) (past : List Occurrence) (at : Reacted) → K n.largest n.cap at.server.mux → IsCalm past at.server → Kept past at → Alone past at.server → AllServeCarried Are at (server_side push.moves ++ tail)
+      → (let pushed : IsPushedMuxed push = carried.pushed in GoesOn n push.client.mux (begun_of push).session pushed.role pushed.fits pushed.some pushed.few (task_of push) tail) → AllCome Are Comes settings past at (server_side push.moves ++ tail)
   push_comes n tail push carried past at k calm kept alone serve on =
-      let pushed : IsPushedMuxed push = pushed_of settings push carried in
+      let pushed : IsPushedMuxed push = carried.pushed in
       let begun = begun_of push in
       moves_come n push.client.mux begun.session pushed.role pushed.fits pushed.some pushed.few (task_of push) tail push.moves past begun no_carriage at pushed.there pushed.carried carried.answers serve k
-      (Ahead (refl, refl, pushed.muxed) (refl, refl, refl, (λ e. inl refl), (λ e. refl)) refl refl refl calm) kept alone (begun_fit push carried) on
+      (Ahead (refl, refl, pushed.muxed) (refl, refl, (refl, refl), (λ e. inl refl), (λ e. refl)) refl refl refl calm) kept alone (begun_fit push carried) on
 
   -- ---- push after push
 
-  all_come : (n : Numbers) (pushes : List Push) (last : Push) (past : List Occurrence) (at : Reacted) → AllByRecursion (IsCarried settings) pushes → IsCarried settings last → K n.largest n.cap at.server.mux → IsCalm past at.server → Kept past at → Alone past at.server
+  all_come : (n : Numbers) (pushes : List Push) (last : Push) (past : List Occurrence) (at : Reacted) → AllByRecursion Pushes pushes → Pushes last → K n.largest n.cap at.server.mux → IsCalm past at.server → Kept past at → Alone past at.server
       → AllServeCarried Are at (over_pushes pushes last) → AllCome Are Comes settings past at (over_pushes pushes last)
   all_come n [] last past at carried over k calm kept alone serve =
       let same = append-nil (server_side last.moves) in
@@ -497,7 +510,7 @@ module _ (Are : List Answer → Type 0) (Comes : List Occurrence → Service →
         | Rests calm' ↦ all_come n pushes last (past' ++ LinkDown ∷ []) (done LinkDown at') carried.1 over (numbers_stay n.largest n.cap LinkDown at' k') calm' kept' alone' serve'
         | Fails failed ↦ absurd (let never : true ≡ false = sym failed ∙ (holding (past' ++ LinkDown ∷ []) (done LinkDown at') kept').works in cc)
       ] in
-      let pushed : IsPushedMuxed push = pushed_of settings push carried.0 in
+      let pushed : IsPushedMuxed push = let first = carried.0 in first.pushed in
       subst (AllCome Are Comes settings past at) same
       (push_comes n (LinkDown ∷ others) push carried.0 past at k calm kept alone (subst (AllServeCarried Are at) (sym same) serve)
       (λ past' client' c' at' k' place' kept' alone' serve'.
@@ -526,20 +539,54 @@ clear_holding : (settings : Settings) (before : List Stored) (past : List Occurr
 clear_holding settings before past at c =
     subst (λ (os : List Occurrence). Holding settings os at) (clean_same settings before past) (holding_of settings before (clean settings before past) at c.holds)
 
-pub carried-are_heard : CarriedAreHeard
+seven_of : (settings : Settings) → 7 ≤ most_of settings
+seven_of settings = let low = settings.obex_low in omega (arith, low)
+
+pub pushes_are_heard : (settings : Settings) (before : List Stored) (pushes : List Push) (last : Push) → AllByRecursion Pushes pushes → Pushes last → AllServeCarried AllGranted (new_over settings before) (over_pushes pushes last)
+    → AllMayCome settings [] (new_over settings before) (over_pushes pushes last)
 unfolding numbers_of
-carried-are_heard settings before pushes last carried over serve =
+pushes_are_heard settings before pushes last carried over serve =
     all_come AllGranted (IsHeard settings) settings (Clear settings before) (clear_holding settings before) (clear_more settings before)
     (λ past at packet alone free. let u = alone.undirected in record { taken = is_taken at.server.listener.service packet u.0 free; alone = λ named. is_alone settings past alone.none })
-    (small_of settings) (numbers_of settings) pushes last [] (new_over settings before) carried over (refl, refl, refl, refl) (first_calm settings) (first_clear settings before) (first_alone settings before) serve
+    (seven_of settings) (small_of settings) (numbers_of settings) pushes last [] (new_over settings before) carried over (refl, refl, refl, refl) (first_calm settings) (first_clear settings before) (first_alone settings before) serve
 
 marks_holding : (settings : Settings) (before : List Stored) (past : List Occurrence) (at : Reacted) → Marks settings before past at → Holding settings past at
 marks_holding settings before past at m = subst (λ (os : List Occurrence). Holding settings os at) m.same (holding_of settings before m.marks at m.holds)
 
-pub carried-are_taken : CarriedAreTaken
+pub pushes_are_taken : (settings : Settings) (before : List Stored) (pushes : List Push) (last : Push) → AllByRecursion Pushes pushes → Pushes last → AllServeCarried NoneShort (new_over settings before) (over_pushes pushes last)
+    → AllMayFail settings [] (new_over settings before) (over_pushes pushes last)
 unfolding numbers_of
-carried-are_taken settings before pushes last carried over serve =
+pushes_are_taken settings before pushes last carried over serve =
     all_come NoneShort (IsTaken settings) settings (Marks settings before) (marks_holding settings before) (marks_more settings before)
     (λ past at packet alone free. let u = alone.undirected in record { taken = is_taken at.server.listener.service packet u.0 free; alone = λ named. u.1 })
-    (small_of settings) (numbers_of settings) pushes last [] (new_over settings before) carried over (refl, refl, refl, refl) (first_calm settings) (record { marks = []; same = refl; holds = first_holds settings before })
+    (seven_of settings) (small_of settings) (numbers_of settings) pushes last [] (new_over settings before) carried over (refl, refl, refl, refl) (first_calm settings) (record { marks = []; same = refl; holds = first_holds settings before })
     (first_alone settings before) serve
+
+-- ---- those of which it is asked what their client hears, and what its server takes
+
+carried_pushes : (settings : Settings) (push : Push) → IsCarried settings push → Pushes push
+carried_pushes settings push c = record {
+  pushed = record {
+    muxed = c.muxed;
+    role = c.role;
+    fits = c.fits;
+    some = c.some;
+    few = c.few;
+    there = stays_there push.client push.name push.size push.moves c.muxed (no_other (targets_heard (client_side push.moves) (begun_of push)) c.named);
+    carried = c.carried;
+  };
+  may = c.may;
+  plain = c.plain;
+  short = let within = c.within in let small = small_of settings in omega (arith, within, small);
+  answers = c.answers;
+}
+
+all_carried : (settings : Settings) (pushes : List Push) → AllByRecursion (IsCarried settings) pushes → AllByRecursion Pushes pushes
+all_carried settings [] all = tt
+all_carried settings (push ∷ pushes) all = (carried_pushes settings push all.0, all_carried settings pushes all.1)
+
+pub carried-are_heard : CarriedAreHeard
+carried-are_heard settings before pushes last carried over serve = pushes_are_heard settings before pushes last (all_carried settings pushes carried) (carried_pushes settings last over) serve
+
+pub carried-are_taken : CarriedAreTaken
+carried-are_taken settings before pushes last carried over serve = pushes_are_taken settings before pushes last (all_carried settings pushes carried) (carried_pushes settings last over) serve

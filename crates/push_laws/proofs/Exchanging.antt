@@ -5,8 +5,8 @@ use Rattle.rfcomm_frames.specs.ObexPackets.{IsPacket}
 use Rattle.rfcomm_laws.specs.Pairs.{IsFront}
 use Rattle.push_laws.proofs.Couples.{Sums}
 use Rattle.push_laws.proofs.Driving.{joined}
-use Rattle.push_laws.proofs.Replies.{IsAnswer}
 use Rattle.push_laws.proofs.Requesting.{IsRequest, request_packet}
+use Rattle.push_laws.proofs.Stating.{IsResponse, IsAnswer}
 
 -- ---- lists of octets
 
@@ -41,7 +41,7 @@ some_octets packet is none = let least = is.0 in let len = ap length none in ome
 pub data Exchange (most : ℕ) (sums : Sums) (packets : List (List ℕ)) (waits : Bool) (held : List ℕ) : Type 0 where
   Idle : sums.asked ≡ joined packets → sums.got ≡ sums.asked → sums.replied ≡ sums.told → held ≡ [] → Exchange most sums packets waits held
   Requested : (part more : List ℕ) → sums.got ≡ joined packets ++ part → sums.asked ≡ joined packets ++ (part ++ more) → (more ≡ [] → ⊥) → IsRequest most (part ++ more) → sums.replied ≡ sums.told → held ≡ [] → waits ≡ true → Exchange most sums packets waits held
-  Responded : sums.asked ≡ joined packets → sums.got ≡ sums.asked → (before part more : List ℕ) → sums.told ≡ before ++ part → sums.replied ≡ before ++ (part ++ more) → (more ≡ [] → ⊥) → IsPacket (part ++ more) → held ≡ part → waits ≡ true
+  Responded : sums.asked ≡ joined packets → sums.got ≡ sums.asked → (before part more : List ℕ) → sums.told ≡ before ++ part → sums.replied ≡ before ++ (part ++ more) → (more ≡ [] → ⊥) → IsResponse most (part ++ more) → held ≡ part → waits ≡ true
       → Exchange most sums packets waits held
 
 -- less than a request, or nothing
@@ -55,7 +55,7 @@ module _ (most : ℕ) (sums : Sums) (packets : List (List ℕ)) (waits : Bool) (
   pub data Coming (ys : List ℕ) : Type 0 where
     Less : (left : List ℕ) → sums.got ≡ joined packets ++ left → IsLess most (left ++ ys) → Exchange most (record sums { got = sums.got ++ ys }) packets waits held → Coming ys
     Whole : (left : List ℕ) → sums.got ≡ joined packets ++ left → (ys ≡ [] → ⊥) → IsRequest most (left ++ ys) → sums.replied ≡ sums.told
-        → ((answer : List ℕ) → IsAnswer answer → Exchange most (record sums { got = sums.got ++ ys; replied = sums.replied ++ answer }) (packets ++ (left ++ ys) ∷ []) waits held) → Coming ys
+        → ((answer : List ℕ) → IsAnswer most answer → Exchange most (record sums { got = sums.got ++ ys; replied = sums.replied ++ answer }) (packets ++ (left ++ ys) ∷ []) waits held) → Coming ys
 
   nothing_came : (ys : List ℕ) → ys ≡ [] → sums.asked ≡ joined packets → sums.got ≡ sums.asked → Exchange most sums packets waits held → Coming ys
   nothing_came ys none asked got x =
@@ -80,7 +80,7 @@ module _ (most : ℕ) (sums : Sums) (packets : List (List ℕ)) (waits : Bool) (
           Whole part got (λ none. some (is ∙ append-nil ys ∙ none)) (subst (IsRequest most) same request) replied
           (λ answer answered. elim answered [
             | inl nothing ↦ Idle all got' (ap (λ (xs : List ℕ). sums.replied ++ xs) nothing ∙ append-nil sums.replied ∙ replied) none
-            | inr packet ↦ Responded all got' sums.told [] answer (sym (append-nil sums.told)) (ap (λ (xs : List ℕ). xs ++ answer) replied) (some_octets answer packet) packet none waiting
+            | inr packet ↦ Responded all got' sums.told [] answer (sym (append-nil sums.told)) (ap (λ (xs : List ℕ). xs ++ answer) replied) (some_octets answer packet.packet) packet none waiting
           ])
       by (x ∷ rest) is =
           let same : part ++ more ≡ (part ++ ys) ++ x ∷ rest = ap (λ (xs : List ℕ). part ++ xs) is ∙ sym (append_assoc part ys (x ∷ rest)) in
@@ -94,7 +94,7 @@ module _ (most : ℕ) (sums : Sums) (packets : List (List ℕ)) (waits : Bool) (
   pub data Telling (zs : List ℕ) : Type 0 where
     NoneTold : zs ≡ [] → held ≡ [] → Exchange most (record sums { told = sums.told ++ zs }) packets waits held → Telling zs
     PartTold : (more : List ℕ) → (more ≡ [] → ⊥) → IsPacket ((held ++ zs) ++ more) → Exchange most (record sums { told = sums.told ++ zs }) packets waits (held ++ zs) → Telling zs
-    AllTold : IsPacket (held ++ zs) → ((waits' : Bool) → Exchange most (record sums { told = sums.told ++ zs }) packets waits' []) → Telling zs
+    AllTold : IsResponse most (held ++ zs) → ((waits' : Bool) → Exchange most (record sums { told = sums.told ++ zs }) packets waits' []) → Telling zs
 
   nothing_told : (zs : List ℕ) → zs ≡ [] → held ≡ [] → Exchange most sums packets waits held → Telling zs
   nothing_told zs none empty x = NoneTold none empty (subst (λ (xs : List ℕ). Exchange most (record sums { told = xs }) packets waits held) (sym (ap (λ (ys : List ℕ). sums.told ++ ys) none ∙ append-nil sums.told)) x)
@@ -112,12 +112,12 @@ module _ (most : ℕ) (sums : Sums) (packets : List (List ℕ)) (waits : Bool) (
       by : (rest : List ℕ) → more ≡ zs ++ rest → Telling zs
       by [] next =
           let same : part ++ more ≡ part ++ zs = ap (λ (xs : List ℕ). part ++ xs) (next ∙ append-nil zs) in
-          AllTold (subst IsPacket (same ∙ ap (λ (xs : List ℕ). xs ++ zs) (sym holds)) is) (λ waits'. Idle asked got (replied ∙ ap (λ (xs : List ℕ). before ++ xs) same ∙ sym now) refl)
+          AllTold (subst (IsResponse most) (same ∙ ap (λ (xs : List ℕ). xs ++ zs) (sym holds)) is) (λ waits'. Idle asked got (replied ∙ ap (λ (xs : List ℕ). before ++ xs) same ∙ sym now) refl)
       by (x ∷ rest) next =
           let same : part ++ more ≡ (part ++ zs) ++ x ∷ rest = ap (λ (xs : List ℕ). part ++ xs) next ∙ sym (append_assoc part zs (x ∷ rest)) in
           let some' : x ∷ rest ≡ [] → ⊥ = λ e. absurd cc in
-          let is' : IsPacket ((part ++ zs) ++ x ∷ rest) = subst IsPacket same is in
-          PartTold (x ∷ rest) some' (subst (λ (xs : List ℕ). IsPacket ((xs ++ zs) ++ x ∷ rest)) (sym holds) is')
+          let is' : IsResponse most ((part ++ zs) ++ x ∷ rest) = subst (IsResponse most) same is in
+          PartTold (x ∷ rest) some' (subst (λ (xs : List ℕ). IsPacket ((xs ++ zs) ++ x ∷ rest)) (sym holds) is'.packet)
           (Responded asked got before (part ++ zs) (x ∷ rest) now (replied ∙ ap (λ (xs : List ℕ). before ++ xs) same) some' is' (ap (λ (xs : List ℕ). xs ++ zs) holds) waiting)
 
   -- ---- a request is made

@@ -184,7 +184,7 @@ module _ (anchor : Anchor) where
   or_leaves_late (Err fault.Failed) put late = let ended = ends outcomes.ShelfFault put.client in leaves_late (next_ask ended) ended put.left (late_ends outcomes.ShelfFault put.client late)
   or_leaves_late (Err fault.NoMemory) put late = late
 
-  requests_late : (ask : Ask) (client : Client) (parts : List Part) → Late anchor client → Late anchor (requests ask client parts).client
+  pub requests_late : (ask : Ask) (client : Client) (parts : List Part) → Late anchor client → Late anchor (requests ask client parts).client
   requests_late Connect client parts late = late
   requests_late Put client parts late = or_leaves_late (puts client parts).outcome (puts client parts) (puts_late client parts late)
   requests_late Abort client parts late = late

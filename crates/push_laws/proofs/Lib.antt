@@ -67,3 +67,12 @@ pub mod Attending
 pub mod Naming
 pub mod Carried
 pub mod Staying
+pub mod Lookups
+pub mod Searching
+pub mod Inquiring
+pub mod Finding
+pub mod Stating
+pub mod Bounding
+pub mod Pushed
+pub mod Cancelling
+pub mod Apart

@@ -1,5 +1,5 @@
 -- What a client does with one step over RFCOMM: nothing, or it makes one request, where none waits for its response, and awaits one then.
-use Rattle.std.proofs.Common.{Bool, true, false, ◌≡◌, ◌==◌, ◌&&◌, ◌||◌, ◌<◌, ◌≤◌, ◌^◌, ℕ, List, [], ◌∷◌, length, drop, Option, Some, None, is_none, Result, Ok, Err, refl, sym, ap, subst, ◌∙◌, arith, if◌then◌else◌}
+use Rattle.std.proofs.Common.{inl, inr, ◌⊎◌, Bool, true, false, ◌≡◌, ◌==◌, ◌&&◌, ◌||◌, ◌<◌, ◌≤◌, ◌^◌, ℕ, List, [], ◌∷◌, length, drop, Option, Some, None, is_none, Result, Ok, Err, refl, sym, ap, subst, ◌∙◌, arith, if◌then◌else◌}
 use Rattle.std.specs.Prelude.{not}
 use Rattle.std.proofs.lemmas.Bool.{eqb-true}
 use Rattle.bt_base.specs.Objects.{Object}
@@ -13,12 +13,13 @@ use Rattle.rfcomm_frames.specs.FrameReading.{is_empty}
 use Rattle.rfcomm_model.specs.Machine.{is_ready, sends, leaves, taken_count}
 use Rattle.rfcomm_model.specs.Saying.{Said, next}
 use Rattle.obex_session.specs.declared.asking.Request.{Request}
+use Rattle.obex_session.specs.declared.asking.Request.TheVariants as requests_of
 use Rattle.obex_session.specs.Asking.{Asking}
 use Rattle.obex_session.specs.NextPut.{is_waiting}
 use Rattle.obex_session.specs.PutPackets.{units_in}
 use Rattle.obex_session.specs.Views.{after_at}
 use Rattle.obex_session.proofs.ModeLaws.{limit_after}
-use Rattle.push_model.specs.declared.course.Contact.TheVariants.{Met, Closing}
+use Rattle.push_model.specs.declared.course.Contact.TheVariants.{Unmet, Met, Closing}
 use Rattle.push_model.specs.declared.course.Stage.{Stage}
 use Rattle.push_model.specs.Client.{Client, ends, ends_by, may_cancel}
 use Rattle.push_model.specs.Laws as deeds
@@ -58,13 +59,14 @@ pub data Asked (most : ℕ) (session : Asking) (packets : List (List ℕ)) (afte
   Silent : packets ≡ [] → after ≡ session → Asked most session packets after
   Asking1 : (packet : List ℕ) → packets ≡ packet ∷ [] → is_waiting session.awaited ≡ false → Heavy most session packet after → Asked most session packets after
 
--- a client whose requests have room
+-- a client whose requests have room; what it puts is no longer than that, once its server stated so
 pub record Ready (most : ℕ) (t : Talk) : Type 0 where
   pub single : t.session.single ≡ false
-  pub room : t.session.limit ≤ t.session.maximum
   pub least : 255 ≤ t.session.maximum
-  pub within : t.session.maximum ≤ most
+  pub short : t.session.maximum < 2 ^ 16
+  pub seven : 7 ≤ most
   pub fits : most < 2 ^ 16
+  pub bound : t.contact ≡ Met → t.cause ≡ None → t.session.limit ≤ most
   pub name : length (units_in t.name) ≤ 100
   pub size : t.size < 2 ^ 32
   pub open_ : 255 ≤ t.limit
@@ -90,17 +92,14 @@ module _ (most : ℕ) (content : Option (List Object)) where
   leaves_made Nothing client parts room = leave_made client parts room
 
   module _ (client : Client) (r : Ready most (talk_of client)) (still : is_waiting client.session.awaited ≡ false) where
-    seven : 7 ≤ most
-    seven = let least = r.least in let within = r.within in omega (arith, least, within)
-
     failing_made : (parts : List Part) → MadeAs most client.session (failing client parts)
     failing_made parts =
         let ended = ends outcomes.ShelfFault client in
-        subst (λ (s : Asking). MadeAs most s (leaves_by (next_ask ended) ended parts)) (same_session client.cause outcomes.ShelfFault client) (leaves_made (next_ask ended) ended parts seven)
+        subst (λ (s : Asking). MadeAs most s (leaves_by (next_ask ended) ended parts)) (same_session client.cause outcomes.ShelfFault client) (leaves_made (next_ask ended) ended parts r.seven)
 
     part_made : (part : Part) (parts : List Part) → client.contact ≡ Met → client.cause ≡ None → ((octets : List ℕ) → part ≡ Ok octets → length octets ≡ put_count client) → MadeAs most client.session (puts_or_leaves (puts_part part client parts).outcome (puts_part part client parts))
     part_made (Ok part) parts met free told = Makes refl (record {
-      request = requesting.put_request most client part r.name r.size r.open_ (r.wide met free still) (let room = r.room in let within = r.within in omega (arith, room, within)) r.fits (told part refl);
+      request = requesting.put_request most client part r.name r.size r.open_ (r.wide met free still) (r.bound met free) r.fits (told part refl);
       waits = puts_wait (is_none client.session.put) (is_last_put client) client.session.single r.single;
       wanted = refl;
       single = off_put (is_last_put client) client.session.single r.single;
@@ -134,12 +133,12 @@ module _ (most : ℕ) (content : Option (List Object)) where
 
     request_made : (ask : Ask) (parts : List Part) → ask ≡ next_ask client → Answers content client parts → MadeAs most client.session (requests ask client parts)
     request_made Connect parts is answers =
-        Makes refl (record { request = connect_request most client.session r.least (let within = r.within in let fits = r.fits in omega (arith, within, fits)) seven; waits = refl; wanted = refl; single = refl; limit = refl; maximum = refl })
+        Makes refl (record { request = connect_request most client.session r.least r.short r.seven; waits = refl; wanted = refl; single = refl; limit = refl; maximum = refl })
     request_made Put parts is answers = let when = (whence client.contact client.cause client.session.put).put (sym is) in count_made (put_count client == 0) parts refl when.0 when.1 answers
-    request_made Abort parts is answers = abort_made client parts seven
-    request_made Disconnect parts is answers = leave_made client parts seven
-    request_made Close parts is answers = leave_made client parts seven
-    request_made Nothing parts is answers = leave_made client parts seven
+    request_made Abort parts is answers = abort_made client parts r.seven
+    request_made Disconnect parts is answers = leave_made client parts r.seven
+    request_made Close parts is answers = leave_made client parts r.seven
+    request_made Nothing parts is answers = leave_made client parts r.seven
 
   -- ---- through the multiplexer
 
@@ -232,11 +231,15 @@ module _ (most : ℕ) (content : Option (List Object)) where
 
 -- ---- what stays of a client
 
+-- the greatest length of a packet
+abbrev pub widest : ℕ
+widest = 65535
+
 -- it wants no single response mode, and takes packets of at most so many octets
 abbrev pub Fair : ℕ → Talk → Type 0
 Fair most t = (t.session.wanted ≡ false) × (t.session.single ≡ false) × (t.session.limit ≤ t.session.maximum) × (255 ≤ t.session.maximum) × (t.session.maximum ≤ most)
 
-limit_kept : (awaited : Option Request) (session : Asking) (response : List ℕ) → session.awaited ≡ awaited → (after_at session.awaited session response).limit ≤ session.limit
+pub limit_kept : (awaited : Option Request) (session : Asking) (response : List ℕ) → session.awaited ≡ awaited → (after_at session.awaited session response).limit ≤ session.limit
 limit_kept None session response is = subst (λ (a : Option Request). (after_at a session response).limit ≤ session.limit) (sym is) (omega arith)
 limit_kept (Some request) session response is = limit_after session request response is
 
@@ -280,18 +283,41 @@ wide_of w sent client s met free still = by s.1
     by (GivenUp puts at is was wanted has given unput other any) = absurd (not_caused client.cause given free)
     by (Gone gone given past) = absurd (not_gone client.contact gone met)
 
-pub ready_of : (most : ℕ) (w : Task) (sent : List (List ℕ)) (client : Client) → most < 2 ^ 16 → Stands w sent (talk_of client) → Fair most (talk_of client) → Ready most (talk_of client)
-ready_of most w sent client fits s f = record {
+pub ready_of : (most : ℕ) (w : Task) (sent : List (List ℕ)) (client : Client) → 7 ≤ most → most < 2 ^ 16 → (client.contact ≡ Met → client.cause ≡ None → client.session.limit ≤ most) → Stands w sent (talk_of client) → Fair widest (talk_of client) → Ready most (talk_of client)
+ready_of most w sent client seven fits bound s f = record {
   single = f.1;
-  room = f.2;
   least = f.3;
-  within = f.4;
+  short = let within = f.4 in omega (arith, within);
+  seven = seven;
   fits = fits;
+  bound = bound;
   name = s.0.short;
   size = s.0.small;
   open_ = s.0.least;
   wide = λ met free still. wide_of w sent client s met free still;
 }
+
+-- its own maximum bounds what it sends in any case
+pub widest_ready : (w : Task) (sent : List (List ℕ)) (client : Client) → Stands w sent (talk_of client) → Fair widest (talk_of client) → Ready widest (talk_of client)
+widest_ready w sent client s f = ready_of widest w sent client (omega arith) (omega arith) (λ met free. let room = f.2 in let within = f.4 in omega (arith, room, within)) s f
+
+-- where it is still to meet its server, it awaits the response to CONNECT, if any
+pub early_awaits : (w : Task) (sent : List (List ℕ)) (client : Client) → Stands w sent (talk_of client) → client.contact ≡ Unmet → client.cause ≡ None → (client.session.awaited ≡ None) ⊎ (client.session.awaited ≡ Some requests_of.Connect)
+early_awaits w sent client s unmet free = by s.1
+  where
+    other : {A : Type 0} → client.contact ≡ Met → A
+    other met = absurd (let never : Unmet ≡ Met = sym unmet ∙ met in cc)
+
+    by : State w sent client.cause client.contact client.session client.name client.size → (client.session.awaited ≡ None) ⊎ (client.session.awaited ≡ Some requests_of.Connect)
+    by (Fresh none was waits unput least done) = inl waits
+    by (Connecting is was waits unput done) = inr (waits free).0
+    by (Putting puts at is was wanted has place done any) = other was
+    by (state.Put puts is was whole waits unput done) = other was
+    by (GivenUp puts at is was wanted has given unput done any) = other was
+    by (Gone gone given past) = absurd (no_contact gone)
+      where
+        no_contact : is_gone client.contact ≡ true → ⊥
+        no_contact g = let never : false ≡ true = sym (ap is_gone unmet) ∙ g in cc
 
 -- it stays fair, whatever it does
 fair_session : ℕ → Asking → Type 0

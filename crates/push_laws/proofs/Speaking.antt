@@ -25,6 +25,7 @@ use Rattle.push_laws.specs.Occurrences.{Occurrence}
 use Rattle.push_laws.specs.Readings.{octets_heard}
 use Rattle.push_model.specs.Steps.{Part}
 use Rattle.push_laws.specs.Sending.{packets_through, packets_by, AnswersTo}
+use Rattle.push_laws.proofs.Bounding.{IsBounded, AwaitsFirst, same_bounded, none_bounded, less_bounded, all_bounded}
 use Rattle.push_laws.proofs.Carriage.{Linked, Follows, up_by}
 use Rattle.push_laws.proofs.Couples.{Sums, fronts}
 use Rattle.push_laws.proofs.Driving.{IsQuiet, joined}
@@ -32,6 +33,7 @@ use Rattle.push_laws.proofs.Exchanging.{Exchange, Telling, NoneTold, PartTold, A
 use Rattle.push_laws.proofs.Late.{Anchor, IsLate, either}
 use Rattle.push_laws.proofs.Muxing.{Asked, Silent, Asking1, Ready, asks_asked}
 use Rattle.push_laws.proofs.Parsing.{client_less, client_all, empty_front}
+use Rattle.push_laws.proofs.Stating.{IsResponse}
 use Rattle.push_laws.proofs.Talks.{talk_of, object_of}
 use Rattle.push_laws.proofs.Working.{Same, ends_same, news_same, cancels_same, stream_work, asks_keeps, finished_quiet}
 
@@ -49,6 +51,8 @@ pub record Dialog (most : ℕ) (past : List Occurrence) (client : Client) (at : 
   pub quiet : is_object client.stage ≡ true → IsQuiet client
   pub got_is : octets_heard past ≡ sums.got
   pub unbroken : at.listener.breaks ≡ false
+  -- what it puts is no longer than its server takes
+  pub bounded : IsBounded most client
 
 not_both : (b : Bool) → b ≡ true → b ≡ false → ⊥
 not_both b holds fails = let never : true ≡ false = sym holds ∙ fails in cc
@@ -92,9 +96,13 @@ module _ (most : ℕ) (past : List Occurrence) (at : Server) (sums : Sums) (clie
     quiet = λ works. quiet_by after s.2 s.3 (d.quiet (was works));
     got_is = d.got_is;
     unbroken = d.unbroken;
+    bounded = same_bounded most client after s d.bounded;
   }
 
-  module _ (heard : Client) (s : Same client heard) (here : is_object client.stage ≡ true) where
+  module _ (heard : Client) (s : Same client heard) (first : AwaitsFirst heard) (here : is_object client.stage ≡ true) where
+    so : IsBounded most heard
+    so = same_bounded most client heard s d.bounded
+
     stream : List ℕ
     stream = heard.held ++ zs
 
@@ -122,6 +130,7 @@ module _ (most : ℕ) (past : List Occurrence) (at : Server) (sums : Sums) (clie
           quiet = λ works. quiet_by (hears_stream steps (heard.held ++ zs) heard) w.0 w.1 (d.quiet here);
           got_is = d.got_is;
           unbroken = d.unbroken;
+          bounded = subst (λ (xs : List ℕ). IsBounded most (hears_stream steps xs heard)) (sym nothing_held) (none_bounded most steps heard so);
         }
       where
         awaits : heard.held ++ zs ≡ [] → (hears_stream steps (heard.held ++ zs) heard).session.awaited ≡ client.session.awaited
@@ -149,11 +158,12 @@ module _ (most : ℕ) (past : List Occurrence) (at : Server) (sums : Sums) (clie
           quiet = λ works. quiet_by (hears_stream steps (heard.held ++ zs) heard) w.0 w.1 (d.quiet here);
           got_is = d.got_is;
           unbroken = d.unbroken;
+          bounded = less_bounded most steps (heard.held ++ zs) more heard (subst (λ (xs : List ℕ). IsPacket (xs ++ more)) holds is) some so;
         }
     told_by steps enough (AllTold is x) =
         let w = work steps in
         let after : Client = hears_stream steps (heard.held ++ zs) heard in
-        let what = client_all steps (heard.held ++ zs) heard (subst IsPacket holds is) enough in
+        let what = client_all steps (heard.held ++ zs) heard (subst IsPacket holds is.packet) enough in
         record {
           packets = d.packets;
           sound = d.sound;
@@ -165,23 +175,24 @@ module _ (most : ℕ) (past : List Occurrence) (at : Server) (sums : Sums) (clie
           quiet = λ works. quiet_by after w.0 w.1 (d.quiet here);
           got_is = d.got_is;
           unbroken = d.unbroken;
+          bounded = all_bounded most steps (heard.held ++ zs) heard (subst (IsResponse most) holds is) so first;
         }
 
 -- ---- an SDU on its channel
 
 module _ (most : ℕ) (past : List Occurrence) (at : Server) (sums : Sums) (client : Client) (d : Dialog most past client at sums) (here : is_object client.stage ≡ true) where
-  up_now : (u : Up) (heard : Client) → Same client heard → is_object heard.stage ≡ true → Telling most sums d.packets d.waits d.held (handed u) → Dialog most past (hears_up u heard) at (record sums { told = sums.told ++ handed u })
+  up_now : (u : Up) (heard : Client) → Same client heard → AwaitsFirst heard → is_object heard.stage ≡ true → Telling most sums d.packets d.waits d.held (handed u) → Dialog most past (hears_up u heard) at (record sums { told = sums.told ++ handed u })
   unfolding stream
-  up_now nothing heard s on t = none_up most past at sums client d [] heard s (λ works. here) refl
-  up_now opened heard s on t = none_up most past at sums client d [] heard s (λ works. here) refl
-  up_now (closed reason) heard s on t =
+  up_now nothing heard s first on t = none_up most past at sums client d [] heard s (λ works. here) refl
+  up_now opened heard s first on t = none_up most past at sums client d [] heard s (λ works. here) refl
+  up_now (closed reason) heard s first on t =
       none_up most past at sums client d [] (hears_up (closed reason) heard) (either (Same client) (is_left heard.contact reason) (record heard { stage = ObjectEnd Due }) (ends (cause_of_mux reason) heard) s (ends_same client (cause_of_mux reason) heard s)) (λ works. here) refl
-  up_now (bytes octets) heard s on t = told_by most past at sums client d octets heard s here (length (heard.held ++ octets)) (omega arith) t
+  up_now (bytes octets) heard s first on t = told_by most past at sums client d octets heard s first here (length (heard.held ++ octets)) (omega arith) t
 
 -- ---- a deed
 
 module _ (most : ℕ) (content : Option (List Stored)) (anchor : Anchor) (muxed : anchor.transport ≡ Rfcomm) (past : List Occurrence) (at : Server) where
-  module _ (client : Client) (c : Carriage) (sums : Sums) (l : Linked anchor client c at sums) (d : Dialog most past client at sums) (r : Ready most (talk_of client)) where
+  module _ (client : Client) (c : Carriage) (sums : Sums) (l : Linked anchor client c at sums) (d : Dialog most past client at sums) (r : Ready most (talk_of client)) (first : AwaitsFirst client) where
     transport : client.transport ≡ Rfcomm
     transport = let was = l.late in ap (λ (a : Anchor). a.transport) was.1 ∙ muxed
 
@@ -203,6 +214,7 @@ module _ (most : ℕ) (content : Option (List Stored)) (anchor : Anchor) (muxed 
           quiet = λ works still. s.3 ∙ d.quiet (f.was works) (sym s.2 ∙ still);
           got_is = d.got_is;
           unbroken = d.unbroken;
+          bounded = same_bounded most client (deeds.done deed client) s d.bounded;
         }
 
     late : IsLate client.stage
@@ -224,6 +236,7 @@ module _ (most : ℕ) (content : Option (List Stored)) (anchor : Anchor) (muxed 
           quiet = λ works. kept.1 (d.quiet (f.was works));
           got_is = d.got_is;
           unbroken = d.unbroken;
+          bounded = λ met free. let was = kept.2 (met, free) in subst (λ (x : Asking). x.limit ≤ most) (sym session) (d.bounded was.0 was.1);
         }
     asking parts c' f (Asking1 packet is still heavy) =
         let kept = asks_keeps client parts transport late in
@@ -242,6 +255,7 @@ module _ (most : ℕ) (content : Option (List Stored)) (anchor : Anchor) (muxed 
           quiet = λ works. kept.1 (d.quiet here);
           got_is = d.got_is;
           unbroken = d.unbroken;
+          bounded = λ met free. let was = kept.2 (met, free) in subst (λ (n : ℕ). n ≤ most) (sym heavy.limit) (d.bounded was.0 was.1);
         }
       where
         on_channel : (object : Bool) → is_object client.stage ≡ object → object ≡ true
@@ -269,7 +283,7 @@ module _ (most : ℕ) (content : Option (List Stored)) (anchor : Anchor) (muxed 
         let told : f.told ≡ sums.told ++ handed (up sdu client.mux) = f.told_is ∙ ap (λ (b : Bool). sums.told ++ (if b then handed (up sdu client.mux) else [])) on in
         let front = front_told f.told (deeds.done (Hears (events.Sdu psm sdu)) client) c' f.asked f.linked in
         let telling = tells most sums d.packets d.waits d.held (handed (up sdu client.mux)) (front.0, front.1 ∙ ap (λ (xs : List ℕ). xs ++ front.0) told) d.exchange in
-        let now = up_now most past at sums client d both.0 (up sdu client.mux) heard (refl, refl, refl, refl) both.0 telling in
+        let now = up_now most past at sums client d both.0 (up sdu client.mux) heard (refl, refl, refl, refl, refl, λ e. e) first both.0 telling in
         let is : deeds.done (Hears (events.Sdu psm sdu)) client ≡ hears_up (up sdu client.mux) heard =
         ap (λ (st : Stage). events.sdu_at st psm sdu client) stage ∙ ap (λ (b : Bool). if b then events.hears_object client.transport sdu client else client) both.1 ∙ ap (λ (t : Transport). events.hears_object t sdu client) transport in
         let asked : f.asked ≡ sums.asked = f.asked_is d.quiet ∙ append-nil sums.asked in
@@ -307,5 +321,6 @@ module _ (most : ℕ) (content : Option (List Stored)) (anchor : Anchor) (muxed 
       quiet = λ works. finished_quiet client transport works (d.quiet works);
       got_is = d.got_is;
       unbroken = d.unbroken;
+      bounded = d.bounded;
     }
     speaks Cancels c' f answers = calmly Cancels c' f (cancels_same client) refl refl

@@ -22,11 +22,11 @@ off_of true e f = let g : false ≡ true = e in absurd cc
 off_of false e f = let g : false ≡ true = f in absurd cc
 
 -- what the record names is neither of the two
-record IsOther (psm : ℕ) : Type 0 where
-  not_search : psm ≡ search_psm → ⊥
-  not_rfcomm : psm ≡ rfcomm_psm → ⊥
+pub record IsOther (psm : ℕ) : Type 0 where
+  pub not_search : psm ≡ search_psm → ⊥
+  pub not_rfcomm : psm ≡ rfcomm_psm → ⊥
 
-other_psm : (psm : ℕ) → is_service_psm psm ≡ true → IsOther psm
+pub other_psm : (psm : ℕ) → is_service_psm psm ≡ true → IsOther psm
 other_psm psm is =
     let both = and_parts (eqb (bit_and psm 0x0101) 0x0001) (not (eqb psm 0x0001) && not (eqb psm 0x0003)) is in
     let parts = and_parts (not (eqb psm 0x0001)) (not (eqb psm 0x0003)) both.1 in

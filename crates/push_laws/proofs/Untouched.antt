@@ -14,6 +14,7 @@ use Rattle.sdp_client.specs.Hearing.{found_at, after_reply}
 use Rattle.sdp_elements.specs.declared.target.Target.{Target}
 use Rattle.sdp_elements.specs.Targets.{is_service_psm, is_server_channel}
 use Rattle.push_model.specs.declared.closing.CloseCause.{CloseCause}
+use Rattle.push_model.specs.declared.course.Contact.TheVariants.{Unmet}
 use Rattle.push_model.specs.declared.course.Point.TheVariants.{Due, Asked}
 use Rattle.push_model.specs.declared.course.Stage.{Stage}
 use Rattle.push_model.specs.declared.course.Stage.TheVariants.{Rest, Link, SearchChannel, Search, SearchEnd, Features, ObjectChannel, Object, ObjectEnd, LinkEnd, Over}
@@ -56,10 +57,10 @@ is_opening (ObjectEnd point) = false
 is_opening (LinkEnd point) = false
 is_opening Over = false
 
--- It made no request and holds nothing of a response; a request to the service records is left while it is put out, and none is where the
+-- It made no request, met no server and holds nothing of a response; a request to the service records is left while it is put out, and none is where the
 -- channel of the object opens.
 abbrev pub IsUntouched : Asking → Client → Type 0
-IsUntouched session client = (client.going ≡ false) × (client.held ≡ []) × (client.session ≡ session) × (client.given ≡ false → (client.rest ≡ []) ⊎ (is_over client.stage ≡ true)) × (is_opening client.stage ≡ true → client.rest ≡ [])
+IsUntouched session client = (client.going ≡ false) × (client.held ≡ []) × ((client.session ≡ session) × (client.contact ≡ Unmet)) × (client.given ≡ false → (client.rest ≡ []) ⊎ (is_over client.stage ≡ true)) × (is_opening client.stage ≡ true → client.rest ≡ [])
 
 never : {A : Type 0} → true ≡ false → A
 never e = cc

@@ -19,7 +19,7 @@ use Rattle.obex_session.specs.Views.{answer_at, after_at}
 use Rattle.sdp_client.specs.Asking.{is_due, after_resend}
 use Rattle.push_model.specs.declared.closing.CloseCause.{CloseCause}
 use Rattle.push_model.specs.declared.course.Contact.{Contact}
-use Rattle.push_model.specs.declared.course.Contact.TheVariants.{Closing}
+use Rattle.push_model.specs.declared.course.Contact.TheVariants.{Unmet, Met, Left, Closing}
 use Rattle.push_model.specs.declared.course.Point.TheVariants.{Due, Asked}
 use Rattle.push_model.specs.declared.course.Stage.{Stage}
 use Rattle.push_model.specs.declared.course.Stage.TheVariants.{Rest, Link, SearchChannel, Search, SearchEnd, Features, ObjectChannel, Object, ObjectEnd, LinkEnd, Over}
@@ -39,16 +39,20 @@ use Rattle.push_laws.proofs.Talks.{Talk, Kept, object_of, hears_by, news_keeps}
 
 -- ---- news that are no SDU on its channel
 
--- the session, what is held, and what is left to be sent
+-- the session, what is held, what is left to be sent, and whether it met its server; and a cause stays
 abbrev pub Same : Client → Client → Type 0
-Same client after = (after.session ≡ client.session) × (after.held ≡ client.held) × (after.going ≡ client.going) × (after.rest ≡ client.rest)
+Same client after =
+    (after.session ≡ client.session) × (after.held ≡ client.held) × (after.going ≡ client.going) × (after.rest ≡ client.rest) × (after.contact ≡ client.contact) × (after.cause ≡ None → client.cause ≡ None)
 
 pub same : (client : Client) → Same client client
-same client = (refl, refl, refl, refl)
+same client = (refl, refl, refl, refl, refl, λ e. e)
+
+pub some_cause : {A : Type 0} (o : Outcome) → Some o ≡ None → A
+some_cause o e = absurd cc
 
 module _ (client : Client) where
   by_same : (cause : Option Outcome) (o : Outcome) (c : Client) → Same client c → Same client (ends_by cause o c)
-  by_same None o c s = s
+  by_same None o c s = (s.0, s.1, s.2, s.3, s.4, λ e. some_cause o e)
   by_same (Some earlier) o c s = s
 
   pub ends_same : (o : Outcome) (c : Client) → Same client c → Same client (ends o c)
@@ -59,7 +63,7 @@ module _ (client : Client) where
   if_same (Some o) c s = ends_same o c s
 
   over_same : (cause : Option Outcome) (o : Outcome) (c : Client) → Same client c → Same client (events.over_by cause o c)
-  over_same None o c s = s
+  over_same None o c s = (s.0, s.1, s.2, s.3, s.4, λ e. some_cause o e)
   over_same (Some earlier) o c s = s
 
   closed_same : (at : ℕ) (cause : CloseCause) (stage : Stage) → IsLate stage → Same client (events.closed_at stage at cause client)
@@ -146,6 +150,15 @@ module _ (going : Bool) (rest : List ℕ) where
 
 -- ---- one step over RFCOMM
 
+pub unmet : {A : Type 0} → Unmet ≡ Met → A
+unmet e = absurd cc
+
+pub left_unmet : {A : Type 0} → Left ≡ Met → A
+left_unmet e = absurd cc
+
+pub closing_unmet : {A : Type 0} → Closing ≡ Met → A
+closing_unmet e = absurd cc
+
 -- what is kept by all that a step does
 record Steady (Q : Client → Type 0) : Type 0 where
   sets : (frame : Option PlainFrame) (c : Client) → Q c → Q (record c { frame = frame })
@@ -153,7 +166,7 @@ record Steady (Q : Client → Type 0) : Type 0 where
   takes_off : (c : Client) → Q c → Q (record c { mux = sends c.rest c.mux; rest = drop (taken_count (length c.rest) c.mux) c.rest })
   tells : (mux : Mux) (frame : Option PlainFrame) (c : Client) → Q c → Q (record c { mux = mux; frame = frame; given = true })
   closes : (mux : Mux) (c : Client) → Q c → Q (record c { mux = mux; contact = Closing })
-  makes : (session : asking.Asking) (contact : Contact) (octets : List ℕ) (c : Client) → Q c → Q (record c { session = session; contact = contact; going = true; rest = octets })
+  makes : (session : asking.Asking) (contact : Contact) (octets : List ℕ) (c : Client) → (contact ≡ Met → c.contact ≡ Met) → Q c → Q (record c { session = session; contact = contact; going = true; rest = octets })
   ending : (cause : Option Outcome) (o : Outcome) (c : Client) → Q c → Q (ends_by cause o c)
   lacking : (c : Client) → Q c → Q (record c { failed = true })
 
@@ -173,7 +186,7 @@ module _ (Q : Client → Type 0) (k : Steady Q) where
   made_either false a b x y = y
 
   part_keeps : (part : Part) (client : Client) (parts : List Part) → Q client → Q (puts_part part client parts).client
-  part_keeps (Ok part) client parts q = k.makes _ client.contact _ client q
+  part_keeps (Ok part) client parts q = k.makes _ client.contact _ client (λ e. e) q
   part_keeps (Err fault) client parts q = q
 
   from_keeps : (parts : List Part) (client : Client) → Q client → Q (puts_from parts client).client
@@ -181,12 +194,12 @@ module _ (Q : Client → Type 0) (k : Steady Q) where
   from_keeps (part ∷ parts) client q = part_keeps part client parts q
 
   leaves_keeps : (ask : Ask) (client : Client) (parts : List Part) → Q client → Q (leaves_by ask client parts).client
-  leaves_keeps Connect client parts q = k.makes _ _ _ client q
-  leaves_keeps Put client parts q = k.makes _ _ _ client q
-  leaves_keeps Abort client parts q = k.makes _ _ _ client q
-  leaves_keeps Disconnect client parts q = k.makes _ _ _ client q
-  leaves_keeps Close client parts q = k.makes _ _ _ client q
-  leaves_keeps Nothing client parts q = k.makes _ _ _ client q
+  leaves_keeps Connect client parts q = k.makes _ _ _ client left_unmet q
+  leaves_keeps Put client parts q = k.makes _ _ _ client left_unmet q
+  leaves_keeps Abort client parts q = k.makes _ _ _ client (λ e. e) q
+  leaves_keeps Disconnect client parts q = k.makes _ _ _ client left_unmet q
+  leaves_keeps Close client parts q = k.makes _ _ _ client left_unmet q
+  leaves_keeps Nothing client parts q = k.makes _ _ _ client left_unmet q
 
   or_leaves_keeps : (outcome : Result (Unit {0}) PortFault) (put : Made) → Q put.client → Q (puts_or_leaves outcome put).client
   or_leaves_keeps (Ok done) put q = q
@@ -194,13 +207,13 @@ module _ (Q : Client → Type 0) (k : Steady Q) where
   or_leaves_keeps (Err fault.NoMemory) put q = q
 
   requests_keeps : (ask : Ask) (client : Client) (parts : List Part) → Q client → Q (requests ask client parts).client
-  requests_keeps Connect client parts q = k.makes _ _ _ client q
+  requests_keeps Connect client parts q = k.makes _ _ _ client unmet q
   requests_keeps Put client parts q =
       or_leaves_keeps (puts client parts).outcome (puts client parts) (made_either (put_count client == 0) (puts_part (Ok []) client parts) (puts_from parts client) (part_keeps (Ok []) client parts q) (from_keeps parts client q))
-  requests_keeps Abort client parts q = k.makes _ _ _ client q
-  requests_keeps Disconnect client parts q = k.makes _ _ _ client q
-  requests_keeps Close client parts q = k.makes _ _ _ client q
-  requests_keeps Nothing client parts q = k.makes _ _ _ client q
+  requests_keeps Abort client parts q = k.makes _ _ _ client (λ e. e) q
+  requests_keeps Disconnect client parts q = k.makes _ _ _ client left_unmet q
+  requests_keeps Close client parts q = k.makes _ _ _ client left_unmet q
+  requests_keeps Nothing client parts q = k.makes _ _ _ client left_unmet q
 
   sent_keeps : (outcome : Result (Unit {0}) PortFault) (request : Made) → Q request.client → Q (sends_muxed outcome request).client
   sent_keeps (Ok done) request q = says_keeps request.client request.left q
@@ -242,7 +255,7 @@ held_steady held = record {
   takes_off = λ c q. q;
   tells = λ mux frame c q. q;
   closes = λ mux c q. q;
-  makes = λ session contact octets c q. q;
+  makes = λ session contact octets c met q. q;
   ending = λ cause o c q. by_held cause o c q;
   lacking = λ c q. q;
 }
@@ -258,7 +271,7 @@ quiet_steady = record {
   takes_off = λ c q still. ap (drop (taken_count (length c.rest) c.mux)) (q still) ∙ drop-nil (taken_count (length c.rest) c.mux);
   tells = λ mux frame c q. q;
   closes = λ mux c q. q;
-  makes = λ session contact octets c q still. never still;
+  makes = λ session contact octets c met q still. never still;
   ending = λ cause o c q. by_quiet cause o c q;
   lacking = λ c q. q;
 }
@@ -267,30 +280,54 @@ quiet_steady = record {
     by_quiet None o c q = q
     by_quiet (Some earlier) o c q = q
 
--- what it holds stays, and all that is left belongs to a request that goes on
+-- it met its server, and no cause is known
+abbrev pub IsMet : Client → Type 0
+IsMet client = (client.contact ≡ Met) × (client.cause ≡ None)
+
+met_steady : (X : Type 0) → Steady (λ c. IsMet c → X)
+met_steady X = record {
+  sets = λ frame c q. q;
+  clears = λ c q. q;
+  takes_off = λ c q. q;
+  tells = λ mux frame c q. q;
+  closes = λ mux c q m. closing_unmet m.0;
+  makes = λ session contact octets c met q m. q (met m.0, m.1);
+  ending = λ cause o c q. by_met cause o c q;
+  lacking = λ c q. q;
+}
+  where
+    by_met : (cause : Option Outcome) (o : Outcome) (c : Client) → (IsMet c → X) → IsMet (ends_by cause o c) → X
+    by_met None o c q m = some_cause o m.1
+    by_met (Some earlier) o c q m = q m
+
+-- what it holds stays, all that is left belongs to a request that goes on, and where it met its server it did before
 abbrev pub Keeps : Client → Client → Type 0
-Keeps client after = (after.held ≡ client.held) × (IsQuiet client → IsQuiet after)
+Keeps client after = (after.held ≡ client.held) × (IsQuiet client → IsQuiet after) × (IsMet after → IsMet client)
 
 keeps_either : (client : Client) (test : Bool) (a b : Stepped) → Keeps client a.client → Keeps client b.client → Keeps client (if test then a else b).client
 keeps_either client true a b x y = x
 keeps_either client false a b x y = y
 
 still : (client : Client) → Keeps client client
-still client = (refl, λ q. q)
+still client = (refl, (λ q. q), λ m. m)
 
 tells_keeps : (cause : Option Outcome) (client : Client) (parts : List Part) → Keeps client (tells_end cause client parts).client
 tells_keeps None client parts = still client
-tells_keeps (Some outcome) client parts = (refl, λ q. q)
+tells_keeps (Some outcome) client parts = (refl, (λ q. q), λ m. m)
 
 object_keeps : (t : Transport) (client : Client) (parts : List Part) → t ≡ Rfcomm → Keeps client (steps_object t client parts).client
 object_keeps L2cap client parts is = absurd (let f : L2cap ≡ Rfcomm = is in cc)
-object_keeps Rfcomm client parts is = (steps_keep (λ c. c.held ≡ client.held) (held_steady client.held) client parts refl, λ q. steps_keep IsQuiet quiet_steady client parts q)
+object_keeps Rfcomm client parts is = (
+  steps_keep (λ c. c.held ≡ client.held) (held_steady client.held) client parts refl,
+  (λ q. steps_keep IsQuiet quiet_steady client parts q),
+  steps_keep (λ c. IsMet c → IsMet client) (met_steady (IsMet client)) client parts (λ m. m),
+)
 
 at_keeps : (client : Client) (parts : List Part) → client.transport ≡ Rfcomm → (stage : Stage) → IsLate stage → Keeps client (steps_at stage client parts).client
 at_keeps client parts t Object late = object_keeps client.transport client parts t
-at_keeps client parts t (ObjectEnd Due) late = (refl, λ q. q)
+at_keeps client parts t (ObjectEnd Due) late = (refl, (λ q. q), λ m. m)
 at_keeps client parts t (ObjectEnd Asked) late = still client
-at_keeps client parts t (LinkEnd Due) late = (refl, λ q. q)
+at_keeps client parts t (LinkEnd Due) late = (refl, (λ q. q), λ m. m)
 at_keeps client parts t (LinkEnd Asked) late = still client
 at_keeps client parts t Over late = tells_keeps client.cause client parts
 at_keeps client parts t Rest late = still client
@@ -330,7 +367,7 @@ transport_steady t = record {
   takes_off = λ c q. q;
   tells = λ mux frame c q. q;
   closes = λ mux c q. q;
-  makes = λ session contact octets c q. q;
+  makes = λ session contact octets c met q. q;
   ending = λ cause o c q. by_transport cause o c q;
   lacking = λ c q. q;
 }

@@ -16,3 +16,5 @@ pub mod Exchanges
 pub mod Parties
 pub mod Carriage
 pub mod Dialogs
+pub mod Searches
+pub mod Cancelling

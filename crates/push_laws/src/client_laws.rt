@@ -1,5 +1,6 @@
 //! Laws of a client of Object Push, for every list of what may happen to it from a begin on.
 
+ghost use Rattle.push_laws.specs.Cancelling.{CancelsUntilAllIsSent};
 ghost use Rattle.push_laws.specs.Exchanges.{SendsBehindResponses};
 ghost use Rattle.push_laws.specs.Opening.{OpensTheServerChannel, OpensTheTarget, OpensTwoAtMost};
 ghost use Rattle.push_laws.specs.Parties.{PushesLeaveAlike};
@@ -60,4 +61,9 @@ pub fn sends_behind_responses()
 /// had room: so it may begin the next one.
 pub fn pushes_leave_alike()
     ensures { PushesLeaveAlike }
+{}
+
+/// A push that is under way without a cause may be cancelled until its client has sent CONNECT and all its PUTs, whatever it hears.
+pub fn cancels_until_all_is_sent()
+    ensures { CancelsUntilAllIsSent }
 {}

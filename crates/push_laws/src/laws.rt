@@ -6,6 +6,7 @@ ghost use Rattle.push_laws.specs.Dialogs.{CarriedAreHeard, CarriedAreTaken, Clie
 ghost use Rattle.push_laws.specs.Example.{OneFaultIsHeard, OnePushIsHeard};
 ghost use Rattle.push_laws.specs.Laws.{AnswersComeInTurn, CreditsAreRead, GainsAllButFaults, GainsWhatIsHeard, LendsFewOctets, OnePacketIsHeard};
 ghost use Rattle.push_laws.specs.Parties.{RequestsAreHeard, RequestsAreTaken, RequestsComeInTurn};
+ghost use Rattle.push_laws.specs.Searches.{MuxedClientsStay, NewClientsAreMuxed, PushedAreHeard, PushedAreTaken, TargetsAreServed};
 ghost use Rattle.push_laws.specs.Turns.{NoRequestIsIgnored};
 
 /// From a new server on the inbox gains exactly the objects that the heard packets spell, over both transports and through
@@ -114,4 +115,29 @@ pub fn carried_requests_are_heard()
 pub fn multiplexers_stay()
     ensures always { MultiplexersStay }
     ensures pushed { ClientsStay }
+{}
+
+/// A client hears of the service, in its whole push, nothing or the ways that the record of its server names, and opens the channel
+/// that this names: over L2CAP PSM 1001, over RFCOMM server channel 9. That is so push after push from a new server on, whatever
+/// becomes of the pushes and whatever the inbox answers, where what comes on the channel to the service records was sent there
+/// before, on that link: it may be lost, come twice or come late.
+pub fn targets_are_served()
+    ensures { TargetsAreServed }
+{}
+
+/// A client over RFCOMM as it is made opens the multiplexer, gives its peer 1 to 40 credits and wants no single response mode, and
+/// its packets have room for any request. It stays so behind each push of an object whose name has at most 100 units and whose
+/// length stands in four octets.
+pub fn muxed_clients_stay()
+    ensures new { NewClientsAreMuxed }
+    ensures pushed { MuxedClientsStay }
+{}
+
+/// Of such clients no request is ignored, and none is refused for its length: push after push, whatever becomes of the pushes and
+/// whatever the two sides take as their maxima. Of what a client hears of the service nothing is asked, since that is what the server's
+/// record names; nor of the length of its packets, which is what the server stated in its response to CONNECT; nor of what comes over
+/// L2CAP, where it sends nothing. All that the laws of a server ask of what may come holds then.
+pub fn pushed_requests_are_heard()
+    ensures granted { PushedAreHeard }
+    ensures failing { PushedAreTaken }
 {}

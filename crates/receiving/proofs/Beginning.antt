@@ -1,6 +1,6 @@
 -- A host at its beginning.
-use Rattle.std.proofs.Common.{◌≡◌, ◌∙◌, ℕ, Bool, true, false, not, nat_lt, List, [], ◌++◌, length, refl, sym, ap, subst, true≢false, arith}
-use Rattle.std.specs.Prelude.{Option, Some, None, Result, Ok, Err}
+use Rattle.std.proofs.Common.{◌≡◌, ◌∙◌, ℕ, true, false, nat_lt, List, [], ◌++◌, length, refl, sym, ap, subst, true≢false, arith}
+use Rattle.std.specs.Prelude.{Option, Result, Err}
 use Rattle.std.proofs.lemmas.List.{append-nil}
 use Rattle.bt_base.specs.Objects.{Contents}
 use Rattle.bt_base.specs.PlainSettings.{IsPlain}
@@ -8,7 +8,6 @@ use Rattle.bt_base.specs.Streams.{gained, GainedFront}
 use Rattle.bt_base.proofs.PortLaws.{front_none}
 use Rattle.btpush_forms.specs.declared.status.Status.TheVariants as status
 use Rattle.h4_framing.specs.Framing.{Framing}
-use Rattle.h4_framing.specs.Stream.{IsUnfinished}
 use Rattle.h4_framing.proofs.TakingLemmas.{nothing_unfinished}
 use Rattle.host_link.specs.declared.role.Role.TheVariants.{Server}
 use Rattle.host_link.specs.PuttingOut.{started}
@@ -18,7 +17,7 @@ use Rattle.host_model.specs.Hosts.{Host}
 use Rattle.host_model.specs.Settings.{plain_settings}
 use Rattle.bt_host.specs.NotedHosts.{noted_server}
 use Rattle.bt_host.specs.Refusals.{acl_limit, fresh_framing}
-use Rattle.bt_host.specs.Stacks.{Standing, Rests}
+use Rattle.bt_host.specs.Stacks.{Rests}
 use Rattle.receiving.specs.declared.fault.ListenFault.{ListenFault}
 use Rattle.receiving.specs.declared.fault.ListenFault.TheVariants.{Refused, ReadFault, WriteFault, NoMemory}
 use Rattle.receiving.specs.Turns.{Stand, HasRest, Begun, begun, emptied}

@@ -1,26 +1,21 @@
 -- The laws of a host that is fed a stream.
-use Rattle.std.proofs.Common.{◌≡◌, ◌≢◌, ◌∙◌, ◌⊎◌, inl, inr, ℕ, ◌+◌, ◌≤◌, Bool, true, false, not, nat_lt, List, [], ◌∷◌, ◌++◌, length, refl, sym, ap, subst, true≢false, append_assoc, length-append, arith}
+use Rattle.std.proofs.Common.{◌≡◌, ◌≢◌, ◌∙◌, inl, inr, ℕ, ◌+◌, ◌≤◌, Bool, true, false, not, nat_lt, List, [], ◌∷◌, ◌++◌, length, refl, sym, ap, subst, true≢false, append_assoc, length-append, arith}
 use Rattle.std.specs.Prelude.{Option, Some, None, IfSome, Result, Ok, Err}
 use Rattle.std.specs.List.{AllByRecursion}
 use Rattle.std.proofs.lemmas.List.{append-nil}
 use Rattle.h4_framing.specs.declared.refusal.H4Refusal.{H4Refusal}
 use Rattle.h4_framing.specs.declared.refusal.H4Refusal.TheVariants as h4
 use Rattle.h4_framing.specs.Packets.{Packet, spellings, IsPacket}
-use Rattle.h4_framing.specs.Stream.{Ending, Whole, Cut, Fault, Reads, GoesWrong, IsUnfinished, IsLeastLength}
+use Rattle.h4_framing.specs.Stream.{Ending, Whole, Cut, Fault, Reads, GoesWrong, IsUnfinished}
 use Rattle.h4_framing.proofs.ExtentLemmas.{wrong_more}
 use Rattle.h4_framing.proofs.ReadingLemmas.{one_reading}
-use Rattle.host_model.specs.Circumstances.{Circumstance}
-use Rattle.host_model.specs.Profiles.{Profile}
 use Rattle.bt_host.specs.Refusals.{acl_limit}
-use Rattle.bt_host.specs.Stacks.{Standing, Rests}
-use Rattle.receiving.specs.declared.fault.StreamRefusal.{StreamRefusal}
 use Rattle.receiving.specs.declared.fault.StreamRefusal.TheVariants as refusals
 use Rattle.receiving.specs.declared.fault.ListenFault.{ListenFault}
 use Rattle.receiving.specs.declared.fault.ListenFault.TheVariants.{Refused, ReadFault, WriteFault, NoMemory}
-use Rattle.receiving.specs.Turns.{Stand, Begun, Moves, HasRest, emptied, is_full, packets_in}
-use Rattle.receiving.specs.Coming.{input_limit, Ends, Comes}
+use Rattle.receiving.specs.Turns.{emptied, packets_in}
+use Rattle.receiving.specs.Coming.{input_limit, Ends}
 use Rattle.receiving.specs.Laws.{NothingIsHeldBack, IsHeard, StreamsAreHeard}
-use Rattle.receiving.proofs.Lists.{empty_parts}
 use Rattle.receiving.proofs.Still.{rests_emptied, moves_still}
 
 not_not : (b : Bool) → not b ≡ false → b ≡ true

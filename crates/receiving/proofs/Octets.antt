@@ -1,16 +1,14 @@
 -- A host is fed one octet more.
-use Rattle.std.proofs.Common.{◌≡◌, ◌≢◌, ◌∙◌, ◌⊎◌, inl, inr, ℕ, ◌+◌, ◌<◌, ◌≤◌, Bool, true, false, not, nat_lt, List, [], ◌∷◌, ◌++◌, length, refl, sym, ap, subst, true≢false, append_assoc, length-append, arith}
-use Rattle.std.specs.Prelude.{Option, Some, None, Result, Ok, Err, option_to_list}
+use Rattle.std.proofs.Common.{◌≡◌, ◌≢◌, ◌∙◌, ◌⊎◌, inl, inr, ℕ, ◌<◌, ◌≤◌, Bool, true, false, not, nat_lt, List, [], ◌∷◌, ◌++◌, length, refl, sym, ap, subst, true≢false, append_assoc, length-append, arith}
+use Rattle.std.specs.Prelude.{Option, Some, None, Ok, Err, option_to_list}
 use Rattle.std.specs.List.{AllByRecursion}
 use Rattle.std.proofs.lemmas.List.{append-nil}
 use mathlib.Core.Path.{fun_ext}
 use Rattle.bt_base.specs.Streams.{gained, GainedFront}
-use Rattle.bt_base.proofs.PortLaws.{gained-gained, gained-nil, front_whole, front_then}
-use Rattle.h4_framing.specs.declared.refusal.H4Refusal.{H4Refusal}
+use Rattle.bt_base.proofs.PortLaws.{gained-gained, front_whole, front_then}
 use Rattle.h4_framing.specs.declared.refusal.H4Refusal.TheVariants as h4
 use Rattle.h4_framing.specs.Packets.{Packet, Command, Acl, Sync, Event, spelling, spellings, IsPacket}
-use Rattle.h4_framing.specs.Stream.{GoesWrong}
-use Rattle.h4_framing.specs.Framing.{Framing, counted}
+use Rattle.h4_framing.specs.Framing.{Framing}
 use Rattle.h4_framing.proofs.ReadingLemmas.{no_wrong_nothing}
 use Rattle.hci_packets.specs.Events.{PlainEvent, CommandComplete, CommandStatus}
 use Rattle.host_link.specs.declared.news.ControllerFault.{ControllerFault}
@@ -23,16 +21,16 @@ use Rattle.host_model.specs.Profiles.{Profile}
 use Rattle.bt_host.specs.declared.feed_refusal.FeedRefusal.{FeedRefusal}
 use Rattle.bt_host.specs.declared.feed_refusal.FeedRefusal.TheVariants as fed
 use Rattle.bt_host.specs.Refusals.{acl_limit, refusal_by, BeginsRefused, IsRefused}
-use Rattle.bt_host.specs.Pieces.{IsTaken, IsStopped, place_behind}
+use Rattle.bt_host.specs.Pieces.{IsStopped, place_behind}
 use Rattle.bt_host.specs.Stacks.{Standing, Rests}
 use Rattle.receiving.specs.declared.fault.StreamRefusal.{StreamRefusal}
 use Rattle.receiving.specs.declared.fault.StreamRefusal.TheVariants as refusals
 use Rattle.receiving.specs.declared.fault.ListenFault.{ListenFault}
 use Rattle.receiving.specs.declared.fault.ListenFault.TheVariants.{Refused, ReadFault, WriteFault, NoMemory}
-use Rattle.receiving.specs.Turns.{Stand, Moves, HearsOne, HasRest, Posture, Begun, Turn, HasTurn, HasTurns, packets_in, said_in, is_full, emptied}
-use Rattle.receiving.specs.Feeding.{HearsEach, Listens, IsFed}
+use Rattle.receiving.specs.Turns.{Stand, HearsOne, HasRest, Begun, Turn, HasTurn, HasTurns, packets_in, said_in, is_full, emptied}
+use Rattle.receiving.specs.Feeding.{Listens, IsFed}
 use Rattle.receiving.specs.Coming.{input_limit, BeginsFaulty, Ends, Halts}
-use Rattle.receiving.specs.Faring.{Fares, HearsOctet, told_by, IsOfSink}
+use Rattle.receiving.specs.Faring.{Fares, told_by, IsOfSink}
 use Rattle.receiving.proofs.Lists.{none_before, one_at_most, some_spelled}
 use Rattle.receiving.proofs.Still.{rests_emptied, emptied_same, moves_still}
 use Rattle.receiving.proofs.Turning.{turns_snoc, packets_snoc, said_snoc, Framed, whole_more, framed_more}

@@ -1,6 +1,6 @@
 -- A new server that is fed a source.
-use Rattle.std.proofs.Common.{◌≡◌, ℕ, Bool, true, false, nat_lt, List, length, refl, sym, ap, subst}
-use Rattle.std.specs.Prelude.{Option, None, Result, Ok, Err}
+use Rattle.std.proofs.Common.{◌≡◌, ℕ, Bool, true, false, nat_lt, List, length, refl, sym, subst}
+use Rattle.std.specs.Prelude.{Option, None, Result, Err}
 use Rattle.bt_base.specs.Objects.{Contents}
 use Rattle.bt_base.specs.PlainSettings.{IsPlain}
 use Rattle.bt_base.specs.declared.settings.Settings.{Settings}

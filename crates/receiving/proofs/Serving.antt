@@ -1,13 +1,11 @@
 -- A server in code is a host that is fed.
 use Rattle.std.proofs.Common.{◌≡◌, ◌∙◌, ℕ, ◌≤◌, List, [], ◌∷◌, ◌++◌, length, drop, refl, sym, ap, subst, arith}
-use Rattle.std.specs.Prelude.{Option, Some, None, Result, Ok, Err, MatchOption, IsErrOf, OnOk}
-use Rattle.std.specs.List.{flat_map}
+use Rattle.std.specs.Prelude.{Option, None, Result, Ok, Err, MatchOption, IsErrOf, OnOk}
 use Rattle.std.proofs.lemmas.List.{drop_all}
 use Rattle.std.proofs.lemmas.List.Concat.{flat_map-append}
 use mathlib.Core.Path.{fun_ext}
 use Rattle.bt_base.specs.Counts.{HasRisen}
 use Rattle.bt_base.specs.Objects.{Contents}
-use Rattle.bt_base.specs.declared.settings.Settings.{Settings}
 use Rattle.h4_framing.specs.Packets.{Packet}
 use Rattle.h4_framing.specs.Framing.{Framing}
 use Rattle.obex_session.specs.InboxCalls.{Answer}
@@ -17,11 +15,10 @@ use Rattle.host_model.specs.Servers.{ServerProfile}
 use Rattle.bt_host.specs.declared.feed_refusal.FeedRefusal.{FeedRefusal}
 use Rattle.bt_host.specs.declared.feed_refusal.FeedRefusal.TheVariants.{Transport, CommandFailed, BadBuffers, NoMemory}
 use Rattle.bt_host.specs.Noting.{Noted, with_end}
-use Rattle.bt_host.specs.NotedHosts.{noted_server, server_noting}
+use Rattle.bt_host.specs.NotedHosts.{server_noting}
 use Rattle.bt_host.specs.Refusals.{refusal_in}
-use Rattle.bt_host.specs.Pieces.{IsTaken}
 use Rattle.bt_host.specs.Serving.{Served, Asks, Lacks}
-use Rattle.bt_host.specs.Stacks.{Stacked, Standing, standing, Reacts, Moment, GoesOn, HearsAll, IsResting}
+use Rattle.bt_host.specs.Stacks.{Standing, standing, Reacts, Moment, GoesOn, HearsAll}
 use Rattle.bt_host.specs.Shells.{Shelled, FeedsOn, Feeds}
 use Rattle.receiving.specs.Turns.{Stand, Moves, emptied}
 use Rattle.receiving.specs.Feeding.{HearsEach, Listens, IsFed}

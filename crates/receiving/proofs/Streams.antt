@@ -1,22 +1,20 @@
 -- A host is fed a source piece by piece.
-use Rattle.std.proofs.Common.{◌≡◌, ◌≢◌, ◌∙◌, ◌⊎◌, inl, inr, ℕ, ◌+◌, ◌<◌, ◌≤◌, Bool, true, false, List, [], ◌∷◌, ◌++◌, length, take, drop, refl, sym, ap, subst, append_assoc, length-append, arith}
+use Rattle.std.proofs.Common.{◌≡◌, ◌∙◌, inl, inr, ℕ, ◌+◌, ◌≤◌, List, [], ◌∷◌, ◌++◌, length, refl, sym, ap, subst, append_assoc, length-append, arith}
 use Rattle.std.specs.Prelude.{Option, Some, None, IfSome, Result, Ok, Err}
 use Rattle.std.proofs.lemmas.List.{append-nil}
 use Rattle.bt_base.specs.Streams.{gained}
 use Rattle.bt_base.proofs.PortLaws.{front_whole}
 use Rattle.h4_framing.specs.Packets.{spellings}
-use Rattle.h4_framing.specs.Stream.{IsLeastLength}
 use Rattle.h4_framing.specs.Framing.{Framing}
 use Rattle.h4_view.specs.View.{Took}
 use Rattle.h4_view.proofs.Stands.{took_then}
 use Rattle.host_model.specs.Profiles.{Profile}
-use Rattle.bt_host.specs.Refusals.{acl_limit}
 use Rattle.receiving.specs.declared.fault.StreamRefusal.TheVariants as refusals
 use Rattle.receiving.specs.declared.fault.ListenFault.{ListenFault}
 use Rattle.receiving.specs.declared.fault.ListenFault.TheVariants.{Refused, ReadFault, WriteFault, NoMemory}
 use Rattle.receiving.specs.Turns.{Stand, Begun, packets_in, said_in}
 use Rattle.receiving.specs.Coming.{input_limit, Ends, Writes, Unless, Halts, Comes}
-use Rattle.receiving.specs.Faring.{Fares, HearsOctet, HearsPiece, Follows, FollowsOn, EndsHeld, EndsAtLimit, IsOfSource}
+use Rattle.receiving.specs.Faring.{Fares, HearsOctet, HearsPiece, Follows, EndsHeld, EndsAtLimit, IsOfSource}
 
 pub writes_all : (sink sink' : Option (List ℕ)) (said : List ℕ) (result : Result (Unit {0}) ListenFault) → sink' ≡ gained sink said → Writes sink sink' said result
 writes_all sink sink' said (Ok done) is = is

@@ -1,18 +1,17 @@
 -- One turn more, and one octet more.
-use Rattle.std.proofs.Common.{◌≡◌, ◌≢◌, ◌∙◌, ℕ, ◌+◌, ◌<◌, ◌≤◌, Bool, true, false, not, nat_lt, List, [], ◌∷◌, ◌++◌, length, refl, sym, ap, subst, true≢false, append_assoc, length-append, arith, tests}
-use Rattle.std.specs.Prelude.{Option, Some, None, fold, option_to_list}
-use Rattle.std.specs.List.{AllByRecursion, flat_map}
+use Rattle.std.proofs.Common.{◌≡◌, ◌∙◌, ℕ, ◌+◌, ◌<◌, ◌≤◌, List, [], ◌∷◌, ◌++◌, length, refl, sym, ap, subst, append_assoc, length-append, arith}
+use Rattle.std.specs.Prelude.{None, fold, option_to_list}
+use Rattle.std.specs.List.{AllByRecursion}
 use Rattle.std.proofs.lemmas.List.{append-nil}
 use Rattle.std.proofs.lemmas.List.Concat.{flat_map-append}
 use Rattle.h4_framing.specs.Packets.{Packet, spelling, spellings, IsPacket}
 use Rattle.h4_framing.specs.Stream.{IsUnfinished}
 use Rattle.h4_framing.specs.Framing.{Framing, counted}
 use Rattle.h4_view.proofs.Showing.{spellings-append}
-use Rattle.host_model.specs.Circumstances.{Circumstance}
 use Rattle.host_model.specs.Profiles.{Profile}
 use Rattle.bt_host.specs.Refusals.{acl_limit}
-use Rattle.bt_host.specs.Pieces.{IsRead, IsTaken, place_behind}
-use Rattle.receiving.specs.Turns.{Stand, HasRest, Posture, Begun, Turn, HasTurn, HasTurns, packets_in, said_in, is_full, emptied}
+use Rattle.bt_host.specs.Pieces.{IsTaken}
+use Rattle.receiving.specs.Turns.{Posture, Turn, HasTurn, HasTurns, packets_in, said_in}
 use Rattle.receiving.specs.Coming.{input_limit}
 
 -- ---- lists

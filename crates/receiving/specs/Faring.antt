@@ -15,7 +15,7 @@ use Rattle.h4_framing.specs.declared.refusal.H4Refusal.TheVariants as h4
 use Rattle.receiving.specs.declared.fault.StreamRefusal.TheVariants as refusals
 use Rattle.receiving.specs.declared.fault.ListenFault.{ListenFault}
 use Rattle.receiving.specs.declared.fault.ListenFault.TheVariants.{Refused, ReadFault, WriteFault, NoMemory}
-use Rattle.receiving.specs.Turns.{Stand, HasRest, Posture, Begun, Turn, HasTurns, packets_in, said_in}
+use Rattle.receiving.specs.Turns.{Stand, HasRest, Begun, Turn, HasTurns, packets_in, said_in}
 use Rattle.receiving.specs.Coming.{input_limit, Halts, Comes}
 
 -- It heard the packets of the octets that it was fed, and holds what stands behind them; and all that it said is written.

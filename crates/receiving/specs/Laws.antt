@@ -1,5 +1,5 @@
 -- What holds of a host that is fed a stream, whatever host it is and whatever it is fed (this project's own).
-use Rattle.std.specs.Prelude.{ℕ, ◌≡◌, ◌≤◌, Bool, false, List, ◌++◌, length, Option, Some, Result, Ok, Err}
+use Rattle.std.specs.Prelude.{ℕ, ◌≡◌, ◌≤◌, false, List, ◌++◌, length, Option, Some, Result, Ok, Err}
 use Rattle.h4_framing.specs.Packets.{Packet}
 use Rattle.h4_framing.specs.Stream.{Whole, Reads}
 use Rattle.host_model.specs.Circumstances.{Circumstance}

@@ -1,5 +1,5 @@
 -- The form `receive`: a host that receives is fed a source (this project's own).
-use Rattle.std.specs.Prelude.{ℕ, ◌≡◌, ◌⊎◌, List, [], Option, None, IfSome, codes, Result, Ok, Err}
+use Rattle.std.specs.Prelude.{ℕ, ◌≡◌, ◌⊎◌, List, [], Option, codes, Result, Ok, Err}
 use Rattle.bt_base.specs.Counts.{HasRisen}
 use Rattle.bt_base.specs.Objects.{Contents}
 use Rattle.bt_base.specs.PlainSettings.{IsPlain}
@@ -8,7 +8,6 @@ use Rattle.btpush_forms.specs.declared.status.Status.{Status}
 use Rattle.btpush_forms.specs.declared.status.Status.TheVariants as status
 use Rattle.btpush_forms.specs.Carrying.{place_line}
 use Rattle.btpush_forms.specs.Refusing.{Refuses}
-use Rattle.host_model.specs.Circumstances.{Circumstance}
 use Rattle.host_model.specs.Servers.{ServerProfile}
 use Rattle.bt_host.specs.Newness.{new_stack}
 use Rattle.bt_host.specs.Noting.{Noted}

@@ -10,7 +10,8 @@ use Rattle.link_talk.specs.declared.channel.Channel.{Channel}
 use Rattle.link_talk.specs.Sayings.{Saying}
 use Rattle.channel_model.specs.Policies.{Policy, policy}
 use Rattle.channel_model.specs.Value.{no_channels}
-use Rattle.channel_laws.specs.Belonging.{IsRead}
+use Rattle.channel_laws.specs.Belonging.{IsRead, AreRead}
+use Rattle.channel_laws.specs.Common.{mirrored}
 use Rattle.channel_laws.specs.Delivered.{IsRunBy}
 use Rattle.channel_laws.specs.Ends.{DoesSo, end_at}
 use Rattle.channel_laws.specs.Frames.{IsUttered, AreUttered}
@@ -18,6 +19,7 @@ use Rattle.channel_laws.specs.Pairs.{Turn, new_pair, pair_of}
 use Rattle.channel_laws.specs.Pipes.{IsCarried, AreCarried, IsFront}
 use Rattle.channel_laws.specs.Runs.{Occurrence, run_of}
 use Rattle.channel_laws.specs.Taken.{taken_of}
+use Rattle.channel_laws.proofs.Delivered.{wished-is_delivered}
 use Rattle.push_model.specs.Server.{object_psm}
 use Rattle.push_laws.specs.Parties.{Pipes, no_pipes, IsFrontOf, ArePipes}
 use Rattle.host_model.specs.Clients.{ClientProfile}
@@ -57,7 +59,7 @@ sole_in : (settings : Settings) (content : Option Contents) (weave : List Strand
 sole_in settings content weave server list none is (inl still) =
     let here : Channel = record { psm = object_psm; own = 0; peer = 0 } in
     let quiet : (run_of (policy settings true) list).said ≡ [] =
-    ap (λ (l : List Occurrence). (run_of (policy settings true) l).said) is ∙ none-said settings content weave server none (subst (AllByRecursion IsNoPdu) is still) in
+    ap (λ (l : List Occurrence). (run_of (policy settings true) l).said) is ∙ none-said object_psm settings content weave server none (subst (AllByRecursion IsNoPdu) is still) in
     record { channel = here; psm_is = refl; alone = subst (λ (l : List Saying). CarriesAlone here l) (sym quiet) tt }
 sole_in settings content weave server list none is (inr one) = record { channel = one.channel; psm_is = one.psm_is; alone = one.alone }
 
@@ -88,7 +90,7 @@ module _ (settings : Settings) (content : Option Contents) (near_all far_all : L
     past : List Turn
     later : List Occurrence
     channel : Channel
-    moment : Moment (policy settings false) (policy settings true) past (near_list settings content front (new_both client server)) (far_list settings content front (new_both client server)) later channel
+    moment : Moment object_psm (policy settings false) (policy settings true) past (near_list settings content front (new_both client server)) (far_list settings content front (new_both client server)) later channel
 
   at_moment : (twists front rest : List Twist) → joints_of (asking settings content) twists (new_both client server) ≡ joints_from (new_pair (policy settings false) (policy settings true)) pair.turns → twists ≡ front ++ rest → At front
   at_moment twists front rest is split = record { past = run.past; later = flat_map far_in after; channel = only.channel; moment = so }
@@ -118,24 +120,35 @@ module _ (settings : Settings) (content : Option Contents) (near_all far_all : L
       only =
           sole_in settings content (flat_map of_server twists) server far_all server_none (sym pair.far_list ∙ (ap (flat_map far_in) (sym is) ∙ far-joints settings content twists first)) carries
 
-      so : Moment P Q run.past (near_list settings content front first) (far_list settings content front first) (flat_map far_in after) only.channel
+      reads : AreRead P Q run.past
+      reads = each_ahead (λ past turn. IsRead turn.happening (end_at turn.side (pair_of P Q past))) pair.turns run.past run.later run.turns_are pair.read
+
+      near_by : IsRunBy P (pair_of P Q run.past).near.run (near_list settings content front first)
+      near_by = subst (IsRunBy P (pair_of P Q run.past).near.run) (near-joints settings content front first) run.near_by
+
+      far_by : IsRunBy Q (pair_of P Q run.past).far.run (far_list settings content front first)
+      far_by = subst (IsRunBy Q (pair_of P Q run.past).far.run) (far-joints settings content front first) run.far_by
+
+      so : Moment object_psm P Q run.past (near_list settings content front first) (far_list settings content front first) (flat_map far_in after) only.channel
       so = record {
-        fair = each_ahead (λ past turn. DoesSo IsUttered turn.happening (end_at turn.side (pair_of P Q past))) pair.turns run.past run.later run.turns_are pair.fair;
-        read = each_ahead (λ past turn. IsRead turn.happening (end_at turn.side (pair_of P Q past))) pair.turns run.past run.later run.turns_are pair.read;
-        carried = each_ahead (λ past turn. IsCarried turn.happening (end_at turn.side (pair_of P Q past))) pair.turns run.past run.later run.turns_are carried;
-        can = both_can settings object_psm;
-        near_mode = refl;
-        far_mode = refl;
-        near_by = subst (IsRunBy P (pair_of P Q run.past).near.run) (near-joints settings content front first) run.near_by;
-        far_by = subst (IsRunBy Q (pair_of P Q run.past).far.run) (far-joints settings content front first) run.far_by;
+        read = reads;
+        carries = λ psm aside is. aside.0 is;
+        delivers = λ has.
+            let both = wished-is_delivered P Q run.past (mirrored only.channel) (near_list settings content front first) (far_list settings content front first)
+            (each_ahead (λ past turn. DoesSo IsUttered turn.happening (end_at turn.side (pair_of P Q past))) pair.turns run.past run.later run.turns_are pair.fair) reads
+            (each_ahead (λ past turn. IsCarried turn.happening (end_at turn.side (pair_of P Q past))) pair.turns run.past run.later run.turns_are carried) has
+            (both_can settings only.channel.psm) (ap (λ n. (P.wish n).mode) only.psm_is) (ap (λ n. (Q.wish n).mode) only.psm_is) near_by far_by in
+            (both.0 (party_of settings sides.B) (states_frame settings true sides.B), both.1 (party_of settings sides.A) (states_frame settings false sides.A));
+        near_by = near_by;
+        far_by = far_by;
         psm_is = only.psm_is;
         alone = subst (λ (l : List Occurrence). CarriesAlone only.channel (run_of Q l).said) far_parts only.alone;
       }
 
   pipes_at : (front : List Twist) → At front → ArePipes (carried_all settings content front (new_both client server) no_pipes)
   pipes_at front at = record {
-    requests = requests (requests-come P Q at.past one other at.later at.channel at.moment (party_of settings sides.A) (states_frame settings false sides.A));
-    responses = responses (responses-come P Q at.past one other at.later at.channel at.moment (party_of settings sides.B) (states_frame settings true sides.B));
+    requests = requests (requests-come object_psm P Q at.past one other at.later at.channel at.moment);
+    responses = responses (responses-come object_psm P Q at.past one other at.later at.channel at.moment);
   }
     where
       one : List Occurrence
@@ -156,17 +169,17 @@ module _ (settings : Settings) (content : Option Contents) (near_all far_all : L
       heard_is : now.responses_come ≡ handed_for object_psm (run_of P one).up
       heard_is = sum.heard ∙ ap (handed_for object_psm) (sym (ups_of P one))
 
-      requests : RequestsCome P Q at.past one other at.later at.channel at.moment → IsFrontOf now.requests_come now.requests_sent
+      requests : RequestsCome object_psm P Q at.past one other at.later at.channel at.moment → IsFrontOf now.requests_come now.requests_sent
       requests (inl none) = none_of now.requests_come now.requests_sent (come_is ∙ none)
       requests (inr (has, front')) =
           front_of (handed_for object_psm (run_of Q other).up) (taken_of P at.channel.peer one) now.requests_come now.requests_sent come_is
-          (sum.sent ∙ took-is settings at.channel.peer (flat_map of_client front) client client_none (λ identifier psm own other_psm asked opened. asked-agrees P Q at.past one other at.later at.channel at.moment has identifier psm own other_psm asked opened)) front'
+          (sum.sent ∙ took-is object_psm settings at.channel.peer (flat_map of_client front) client client_none (λ identifier psm own other_psm asked opened. asked-agrees object_psm P Q at.past one other at.later at.channel at.moment has identifier psm own other_psm asked opened)) front'
 
-      responses : ResponsesCome P Q at.past one other at.later at.channel at.moment → IsFrontOf now.responses_come now.responses_sent
+      responses : ResponsesCome object_psm P Q at.past one other at.later at.channel at.moment → IsFrontOf now.responses_come now.responses_sent
       responses (inl none) = none_of now.responses_come now.responses_sent (heard_is ∙ none)
       responses (inr front') =
           front_of (handed_for object_psm (run_of P one).up) (taken_of Q at.channel.own other) now.responses_come now.responses_sent heard_is
-          (sum.gone ∙ went-is settings content at.channel.own (flat_map of_server front) server server_none (λ psm own opened. far-agrees P Q at.past one other at.later at.channel at.moment psm own opened)) front'
+          (sum.gone ∙ went-is object_psm settings content at.channel.own (flat_map of_server front) server server_none (λ psm own opened. far-agrees object_psm P Q at.past one other at.later at.channel at.moment psm own opened)) front'
 
   pub stays-piped : StaysPiped (asking settings content) pair.turns client server
   stays-piped twists is = stay-piped settings content twists (new_both client server) no_pipes (λ front rest split. pipes_at front (at_moment twists front rest is split))

@@ -34,10 +34,11 @@ use Rattle.push_laws.specs.Sending.{sdus_of, packets_through}
 use Rattle.world_model.specs.Machines.{News, Linked, Failed, Heard, TimerFired, Cancelled, Opening}
 use Rattle.host_model.specs.Circumstances.{Circumstance}
 use Rattle.host_model.specs.Clients as profile
-use Rattle.host_model.specs.Clients.{ClientProfile, ended, cause_of, client_profile}
+use Rattle.host_model.specs.Clients.{ClientProfile, ended, cause_of, client_profile, fitted}
 use Rattle.host_model.specs.Endpoints.{Endpoint, endpoint_of, takes_sdu}
 use Rattle.host_model.specs.Hosts.{handed}
 use Rattle.host_model.specs.Pdus.{sdu_of}
+use Rattle.host_model.specs.Shelves.{unused}
 use Rattle.host_laws.specs.Fed.{feeds_up, next_happening, strand_feeds}
 use Rattle.host_laws.specs.Feeds.{Learns}
 use Rattle.host_laws.specs.Pushing.{Affair, Does, end_asked, then_ends, opened_pushed, closed_pushed, event_pushed, sent_pushed, step_pushed, pushed_from}
@@ -182,7 +183,7 @@ pub data Makes (before after : ClientProfile) (taken sent : List (List ℕ)) : T
   Refuses : (Stuck before → ⊥) → taken ≡ [] → (one : List ℕ) → sent ≡ one ∷ [] → Stuck after → Makes before after taken sent
 
 -- the SDU that waits, and the step that was given, stay
-same_makes : (before after : ClientProfile) (sent : List (List ℕ)) → sent ≡ [] → after.submitted ≡ before.submitted → after.client.given ≡ before.client.given → Makes before after [] sent
+pub same_makes : (before after : ClientProfile) (sent : List (List ℕ)) → sent ≡ [] → after.submitted ≡ before.submitted → after.client.given ≡ before.client.given → Makes before after [] sent
 same_makes before after sent none submitted given = Same none refl even (λ stuck. record { none = submitted ∙ stuck.none; held = given ∙ stuck.held })
   where
     even : Even before → Even after
@@ -299,7 +300,7 @@ module _ (settings : Settings) where
   none_step (Ended outcome) client parts none = ap (λ (l : List (List ℕ)). l ++ []) none
   none_step NoMemory client parts none = ap (λ (l : List (List ℕ)). l ++ []) none
 
-  same_submitted : (step : Step) (v : Channels) (after before : ClientProfile) → ((psm : ℕ) (payload : Payload) → step ≡ SendSdu psm payload → ⊥) → after.submitted ≡ before.submitted → (profile.takes step v after before).profile.submitted ≡ before.submitted
+  pub same_submitted : (step : Step) (v : Channels) (after before : ClientProfile) → ((psm : ℕ) (payload : Payload) → step ≡ SendSdu psm payload → ⊥) → after.submitted ≡ before.submitted → (profile.takes step v after before).profile.submitted ≡ before.submitted
   same_submitted Wait v after before rests same = same
   same_submitted MakeLink v after before rests same = refl
   same_submitted AskFeatures v after before rests same = same
@@ -318,24 +319,25 @@ module _ (settings : Settings) where
   asked_none : (client : Client) (parts : List Part) (o : Stepped) → o ≡ steps.steps client parts → client.transport ≡ L2cap → sdus_of o.step ≡ [] → sent_by (Asks parts) client ≡ []
   asked_none client parts o is direct none = asked_is client parts o is direct ∙ none_if (client.psm == object_psm) _ (none_if (is_object client.stage) _ none)
 
-  not_held : (p : ClientProfile) → p.client.given ≡ false → p.client.given ≡ true → ⊥
+  pub not_held : (p : ClientProfile) → p.client.given ≡ false → p.client.given ≡ true → ⊥
   not_held p free held = let e : false ≡ true = sym free ∙ held in cc
 
   abbrev Stepping_makes : ClientProfile → Channels → Stepped → Type 0
   Stepping_makes p v o =
-      Makes p (profile.takes o.step v (record p { client = o.client; parts = o.left }) p).profile (taken_with o.step p.endpoints v) (sent_with (step_pushed o.step p.parts ++ []) p.client)
+      Makes p (profile.takes o.step v (record p { client = o.client; parts = unused o.left p.parts }) p).profile (taken_with o.step p.endpoints v) (sent_with (step_pushed o.step (fitted p) ++ []) p.client)
 
   -- an SDU goes to its channel, or it does not
-  submits_sent : (own : Option ℕ) (octets : List ℕ) (v : Channels) (p : ClientProfile) (client : Client) (parts : List Part) → p.submitted ≡ None → p.client.given ≡ false → client.given ≡ true
-      → (let after : ClientProfile = record p { client = client; parts = parts } in Makes p (profile.submits own (Octets octets) v after).profile (taken_on own octets v) (octets ∷ []))
-  submits_sent None octets v p client parts none free held = Refuses (λ stuck. not_held p free stuck.held) refl octets refl (record { none = none; held = held })
-  submits_sent (Some own) octets v p client parts none free held = by (takes_sdu own octets v)
+  pub submits_sent : (own : Option ℕ) (payload : Payload) (v : Channels) (p : ClientProfile) (client : Client) (parts : List Part) → p.submitted ≡ None → p.client.given ≡ false → client.given ≡ true
+      → (let after : ClientProfile = record p { client = client; parts = parts } in Makes p (profile.submits own payload v after).profile (taken_on own (sdu_of payload) v) (sdu_of payload ∷ []))
+  submits_sent None payload v p client parts none free held = Refuses (λ stuck. not_held p free stuck.held) refl (sdu_of payload) refl (record { none = none; held = held })
+  submits_sent (Some own) payload v p client parts none free held = by (takes_sdu own (sdu_of payload) v)
     where
-      by : (taken : Bool) → Makes p (cond taken (profile.waiting (sends own octets v) (record p { client = client; parts = parts; submitted = Some own })) (profile.waiting v (record p { client = client; parts = parts }))).profile (cond taken (octets ∷ []) []) (octets ∷ [])
+      by : (taken : Bool)
+          → Makes p (cond taken (profile.waiting (sends own (sdu_of payload) v) (record p { client = client; parts = parts; submitted = Some own })) (profile.waiting v (record p { client = client; parts = parts }))).profile (cond taken (sdu_of payload ∷ []) []) (sdu_of payload ∷ [])
       by true = Takes (λ stuck. not_held p free stuck.held) refl (inr held)
-      by false = Refuses (λ stuck. not_held p free stuck.held) refl octets refl (record { none = none; held = held })
+      by false = Refuses (λ stuck. not_held p free stuck.held) refl (sdu_of payload) refl (record { none = none; held = held })
 
-  submits_client : (own : Option ℕ) (payload : Payload) (v : Channels) (after : ClientProfile) → (profile.submits own payload v after).profile.client ≡ after.client
+  pub submits_client : (own : Option ℕ) (payload : Payload) (v : Channels) (after : ClientProfile) → (profile.submits own payload v after).profile.client ≡ after.client
   submits_client None payload v after = refl
   submits_client (Some own) payload v after = by (takes_sdu own (sdu_of payload) v)
     where
@@ -346,57 +348,57 @@ module _ (settings : Settings) where
   request_makes : (here : Bool) (octets : List ℕ) (v : Channels) (p : ClientProfile) (client : Client) (parts : List Part) → (p.client.psm == object_psm) ≡ here → p.submitted ≡ None → p.client.given ≡ false → client.given ≡ true
       → (let after : ClientProfile = record p { client = client; parts = parts } in
       Makes p (profile.submits (endpoint_of p.client.psm p.endpoints) (Octets octets) v after).profile (cond here (taken_on (endpoint_of p.client.psm p.endpoints) octets v) []) (cond here (octets ∷ []) []))
-  request_makes true octets v p client parts is none free held = submits_sent (endpoint_of p.client.psm p.endpoints) octets v p client parts none free held
+  request_makes true octets v p client parts is none free held = submits_sent (endpoint_of p.client.psm p.endpoints) (Octets octets) v p client parts none free held
   request_makes false octets v p client parts is none free held =
       let after : ClientProfile = record p { client = client; parts = parts } in
       Takes (λ stuck. not_held p free stuck.held) refl (inr (ap (λ (c : Client). c.given) (submits_client (endpoint_of p.client.psm p.endpoints) (Octets octets) v after) ∙ held))
 
-  none_submitted : (p : ClientProfile) → p.client.given ≡ false → Even p → p.submitted ≡ None
+  pub none_submitted : (p : ClientProfile) → p.client.given ≡ false → Even p → p.submitted ≡ None
   none_submitted p free (inl none) = none
   none_submitted p free (inr held) = absurd (not_held p free held)
 
-  kind_makes : (p : ClientProfile) (v : Channels) (o : Stepped) → o ≡ steps.steps p.client p.parts → p.client.transport ≡ L2cap → p.client.given ≡ false → p.submitted ≡ None → Kind p.client o → Stepping_makes p v o
+  kind_makes : (p : ClientProfile) (v : Channels) (o : Stepped) → o ≡ steps.steps p.client (fitted p) → p.client.transport ≡ L2cap → p.client.given ≡ false → p.submitted ≡ None → Kind p.client o → Stepping_makes p v o
   kind_makes p v o is direct free none (Rests quiet untaken rests) =
-      let after : ClientProfile = record p { client = o.client; parts = o.left } in
-      Same (none_step o.step p.client p.parts (asked_none p.client p.parts o is direct quiet)) (untaken p.endpoints v) (λ even. inl (same_submitted o.step v after p rests refl ∙ none)) (λ stuck. absurd (not_held p free stuck.held))
+      let after : ClientProfile = record p { client = o.client; parts = unused o.left p.parts } in
+      Same (none_step o.step p.client (fitted p) (asked_none p.client (fitted p) o is direct quiet)) (untaken p.endpoints v) (λ even. inl (same_submitted o.step v after p rests refl ∙ none)) (λ stuck. absurd (not_held p free stuck.held))
   kind_makes p v o is direct free none (Searches payload step away held) =
-      let after : ClientProfile = record p { client = o.client; parts = o.left } in
-      let asked : sent_by (Asks p.parts) p.client ≡ [] =
-      asked_is p.client p.parts o is direct ∙ none_if (p.client.psm == object_psm) _ (cond-false (is_object p.client.stage) (sdus_of o.step) [] away) in
-      let sent = none_step o.step p.client p.parts asked in
+      let after : ClientProfile = record p { client = o.client; parts = unused o.left p.parts } in
+      let asked : sent_by (Asks (fitted p)) p.client ≡ [] =
+      asked_is p.client (fitted p) o is direct ∙ none_if (p.client.psm == object_psm) _ (cond-false (is_object p.client.stage) (sdus_of o.step) [] away) in
+      let sent = none_step o.step p.client (fitted p) asked in
       let taken : taken_with o.step p.endpoints v ≡ [] = ap (λ (s : Step). taken_with s p.endpoints v) step in
       Takes (λ stuck. not_held p free stuck.held) (sent ∙ sym taken)
       (inr (ap (λ (s : Step). (profile.takes s v after p).profile.client.given) step ∙ (ap (λ (c : Client). c.given) (submits_client (endpoint_of 0x0001 p.endpoints) payload v after) ∙ held)))
   kind_makes p v o is direct free none (Sends octets step works held) =
-      let after : ClientProfile = record p { client = o.client; parts = o.left } in
+      let after : ClientProfile = record p { client = o.client; parts = unused o.left p.parts } in
       let here = p.client.psm == object_psm in
-      let asked : sent_by (Asks p.parts) p.client ≡ cond here (octets ∷ []) [] =
-      asked_is p.client p.parts o is direct ∙ ap (λ (l : List (List ℕ)). cond here l []) (cond-true (is_object p.client.stage) (sdus_of o.step) [] works ∙ ap sdus_of step) in
-      let sent : sent_with (step_pushed o.step p.parts ++ []) p.client ≡ cond here (octets ∷ []) [] =
-      ap (λ (s : Step). sent_with (step_pushed s p.parts ++ []) p.client) step ∙ (append-nil (sent_by (Asks p.parts) p.client) ∙ asked) in
-      subst (λ (s : Step). Makes p (profile.takes s v after p).profile (taken_with s p.endpoints v) (sent_with (step_pushed o.step p.parts ++ []) p.client)) (sym step)
+      let asked : sent_by (Asks (fitted p)) p.client ≡ cond here (octets ∷ []) [] =
+      asked_is p.client (fitted p) o is direct ∙ ap (λ (l : List (List ℕ)). cond here l []) (cond-true (is_object p.client.stage) (sdus_of o.step) [] works ∙ ap sdus_of step) in
+      let sent : sent_with (step_pushed o.step (fitted p) ++ []) p.client ≡ cond here (octets ∷ []) [] =
+      ap (λ (s : Step). sent_with (step_pushed s (fitted p) ++ []) p.client) step ∙ (append-nil (sent_by (Asks (fitted p)) p.client) ∙ asked) in
+      subst (λ (s : Step). Makes p (profile.takes s v after p).profile (taken_with s p.endpoints v) (sent_with (step_pushed o.step (fitted p) ++ []) p.client)) (sym step)
       (subst (λ (l : List (List ℕ)). Makes p (profile.submits (endpoint_of p.client.psm p.endpoints) (Octets octets) v after).profile (cond here (taken_on (endpoint_of p.client.psm p.endpoints) octets v) []) l) (sym sent)
-      (request_makes here octets v p o.client o.left refl none free held))
+      (request_makes here octets v p o.client (unused o.left p.parts) refl none free held))
 
-  rest_makes : (p : ClientProfile) (v : Channels) (step : Step) → (let o : Stepped = record { client = p.client; step = step; left = p.parts } in o ≡ steps.steps p.client p.parts) → p.client.transport ≡ L2cap → (step ≡ Wait) ⊎ (step ≡ NoMemory)
-      → (let o : Stepped = record { client = p.client; step = step; left = p.parts } in Stepping_makes p v o)
+  rest_makes : (p : ClientProfile) (v : Channels) (step : Step) → (let o : Stepped = record { client = p.client; step = step; left = fitted p } in o ≡ steps.steps p.client (fitted p)) → p.client.transport ≡ L2cap → (step ≡ Wait) ⊎ (step ≡ NoMemory)
+      → (let o : Stepped = record { client = p.client; step = step; left = fitted p } in Stepping_makes p v o)
   rest_makes p v step is direct (inl waits) =
-      let o : Stepped = record { client = p.client; step = step; left = p.parts } in
-      subst (λ (s : Step). Makes p (profile.takes s v (record p { client = p.client; parts = p.parts }) p).profile (taken_with s p.endpoints v) (sent_with (step_pushed s p.parts ++ []) p.client)) (sym waits)
-      (same_makes p p _ (none_step Wait p.client p.parts (asked_none p.client p.parts o is direct (ap sdus_of waits))) refl refl)
+      let o : Stepped = record { client = p.client; step = step; left = fitted p } in
+      subst (λ (s : Step). Makes p (profile.takes s v (record p { client = p.client; parts = unused (fitted p) p.parts }) p).profile (taken_with s p.endpoints v) (sent_with (step_pushed s (fitted p) ++ []) p.client)) (sym waits)
+      (same_makes p (record p { parts = unused (fitted p) p.parts }) _ (none_step Wait p.client (fitted p) (asked_none p.client (fitted p) o is direct (ap sdus_of waits))) refl refl)
   rest_makes p v step is direct (inr lacks) =
-      let o : Stepped = record { client = p.client; step = step; left = p.parts } in
-      subst (λ (s : Step). Makes p (profile.takes s v (record p { client = p.client; parts = p.parts }) p).profile (taken_with s p.endpoints v) (sent_with (step_pushed s p.parts ++ []) p.client)) (sym lacks)
-      (same_makes p p _ (none_step NoMemory p.client p.parts (asked_none p.client p.parts o is direct (ap sdus_of lacks))) refl refl)
+      let o : Stepped = record { client = p.client; step = step; left = fitted p } in
+      subst (λ (s : Step). Makes p (profile.takes s v (record p { client = p.client; parts = unused (fitted p) p.parts }) p).profile (taken_with s p.endpoints v) (sent_with (step_pushed s (fitted p) ++ []) p.client)) (sym lacks)
+      (same_makes p (record p { parts = unused (fitted p) p.parts }) _ (none_step NoMemory p.client (fitted p) (asked_none p.client (fitted p) o is direct (ap sdus_of lacks))) refl refl)
 
-  steps_makes : (failed given : Bool) (p : ClientProfile) (v : Channels) → p.client.failed ≡ failed → p.client.given ≡ given → p.client.transport ≡ L2cap → Even p → Stepping_makes p v (steps.steps p.client p.parts)
+  steps_makes : (failed given : Bool) (p : ClientProfile) (v : Channels) → p.client.failed ≡ failed → p.client.given ≡ given → p.client.transport ≡ L2cap → Even p → Stepping_makes p v (steps.steps p.client (fitted p))
   steps_makes true given p v failed_is given_is direct even =
       let is = sym (cond-true p.client.failed _ _ failed_is) in subst (Stepping_makes p v) is (rest_makes p v NoMemory is direct (inr refl))
   steps_makes false true p v failed_is given_is direct even =
       let is = sym (cond-false p.client.failed _ _ failed_is ∙ cond-true p.client.given _ _ given_is) in subst (Stepping_makes p v) is (rest_makes p v Wait is direct (inl refl))
   steps_makes false false p v failed_is given_is direct even =
       let is = sym (cond-false p.client.failed _ _ failed_is ∙ cond-false p.client.given _ _ given_is) in
-      kind_makes p v (steps.steps p.client p.parts) refl direct given_is (none_submitted p given_is even) (subst (Kind p.client) is (at_kind p.client.stage p.client p.parts refl direct))
+      kind_makes p v (steps.steps p.client (fitted p)) refl direct given_is (none_submitted p given_is even) (subst (Kind p.client) is (at_kind p.client.stage p.client (fitted p) refl direct))
 
   -- ---- any thing
 

@@ -7,7 +7,7 @@ use Rattle.bt_base.specs.declared.ports.PortFault.{PortFault}
 use Rattle.bt_base.specs.declared.ports.PortFault.TheVariants as fault
 use Rattle.bt_base.specs.declared.settings.Settings.{Settings}
 use Rattle.bt_base.specs.declared.settings.Transport.{Transport}
-use Rattle.bt_base.specs.declared.settings.Transport.TheVariants.{L2cap}
+use Rattle.bt_base.specs.declared.settings.Transport.TheVariants.{L2cap, Rfcomm}
 use Rattle.push_terms.specs.declared.outcome.Outcome.{Outcome}
 use Rattle.push_terms.specs.declared.outcome.Outcome.TheVariants as outcomes
 use Rattle.obex_session.specs.PutPackets.{units_in}
@@ -18,35 +18,16 @@ use Rattle.push_laws.specs.Sending.{packets_by, AnswersTo, MayPush}
 use Rattle.push_laws.proofs.Inverting.{Sends, Rests, Connects, Puts, Aborts, Leaves, asks_send}
 use Rattle.push_laws.proofs.Pushing.{Task, Fixed, Fresh, Stands}
 use Rattle.push_laws.proofs.Sending.{deed_stands}
+use Rattle.push_laws.proofs.Staying.{multiplexers-stay}
 use Rattle.push_laws.proofs.Talks.{Talk, talk_of, Kept, news_keeps, hears_by}
+use Rattle.host_laws.specs.Answered.{IsSmall, IsAnswered, AllAnswered}
 use Rattle.host_laws.specs.Pushing.{Affair, Begins, Does, client_after, client_behind}
-use Rattle.request_laws.specs.BothFed.{IsSmall, IsAnswered, AllAnswered}
+use Rattle.request_laws.specs.BothFed.{most_octets, AllAsked}
 
--- ---- it stays on L2CAP
+-- ---- it stays on its transport
 
 abbrev IsDirect : Talk → Type 0
 IsDirect t = t.transport ≡ L2cap
-
--- ---- what is so of it at each moment
-
-abbrev task : (maximum : ℕ) (wanted : Bool) (name : List ℕ) (size : ℕ) → Task
-task maximum wanted name size = record { maximum = maximum; wanted = wanted; name = name; size = size; content = None }
-
-pub record Good (client : Client) : Type 0 where
-  pub maximum : ℕ
-  pub wanted : Bool
-  pub name : List ℕ
-  pub size : ℕ
-  pub sent : List (List ℕ)
-  pub stands : Stands (task maximum wanted name size) sent (talk_of client)
-  pub most : 255 ≤ maximum
-  pub direct : client.transport ≡ L2cap
-
-pub may_push : (client : Client) (name : List ℕ) (size : ℕ) → Good client → IsSmall (Ok size) name → MayPush client name size
-may_push client name size good small =
-    let fixed = good.stands.0 in
-    let bounded : size ≤ 16777215 = small.bounded size refl in
-    record { short = small.short; small = omega arith; own = subst (λ (n : ℕ). 255 ≤ n) (sym fixed.maximum) good.most; least = fixed.least; most = fixed.most }
 
 direct_kept : Kept IsDirect
 direct_kept = record {
@@ -75,21 +56,10 @@ deed_direct (Asks parts) client answers d = sends_direct client _ (talk_of (push
 deed_direct Finishes client answers d = d
 deed_direct Cancels client answers d = either_direct (may_cancel client) (ends outcomes.Cancelled client) client (ends_direct client.cause outcomes.Cancelled client d) d
 
--- ---- whatever it does
-
-good_deed : (deed : Deed) (client : Client) → AnswersTo None deed client → Good client → Good (push.done deed client)
-good_deed deed client answers good =
-    let w = task good.maximum good.wanted good.name good.size in
-    record {
-      maximum = good.maximum;
-      wanted = good.wanted;
-      name = good.name;
-      size = good.size;
-      sent = good.sent ++ packets_by deed client;
-      stands = deed_stands w good.sent deed client answers good.stands;
-      most = good.most;
-      direct = deed_direct deed client answers good.direct;
-    }
+-- on either
+deed_line : (line : Transport) (deed : Deed) (client : Client) → AnswersTo None deed client → client.transport ≡ line → (push.done deed client).transport ≡ line
+deed_line L2cap deed client answers d = deed_direct deed client answers d
+deed_line Rfcomm deed client answers d = (multiplexers-stay client (deed ∷ []) d).0
 
 no_cause : (o : Outcome) → None ≡ Some o → ⊥
 no_cause o e = cc
@@ -100,50 +70,80 @@ some_cause o e = cc
 not_done : Some outcomes.ShelfFault ≡ Some outcomes.Done → ⊥
 not_done e = cc
 
-fixed_anew : (client : Client) (name : List ℕ) (size : ℕ) → (good : Good client) → length (units_in name) ≤ 100 → size ≤ 16777215 → Fixed (task good.maximum good.wanted name size) (with_object name size client).session name size client.limit
-fixed_anew client name size good short bounded =
-    let fixed = good.stands.0 in
-    record { maximum = fixed.maximum; wanted = fixed.wanted; name_is = refl; size_is = refl; short = short; small = omega arith; least = fixed.least; most = fixed.most }
+abbrev task : (maximum : ℕ) (wanted : Bool) (name : List ℕ) (size : ℕ) → Task
+task maximum wanted name size = record { maximum = maximum; wanted = wanted; name = name; size = size; content = None }
 
-good_begun : (size : Result ℕ PortFault) (name : List ℕ) (client : Client) → IsSmall size name → Good client → Good (begun_by size name client)
-good_begun (Ok size) name client small good =
-    let w = task good.maximum good.wanted name size in
-    let own : 255 ≤ client.session.maximum = subst (λ (n : ℕ). 255 ≤ n) (sym good.stands.0.maximum) good.most in
-    record {
-      maximum = good.maximum;
-      wanted = good.wanted;
-      name = name;
-      size = size;
-      sent = [];
-      stands = (fixed_anew client name size good small.short (small.bounded size refl), Fresh refl refl refl refl (λ e. own) (no_cause outcomes.Done));
-      most = good.most;
-      direct = good.direct;
-    }
-good_begun (Err fault.Failed) name client small good =
-    let w = task good.maximum good.wanted name 0 in
-    record {
-      maximum = good.maximum;
-      wanted = good.wanted;
-      name = name;
-      size = 0;
-      sent = [];
-      stands = (fixed_anew client name 0 good small.short (omega arith), Fresh refl refl refl refl (λ e. absurd (some_cause outcomes.ShelfFault e)) not_done);
-      most = good.most;
-      direct = good.direct;
-    }
-good_begun (Err fault.NoMemory) name client small good = record { maximum = good.maximum; wanted = good.wanted; name = good.name; size = good.size; sent = good.sent; stands = good.stands; most = good.most; direct = good.direct }
+module _ (line : Transport) (maximum : ℕ) (wanted : Bool) where
+  -- ---- what is so of it at each moment, where it takes packets so long and wants single response mode, or not
 
-either_good : (test : Bool) (a b : Client) → Good a → Good b → Good (cond test a b)
-either_good true a b x y = x
-either_good false a b x y = y
+  pub record Good (client : Client) : Type 0 where
+    pub name : List ℕ
+    pub size : ℕ
+    pub sent : List (List ℕ)
+    pub stands : Stands (task maximum wanted name size) sent (talk_of client)
+    pub most : 255 ≤ maximum
+    pub direct : client.transport ≡ line
 
-good_affair : (one : Affair) (client : Client) → IsAnswered one client → Good client → Good (client_after one client)
-good_affair (Begins size name) client small good = either_good client.failed client (begun_by size name client) good (good_begun size name client small good)
-good_affair (Does deed) client answers good = good_deed deed client answers good
+  pub may_push : (client : Client) (name : List ℕ) (size : ℕ) → Good client → IsSmall most_octets (Ok size) name → MayPush client name size
+  may_push client name size good small =
+      let fixed = good.stands.0 in
+      let bounded : size ≤ most_octets = small.bounded size refl in
+      record { short = small.short; small = omega arith; own = subst (λ (n : ℕ). 255 ≤ n) (sym fixed.maximum) good.most; least = fixed.least; most = fixed.most }
 
-pub good_all : (affairs : List Affair) (client : Client) → AllAnswered affairs client → Good client → Good (client_behind affairs client)
-good_all [] client answered good = good
-good_all (one ∷ rest) client answered good = good_all rest (client_after one client) answered.1 (good_affair one client answered.0 good)
+  -- ---- whatever it does
+
+  good_deed : (deed : Deed) (client : Client) → AnswersTo None deed client → Good client → Good (push.done deed client)
+  good_deed deed client answers good =
+      let w = task maximum wanted good.name good.size in
+      record {
+        name = good.name;
+        size = good.size;
+        sent = good.sent ++ packets_by deed client;
+        stands = deed_stands w good.sent deed client answers good.stands;
+        most = good.most;
+        direct = deed_line line deed client answers good.direct;
+      }
+
+  fixed_anew : (client : Client) (name : List ℕ) (size : ℕ) → (good : Good client) → length (units_in name) ≤ 100 → size ≤ most_octets → Fixed (task maximum wanted name size) (with_object name size client).session name size client.limit
+  fixed_anew client name size good short bounded =
+      let fixed = good.stands.0 in
+      record { maximum = fixed.maximum; wanted = fixed.wanted; name_is = refl; size_is = refl; short = short; small = omega arith; least = fixed.least; most = fixed.most }
+
+  good_begun : (size : Result ℕ PortFault) (name : List ℕ) (client : Client) → IsSmall most_octets size name → Good client → Good (begun_by size name client)
+  good_begun (Ok size) name client small good =
+      let w = task maximum wanted name size in
+      let own : 255 ≤ client.session.maximum = subst (λ (n : ℕ). 255 ≤ n) (sym good.stands.0.maximum) good.most in
+      record {
+        name = name;
+        size = size;
+        sent = [];
+        stands = (fixed_anew client name size good small.short (small.bounded size refl), Fresh refl refl refl refl (λ e. own) (no_cause outcomes.Done));
+        most = good.most;
+        direct = good.direct;
+      }
+  good_begun (Err fault.Failed) name client small good =
+      let w = task maximum wanted name 0 in
+      record {
+        name = name;
+        size = 0;
+        sent = [];
+        stands = (fixed_anew client name 0 good small.short (omega arith), Fresh refl refl refl refl (λ e. absurd (some_cause outcomes.ShelfFault e)) not_done);
+        most = good.most;
+        direct = good.direct;
+      }
+  good_begun (Err fault.NoMemory) name client small good = record { name = good.name; size = good.size; sent = good.sent; stands = good.stands; most = good.most; direct = good.direct }
+
+  either_good : (test : Bool) (a b : Client) → Good a → Good b → Good (cond test a b)
+  either_good true a b x y = x
+  either_good false a b x y = y
+
+  pub good_affair : (one : Affair) (client : Client) → IsAnswered most_octets one client → Good client → Good (client_after one client)
+  good_affair (Begins size name) client small good = either_good client.failed client (begun_by size name client) good (good_begun size name client small good)
+  good_affair (Does deed) client answers good = good_deed deed client answers good
+
+  pub good_all : (affairs : List Affair) (client : Client) → AllAsked (IsAnswered most_octets) affairs client → Good client → Good (client_behind affairs client)
+  good_all [] client answered good = good
+  good_all (one ∷ rest) client answered good = good_all rest (client_after one client) answered.1 (good_affair one client answered.0 good)
 
 -- ---- the first moment
 
@@ -153,16 +153,14 @@ no_units = subst (λ (cs : List ℕ). length (flat_map encode_utf16 cs) ≤ 100)
 least_min : (a b : ℕ) → 255 ≤ a → 255 ≤ b → 255 ≤ min a b
 least_min a b x y = omega arith
 
-own_least : (settings : Settings) → settings.transport ≡ L2cap → 255 ≤ (new_client settings).session.maximum
-own_least settings is = subst (λ (t : Transport). 255 ≤ own_maximum t settings) (sym is) (least_min settings.obex settings.mtu settings.obex_low settings.mtu_low)
+own_least : (line : Transport) (settings : Settings) → 255 ≤ own_maximum line settings
+own_least L2cap settings = least_min settings.obex settings.mtu settings.obex_low settings.mtu_low
+own_least Rfcomm settings = settings.obex_low
 
-pub good_first : (settings : Settings) → settings.transport ≡ L2cap → Good (new_client settings)
-good_first settings is =
-    let client = new_client settings in
-    let own = own_least settings is in
+pub good_first : (settings : Settings) (line : Transport) → settings.transport ≡ line → Good line (new_client settings).session.maximum (new_client settings).session.wanted (new_client settings)
+good_first settings line is =
+    let own : 255 ≤ (new_client settings).session.maximum = own_least settings.transport settings in
     record {
-      maximum = client.session.maximum;
-      wanted = client.session.wanted;
       name = [];
       size = 0;
       sent = [];
@@ -173,14 +171,19 @@ good_first settings is =
 
 -- ---- lists of affairs
 
-pub answered_ahead : (xs ys : List Affair) (client : Client) → AllAnswered (xs ++ ys) client → AllAnswered xs client
+pub answered_ahead : (xs ys : List Affair) (client : Client) → AllAsked (IsAnswered most_octets) (xs ++ ys) client → AllAsked (IsAnswered most_octets) xs client
 answered_ahead [] ys client all = tt
 answered_ahead (x ∷ xs) ys client all = (all.0, answered_ahead xs ys (client_after x client) all.1)
 
-pub answered_behind : (xs ys : List Affair) (client : Client) → AllAnswered (xs ++ ys) client → AllAnswered ys (client_behind xs client)
+pub answered_behind : (xs ys : List Affair) (client : Client) → AllAsked (IsAnswered most_octets) (xs ++ ys) client → AllAsked (IsAnswered most_octets) ys (client_behind xs client)
 answered_behind [] ys client all = all
 answered_behind (x ∷ xs) ys client all = answered_behind xs ys (client_after x client) all.1
 
 pub client-both : (xs ys : List Affair) (client : Client) → client_behind (xs ++ ys) client ≡ client_behind ys (client_behind xs client)
 client-both [] ys client = refl
 client-both (x ∷ xs) ys client = client-both xs ys (client_after x client)
+
+-- what the laws on a client say of its affairs
+pub all_asked : (affairs : List Affair) (client : Client) → AllAnswered most_octets affairs client → AllAsked (IsAnswered most_octets) affairs client
+all_asked [] client answered = tt
+all_asked (one ∷ rest) client answered = (answered.0, all_asked rest (client_after one client) answered.1)

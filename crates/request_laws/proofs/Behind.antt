@@ -1,4 +1,4 @@
--- Nothing comes on the channel of the object behind its end: what a server is told is what its channels tell.
+-- Nothing comes on the one channel of a PSM behind its end: what a server is told is what its channels tell.
 use Rattle.std.proofs.Common.{◌≡◌, ℕ, ◌==◌, Bool, true, false, cond, eqb, ◌&&◌, List, [], ◌∷◌, ◌++◌, Option, Some, None, inl, inr, refl, sym, ap, ap₂, subst, ◌∙◌}
 use Rattle.std.specs.Prelude.{map, slice_get, option_to_list}
 use Rattle.std.specs.List.{AllByRecursion, flat_map, cons_option}
@@ -8,39 +8,51 @@ use Rattle.acl_fragments.specs.Pieces.{channel_of}
 use Rattle.bt_base.specs.declared.settings.Settings.{Settings}
 use Rattle.bt_base.specs.Objects.{Contents}
 use Rattle.link_talk.specs.declared.channel.Channel.{Channel}
-use Rattle.link_talk.specs.Channels.{reading}
+use Rattle.link_talk.specs.Channels.{Entry, reading}
 use Rattle.channel_model.specs.declared.event.ChannelEvent.{ChannelEvent}
 use Rattle.channel_model.specs.declared.event.ChannelEvent.TheVariants as events
 use Rattle.channel_model.specs.Hearing.{up}
-use Rattle.channel_model.specs.Policies.{policy}
+use Rattle.channel_model.specs.Policies.{Policy, policy}
 use Rattle.channel_model.specs.Value.{Channels, no_channels}
-use Rattle.channel_laws.specs.Runs.{run_of}
+use Rattle.channel_laws.specs.Closings.{IsClosingRead}
+use Rattle.channel_laws.specs.Endpoints.{IsOf}
+use Rattle.channel_laws.specs.Runs.{Occurrence, run_of}
+use Rattle.channel_laws.specs.Singly.{AsksForNoChannel}
+use Rattle.channel_laws.specs.Views.{channel_by, read_at}
+use Rattle.channel_laws.proofs.Shutting.{closings-are_read}
 use Rattle.push_model.specs.Server.{Lent, lends, lent_sdu, object_psm}
 use Rattle.push_laws.specs.Occurrences as push
-use Rattle.push_laws.specs.Parties.{sdu_if, come_by}
+use Rattle.push_laws.specs.Parties.{sdu_if}
 use Rattle.push_laws.specs.Readings.{closes}
 use Rattle.world_model.specs.Machines.{Linked, Up, Down, Failed, Heard, TimerFired, Cancelled, Opening}
 use Rattle.host_model.specs.Endpoints.{endpoint_of, takes_sdu}
 use Rattle.host_model.specs.Pdus.{sdu_of}
 use Rattle.host_model.specs.Profiles.{Profile}
 use Rattle.host_model.specs.Servers.{ServerProfile, is_told, server_profile}
-use Rattle.host_laws.specs.Calls.{Asks, values_after}
+use Rattle.host_laws.specs.Calls.{Call, Connect, AskFeatures, Disconnect, Send, Asks, from_call, values_after}
 use Rattle.host_laws.specs.Fed.{next_happening, strand_feeds, woven_feeds}
 use Rattle.host_laws.specs.Feeds.{Feed, Gifts, Learns, Receives, Happens, Sent, Steps, fed, Tiding, Brings, Tells, Turns, tidings_in, tidings_of, tidings_from}
 use Rattle.host_laws.specs.Gaining.{IsNoSdu}
 use Rattle.host_laws.specs.GainingOver.{CarriesOne}
 use Rattle.host_laws.specs.Serving.{event_served, taken_by, lent_by, served_from}
-use Rattle.host_laws.specs.Told.{sdus_told, told_on}
-use Rattle.host_laws.specs.Woven.{Strand, Hearing, Giving, Firing, Telling, Gifting, Learning, Checking, Stepping, IsOnLink, strand_list, strand_profile, woven_list}
-use Rattle.host_laws.proofs.Gaining.{Fits, Ends, no_turns, all_fit, all_end}
+use Rattle.host_laws.specs.InOrder.{AsksNoChannels}
+use Rattle.host_laws.specs.Told.{IsOfChannel, events_told, sdus_told, told_on}
+use Rattle.host_laws.specs.Woven.{Strand, Hearing, Giving, Firing, Telling, Gifting, Learning, Checking, Stepping, IsOnLink, strand_list, strand_profile, woven_list, Woven}
+use Rattle.host_laws.proofs.Gaining.{NoTurn, Fits, Ends, no_turns, all_fit, all_end}
 use Rattle.host_laws.proofs.GainingOver.{none_told as none_comes_in}
 use Rattle.host_laws.proofs.Growing.{tidings-append, told_up, none_told}
 use Rattle.host_laws.proofs.Silence.{ends-are_last, channels-are_named}
+use Rattle.host_laws.proofs.Telling.{events_run}
 use Rattle.request_laws.specs.Behind.{NothingComesBehind}
 use Rattle.request_laws.specs.BothFed.{ComesNone}
+use Rattle.request_laws.specs.Carried.{NoneComesBehind}
+use Rattle.request_laws.specs.MuxPipes.{CarriesOneOn}
+use Rattle.request_laws.specs.Streams.{come_on}
 use Rattle.request_laws.specs.Twists.{NoneBehind}
-use Rattle.request_laws.proofs.Feeding.{event_shape, lent_shape}
-use Rattle.request_laws.proofs.HandedUp.{quiet_flat}
+use Rattle.request_laws.proofs.Feeding.{all_both, event_shape, lent_shape}
+use Rattle.request_laws.proofs.HandedUp.{none_flat}
+use Rattle.request_laws.proofs.OnPsm.{come_is}
+use Rattle.request_laws.proofs.Sole.{CarriesPackets, for_of, sole}
 
 -- ---- a server is told what its channels tell
 
@@ -68,44 +80,57 @@ module _ {P : Type 0} (A : Profile P) (asks : Asks A) where
       flat_map-append tidings_in (strand_feeds strand v) (woven_feeds A asks weave w q)
       ∙ (ap₂ (λ (a b : List Tiding). a ++ b) (strand_told strand v p on.0) (weave_told weave w q on.1) ∙ sym (tidings-append A.policy v here (woven_list A asks weave w q)))
 
--- ---- what comes on the channel of the object
+-- ---- what comes on the channels of a PSM
 
-abbrev brought : Tiding → List (List ℕ)
-brought (Brings own psm sdu) = sdu_if (psm == object_psm) sdu
-brought (Tells event) = []
-brought (Turns event) = []
+-- an SDU of the PSM is one of this channel, and of the PSM this one alone is told to be closed
+abbrev pub FitsOn : (carrier : ℕ) → Channel → Tiding → Type 0
+FitsOn carrier channel (Brings own psm sdu) = eqb psm carrier ≡ eqb own channel.own
+FitsOn carrier channel (Tells (events.Opened own psm)) = Unit {0}
+FitsOn carrier channel (Tells (events.Closed own psm reason)) = psm ≡ carrier → own ≡ channel.own
+FitsOn carrier channel (Tells (events.Features features)) = Unit {0}
+FitsOn carrier channel (Tells events.FeaturesLost) = Unit {0}
+FitsOn carrier channel (Tells (events.DisconnectLost own)) = Unit {0}
+FitsOn carrier channel (Turns event) = ⊥
 
-abbrev all_brought : List Tiding → List (List ℕ)
-all_brought tidings = flat_map brought tidings
+abbrev brought : (carrier : ℕ) → Tiding → List (List ℕ)
+brought carrier (Brings own psm sdu) = sdu_if (psm == carrier) sdu
+brought carrier (Tells event) = []
+brought carrier (Turns event) = []
 
-quiet_ahead : (xs ys : List push.Occurrence) → AllByRecursion ComesNone xs → flat_map come_by (xs ++ ys) ≡ flat_map come_by ys
-quiet_ahead xs ys quiet = flat_map-append come_by xs ys ∙ ap (λ (l : List (List ℕ)). l ++ flat_map come_by ys) (quiet_flat xs quiet)
+abbrev all_brought : (carrier : ℕ) → List Tiding → List (List ℕ)
+all_brought carrier tidings = flat_map (brought carrier) tidings
 
-none_brought : (tidings : List Tiding) → AllByRecursion IsNoSdu tidings → all_brought tidings ≡ []
-none_brought [] none = refl
-none_brought (Brings own psm sdu ∷ tidings) none = absurd none.0
-none_brought (Tells event ∷ tidings) none = none_brought tidings none.1
-none_brought (Turns event ∷ tidings) none = none_brought tidings none.1
+quiet_ahead : (carrier : ℕ) (xs ys : List push.Occurrence) → AllByRecursion ComesNone xs → flat_map (come_on carrier) (xs ++ ys) ≡ flat_map (come_on carrier) ys
+quiet_ahead carrier xs ys quiet = flat_map-append (come_on carrier) xs ys ∙ ap (λ (l : List (List ℕ)). l ++ flat_map (come_on carrier) ys) (none_flat carrier xs quiet)
+
+none_brought : (carrier : ℕ) (tidings : List Tiding) → AllByRecursion IsNoSdu tidings → all_brought carrier tidings ≡ []
+none_brought carrier [] none = refl
+none_brought carrier (Brings own psm sdu ∷ tidings) none = absurd none.0
+none_brought carrier (Tells event ∷ tidings) none = none_brought carrier tidings none.1
+none_brought carrier (Turns event ∷ tidings) none = none_brought carrier tidings none.1
+
+told_if : (one two : Bool) (sdu : List ℕ) (rest : List (List ℕ)) → one ≡ two → sdu_if one sdu ++ rest ≡ cons_option (cond two (Some sdu) None) rest
+told_if true true sdu rest same = refl
+told_if false false sdu rest same = refl
+told_if true false sdu rest same = cc
+told_if false true sdu rest same = cc
 
 -- where one channel carries packets, its SDUs come
-brought_told : (channel : Channel) (tidings : List Tiding) → AllByRecursion (Fits channel) tidings → all_brought tidings ≡ sdus_told channel.own tidings
-brought_told channel [] fits = refl
-brought_told channel (Brings own psm sdu ∷ tidings) fits = by (eqb own channel.own) refl (brought_told channel tidings fits.1)
-  where
-    by : (here : Bool) → eqb own channel.own ≡ here → all_brought tidings ≡ sdus_told channel.own tidings → sdu_if (psm == object_psm) sdu ++ all_brought tidings ≡ cons_option (cond here (Some sdu) None) (sdus_told channel.own tidings)
-    by true is later = ap (λ (b : Bool). sdu_if b sdu ++ all_brought tidings) (eq-eqb psm object_psm (fits.0.0 is)) ∙ ap (λ (l : List (List ℕ)). sdu ∷ l) later
-    by false is later = ap (λ (b : Bool). sdu_if b sdu ++ all_brought tidings) (fits.0.1 is) ∙ later
-brought_told channel (Tells event ∷ tidings) fits = brought_told channel tidings fits.1
-brought_told channel (Turns event ∷ tidings) fits = absurd fits.0
+brought_told : (carrier : ℕ) (channel : Channel) (tidings : List Tiding) → AllByRecursion (FitsOn carrier channel) tidings → all_brought carrier tidings ≡ sdus_told channel.own tidings
+brought_told carrier channel [] fits = refl
+brought_told carrier channel (Brings own psm sdu ∷ tidings) fits =
+    told_if (eqb psm carrier) (eqb own channel.own) sdu (all_brought carrier tidings) fits.0 ∙ ap (λ (l : List (List ℕ)). cons_option (cond (eqb own channel.own) (Some sdu) None) l) (brought_told carrier channel tidings fits.1)
+brought_told carrier channel (Tells event ∷ tidings) fits = brought_told carrier channel tidings fits.1
+brought_told carrier channel (Turns event ∷ tidings) fits = absurd fits.0
 
-module _ (settings : Settings) (content : Option Contents) where
+module _ (carrier : ℕ) (settings : Settings) (content : Option Contents) where
   abbrev served : ServerProfile → List Feed → List push.Occurrence
   served p feeds = served_from settings content p feeds
 
   abbrev next : ServerProfile → Feed → ServerProfile
   next p feed = fed (server_profile settings content) p feed
 
-  come_brought : (feeds : List Feed) (p : ServerProfile) → flat_map come_by (served p feeds) ≡ all_brought (tidings_of feeds)
+  pub come_brought : (feeds : List Feed) (p : ServerProfile) → flat_map (come_on carrier) (served p feeds) ≡ all_brought carrier (tidings_of feeds)
   come_brought [] p = refl
   come_brought (Gifts circumstances ∷ feeds) p = come_brought feeds (next p (Gifts circumstances))
   come_brought (Learns circumstances (Linked Up) ∷ feeds) p = come_brought feeds (next p (Learns circumstances (Linked Up)))
@@ -115,20 +140,20 @@ module _ (settings : Settings) (content : Option Contents) where
   come_brought (Learns circumstances TimerFired ∷ feeds) p = come_brought feeds (next p (Learns circumstances TimerFired))
   come_brought (Learns circumstances Cancelled ∷ feeds) p = come_brought feeds (next p (Learns circumstances Cancelled))
   come_brought (Learns circumstances (Opening name) ∷ feeds) p = come_brought feeds (next p (Learns circumstances (Opening name)))
-  come_brought (Receives own psm sdu ∷ feeds) p = ap (λ (l : List (List ℕ)). sdu_if (psm == object_psm) sdu ++ l) (come_brought feeds (next p (Receives own psm sdu)))
-  come_brought (Happens event v ∷ feeds) p = quiet_ahead (event_served event) (served (next p (Happens event v)) feeds) (event_shape event) ∙ come_brought feeds (next p (Happens event v))
+  come_brought (Receives own psm sdu ∷ feeds) p = ap (λ (l : List (List ℕ)). sdu_if (psm == carrier) sdu ++ l) (come_brought feeds (next p (Receives own psm sdu)))
+  come_brought (Happens event v ∷ feeds) p = quiet_ahead carrier (event_served event) (served (next p (Happens event v)) feeds) (event_shape event) ∙ come_brought feeds (next p (Happens event v))
   come_brought (Sent v ∷ feeds) p = come_brought feeds (next p (Sent v))
   come_brought (Steps v ∷ feeds) p =
       let lent = lent_sdu (lends p.server) in
-      quiet_ahead (lent_by lent v p) (served (next p (Steps v)) feeds) (lent_shape lent v p) ∙ come_brought feeds (next p (Steps v))
+      quiet_ahead carrier (lent_by lent v p) (served (next p (Steps v)) feeds) (lent_shape lent v p) ∙ come_brought feeds (next p (Steps v))
 
   -- ---- behind an end
 
   -- what ends no channel
   abbrev Opens : push.Occurrence → Type 0
-  Opens one = closes object_psm one ≡ false
+  Opens one = closes carrier one ≡ false
 
-  ahead_behind : (xs ys : List push.Occurrence) → AllByRecursion Opens xs → NoneBehind ys → NoneBehind (xs ++ ys)
+  ahead_behind : (xs ys : List push.Occurrence) → AllByRecursion Opens xs → NoneComesBehind carrier ys → NoneComesBehind carrier (xs ++ ys)
   ahead_behind [] ys opens behind = behind
   ahead_behind (x ∷ xs) ys opens behind = ((λ is. let never : true ≡ false = sym is ∙ opens.0 in cc), ahead_behind xs ys opens.1 behind)
 
@@ -144,19 +169,19 @@ module _ (settings : Settings) (content : Option Contents) where
   lent_opens None v p = tt
   lent_opens (Some lent) v p = taken_opens (endpoint_of lent.psm p.endpoints) lent v
 
-  quiet_behind : (xs : List push.Occurrence) → flat_map come_by xs ≡ [] → NoneBehind xs
+  quiet_behind : (xs : List push.Occurrence) → flat_map (come_on carrier) xs ≡ [] → NoneComesBehind carrier xs
   quiet_behind [] quiet = tt
-  quiet_behind (x ∷ xs) quiet = let rest = behind_none (come_by x) (flat_map come_by xs) quiet in ((λ is. rest), quiet_behind xs rest)
+  quiet_behind (x ∷ xs) quiet = let rest = behind_none (come_on carrier x) (flat_map (come_on carrier) xs) quiet in ((λ is. rest), quiet_behind xs rest)
     where
       behind_none : (ahead rest : List (List ℕ)) → ahead ++ rest ≡ [] → rest ≡ []
       behind_none [] rest none = none
       behind_none (one ∷ ahead) rest none = cc
 
-  closed_behind : (told : Bool) (psm : ℕ) (later : List push.Occurrence) → ((psm == object_psm) ≡ true → flat_map come_by later ≡ []) → NoneBehind later → NoneBehind (cond told (push.Closed psm ∷ []) [] ++ later)
+  closed_behind : (told : Bool) (psm : ℕ) (later : List push.Occurrence) → ((psm == carrier) ≡ true → flat_map (come_on carrier) later ≡ []) → NoneComesBehind carrier later → NoneComesBehind carrier (cond told (push.Closed psm ∷ []) [] ++ later)
   closed_behind true psm later none behind = (none, behind)
   closed_behind false psm later none behind = behind
 
-  none_behind : (channel : Channel) (feeds : List Feed) (p : ServerProfile) → AllByRecursion (Fits channel) (tidings_of feeds) → Ends channel.own (tidings_of feeds) → NoneBehind (served p feeds)
+  none_behind : (channel : Channel) (feeds : List Feed) (p : ServerProfile) → AllByRecursion (FitsOn carrier channel) (tidings_of feeds) → Ends channel.own (tidings_of feeds) → NoneComesBehind carrier (served p feeds)
   none_behind channel [] p fits ends = tt
   none_behind channel (Gifts circumstances ∷ feeds) p fits ends = ((λ is. cc), none_behind channel feeds (next p (Gifts circumstances)) fits ends)
   none_behind channel (Learns circumstances (Linked event) ∷ feeds) p fits ends = absurd fits.0
@@ -170,7 +195,7 @@ module _ (settings : Settings) (content : Option Contents) where
   none_behind channel (Happens (events.Closed own psm reason) v ∷ feeds) p fits ends =
       let after = next p (Happens (events.Closed own psm reason) v) in
       closed_behind (is_told reason) psm (served after feeds)
-      (λ is. come_brought feeds after ∙ (brought_told channel (tidings_of feeds) fits.1 ∙ ends.0 (ap (λ b. b && true) (eq-eqb own channel.own (fits.0 (eqb-true psm 0x1001 is))))))
+      (λ is. come_brought feeds after ∙ (brought_told carrier channel (tidings_of feeds) fits.1 ∙ ends.0 (ap (λ b. b && true) (eq-eqb own channel.own (fits.0 (eqb-true psm carrier is))))))
       (none_behind channel feeds after fits.1 ends.1)
   none_behind channel (Happens (events.Features features) v ∷ feeds) p fits ends = none_behind channel feeds (next p (Happens (events.Features features) v)) fits.1 ends.1
   none_behind channel (Happens events.FeaturesLost v ∷ feeds) p fits ends = none_behind channel feeds (next p (Happens events.FeaturesLost v)) fits.1 ends.1
@@ -178,6 +203,26 @@ module _ (settings : Settings) (content : Option Contents) where
   none_behind channel (Sent v ∷ feeds) p fits ends = none_behind channel feeds (next p (Sent v)) fits ends
   none_behind channel (Steps v ∷ feeds) p fits ends =
       let lent = lent_sdu (lends p.server) in ((λ is. cc), ahead_behind (lent_by lent v p) (served (next p (Steps v)) feeds) (lent_opens lent v p) (none_behind channel feeds (next p (Steps v)) fits ends))
+
+-- ---- of the object
+
+fits_so : (channel : Channel) (tidings : List Tiding) → AllByRecursion (Fits channel) tidings → AllByRecursion (FitsOn object_psm channel) tidings
+fits_so channel [] fits = tt
+fits_so channel (Brings own psm sdu ∷ tidings) fits = (by (eqb own channel.own) refl, fits_so channel tidings fits.1)
+  where
+    by : (here : Bool) → eqb own channel.own ≡ here → eqb psm object_psm ≡ eqb own channel.own
+    by true is = eq-eqb psm object_psm (fits.0.0 is) ∙ sym is
+    by false is = fits.0.1 is ∙ sym is
+fits_so channel (Tells (events.Opened own psm) ∷ tidings) fits = (tt, fits_so channel tidings fits.1)
+fits_so channel (Tells (events.Closed own psm reason) ∷ tidings) fits = (fits.0, fits_so channel tidings fits.1)
+fits_so channel (Tells (events.Features features) ∷ tidings) fits = (tt, fits_so channel tidings fits.1)
+fits_so channel (Tells events.FeaturesLost ∷ tidings) fits = (tt, fits_so channel tidings fits.1)
+fits_so channel (Tells (events.DisconnectLost own) ∷ tidings) fits = (tt, fits_so channel tidings fits.1)
+fits_so channel (Turns event ∷ tidings) fits = absurd fits.0
+
+behind_so : (list : List push.Occurrence) → NoneComesBehind object_psm list → NoneBehind list
+behind_so [] behind = tt
+behind_so (one ∷ rest) behind = (λ closed. come_is rest ∙ behind.0 closed, behind_so rest behind.1)
 
 pub nothing_comes_behind : NothingComesBehind
 nothing_comes_behind settings content asks list first last so carries = by carries
@@ -188,12 +233,79 @@ nothing_comes_behind settings content asks list first last so carries = by carri
     by : CarriesOne (policy settings true) list → NoneBehind (served_from settings content first (woven_feeds (server_profile settings content) asks so.weave no_channels first))
     by (inl bare) =
         let feeds = woven_feeds (server_profile settings content) asks so.weave no_channels first in
-        let none = none_brought (told_on (policy settings true) list) (none_comes_in (policy settings true) no_channels list bare) in
-        quiet_behind settings content (served_from settings content first feeds) (come_brought settings content feeds first ∙ (ap all_brought told_is ∙ none))
+        let none = none_brought object_psm (told_on (policy settings true) list) (none_comes_in (policy settings true) no_channels list bare) in
+        behind_so (served_from settings content first feeds) (quiet_behind object_psm settings content (served_from settings content first feeds) (come_brought object_psm settings content feeds first ∙ (ap (all_brought object_psm) told_is ∙ none)))
     by (inr one) =
         let wanted = policy settings true in
         let feeds = woven_feeds (server_profile settings content) asks so.weave no_channels first in
         let told = told_on wanted list in
         let fits = all_fit one.channel (reading (run_of wanted list).said).entries told one.psm_is one.alone (channels-are_named wanted list) one.closings (no_turns wanted no_channels list) in
         let ends = all_end one.channel.own told [] told refl (λ front after is closed. ends-are_last wanted list one.channel.own front after is closed) in
-        none_behind settings content one.channel feeds first (subst (AllByRecursion (Fits one.channel)) (sym told_is) fits) (subst (Ends one.channel.own) (sym told_is) ends)
+        behind_so (served_from settings content first feeds) (none_behind object_psm settings content one.channel feeds first (subst (AllByRecursion (FitsOn object_psm one.channel)) (sym told_is) (fits_so one.channel told fits)) (subst (Ends one.channel.own) (sym told_is) ends))
+
+-- ---- of the multiplexer, where the host asks for no channel
+
+module _ (carrier : ℕ) (policy : Policy) (list : List Occurrence) (carries : CarriesPackets carrier) (one : CarriesOneOn carrier policy list) where
+  abbrev entries : List Entry
+  entries = (reading (run_of policy list).said).entries
+
+  agrees : (own psm peer : ℕ) → IsOf (channel_by psm own peer) (read_at own (reading (run_of policy list).said).entries) → eqb psm carrier ≡ eqb own one.channel.own
+  agrees own psm peer is = (sole carrier one.channel (channel_by psm own peer) carries one.psm_is (for_of one.channel (channel_by psm own peer) (run_of policy list).said own one.alone is)).agrees
+
+  closing : (event : ChannelEvent) → IsClosingRead (reading (run_of policy list).said).entries event → FitsOn carrier one.channel (Tells event)
+  closing (events.Opened own psm) read = tt
+  closing (events.Closed own psm reason) (peer, is) = λ at. eqb-true own one.channel.own (sym (agrees own psm peer is) ∙ eq-eqb psm carrier at)
+  closing (events.Features features) read = tt
+  closing events.FeaturesLost read = tt
+  closing (events.DisconnectLost own) read = tt
+
+  all_on : (tidings : List Tiding) → AllByRecursion (IsOfChannel (reading (run_of policy list).said).entries) tidings → AllByRecursion (IsClosingRead (reading (run_of policy list).said).entries) (events_told tidings) → AllByRecursion NoTurn tidings
+      → AllByRecursion (FitsOn carrier one.channel) tidings
+  all_on [] named closings still = tt
+  all_on (Brings own psm sdu ∷ rest) named closings still = (agrees own psm named.0.0 named.0.1, all_on rest named.1 closings still.1)
+  all_on (Tells event ∷ rest) named closings still = (closing event closings.0, all_on rest named.1 closings.1 still.1)
+  all_on (Turns event ∷ rest) named closings still = absurd still.0
+
+  fits_all : AllByRecursion AsksForNoChannel list → AllByRecursion (FitsOn carrier one.channel) (told_on policy list)
+  fits_all none =
+      all_on (told_on policy list) (channels-are_named policy list) (subst (AllByRecursion (IsClosingRead (reading (run_of policy list).said).entries)) (events_run policy list) (closings-are_read policy list none)) (no_turns policy no_channels list)
+
+-- ---- a server asks for no channel
+
+called_none : (call : Option Call) → ((psm : ℕ) → call ≡ Some (Connect psm) → ⊥) → AllByRecursion AsksForNoChannel (from_call call)
+called_none None never = tt
+called_none (Some (Connect psm)) never = absurd (never psm refl)
+called_none (Some AskFeatures) never = (tt, tt)
+called_none (Some (Disconnect own)) never = (tt, tt)
+called_none (Some (Send own sdu)) never = (tt, tt)
+
+module _ {P : Type 0} (A : Profile P) (asks : Asks A) (nothing : AsksNoChannels A asks) where
+  strand_none : (strand : Strand) (v : Channels) (p : P) → AllByRecursion AsksForNoChannel (strand_list A asks strand v p)
+  strand_none (Hearing pdu) v p = (tt, tt)
+  strand_none (Giving pdu) v p = (tt, tt)
+  strand_none Firing v p = (tt, tt)
+  strand_none Telling v p = (tt, tt)
+  strand_none (Gifting circumstances) v p = tt
+  strand_none (Learning circumstances news) v p = tt
+  strand_none Checking v p = tt
+  strand_none Stepping v p = called_none (asks.call v p) (λ psm is. nothing v p psm is)
+
+  weave_none : (weave : List Strand) (v : Channels) (p : P) → AllByRecursion AsksForNoChannel (woven_list A asks weave v p)
+  weave_none [] v p = tt
+  weave_none (strand ∷ weave) v p =
+      let here = strand_list A asks strand v p in
+      all_both AsksForNoChannel here (woven_list A asks weave (values_after A.policy v here) (strand_profile A strand v p)) (strand_none strand v p) (weave_none weave (values_after A.policy v here) (strand_profile A strand v p))
+
+-- so nothing comes to it behind the end of its multiplexer's channel, where that alone carries packets
+pub muxes_end_last : (carrier : ℕ) (settings : Settings) (content : Option Contents) (asks : Asks (server_profile settings content)) (list : List Occurrence) (first last : ServerProfile) (so : Woven (server_profile settings content) asks list first last) → CarriesPackets carrier → AsksNoChannels (server_profile settings content) asks
+    → CarriesOneOn carrier (policy settings true) list → NoneComesBehind carrier (served_from settings content first (woven_feeds (server_profile settings content) asks so.weave no_channels first))
+muxes_end_last carrier settings content asks list first last so carries nothing one =
+    let wanted = policy settings true in
+    let B = server_profile settings content in
+    let feeds = woven_feeds B asks so.weave no_channels first in
+    let told = told_on wanted list in
+    let told_is : tidings_of feeds ≡ told = weave_told B asks so.weave no_channels first so.on_link ∙ ap (tidings_from wanted no_channels) (sym so.list_is) in
+    let none : AllByRecursion AsksForNoChannel list = subst (AllByRecursion AsksForNoChannel) (sym so.list_is) (weave_none B asks nothing so.weave no_channels first) in
+    let fits = fits_all carrier wanted list carries one none in
+    let ends = all_end one.channel.own told [] told refl (λ front after is closed. ends-are_last wanted list one.channel.own front after is closed) in
+    none_behind carrier settings content one.channel feeds first (subst (AllByRecursion (FitsOn carrier one.channel)) (sym told_is) fits) (subst (Ends one.channel.own) (sym told_is) ends)

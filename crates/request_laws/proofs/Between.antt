@@ -61,7 +61,7 @@ module _ (settings : Settings) (content : Option Contents) (asks : Asking (serve
   learned_still (Opening name) none circumstances p = tt
 
   asked_still : (more : List Occurrence) → more ≡ [] → AllByRecursion IsStill (AskedFor ∷ (more ++ []))
-  asked_still [] none = (record { come = refl; gone = refl; open_yet = refl }, tt)
+  asked_still [] none = (record { come = λ carrier. refl; gone = λ carrier. refl; open_yet = λ carrier. refl }, tt)
   asked_still (one ∷ more) none = cc
 
   strand_still : (strand : Strand) (p : ServerProfile) → IsOnLink strand → AllByRecursion HearsNothing (strand_list (server_profile settings content) asks strand no_channels p) → AllByRecursion IsStill (served_from settings content p (strand_feeds strand no_channels))
@@ -69,7 +69,7 @@ module _ (settings : Settings) (content : Option Contents) (asks : Asking (serve
   strand_still (Giving pdu) p on deaf = tt
   strand_still Firing p on deaf = tt
   strand_still Telling p on deaf = tt
-  strand_still (Gifting circumstances) p on deaf = (record { come = refl; gone = refl; open_yet = refl }, tt)
+  strand_still (Gifting circumstances) p on deaf = (record { come = λ carrier. refl; gone = λ carrier. refl; open_yet = λ carrier. refl }, tt)
   strand_still (Learning circumstances heard) p on deaf = learned_still heard on circumstances p
   strand_still Checking p on deaf = tt
   strand_still Stepping p on deaf = asked_still (lent_by (lent_sdu (lends p.server)) no_channels p) (none_lent (lent_sdu (lends p.server)) p)

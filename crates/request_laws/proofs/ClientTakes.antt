@@ -1,4 +1,4 @@
--- What a client asks to be sent on the channel of the object is what its end of that channel takes.
+-- What a client asks to be sent on the one channel of a PSM is what its end of that channel takes.
 use Rattle.std.proofs.Common.{◌≡◌, ℕ, List, [], ◌∷◌, ◌++◌, Bool, true, false, cond, eqb, ◌&&◌, Option, Some, None, refl, sym, ap, ap₂, subst, ◌∙◌, inl, append_assoc, arith}
 use Rattle.acl_fragments.specs.Pieces.{channel_of}
 use Rattle.bt_base.specs.declared.settings.Settings.{Settings}
@@ -25,20 +25,21 @@ use Rattle.channel_laws.proofs.Inviting.{held_here}
 use Rattle.channel_laws.proofs.Running.{all-sound}
 use Rattle.channel_laws.proofs.Saying.{stands-left, stands-right}
 use Rattle.push_model.specs.Payloads.{Payload}
-use Rattle.push_model.specs.Server.{object_psm}
 use Rattle.push_model.specs.Client.{Client, begins}
 use Rattle.push_model.specs.Steps.{Step, Wait, MakeLink, AskFeatures, OpenChannel, SendSdu, CloseChannel, BreakLink, Ended, NoMemory, steps}
 use Rattle.world_model.specs.Machines.{News, Linked, Up, Down, Failed, Heard, TimerFired, Cancelled, Opening}
-use Rattle.host_model.specs.Circumstances.{Circumstance, size_in}
-use Rattle.host_model.specs.Clients.{ClientProfile, NoBid, ended, after_call, submits, sent_on, takes, client_profile}
+use Rattle.host_model.specs.Circumstances.{Circumstance}
+use Rattle.host_model.specs.Clients.{ClientProfile, NoBid, ended, after_call, submits, sent_on, takes, client_profile, fitted}
 use Rattle.host_model.specs.Clients as profile
 use Rattle.host_model.specs.Endpoints.{Endpoint, endpoint_of, with_answer, takes_sdu}
 use Rattle.host_model.specs.Hosts.{handed}
 use Rattle.host_model.specs.Pdus.{sdu_of}
+use Rattle.host_model.specs.Shelves.{size_for, name_for, unused}
 use Rattle.host_laws.specs.Calls.{from_call, values_after}
 use Rattle.host_laws.specs.Woven.{Strand, Hearing, Giving, Firing, Telling, Gifting, Learning, Checking, Stepping, told_next, strand_list, strand_profile, woven_list}
 use Rattle.host_laws.proofs.Asking.{send_if, sends_on, closes_on, asked, clients_ask, clients-call}
-use Rattle.request_laws.specs.Twists.{taken_on, taken_with, taken_in}
+use Rattle.request_laws.specs.Streams.{taken_by, taken_at}
+use Rattle.request_laws.specs.Twists.{taken_on}
 use Rattle.request_laws.proofs.Accepted.{Opened, opened-open, opened-stays}
 use Rattle.request_laws.proofs.Takes.{takes_from, takes_both, takes_of, run_more, value_behind, Grown, grown, IsTaken, is_taken, AllEndpoints, with_new, all_mapped, endpoint_so}
 
@@ -80,7 +81,7 @@ asked_now own front psm can = (
 
 -- ---- the endpoints of a client
 
-module _ (settings : Settings) where
+module _ (carrier : ℕ) (settings : Settings) where
   abbrev own : Policy
   own = policy settings false
 
@@ -117,7 +118,7 @@ module _ (settings : Settings) where
   news_asked front circumstances TimerFired p all = all
   news_asked front circumstances Cancelled p all = all
   news_asked front circumstances (Opening name) p all =
-      let over : ClientProfile = record p { client = ended (begins (size_in circumstances) name p.client); submitted = None; bid = NoBid } in
+      let over : ClientProfile = record p { client = ended (begins (size_for circumstances name) (name_for name) p.client); submitted = None; bid = NoBid } in
       let one = steps over.client [] in call_asked front one.step one.client over all
 
   sent_asked : (front : List Occurrence) (found : Option ℕ) (v : Channels) (p : ClientProfile) → Asked front p → Asked front (sent_on found v p)
@@ -170,8 +171,8 @@ module _ (settings : Settings) where
   strand_asked front (Learning circumstances news) v p at all = news_asked (front ++ []) circumstances news p (later_asked front [] p all)
   strand_asked front Checking v p at all = sent_asked (front ++ []) p.submitted v p (later_asked front [] p all)
   strand_asked front Stepping v p at all =
-      let one = steps p.client p.parts in
-      let after : ClientProfile = record p { client = one.client; parts = one.left } in
+      let one = steps p.client (fitted p) in
+      let after : ClientProfile = record p { client = one.client; parts = unused one.left p.parts } in
       let here = from_call (asked one.step v after) in
       subst (λ call. Asked (front ++ from_call call) (takes one.step v after p).profile) (sym (clients-call settings v p))
       (step_asked front one.step v after p at (later_asked front here after all) (later_asked front here p all))
@@ -180,7 +181,7 @@ module _ (settings : Settings) where
 
   -- at an endpoint of the client that is open, the PSM is that of the object where the endpoint is this one
   abbrev pub Sure : List Occurrence → ℕ → Type 0
-  Sure all here = (identifier psm at other : ℕ) → HasAsked identifier psm at (run_of (policy settings false) all).said → Opened (run_of (policy settings false) all).said other at → eqb psm object_psm ≡ eqb at here
+  Sure all here = (identifier psm at other : ℕ) → HasAsked identifier psm at (run_of (policy settings false) all).said → Opened (run_of (policy settings false) all).said other at → eqb psm carrier ≡ eqb at here
 
   none_if : (test : Bool) (taken : List (List ℕ)) → taken ≡ [] → cond test taken [] ≡ []
   none_if true taken none = none
@@ -195,28 +196,28 @@ module _ (settings : Settings) where
 
   -- an endpoint that the client keeps, where its channel takes an SDU
   agrees_at : (front later : List Occurrence) (here : ℕ) (v : Channels) (endpoints : List Endpoint) (psm at : ℕ) → v ≡ (run_of own front).value → AllEndpoints (WasAsked (run_of own front).said) endpoints → Sure (front ++ later) here
-      → endpoint_of psm endpoints ≡ Some at → IsTaken at v → eqb psm object_psm ≡ eqb at here
+      → endpoint_of psm endpoints ≡ Some at → IsTaken at v → eqb psm carrier ≡ eqb at here
   agrees_at front later here v endpoints psm at is all sure found taken =
       let asked' = asked_later (run_of own front).said (run_of own (front ++ later)).said (grown own front later) (record { psm = psm; own = at }) (endpoint_so (WasAsked (run_of own front).said) psm at endpoints all found) in
       let open' = opened-open own front at taken.mtu (ap (λ (w : Channels). peer_mtu at w) (sym is) ∙ taken.mtu_is) in
       sure asked'.0 psm at open'.0 asked'.1 (opened-stays own front later open'.0 at open'.1)
 
   step_takes : (front later : List Occurrence) (here : ℕ) (step : Step) (v : Channels) (after : ClientProfile) → v ≡ (run_of own front).value → Asked front after → Sure (front ++ later) here
-      → taken_with step after.endpoints v ≡ takes_from own here v (from_call (asked step v after))
+      → taken_by carrier step after.endpoints v ≡ takes_from own here v (from_call (asked step v after))
   step_takes front later here Wait v after at all sure = refl
   step_takes front later here MakeLink v after at all sure = refl
   step_takes front later here AskFeatures v after at all sure = refl
   step_takes front later here (OpenChannel psm) v after at all sure = refl
   step_takes front later here (SendSdu psm payload) v after at all sure = on (endpoint_of psm after.endpoints) refl
     where
-      by : (at' : ℕ) (takes' : Bool) → endpoint_of psm after.endpoints ≡ Some at' → takes_sdu at' (sdu_of payload) v ≡ takes' → cond (eqb psm object_psm) (cond takes' (sdu_of payload ∷ []) []) [] ≡ takes_from own here v (from_call (send_if takes' at' payload))
-      by at' false found is = none_if (eqb psm object_psm) [] refl
+      by : (at' : ℕ) (takes' : Bool) → endpoint_of psm after.endpoints ≡ Some at' → takes_sdu at' (sdu_of payload) v ≡ takes' → cond (eqb psm carrier) (cond takes' (sdu_of payload ∷ []) []) [] ≡ takes_from own here v (from_call (send_if takes' at' payload))
+      by at' false found is = none_if (eqb psm carrier) [] refl
       by at' true found is =
           let taken = is_taken at' (sdu_of payload) v is in
-          both_if (eqb psm object_psm) (eqb at' here) (is_free (carrier_at at' v)) (sdu_of payload) (agrees_at front later here v after.endpoints psm at' at all sure found taken) taken.free
+          both_if (eqb psm carrier) (eqb at' here) (is_free (carrier_at at' v)) (sdu_of payload) (agrees_at front later here v after.endpoints psm at' at all sure found taken) taken.free
 
-      on : (found : Option ℕ) → endpoint_of psm after.endpoints ≡ found → cond (eqb psm object_psm) (taken_on found (sdu_of payload) v) [] ≡ takes_from own here v (from_call (sends_on v payload found))
-      on None found = none_if (eqb psm object_psm) [] refl
+      on : (found : Option ℕ) → endpoint_of psm after.endpoints ≡ found → cond (eqb psm carrier) (taken_on found (sdu_of payload) v) [] ≡ takes_from own here v (from_call (sends_on v payload found))
+      on None found = none_if (eqb psm carrier) [] refl
       on (Some at') found = by at' (takes_sdu at' (sdu_of payload) v) found refl
   step_takes front later here (CloseChannel psm) v after at all sure = sym (by (endpoint_of psm after.endpoints))
     where
@@ -227,7 +228,7 @@ module _ (settings : Settings) where
   step_takes front later here (Ended outcome) v after at all sure = refl
   step_takes front later here NoMemory v after at all sure = refl
 
-  strand_takes : (front later : List Occurrence) (here : ℕ) (strand : Strand) (v : Channels) (p : ClientProfile) → v ≡ (run_of own front).value → Asked front p → Sure (front ++ later) here → taken_in strand v p ≡ takes_from own here v (list_of strand v p)
+  strand_takes : (front later : List Occurrence) (here : ℕ) (strand : Strand) (v : Channels) (p : ClientProfile) → v ≡ (run_of own front).value → Asked front p → Sure (front ++ later) here → taken_at carrier strand v p ≡ takes_from own here v (list_of strand v p)
   strand_takes front later here (Hearing pdu) v p at all sure = refl
   strand_takes front later here (Giving pdu) v p at all sure = refl
   strand_takes front later here Firing v p at all sure = refl
@@ -236,8 +237,8 @@ module _ (settings : Settings) where
   strand_takes front later here (Learning circumstances news) v p at all sure = refl
   strand_takes front later here Checking v p at all sure = refl
   strand_takes front later here Stepping v p at all sure =
-      let one = steps p.client p.parts in
-      let after : ClientProfile = record p { client = one.client; parts = one.left } in
+      let one = steps p.client (fitted p) in
+      let after : ClientProfile = record p { client = one.client; parts = unused one.left p.parts } in
       step_takes front later here one.step v after at all sure ∙ ap (λ call. takes_from own here v (from_call call)) (sym (clients-call settings v p))
 
   -- ---- on a link
@@ -246,7 +247,7 @@ module _ (settings : Settings) where
   abbrev pub took : List Strand → Channels → ClientProfile → List (List ℕ)
   took [] v p = []
   took (strand ∷ weave) v p =
-      taken_in strand v p ++ took weave (values_after (client_profile settings).policy v (strand_list (client_profile settings) (clients_ask settings) strand v p)) (strand_profile (client_profile settings) strand v p)
+      taken_at carrier strand v p ++ took weave (values_after (client_profile settings).policy v (strand_list (client_profile settings) (clients_ask settings) strand v p)) (strand_profile (client_profile settings) strand v p)
 
   took_from : (here : ℕ) (weave : List Strand) (front : List Occurrence) (v : Channels) (p : ClientProfile) → v ≡ (run_of own front).value → Asked front p → Sure (front ++ woven_list (client_profile settings) (clients_ask settings) weave v p) here
       → took weave v p ≡ takes_from own here v (woven_list (client_profile settings) (clients_ask settings) weave v p)

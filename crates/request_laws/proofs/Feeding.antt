@@ -22,7 +22,7 @@ use Rattle.push_model.specs.Steps.{Part, Step, Wait, MakeLink, AskFeatures, Open
 use Rattle.push_laws.specs.Occurrences.{Occurrence, Came, Went, Closed, LinkDown}
 use Rattle.world_model.specs.Machines.{LinkEvent, Up, Down, News, Linked, Failed, Heard, TimerFired, Cancelled, Opening}
 use Rattle.host_model.specs.Circumstances.{Circumstance}
-use Rattle.host_model.specs.Clients.{ClientProfile, cause_of, client_profile}
+use Rattle.host_model.specs.Clients.{ClientProfile, cause_of, client_profile, fitted}
 use Rattle.host_model.specs.Endpoints.{endpoint_of, takes_sdu}
 use Rattle.host_model.specs.Hosts.{handed}
 use Rattle.host_model.specs.Pdus.{sdu_of}
@@ -208,7 +208,7 @@ module _ (Q : Affair → Type 0) (holds : Holds Q) where
   feed_so p (Receives own psm sdu) so = (so, tt)
   feed_so p (Happens event v) so = event_so event v
   feed_so p (Sent v) so = sent_so p.submitted v
-  feed_so p (Steps v) so = step_so (steps p.client p.parts).step p.parts
+  feed_so p (Steps v) so = step_so (steps p.client (fitted p)).step (fitted p)
 
   pub all_so : (settings : Settings) (feeds : List Feed) (p : ClientProfile) → AllByRecursion (FeedSo Q) feeds → AllByRecursion Q (pushed_from settings p feeds)
   all_so settings [] p so = tt
@@ -263,7 +263,7 @@ pub data Shape (occurrences : List Occurrence) : Type 0 where
 
 pub news_shape : (heard : News) → AllByRecursion ComesNone (news_served heard ++ [])
 news_shape (Linked Up) = tt
-news_shape (Linked (Down reason)) = (refl, tt)
+news_shape (Linked (Down reason)) = (λ carrier. refl, tt)
 news_shape (Failed status) = tt
 news_shape (Heard pdu) = tt
 news_shape TimerFired = tt
@@ -275,7 +275,7 @@ event_shape (events.Opened own psm) = tt
 event_shape (events.Closed own psm reason) = by (is_told reason)
   where
     by : (is : Bool) → AllByRecursion ComesNone (cond is (Closed psm ∷ []) [])
-    by true = (refl, tt)
+    by true = (λ carrier. refl, tt)
     by false = tt
 event_shape (events.Features features) = tt
 event_shape events.FeaturesLost = tt
@@ -286,7 +286,7 @@ taken_shape None lent v = tt
 taken_shape (Some own) lent v = by (takes_sdu own (sdu_of lent.payload) v)
   where
     by : (is : Bool) → AllByRecursion ComesNone (cond is (Went lent.psm (sdu_of lent.payload) ∷ []) [])
-    by true = (refl, tt)
+    by true = (λ carrier. refl, tt)
     by false = tt
 
 pub lent_shape : (lent : Option Lent) (v : Channels) (p : ServerProfile) → AllByRecursion ComesNone (lent_by lent v p)
@@ -306,10 +306,10 @@ strand_shape settings content (Hearing pdu) v p = up_shape settings content p (u
 strand_shape settings content (Giving pdu) v p = Quiet tt
 strand_shape settings content Firing v p = Quiet tt
 strand_shape settings content Telling v p = told_shape settings content p v.events v
-strand_shape settings content (Gifting circumstances) v p = Quiet (refl, tt)
+strand_shape settings content (Gifting circumstances) v p = Quiet (λ carrier. refl, tt)
 strand_shape settings content (Learning circumstances heard) v p = Quiet (news_shape heard)
 strand_shape settings content Checking v p = Quiet tt
-strand_shape settings content Stepping v p = Quiet (refl, all_both ComesNone (lent_by (lent_sdu (lends p.server)) v p) [] (lent_shape (lent_sdu (lends p.server)) v p) tt)
+strand_shape settings content Stepping v p = Quiet (λ carrier. refl, all_both ComesNone (lent_by (lent_sdu (lends p.server)) v p) [] (lent_shape (lent_sdu (lends p.server)) v p) tt)
 
 -- ---- the link of a server comes up, or goes down
 

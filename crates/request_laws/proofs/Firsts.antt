@@ -22,4 +22,4 @@ first_fed A asks = record {
 pub first_hosts_are_heard : FirstHostsAreHeard
 first_hosts_are_heard asks settings before =
     let set = over_stored asks settings before in
-    (first_fed (client_profile settings) (asks.clients settings), first_fed (server_profile settings set.content) (asks.servers settings set.content), record { twined = tt; answered = tt; granted = tt })
+    (first_fed (client_profile settings) (asks.clients settings), first_fed (server_profile settings set.content) (asks.servers settings set.content), record { twined = tt; small = tt; granted = tt })

@@ -1,80 +1,59 @@
 -- What happened to both hosts over their links is a list of pushes, so no request is ignored.
-use Rattle.std.proofs.Common.{◌≡◌, ℕ, suc, ◌==◌, ◌≤◌, Bool, true, false, cond, ◌&&◌, not, List, [], ◌∷◌, ◌++◌, map, None, Result, Ok, refl, sym, ap, ap₂, subst, ◌∙◌, append_assoc, append-nil, arith}
-use Rattle.std.proofs.lemmas.Bool.{cond-false}
+use Rattle.std.proofs.Common.{◌≡◌, ℕ, ◌≤◌, Bool, true, false, List, [], ◌∷◌, ◌++◌, map, None, Result, Ok, refl, sym, ap, ap₂, subst, ◌∙◌, append-nil, arith}
 use Rattle.std.specs.List.{AllByRecursion, flat_map}
-use Rattle.std.proofs.lemmas.List.Concat.{flat_map-append}
 use Rattle.bt_base.specs.declared.ports.PortFault.{PortFault}
-use Rattle.channel_model.specs.Value.{Channels, no_channels}
-use Rattle.channel_laws.specs.Runs as channels
-use Rattle.push_model.specs.Client.{Client, with_object, is_idle}
+use Rattle.bt_base.specs.declared.settings.Transport.TheVariants.{L2cap}
+use Rattle.channel_model.specs.Value.{no_channels}
+use Rattle.push_model.specs.Client.{Client, with_object, new_client}
 use Rattle.push_model.specs.Events as events
 use Rattle.push_model.specs.Events.{hears_news}
 use Rattle.push_model.specs.Laws as push
 use Rattle.push_model.specs.Laws.{Deed, Hears, all_done}
-use Rattle.push_model.specs.Server.{object_psm}
 use Rattle.push_laws.specs.Laws.{new_over}
-use Rattle.push_laws.specs.Occurrences.{Occurrence, LinkDown}
-use Rattle.push_laws.specs.Parties.{come_by, Move, server_side, client_side, Pipes, no_pipes, ArePipes, StayPipes, Push, IsPushed, ended_with, over_pushes, AllServeDirectly}
+use Rattle.push_laws.specs.Occurrences.{Occurrence}
+use Rattle.push_laws.specs.Parties.{come_by, Move, server_side, client_side, Pipes, no_pipes, ArePipes, StayPipes, IsPushed, AllServeDirectly}
 use Rattle.push_laws.specs.Premises.{AllGranted, AllMayCome}
 use Rattle.push_laws.specs.Sending.{AllAnswer}
 use Rattle.push_laws.proofs.Parties.{requests-are_heard}
-use Rattle.world_model.specs.Machines.{LinkEvent, Up, Down}
-use Rattle.host_model.specs.Clients.{ClientProfile, is_paging, client_profile}
-use Rattle.host_model.specs.Circumstances.{Circumstance}
+use Rattle.host_model.specs.Clients.{ClientProfile, client_profile}
 use Rattle.host_model.specs.Servers.{ServerProfile, server_profile}
-use Rattle.host_laws.specs.Calls.{values_after}
-use Rattle.host_laws.specs.Fed.{strand_feeds, woven_feeds, WovenFed, turned_feeds, FedSpan, span_feeds, behind_span, AreFed}
-use Rattle.host_laws.specs.Feeds.{Feed, all_fed}
-use Rattle.host_laws.specs.Lives.{Span, all_marks}
+use Rattle.host_laws.specs.Answered.{IsSmall, IsAnswered}
+use Rattle.host_laws.specs.Fed.{strand_feeds, woven_feeds}
 use Rattle.host_laws.specs.OverLinks.{AreTimely}
 use Rattle.host_laws.specs.Pushing.{Affair, Begins, Does, client_behind, pushed_from}
 use Rattle.host_laws.specs.Serving.{served_from}
-use Rattle.host_laws.specs.Woven.{Strand, strand_list, strand_profile, turned}
+use Rattle.host_laws.specs.Woven.{Strand}
+use Rattle.host_laws.proofs.Answered.{clients_are_answered}
 use Rattle.host_laws.proofs.Pushing.{all_pushed}
-use Rattle.request_laws.specs.BothFed.{IsSmall, AllAnswered, ComesNone, IsDown, WantsLink, AreTwined, over_stored, RequestsOfLinksAreHeard}
-use Rattle.request_laws.specs.Twists.{Twist, AtClient, AtServer, of_client, of_server, Both, new_both, Set, both_after, deeds_in, all_deeds, moves_by, all_moves, taken_in, carried_by, pipes_behind, AllStayPiped, NoneBehind, OpensNone, Twined}
+use Rattle.request_laws.specs.BothFed.{most_octets, AllAsked, ComesNone, over_stored, RequestsOfLinksAreHeard}
+use Rattle.request_laws.specs.Twists.{Twist, AtClient, AtServer, of_client, of_server, Both, new_both, Set, both_after, all_deeds, moves_by, all_moves, taken_in, carried_by, pipes_behind, AllStayPiped, NoneBehind, OpensNone, Twined}
 use Rattle.request_laws.proofs.Asking.{even_of, strand_makes}
 use Rattle.request_laws.proofs.Carrying.{Carries, pipes_carried, carries_none, carries_client, carries_server}
-use Rattle.request_laws.proofs.Beginning.{Good, may_push, no_units, good_all, good_first, answered_ahead, answered_behind, client-both}
-use Rattle.request_laws.proofs.Timely.{HearsNothing, is_up, goes_down, is_deaf, is_down, is_deaf_now}
-use Rattle.request_laws.proofs.Silent.{IsStill, AllSilent, BeginsPush}
-use Rattle.request_laws.proofs.Between.{between_still}
-use Rattle.request_laws.proofs.Opening.{begins_between, fed_between, turned_free}
-use Rattle.request_laws.proofs.Feeding.{strand_so, here_so, span_so, pushed-both, served-both, IsDeed, all_both, behind_deeds, strand_deeds, strand_client, strand_shape, up_served, DownServed, down_served}
+use Rattle.request_laws.proofs.Beginning.{Good, may_push, no_units, good_all, good_affair, all_asked, good_first, answered_ahead, answered_behind}
+use Rattle.request_laws.proofs.Silent.{IsStill}
+use Rattle.request_laws.proofs.Feeding.{strand_so, pushed-both, served-both, IsDeed, strand_client, strand_shape}
 use Rattle.request_laws.proofs.Lending.{serve_all}
+use Rattle.request_laws.proofs.Pushes.{map_deeds, all_does, pushed_on, served_on, server_on, client_on, deeds_on, Started, OnePush, silent_up, done_both, made}
 use Rattle.request_laws.proofs.Piping.{moved, pipes_both, stay_both, server_both, client_both, by_client, by_server, client_moved, server_moved, client_of_client, server_of_client, server_of_server, client_of_server, stay_client, stay_quiet, stay_server, still_pipes, silent_pipes, still_quiet, no_pipes_are, closed_client, come_cut, quiet_after}
 
 -- ---- deeds of affairs
 
-deeds_both : (xs ys : List Affair) → all_deeds (xs ++ ys) ≡ all_deeds xs ++ all_deeds ys
-deeds_both xs ys = flat_map-append deeds_in xs ys
-
 -- the shelf answers so at each of them
-answered_deeds : (affairs : List Affair) (client : Client) → AllByRecursion IsDeed affairs → AllAnswered affairs client → AllAnswer None (all_deeds affairs) client
+answered_deeds : (affairs : List Affair) (client : Client) → AllByRecursion IsDeed affairs → AllAsked (IsAnswered most_octets) affairs client → AllAnswer None (all_deeds affairs) client
 answered_deeds [] client all answered = tt
 answered_deeds (Begins size name ∷ affairs) client all answered = absurd all.0
 answered_deeds (Does deed ∷ affairs) client all answered = (answered.0, answered_deeds affairs (push.done deed client) all.1 answered.1)
 
-answers_both : (xs ys : List Deed) (client : Client) → AllAnswer None xs client → AllAnswer None ys (all_done xs client) → AllAnswer None (xs ++ ys) client
+pub answers_both : (xs ys : List Deed) (client : Client) → AllAnswer None xs client → AllAnswer None ys (all_done xs client) → AllAnswer None (xs ++ ys) client
 answers_both [] ys client one two = two
 answers_both (x ∷ xs) ys client one two = (one.0, answers_both xs ys (push.done x client) one.1 two)
 
-map_deeds : (deeds : List Deed) → all_deeds (map Does deeds) ≡ deeds
-map_deeds [] = refl
-map_deeds (deed ∷ deeds) = ap (λ (l : List Deed). deed ∷ l) (map_deeds deeds)
-
-all_does : (deeds : List Deed) → AllByRecursion IsDeed (map Does deeds)
-all_does [] = tt
-all_does (deed ∷ deeds) = (tt, all_does deeds)
-
 -- ---- on one link
 
-module _ (set : Set) where
-  abbrev pushed_on : List Strand → Channels → ClientProfile → List Affair
-  pushed_on weave v p = pushed_from set.settings p (woven_feeds (client_profile set.settings) (set.asks.clients set.settings) weave v p)
-
-  abbrev served_on : List Strand → Channels → ServerProfile → List Occurrence
-  served_on weave v p = served_from set.settings set.content p (woven_feeds (server_profile set.settings set.content) (set.asks.servers set.settings set.content) weave v p)
+module _ (set : Set) (maximum : ℕ) (wanted : Bool) where
+  -- a client over L2CAP that takes packets so long, and wants single response mode or not
+  abbrev G : Client → Type 0
+  G client = Good L2cap maximum wanted client
 
   -- the client moves as its profile does
   moved_by : (strand : Strand) (both : Both) → OpensNone strand → moved (moves_by set (AtClient strand) both) both.client.client ≡ (both_after set (AtClient strand) both).client.client
@@ -83,10 +62,10 @@ module _ (set : Set) where
 
   -- what the shelf answered, behind one thing more
   record Behind (strand : Strand) (weave : List Strand) (both : Both) : Type 0 where
-    good : Good (both_after set (AtClient strand) both).client.client
-    answered : (let next = both_after set (AtClient strand) both in AllAnswered (pushed_on weave next.near next.client) next.client.client)
+    good : G (both_after set (AtClient strand) both).client.client
+    answered : (let next = both_after set (AtClient strand) both in AllAsked (IsAnswered most_octets) (pushed_on set weave next.near next.client) next.client.client)
 
-  behind : (strand : Strand) (weave : List Strand) (both : Both) → Good both.client.client → AllAnswered (pushed_on (strand ∷ weave) both.near both.client) both.client.client → Behind strand weave both
+  behind : (strand : Strand) (weave : List Strand) (both : Both) → G both.client.client → AllAsked (IsAnswered most_octets) (pushed_on set (strand ∷ weave) both.near both.client) both.client.client → Behind strand weave both
   behind strand weave both good answered =
       let A = client_profile set.settings in
       let asks = set.asks.clients set.settings in
@@ -95,13 +74,13 @@ module _ (set : Set) where
       let more = woven_feeds A asks weave next.near next.client in
       let one = pushed_from set.settings both.client feeds in
       let so = strand_so A asks strand both.near both.client in
-      let cut : pushed_on (strand ∷ weave) both.near both.client ≡ one ++ pushed_from set.settings next.client more =
+      let cut : pushed_on set (strand ∷ weave) both.near both.client ≡ one ++ pushed_from set.settings next.client more =
       pushed-both set.settings feeds more both.client ∙ ap (λ (p : ClientProfile). one ++ pushed_from set.settings p more) so in
-      let all = subst (λ (l : List Affair). AllAnswered l both.client.client) cut answered in
+      let all = subst (λ (l : List Affair). AllAsked (IsAnswered most_octets) l both.client.client) cut answered in
       let now : client_behind one both.client.client ≡ next.client.client = sym (all_pushed set.settings feeds both.client) ∙ ap (λ (p : ClientProfile). p.client) so in
       record {
-        good = subst Good now (good_all one both.client.client (answered_ahead one (pushed_from set.settings next.client more) both.client.client all) good);
-        answered = subst (AllAnswered (pushed_from set.settings next.client more)) now (answered_behind one (pushed_from set.settings next.client more) both.client.client all);
+        good = subst G now (good_all L2cap maximum wanted one both.client.client (answered_ahead one (pushed_from set.settings next.client more) both.client.client all) good);
+        answered = subst (AllAsked (IsAnswered most_octets) (pushed_from set.settings next.client more)) now (answered_behind one (pushed_from set.settings next.client more) both.client.client all);
       }
 
   record Stays (moves : List Move) (client : Client) (pipes : Pipes) : Type 0 where
@@ -115,7 +94,7 @@ module _ (set : Set) where
   }
 
   served_cut : (strand : Strand) (weave : List Strand) (both : Both)
-      → (let next = both_after set (AtServer strand) both in served_on (strand ∷ weave) both.far both.server ≡ served_from set.settings set.content both.server (strand_feeds strand both.far) ++ served_on weave next.far next.server)
+      → (let next = both_after set (AtServer strand) both in served_on set (strand ∷ weave) both.far both.server ≡ served_from set.settings set.content both.server (strand_feeds strand both.far) ++ served_on set weave next.far next.server)
   served_cut strand weave both =
       let B = server_profile set.settings set.content in
       let asks = set.asks.servers set.settings set.content in
@@ -126,9 +105,9 @@ module _ (set : Set) where
       ∙ ap (λ (p : ServerProfile). served_from set.settings set.content both.server feeds ++ served_from set.settings set.content p more) (strand_so B asks strand both.far both.server)
 
   -- `channel` is what the channels carry, and `pipes` with what the client asked to send
-  stay_on : (twists : List Twist) (both : Both) (channel pipes : Pipes) → AllByRecursion OpensNone (flat_map of_client twists) → Good both.client.client → AllAnswered (pushed_on (flat_map of_client twists) both.near both.client) both.client.client
-      → Carries both.client channel pipes → ArePipes channel → AllStayPiped set twists both channel → (pipes.closed ≡ true → flat_map come_by (served_on (flat_map of_server twists) both.far both.server) ≡ [])
-      → NoneBehind (served_on (flat_map of_server twists) both.far both.server) → Stays (all_moves set twists both) both.client.client pipes
+  stay_on : (twists : List Twist) (both : Both) (channel pipes : Pipes) → AllByRecursion OpensNone (flat_map of_client twists) → G both.client.client → AllAsked (IsAnswered most_octets) (pushed_on set (flat_map of_client twists) both.near both.client) both.client.client
+      → Carries both.client channel pipes → ArePipes channel → AllStayPiped set twists both channel → (pipes.closed ≡ true → flat_map come_by (served_on set (flat_map of_server twists) both.far both.server) ≡ [])
+      → NoneBehind (served_on set (flat_map of_server twists) both.far both.server) → Stays (all_moves set twists both) both.client.client pipes
   stay_on [] both channel pipes opens good answered carries now piped quiet ended = record { stays = tt; last = pipes_carried both.client channel pipes carries now }
   stay_on (AtClient strand ∷ twists) both channel pipes opens good answered carries now piped quiet ended =
       let moves = moves_by set (AtClient strand) both in
@@ -148,8 +127,8 @@ module _ (set : Set) where
       let after = pipes_behind moves both.client.client pipes in
       let channel_after = pipes_behind moves both.client.client channel in
       let then_carries = carries_server occurrences both.client both.client.client channel pipes carries in
-      let rest = served_on (flat_map of_server twists) next.far next.server in
-      let cut : served_on (strand ∷ flat_map of_server twists) both.far both.server ≡ occurrences ++ rest = served_cut strand (flat_map of_server twists) both in
+      let rest = served_on set (flat_map of_server twists) next.far next.server in
+      let cut : served_on set (strand ∷ flat_map of_server twists) both.far both.server ≡ occurrences ++ rest = served_cut strand (flat_map of_server twists) both in
       let here : pipes.closed ≡ true → flat_map come_by (occurrences ++ rest) ≡ [] = λ closed. ap (flat_map come_by) (sym cut) ∙ quiet closed in
       let then_quiet = quiet_after occurrences rest both.client.client pipes here (subst NoneBehind cut ended) in
       then_stays moves (all_moves set twists next) both.client.client next.client.client pipes (sym (server_moved occurrences both.client.client))
@@ -157,89 +136,8 @@ module _ (set : Set) where
       (λ closed. come_cut occurrences rest (here closed)))
       (stay_on twists next channel_after after opens good answered then_carries piped.0 piped.1 then_quiet.0 then_quiet.1)
 
-  server_on : (twists : List Twist) (both : Both) → server_side (all_moves set twists both) ≡ served_on (flat_map of_server twists) both.far both.server
-  server_on [] both = refl
-  server_on (AtClient strand ∷ twists) both =
-      let deeds = all_deeds (pushed_from set.settings both.client (strand_feeds strand both.near)) in
-      let next = both_after set (AtClient strand) both in
-      server_both (by_client deeds) (all_moves set twists next) ∙ (ap (λ (l : List Occurrence). l ++ server_side (all_moves set twists next)) (server_of_client deeds) ∙ server_on twists next)
-  server_on (AtServer strand ∷ twists) both =
-      let B = server_profile set.settings set.content in
-      let asks = set.asks.servers set.settings set.content in
-      let feeds = strand_feeds strand both.far in
-      let occurrences = served_from set.settings set.content both.server feeds in
-      let next = both_after set (AtServer strand) both in
-      let more = woven_feeds B asks (flat_map of_server twists) next.far next.server in
-      server_both (by_server occurrences) (all_moves set twists next)
-      ∙ (ap₂ (λ (a b : List Occurrence). a ++ b) (server_of_server occurrences) (server_on twists next)
-      ∙ (ap (λ (p : ServerProfile). occurrences ++ served_from set.settings set.content p more) (sym (strand_so B asks strand both.far both.server)) ∙ sym (served-both set.settings set.content feeds more both.server)))
-
-  client_on : (twists : List Twist) (both : Both) → client_side (all_moves set twists both) ≡ all_deeds (pushed_on (flat_map of_client twists) both.near both.client)
-  client_on [] both = refl
-  client_on (AtServer strand ∷ twists) both =
-      let occurrences = served_from set.settings set.content both.server (strand_feeds strand both.far) in
-      let next = both_after set (AtServer strand) both in
-      client_both (by_server occurrences) (all_moves set twists next) ∙ (ap (λ (l : List Deed). l ++ client_side (all_moves set twists next)) (client_of_server occurrences) ∙ client_on twists next)
-  client_on (AtClient strand ∷ twists) both =
-      let A = client_profile set.settings in
-      let asks = set.asks.clients set.settings in
-      let feeds = strand_feeds strand both.near in
-      let affairs = pushed_from set.settings both.client feeds in
-      let next = both_after set (AtClient strand) both in
-      let more = woven_feeds A asks (flat_map of_client twists) next.near next.client in
-      client_both (by_client (all_deeds affairs)) (all_moves set twists next)
-      ∙ (ap₂ (λ (a b : List Deed). a ++ b) (client_of_client (all_deeds affairs)) (client_on twists next)
-      ∙ (sym (deeds_both affairs (pushed_from set.settings next.client more))
-      ∙ (ap (λ (p : ClientProfile). all_deeds (affairs ++ pushed_from set.settings p more)) (sym (strand_so A asks strand both.near both.client)) ∙ ap all_deeds (sym (pushed-both set.settings feeds more both.client)))))
-
-  -- on a link a client begins no push
-  deeds_on : (weave : List Strand) (v : Channels) (p : ClientProfile) → AllByRecursion OpensNone weave → AllByRecursion IsDeed (pushed_on weave v p)
-  deeds_on [] v p opens = tt
-  deeds_on (strand ∷ weave) v p opens =
-      let A = client_profile set.settings in
-      let asks = set.asks.clients set.settings in
-      let feeds = strand_feeds strand v in
-      let w = values_after A.policy v (strand_list A asks strand v p) in
-      let q = strand_profile A strand v p in
-      let more = woven_feeds A asks weave w q in
-      subst (AllByRecursion IsDeed) (sym (pushed-both set.settings feeds more p))
-      (all_both IsDeed (pushed_from set.settings p feeds) (pushed_from set.settings (all_fed A p feeds) more) (strand_deeds set.settings strand v p opens.0)
-      (subst (λ (x : ClientProfile). AllByRecursion IsDeed (pushed_from set.settings x more)) (sym (strand_so A asks strand v p)) (deeds_on weave w q opens.1)))
-
-  -- ---- one push
-
-  -- a push began, and its link came up
-  record Started (client : ClientProfile) : Type 0 where
-    old : Client
-    name : List ℕ
-    size : ℕ
-    deeds : List Deed
-    good : Good old
-    small : IsSmall (Ok size) name
-    answers : AllAnswer None deeds (with_object name size old)
-    silent : AllSilent deeds (with_object name size old)
-    now : client.client ≡ hears_news events.LinkUp (all_done deeds (with_object name size old))
-    free : client.submitted ≡ None
-
-  none_if : (psm : Bool) → cond psm [] [] ≡ (let none : List (List ℕ) = [] in none)
-  none_if true = refl
-  none_if false = refl
-
-  silent_up : (deeds : List Deed) (client : Client) → AllSilent deeds client → AllSilent (deeds ++ Hears events.LinkUp ∷ []) client
-  silent_up [] client silent = (record { sent = none_if (client.psm == object_psm); heard = refl }, tt)
-  silent_up (deed ∷ deeds) client silent = (silent.0, silent_up deeds (push.done deed client) silent.1)
-
-  done_both : (xs ys : List Deed) (client : Client) → all_done (xs ++ ys) client ≡ all_done ys (all_done xs client)
-  done_both [] ys client = refl
-  done_both (x ∷ xs) ys client = done_both xs ys (push.done x client)
-
-  record OnePush (occurrences : List Occurrence) : Type 0 where
-    push : Push
-    pushed : IsPushed push
-    is : server_side push.moves ≡ occurrences
-
-  one_push : (client : ClientProfile) (server : ServerProfile) (ahead tail : List Occurrence) (near far : List Strand) → Started client → Good client.client → AllByRecursion IsStill ahead → AllByRecursion ComesNone tail → Twined set near far client server
-      → AllAnswered (pushed_on near no_channels client) client.client → OnePush (ahead ++ (served_on far no_channels server ++ tail))
+  one_push : (client : ClientProfile) (server : ServerProfile) (ahead tail : List Occurrence) (near far : List Strand) → Started (IsAnswered most_octets) G client → G client.client → AllByRecursion IsStill ahead → AllByRecursion ComesNone tail → Twined set near far client server
+      → AllAsked (IsAnswered most_octets) (pushed_on set near no_channels client) client.client → OnePush IsPushed (ahead ++ (served_on set far no_channels server ++ tail))
   one_push client server ahead tail near far start good still quiet twined answered =
       let begun = with_object start.name start.size start.old in
       let both = new_both client server in
@@ -257,8 +155,8 @@ module _ (set : Set) where
       -- pipes
       let after_first : pipes_behind first begun no_pipes ≡ no_pipes = still_pipes ahead begun no_pipes still in
       let after_second : pipes_behind second begun no_pipes ≡ no_pipes = silent_pipes deeds begun no_pipes silent in
-      let answered_here : AllAnswered (pushed_on (flat_map of_client twists) no_channels client) client.client = subst (λ (w : List Strand). AllAnswered (pushed_on w no_channels client) client.client) (sym twined.near_is) answered in
-      let here = stay_on twists both no_pipes no_pipes opens good answered_here (carries_none client start.free) no_pipes_are twined.piped (λ closed. cc) (subst (λ (w : List Strand). NoneBehind (served_on w no_channels server)) (sym twined.far_is) twined.behind) in
+      let answered_here : AllAsked (IsAnswered most_octets) (pushed_on set (flat_map of_client twists) no_channels client) client.client = subst (λ (w : List Strand). AllAsked (IsAnswered most_octets) (pushed_on set w no_channels client) client.client) (sym twined.near_is) answered in
+      let here = stay_on twists both no_pipes no_pipes opens good answered_here (carries_none client start.free) no_pipes_are twined.piped (λ closed. cc) (subst (λ (w : List Strand). NoneBehind (served_on set w no_channels server)) (sym twined.far_is) twined.behind) in
       let pipes = pipes_behind third client.client no_pipes in
       let stay_third : StayPipes (third ++ last) client.client no_pipes = stay_both third last client.client no_pipes here.stays (stay_quiet tail (moved third client.client) pipes here.last quiet) in
       let stay_second : StayPipes (second ++ (third ++ last)) begun no_pipes =
@@ -268,326 +166,56 @@ module _ (set : Set) where
       stay_both first (second ++ (third ++ last)) begun no_pipes (stay_quiet ahead begun no_pipes no_pipes_are (still_quiet ahead still))
       (subst (λ (p : Pipes). StayPipes (second ++ (third ++ last)) (moved first begun) p) (sym after_first) (subst (λ (c : Client). StayPipes (second ++ (third ++ last)) c no_pipes) (sym (server_moved ahead begun)) stay_second)) in
       -- what is the client's
-      let affairs = pushed_on near no_channels client in
-      let here_deeds : client_side third ≡ all_deeds affairs = client_on twists both ∙ ap (λ (w : List Strand). all_deeds (pushed_on w no_channels client)) twined.near_is in
+      let affairs = pushed_on set near no_channels client in
+      let here_deeds : client_side third ≡ all_deeds affairs = client_on set twists both ∙ ap (λ (w : List Strand). all_deeds (pushed_on set w no_channels client)) twined.near_is in
       let client_is : client_side moves ≡ deeds ++ all_deeds affairs =
       client_both first (second ++ (third ++ last)) ∙ (ap (λ (l : List Deed). l ++ client_side (second ++ (third ++ last))) (client_of_server ahead)
       ∙ (client_both second (third ++ last) ∙ (ap₂ (λ (a b : List Deed). a ++ b) (client_of_client deeds) (client_both third last ∙ (ap₂ (λ (a b : List Deed). a ++ b) here_deeds (client_of_server tail) ∙ append-nil (all_deeds affairs)))))) in
+      let answers_old : AllAnswer None start.deeds begun = subst (λ (l : List Deed). AllAnswer None l begun) (map_deeds start.deeds) (answered_deeds (map Does start.deeds) begun (all_does start.deeds) start.asked) in
       let answers : AllAnswer None (client_side moves) begun =
       subst (λ (l : List Deed). AllAnswer None l begun) (sym client_is)
-      (answers_both deeds (all_deeds affairs) begun (answers_both start.deeds (Hears events.LinkUp ∷ []) begun start.answers (tt, tt))
-      (subst (λ (c : Client). AllAnswer None (all_deeds affairs) c) now (answered_deeds affairs client.client (deeds_on near no_channels client twined.opens) answered))) in
+      (answers_both deeds (all_deeds affairs) begun (answers_both start.deeds (Hears events.LinkUp ∷ []) begun answers_old (tt, tt))
+      (subst (λ (c : Client). AllAnswer None (all_deeds affairs) c) now (answered_deeds affairs client.client (deeds_on set near no_channels client twined.opens) answered))) in
       -- what is the server's
-      let server_is : server_side moves ≡ ahead ++ (served_on far no_channels server ++ tail) =
+      let server_is : server_side moves ≡ ahead ++ (served_on set far no_channels server ++ tail) =
       server_both first (second ++ (third ++ last)) ∙ (ap₂ (λ (a b : List Occurrence). a ++ b) (server_of_server ahead)
       (server_both second (third ++ last) ∙ (ap (λ (l : List Occurrence). l ++ server_side (third ++ last)) (server_of_client deeds)
-      ∙ (server_both third last ∙ ap₂ (λ (a b : List Occurrence). a ++ b) (server_on twists both ∙ ap (λ (w : List Strand). served_on w no_channels server) twined.far_is) (server_of_server tail))))) in
+      ∙ (server_both third last ∙ ap₂ (λ (a b : List Occurrence). a ++ b) (server_on set twists both ∙ ap (λ (w : List Strand). served_on set w no_channels server) twined.far_is) (server_of_server tail))))) in
       record {
         push = record { client = start.old; name = start.name; size = start.size; content = None; moves = moves };
-        pushed = record { direct = start.good.direct; may = may_push start.old start.name start.size start.good start.small; bounded = start.small.bounded start.size refl; answers = answers; carried = stay_first };
+        pushed = record { direct = start.good.direct; may = may_push L2cap maximum wanted start.old start.name start.size start.good start.begins; bounded = start.begins.bounded start.size refl; answers = answers; carried = stay_first };
         is = server_is;
       }
 
-  -- ---- between two links
+-- a push of its own, on which nothing comes
+no_push : (maximum : ℕ) (wanted : Bool) (client : Client) (occurrences : List Occurrence) → Good L2cap maximum wanted client → AllByRecursion ComesNone occurrences → OnePush IsPushed occurrences
+no_push maximum wanted client occurrences good quiet =
+    let small : IsSmall most_octets (Ok 0) [] = record { short = no_units; bounded = λ count is. none_left count is } in
+    record {
+      push = record { client = client; name = []; size = 0; content = None; moves = by_server occurrences };
+      pushed = record {
+        direct = good.direct;
+        may = may_push L2cap maximum wanted client [] 0 good small;
+        bounded = omega arith;
+        answers = subst (λ (l : List Deed). AllAnswer None l (with_object [] 0 client)) (sym (client_of_server occurrences)) tt;
+        carried = stay_quiet occurrences (with_object [] 0 client) no_pipes no_pipes_are quiet;
+      };
+      is = server_of_server occurrences;
+    }
+  where
+    inner : (n m : ℕ) → (let size : Result ℕ PortFault = Ok n in size ≡ Ok m) → n ≡ m
+    inner n m is = cc
 
-  begun_at : (affairs : List Affair) (client : Client) (b : BeginsPush affairs client) → client_behind affairs client ≡ all_done b.deeds (with_object b.name b.size (client_behind b.earlier client))
-  begun_at affairs client b =
-      let old = client_behind b.earlier client in
-      ap (λ (l : List Affair). client_behind l client) b.affairs_are
-      ∙ (client-both b.earlier (Begins (Ok b.size) b.name ∷ map Does b.deeds) client
-      ∙ (ap (λ (c : Client). client_behind (map Does b.deeds) c) (cond-false old.failed old (with_object b.name b.size old) b.able)
-      ∙ (behind_deeds (map Does b.deeds) (with_object b.name b.size old) (all_does b.deeds) ∙ ap (λ (l : List Deed). all_done l (with_object b.name b.size old)) (map_deeds b.deeds))))
-
-  and_left : (a b : Bool) → (a && b) ≡ true → a ≡ true
-  and_left true b is = refl
-  and_left false b is = is
-
-  -- between two links the next one comes up for both, as the client wants it
-  record Between (near far : Span) (client : ClientProfile) (server : ServerProfile) (a : FedSpan (client_profile set.settings) (set.asks.clients set.settings) near client)
-      (b : FedSpan (server_profile set.settings set.content) (set.asks.servers set.settings set.content) far server) : Type 0 where
-    near_up : near.event ≡ Up
-    far_up : far.event ≡ Up
-    wants : WantsLink set near client a
-
-  started : (near far : Span) (client : ClientProfile) (server : ServerProfile) (a : FedSpan (client_profile set.settings) (set.asks.clients set.settings) near client) (b : FedSpan (server_profile set.settings set.content) (set.asks.servers set.settings set.content) far server)
-      → Between near far client server a b → AllByRecursion HearsNothing near.list → is_paging client.bid ≡ false → Good client.client → AllAnswered (pushed_from set.settings client a.here) client.client → Started (behind_span (client_profile set.settings) (set.asks.clients set.settings) near client a)
-  started near far client server a b between deaf free good answered =
-      let A = client_profile set.settings in
-      let asks = set.asks.clients set.settings in
-      let pages : is_paging (all_fed A client a.here).bid ≡ true = subst (λ (p : ClientProfile). is_paging p.bid ≡ true) (sym (here_so A asks near client a)) (and_left (is_paging a.mid.bid) (not (is_idle a.mid.client)) between.wants) in
-      let begins = begins_between set.settings client a.here (fed_between set.settings asks near.list a.here client a.mid a.so deaf) free pages in
-      let affairs = pushed_from set.settings client a.here in
-      let behind = Begins (Ok begins.size) begins.name ∷ map Does begins.deeds in
-      let old = client_behind begins.earlier client.client in
-      let all : AllAnswered (begins.earlier ++ behind) client.client = subst (λ (l : List Affair). AllAnswered l client.client) begins.affairs_are answered in
-      let here = answered_behind begins.earlier behind client.client all in
-      let later : AllAnswered (map Does begins.deeds) (with_object begins.name begins.size old) = subst (AllAnswered (map Does begins.deeds)) (cond-false old.failed old (with_object begins.name begins.size old) begins.able) here.1 in
-      let mid : a.mid.client ≡ all_done begins.deeds (with_object begins.name begins.size old) = ap (λ (p : ClientProfile). p.client) (sym (here_so A asks near client a)) ∙ (all_pushed set.settings a.here client ∙ begun_at affairs client.client begins) in
-      record {
-        old = old;
-        name = begins.name;
-        size = begins.size;
-        deeds = begins.deeds;
-        good = good_all begins.earlier client.client (answered_ahead begins.earlier behind client.client all) good;
-        small = here.0;
-        answers = subst (λ (l : List Deed). AllAnswer None l (with_object begins.name begins.size old)) (map_deeds begins.deeds) (answered_deeds (map Does begins.deeds) (with_object begins.name begins.size old) (all_does begins.deeds) later);
-        silent = begins.silent;
-        now = ap (λ (e : LinkEvent). (turned A a.circumstances e (values_after A.policy no_channels near.list) a.mid).client) between.near_up ∙ ap (hears_news events.LinkUp) mid;
-        free = ap (λ (e : LinkEvent). (turned A a.circumstances e (values_after A.policy no_channels near.list) a.mid).submitted) between.near_up;
-      }
-
-  -- ---- over all links
-
-  record Pushes (occurrences : List Occurrence) : Type 0 where
-    pushes : List Push
-    last : Push
-    pushed : AllByRecursion IsPushed pushes
-    last_pushed : IsPushed last
-    is : occurrences ≡ over_pushes pushes last
-
-  -- a push of its own, on which nothing comes
-  no_push : (client : Client) (occurrences : List Occurrence) → Good client → AllByRecursion ComesNone occurrences → OnePush occurrences
-  no_push client occurrences good quiet =
-      let small : IsSmall (Ok 0) [] = record { short = no_units; bounded = λ count is. none_left count is } in
-      record {
-        push = record { client = client; name = []; size = 0; content = None; moves = by_server occurrences };
-        pushed = record {
-          direct = good.direct;
-          may = may_push client [] 0 good small;
-          bounded = omega arith;
-          answers = subst (λ (l : List Deed). AllAnswer None l (with_object [] 0 client)) (sym (client_of_server occurrences)) tt;
-          carried = stay_quiet occurrences (with_object [] 0 client) no_pipes no_pipes_are quiet;
-        };
-        is = server_of_server occurrences;
-      }
-    where
-      inner : (n m : ℕ) → (let size : Result ℕ PortFault = Ok n in size ≡ Ok m) → n ≡ m
-      inner n m is = cc
-
-      none_left : (count : ℕ) → (let size : Result ℕ PortFault = Ok 0 in size ≡ Ok count) → count ≤ 16777215
-      none_left count is = subst (λ (n : ℕ). n ≤ 16777215) (inner 0 count is) (omega arith)
-
-  -- one push more, in front of others
-  in_front : (one rest occurrences : List Occurrence) → OnePush one → Pushes rest → occurrences ≡ (one ++ LinkDown ∷ []) ++ rest → Pushes occurrences
-  in_front one rest occurrences first later is = record {
-    pushes = first.push ∷ later.pushes;
-    last = later.last;
-    pushed = (first.pushed, later.pushed);
-    last_pushed = later.last_pushed;
-    is = is
-        ∙ (ap₂ (λ (a b : List Occurrence). a ++ b) (ap (λ (l : List Occurrence). l ++ LinkDown ∷ []) (sym first.is)) later.is
-        ∙ sym (append_assoc (ended_with first.push) (flat_map ended_with later.pushes) (server_side later.last.moves)));
-  }
-
-  -- what the shelf answered falls to the links
-  record Splits (near : Span) (client : ClientProfile) (a : FedSpan (client_profile set.settings) (set.asks.clients set.settings) near client) (later : List Feed) : Type 0 where
-    here : AllAnswered (pushed_from set.settings client a.here) client.client
-    good : Good (behind_span (client_profile set.settings) (set.asks.clients set.settings) near client a).client
-    rest : (let up = behind_span (client_profile set.settings) (set.asks.clients set.settings) near client a in AllAnswered (pushed_from set.settings up later) up.client)
-
-  splits : (near : Span) (client : ClientProfile) (a : FedSpan (client_profile set.settings) (set.asks.clients set.settings) near client) (later feeds : List Feed) → feeds ≡ span_feeds (client_profile set.settings) (set.asks.clients set.settings) near client a ++ later
-      → Good client.client → AllAnswered (pushed_from set.settings client feeds) client.client → Splits near client a later
-  splits near client a later feeds is good answered =
-      let A = client_profile set.settings in
-      let asks = set.asks.clients set.settings in
-      let ahead = span_feeds A asks near client a in
-      let up = behind_span A asks near client a in
-      let news = turned_feeds a.circumstances near.event (values_after A.policy no_channels near.list) in
-      let one = pushed_from set.settings client ahead in
-      let two = pushed_from set.settings up later in
-      let up_is : all_fed A client ahead ≡ up = span_so A asks near client a in
-      let cut : pushed_from set.settings client feeds ≡ one ++ two =
-      ap (pushed_from set.settings client) is ∙ (pushed-both set.settings ahead later client ∙ ap (λ (p : ClientProfile). one ++ pushed_from set.settings p later) up_is) in
-      let all : AllAnswered (one ++ two) client.client = subst (λ (l : List Affair). AllAnswered l client.client) cut answered in
-      let span_answered = answered_ahead one two client.client all in
-      let client_is : client_behind one client.client ≡ up.client = sym (all_pushed set.settings ahead client) ∙ ap (λ (p : ClientProfile). p.client) up_is in
-      let here_cut : one ≡ pushed_from set.settings client a.here ++ pushed_from set.settings (all_fed A client a.here) news = pushed-both set.settings a.here news client in
-      record {
-        here = answered_ahead (pushed_from set.settings client a.here) (pushed_from set.settings (all_fed A client a.here) news) client.client (subst (λ (l : List Affair). AllAnswered l client.client) here_cut span_answered);
-        good = subst Good client_is (good_all one client.client span_answered good);
-        rest = subst (AllAnswered two) client_is (answered_behind one two client.client all);
-      }
-
-  -- so does what happened to the server
-  served_split : (far : Span) (server : ServerProfile) (b : FedSpan (server_profile set.settings set.content) (set.asks.servers set.settings set.content) far server) (later feeds : List Feed)
-      → feeds ≡ span_feeds (server_profile set.settings set.content) (set.asks.servers set.settings set.content) far server b ++ later
-      → (let B = server_profile set.settings set.content in
-      served_from set.settings set.content server feeds
-      ≡ (served_from set.settings set.content server b.here ++ served_from set.settings set.content b.mid (turned_feeds b.circumstances far.event (values_after B.policy no_channels far.list)))
-      ++ served_from set.settings set.content (behind_span B (set.asks.servers set.settings set.content) far server b) later)
-  served_split far server b later feeds is =
-      let B = server_profile set.settings set.content in
-      let asks = set.asks.servers set.settings set.content in
-      let ahead = span_feeds B asks far server b in
-      let news = turned_feeds b.circumstances far.event (values_after B.policy no_channels far.list) in
-      ap (served_from set.settings set.content server) is
-      ∙ (served-both set.settings set.content ahead later server
-      ∙ ap₂ (λ (a b : List Occurrence). a ++ b)
-      (served-both set.settings set.content b.here news server ∙ ap (λ (p : ServerProfile). served_from set.settings set.content server b.here ++ served_from set.settings set.content p news) (here_so B asks far server b))
-      (ap (λ (p : ServerProfile). served_from set.settings set.content p later) (span_so B asks far server b)))
-
-  woven_served : (far : List channels.Occurrence) (feeds : List Feed) (server last : ServerProfile) (b : WovenFed (server_profile set.settings set.content) (set.asks.servers set.settings set.content) far feeds server last)
-      → served_from set.settings set.content server feeds ≡ served_on b.woven.weave no_channels server
-  woven_served far feeds server last b = ap (served_from set.settings set.content server) b.feeds_are
-
-  down_of : (event : LinkEvent) (circumstances : List Circumstance) (v : Channels) (p : ServerProfile) → IsDown event → DownServed (served_from set.settings set.content p (turned_feeds circumstances event v))
-  down_of Up circumstances v p down = absurd down
-  down_of (Down reason) circumstances v p down = down_served set.settings set.content circumstances reason v p
-
-  -- a link, and what happened to the server by the time that it came up
-  link_push : (near far : Span) (feeds_b later_b : List Feed) (client : ClientProfile) (server : ServerProfile) (weave_a weave_b : List Strand) (tail : List Occurrence)
-      (here_a : FedSpan (client_profile set.settings) (set.asks.clients set.settings) near client) (here_b : FedSpan (server_profile set.settings set.content) (set.asks.servers set.settings set.content) far server)
-      → Between near far client server here_a here_b
-      → Twined set weave_a weave_b (behind_span (client_profile set.settings) (set.asks.clients set.settings) near client here_a) (behind_span (server_profile set.settings set.content) (set.asks.servers set.settings set.content) far server here_b)
-      → AllByRecursion HearsNothing near.list → AllByRecursion HearsNothing far.list → is_paging client.bid ≡ false → Good client.client → AllAnswered (pushed_from set.settings client here_a.here) client.client
-      → (let up = behind_span (client_profile set.settings) (set.asks.clients set.settings) near client here_a in Good up.client × AllAnswered (pushed_on weave_a no_channels up) up.client)
-      → AllByRecursion ComesNone tail
-      → (let server_up = behind_span (server_profile set.settings set.content) (set.asks.servers set.settings set.content) far server here_b in
-      OnePush (served_from set.settings set.content server here_b.here ++ (served_on weave_b no_channels server_up ++ tail)))
-  link_push near far feeds_b later_b client server weave_a weave_b tail here_a here_b between twined near_deaf far_deaf free good answered answered_up quiet =
-      let up = behind_span (client_profile set.settings) (set.asks.clients set.settings) near client here_a in
-      let server_up = behind_span (server_profile set.settings set.content) (set.asks.servers set.settings set.content) far server here_b in
-      one_push up server_up (served_from set.settings set.content server here_b.here) tail weave_a weave_b (started near far client server here_a here_b between near_deaf free good answered) answered_up.0
-      (between_still set.settings set.content (set.asks.servers set.settings set.content) far.list here_b.here server here_b.mid here_b.so far_deaf) quiet twined answered_up.1
-
-  -- what the server is told as its link comes up is nothing
-  served_up : (near far : Span) (feeds_b later_b : List Feed) (client : ClientProfile) (server : ServerProfile)
-      (here_a : FedSpan (client_profile set.settings) (set.asks.clients set.settings) near client) (here_b : FedSpan (server_profile set.settings set.content) (set.asks.servers set.settings set.content) far server)
-      → Between near far client server here_a here_b → feeds_b ≡ span_feeds (server_profile set.settings set.content) (set.asks.servers set.settings set.content) far server here_b ++ later_b
-      → (let server_up = behind_span (server_profile set.settings set.content) (set.asks.servers set.settings set.content) far server here_b in
-      served_from set.settings set.content server feeds_b ≡ served_from set.settings set.content server here_b.here ++ served_from set.settings set.content server_up later_b)
-  served_up near far feeds_b later_b client server here_a here_b between is_b =
-      let B = server_profile set.settings set.content in
-      let ahead = served_from set.settings set.content server here_b.here in
-      let server_up = behind_span B (set.asks.servers set.settings set.content) far server here_b in
-      let none = up_served set.settings set.content here_b.circumstances far.event (values_after B.policy no_channels far.list) here_b.mid between.far_up in
-      served_split far server here_b later_b feeds_b is_b ∙ ap (λ (l : List Occurrence). l ++ served_from set.settings set.content server_up later_b) (ap (λ (l : List Occurrence). ahead ++ l) none ∙ append-nil ahead)
-
-  -- the last link, which is up still at the server
-  last_link : (near far : Span) (now_b : List channels.Occurrence) (feeds_b later_b : List Feed) (client : ClientProfile) (server last_b : ServerProfile) (weave_a : List Strand)
-      (here_a : FedSpan (client_profile set.settings) (set.asks.clients set.settings) near client) (here_b : FedSpan (server_profile set.settings set.content) (set.asks.servers set.settings set.content) far server)
-      (is_b : feeds_b ≡ span_feeds (server_profile set.settings set.content) (set.asks.servers set.settings set.content) far server here_b ++ later_b)
-      (b : WovenFed (server_profile set.settings set.content) (set.asks.servers set.settings set.content) now_b later_b (behind_span (server_profile set.settings set.content) (set.asks.servers set.settings set.content) far server here_b) last_b)
-      → Between near far client server here_a here_b
-      → Twined set weave_a b.woven.weave (behind_span (client_profile set.settings) (set.asks.clients set.settings) near client here_a) (behind_span (server_profile set.settings set.content) (set.asks.servers set.settings set.content) far server here_b)
-      → AllByRecursion HearsNothing near.list → AllByRecursion HearsNothing far.list → is_paging client.bid ≡ false → Good client.client → AllAnswered (pushed_from set.settings client here_a.here) client.client
-      → (let up = behind_span (client_profile set.settings) (set.asks.clients set.settings) near client here_a in Good up.client × AllAnswered (pushed_on weave_a no_channels up) up.client) → Pushes (served_from set.settings set.content server feeds_b)
-  last_link near far now_b feeds_b later_b client server last_b weave_a here_a here_b is_b b between twined near_deaf far_deaf free good answered answered_up =
-      let server_up = behind_span (server_profile set.settings set.content) (set.asks.servers set.settings set.content) far server here_b in
-      let ahead = served_from set.settings set.content server here_b.here in
-      let one = link_push near far feeds_b later_b client server weave_a b.woven.weave [] here_a here_b between twined near_deaf far_deaf free good answered answered_up tt in
-      let is : served_from set.settings set.content server feeds_b ≡ ahead ++ (served_on b.woven.weave no_channels server_up ++ []) =
-      served_up near far feeds_b later_b client server here_a here_b between is_b
-      ∙ ap (λ (l : List Occurrence). ahead ++ l) (woven_served now_b later_b server_up last_b b ∙ sym (append-nil (served_on b.woven.weave no_channels server_up))) in
-      record { pushes = []; last = one.push; pushed = tt; last_pushed = one.pushed; is = is ∙ sym one.is }
-
-  -- one that went down for the server
-  whole_link : (near far far_link : Span) (feeds_b later_b rest_b : List Feed) (client : ClientProfile) (server : ServerProfile) (weave_a : List Strand)
-      (here_a : FedSpan (client_profile set.settings) (set.asks.clients set.settings) near client) (here_b : FedSpan (server_profile set.settings set.content) (set.asks.servers set.settings set.content) far server)
-      (link_b : FedSpan (server_profile set.settings set.content) (set.asks.servers set.settings set.content) far_link (behind_span (server_profile set.settings set.content) (set.asks.servers set.settings set.content) far server here_b))
-      (is_b : feeds_b ≡ span_feeds (server_profile set.settings set.content) (set.asks.servers set.settings set.content) far server here_b ++ later_b)
-      (are_b : later_b ≡ span_feeds (server_profile set.settings set.content) (set.asks.servers set.settings set.content) far_link (behind_span (server_profile set.settings set.content) (set.asks.servers set.settings set.content) far server here_b) link_b ++ rest_b)
-      → Between near far client server here_a here_b → IsDown far_link.event
-      → Twined set weave_a link_b.so.woven.weave (behind_span (client_profile set.settings) (set.asks.clients set.settings) near client here_a) (behind_span (server_profile set.settings set.content) (set.asks.servers set.settings set.content) far server here_b)
-      → AllByRecursion HearsNothing near.list → AllByRecursion HearsNothing far.list → is_paging client.bid ≡ false → Good client.client → AllAnswered (pushed_from set.settings client here_a.here) client.client
-      → (let up = behind_span (client_profile set.settings) (set.asks.clients set.settings) near client here_a in Good up.client × AllAnswered (pushed_on weave_a no_channels up) up.client)
-      → (let B = server_profile set.settings set.content in let asks = set.asks.servers set.settings set.content in
-      Pushes (served_from set.settings set.content (behind_span B asks far_link (behind_span B asks far server here_b) link_b) rest_b)) → Pushes (served_from set.settings set.content server feeds_b)
-  whole_link near far far_link feeds_b later_b rest_b client server weave_a here_a here_b link_b is_b are_b between down twined near_deaf far_deaf free good answered answered_up later =
-      let B = server_profile set.settings set.content in
-      let asks = set.asks.servers set.settings set.content in
-      let server_up = behind_span B asks far server here_b in
-      let server_down = behind_span B asks far_link server_up link_b in
-      let ahead = served_from set.settings set.content server here_b.here in
-      let goes = down_of far_link.event link_b.circumstances (values_after B.policy no_channels far_link.list) link_b.mid down in
-      let served = served_on link_b.so.woven.weave no_channels server_up in
-      let rest = served_from set.settings set.content server_down rest_b in
-      let first = link_push near far feeds_b later_b client server weave_a link_b.so.woven.weave goes.ahead here_a here_b between twined near_deaf far_deaf free good answered answered_up goes.quiet in
-      let later_is : served_from set.settings set.content server_up later_b ≡ (served ++ (goes.ahead ++ LinkDown ∷ [])) ++ rest =
-      served_split far_link server_up link_b rest_b later_b are_b
-      ∙ ap (λ (l : List Occurrence). l ++ rest) (ap₂ (λ (a b : List Occurrence). a ++ b) (woven_served far_link.list link_b.here server_up link_b.mid link_b.so) goes.is) in
-      let is : served_from set.settings set.content server feeds_b ≡ ((ahead ++ (served ++ goes.ahead)) ++ LinkDown ∷ []) ++ rest =
-      served_up near far feeds_b later_b client server here_a here_b between is_b
-      ∙ (ap (λ (l : List Occurrence). ahead ++ l) later_is
-      ∙ (sym (append_assoc ahead (served ++ (goes.ahead ++ LinkDown ∷ [])) rest)
-      ∙ ap (λ (l : List Occurrence). l ++ rest) (ap (λ (l : List Occurrence). ahead ++ l) (sym (append_assoc served goes.ahead (LinkDown ∷ []))) ∙ sym (append_assoc ahead (served ++ goes.ahead) (LinkDown ∷ []))))) in
-      in_front (ahead ++ (served ++ goes.ahead)) rest (served_from set.settings set.content server feeds_b) first later is
-
-  no_more : (client : Client) (occurrences : List Occurrence) → Good client → AllByRecursion ComesNone occurrences → Pushes occurrences
-  no_more client occurrences good quiet = let one = no_push client occurrences good quiet in record { pushes = []; last = one.push; pushed = tt; last_pushed = one.pushed; is = sym one.is }
-
-  -- where no link is up at the end nothing came
-  quiet_now : (now : List channels.Occurrence) (feeds : List Feed) (server last : ServerProfile) → WovenFed (server_profile set.settings set.content) (set.asks.servers set.settings set.content) now feeds server last → AreTimely false (all_marks [] now)
-      → AllByRecursion ComesNone (served_from set.settings set.content server feeds)
-  quiet_now now feeds server last so timely =
-      still_quiet (served_from set.settings set.content server feeds) (between_still set.settings set.content (set.asks.servers set.settings set.content) now feeds server last so (is_deaf_now now timely))
-
-  quiet_last : (spans : List Span) (now : List channels.Occurrence) (feeds : List Feed) (server last : ServerProfile) → spans ≡ [] → AreFed (server_profile set.settings set.content) (set.asks.servers set.settings set.content) spans now feeds server last
-      → AreTimely false (all_marks spans now) → AllByRecursion ComesNone (served_from set.settings set.content server feeds)
-  quiet_last [] now feeds server last is so timely = quiet_now now feeds server last so timely
-  quiet_last (span ∷ spans) now feeds server last is so timely = cc
-
-  -- of what stands there on a link, all was answered
-  answered_on : (list : List channels.Occurrence) (feeds : List Feed) (p last : ClientProfile) (a : WovenFed (client_profile set.settings) (set.asks.clients set.settings) list feeds p last)
-      → AllAnswered (pushed_from set.settings p feeds) p.client → AllAnswered (pushed_on a.woven.weave no_channels p) p.client
-  answered_on list feeds p last a answered = subst (λ (l : List Feed). AllAnswered (pushed_from set.settings p l) p.client) a.feeds_are answered
-
-  made : (number : ℕ → ℕ) (spans_a : List Span) (now_a : List channels.Occurrence) (feeds_a : List Feed) (client last_a : ClientProfile) (spans_b : List Span) (now_b : List channels.Occurrence) (feeds_b : List Feed) (server last_b : ServerProfile)
-      (a : AreFed (client_profile set.settings) (set.asks.clients set.settings) spans_a now_a feeds_a client last_a) (b : AreFed (server_profile set.settings set.content) (set.asks.servers set.settings set.content) spans_b now_b feeds_b server last_b)
-      → AreTwined set number spans_a now_a feeds_a client last_a spans_b now_b feeds_b server last_b a b → AreTimely false (all_marks spans_a now_a) → AreTimely false (all_marks spans_b now_b) → is_paging client.bid ≡ false → Good client.client → AllAnswered (pushed_from set.settings client feeds_a) client.client → Pushes (served_from set.settings set.content server feeds_b)
-  made number spans_a now_a feeds_a client last_a [] now_b feeds_b server last_b a b twined timely_a timely_b free good answered = no_more client.client (served_from set.settings set.content server feeds_b) good (quiet_now now_b feeds_b server last_b b timely_b)
-  made number [] now_a feeds_a client last_a (far ∷ []) now_b feeds_b server last_b a b quiet timely_a timely_b free good answered = no_more client.client (served_from set.settings set.content server feeds_b) good quiet
-  made number [] now_a feeds_a client last_a (far ∷ far_link ∷ spans_b) now_b feeds_b server last_b a b never timely_a timely_b free good answered = absurd never
-  made number (near ∷ []) now_a feeds_a client last_a (far ∷ []) now_b feeds_b server last_b (here_a, later_a, is_a, a) (here_b, later_b, is_b, b) (wants, twined) timely_a timely_b free good answered =
-      let up = behind_span (client_profile set.settings) (set.asks.clients set.settings) near client here_a in
-      let parts = splits near client here_a later_a feeds_a is_a good answered in
-      let between : Between near far client server here_a here_b = record { near_up = is_up near [] now_a timely_a; far_up = is_up far [] now_b timely_b; wants = wants } in
-      let deaf_a = is_deaf near [] now_a between.near_up timely_a in
-      let deaf_b = is_deaf far [] now_b between.far_up timely_b in
-      last_link near far now_b feeds_b later_b client server last_b a.woven.weave here_a here_b is_b b between twined deaf_a.deaf deaf_b.deaf free good parts.here (parts.good, answered_on now_a later_a up last_a a parts.rest)
-  made number (near ∷ near_link ∷ spans_a) now_a feeds_a client last_a (far ∷ []) now_b feeds_b server last_b (here_a, later_a, is_a, (link_a, rest_a, are_a, a)) (here_b, later_b, is_b, b) (wants, twined) timely_a timely_b free good answered =
-      let up = behind_span (client_profile set.settings) (set.asks.clients set.settings) near client here_a in
-      let parts = splits near client here_a later_a feeds_a is_a good answered in
-      let on_link = splits near_link up link_a rest_a later_a are_a parts.good parts.rest in
-      let between : Between near far client server here_a here_b = record { near_up = is_up near (near_link ∷ spans_a) now_a timely_a; far_up = is_up far [] now_b timely_b; wants = wants } in
-      let deaf_a = is_deaf near (near_link ∷ spans_a) now_a between.near_up timely_a in
-      let deaf_b = is_deaf far [] now_b between.far_up timely_b in
-      last_link near far now_b feeds_b later_b client server last_b link_a.so.woven.weave here_a here_b is_b b between twined deaf_a.deaf deaf_b.deaf free good parts.here (parts.good, answered_on near_link.list link_a.here up link_a.mid link_a.so on_link.here)
-  made number (near ∷ []) now_a feeds_a client last_a (far ∷ far_link ∷ spans_b) now_b feeds_b server last_b (here_a, later_a, is_a, a) (here_b, later_b, is_b, (link_b, rest_b, are_b, b)) (wants, last, twined) timely_a timely_b free good answered =
-      let B = server_profile set.settings set.content in
-      let asks_b = set.asks.servers set.settings set.content in
-      let up = behind_span (client_profile set.settings) (set.asks.clients set.settings) near client here_a in
-      let server_down = behind_span B asks_b far_link (behind_span B asks_b far server here_b) link_b in
-      let parts = splits near client here_a later_a feeds_a is_a good answered in
-      let between : Between near far client server here_a here_b = record { near_up = is_up near [] now_a timely_a; far_up = is_up far (far_link ∷ spans_b) now_b timely_b; wants = wants } in
-      let deaf_a = is_deaf near [] now_a between.near_up timely_a in
-      let deaf_b = is_deaf far (far_link ∷ spans_b) now_b between.far_up timely_b in
-      let down = goes_down far_link spans_b now_b deaf_b.rest in
-      whole_link near far far_link feeds_b later_b rest_b client server a.woven.weave here_a here_b link_b is_b are_b between down twined deaf_a.deaf deaf_b.deaf free good parts.here (parts.good, answered_on now_a later_a up last_a a parts.rest)
-      (no_more client.client (served_from set.settings set.content server_down rest_b) good (quiet_last spans_b now_b rest_b server_down last_b last b (is_down far_link spans_b now_b down deaf_b.rest)))
-  made number (near ∷ near_link ∷ spans_a) now_a feeds_a client last_a (far ∷ far_link ∷ spans_b) now_b feeds_b server last_b (here_a, later_a, is_a, (link_a, rest_a, are_a, a)) (here_b, later_b, is_b, (link_b, rest_b, are_b, b)) (wants, twined, more) timely_a timely_b free good answered =
-      let A = client_profile set.settings in
-      let B = server_profile set.settings set.content in
-      let asks_a = set.asks.clients set.settings in
-      let asks_b = set.asks.servers set.settings set.content in
-      let up = behind_span A asks_a near client here_a in
-      let client_down = behind_span A asks_a near_link up link_a in
-      let server_down = behind_span B asks_b far_link (behind_span B asks_b far server here_b) link_b in
-      let parts = splits near client here_a later_a feeds_a is_a good answered in
-      let on_link = splits near_link up link_a rest_a later_a are_a parts.good parts.rest in
-      let between : Between near far client server here_a here_b = record { near_up = is_up near (near_link ∷ spans_a) now_a timely_a; far_up = is_up far (far_link ∷ spans_b) now_b timely_b; wants = wants } in
-      let deaf_a = is_deaf near (near_link ∷ spans_a) now_a between.near_up timely_a in
-      let deaf_b = is_deaf far (far_link ∷ spans_b) now_b between.far_up timely_b in
-      let ends = goes_down near_link spans_a now_a deaf_a.rest in
-      let down = goes_down far_link spans_b now_b deaf_b.rest in
-      whole_link near far far_link feeds_b later_b rest_b client server link_a.so.woven.weave here_a here_b link_b is_b are_b between down twined deaf_a.deaf deaf_b.deaf free good parts.here (parts.good, answered_on near_link.list link_a.here up link_a.mid link_a.so on_link.here)
-      (made (λ k. number (suc (suc k))) spans_a now_a rest_a client_down last_a spans_b now_b rest_b server_down last_b a b more (is_down near_link spans_a now_a ends deaf_a.rest) (is_down far_link spans_b now_b down deaf_b.rest) (turned_free set.settings link_a.circumstances near_link.event (values_after A.policy no_channels near_link.list) link_a.mid) on_link.good on_link.rest)
+    none_left : (count : ℕ) → (let size : Result ℕ PortFault = Ok 0 in size ≡ Ok count) → count ≤ most_octets
+    none_left count is = subst (λ (n : ℕ). n ≤ most_octets) (inner 0 count is) (omega arith)
 
 pub requests_of_links_are_heard : RequestsOfLinksAreHeard
 requests_of_links_are_heard asks settings before direct talk_a talk_b a b near far so none =
     let set = over_stored asks settings before in
+    let maximum = (new_client settings).session.maximum in
+    let wanted = (new_client settings).session.wanted in
     let A = client_profile settings in
     let B = server_profile settings set.content in
-    let all = made set (λ k. k) near.so.lives.spans near.so.lives.now near.so.lives.feeds A.first a.profile far.so.lives.spans far.so.lives.now far.so.lives.feeds B.first b.profile near.fed far.fed so.twined (subst (AreTimely false) (sym near.so.lives.marks_are) near.so.timely) (subst (AreTimely false) (sym far.so.lives.marks_are) far.so.timely) refl (good_first settings direct) so.answered in
+    let all = made set (IsAnswered most_octets) (Good L2cap maximum wanted) IsPushed (Twined set) (good_affair L2cap maximum wanted) (one_push set maximum wanted) (no_push maximum wanted) (λ k. k) near.so.lives.spans near.so.lives.now near.so.lives.feeds A.first a.profile far.so.lives.spans far.so.lives.now far.so.lives.feeds B.first b.profile near.fed far.fed so.twined (subst (AreTimely false) (sym near.so.lives.marks_are) near.so.timely) (subst (AreTimely false) (sym far.so.lives.marks_are) far.so.timely) refl (good_first settings L2cap direct) (all_asked _ A.first.client (clients_are_answered most_octets settings A.first near.so.lives.feeds so.small)) in
     let heard = requests-are_heard settings before all.pushes all.last all.pushed all.last_pushed (subst (AllServeDirectly AllGranted (new_over settings before)) all.is (serve_all settings set.content far.so.lives.feeds B.first so.granted none)) in
     subst (AllMayCome settings [] (new_over settings before)) (sym all.is) heard

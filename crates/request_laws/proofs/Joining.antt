@@ -187,11 +187,11 @@ module _ (set : Set) where
 
   -- ---- all of them
 
-  record Lifted (joints : List Joint) (near far : List Strand) (both : Both) : Type 0 where
-    twists : List Twist
-    near_is : flat_map of_client twists ≡ near
-    far_is : flat_map of_server twists ≡ far
-    joints_are : joints_of set twists both ≡ joints
+  pub record Lifted (joints : List Joint) (near far : List Strand) (both : Both) : Type 0 where
+    pub twists : List Twist
+    pub near_is : flat_map of_client twists ≡ near
+    pub far_is : flat_map of_server twists ≡ far
+    pub joints_are : joints_of set twists both ≡ joints
 
   client_near : (weave : List Strand) → flat_map of_client (by_near weave) ≡ weave
   client_near [] = refl
@@ -209,7 +209,7 @@ module _ (set : Set) where
   server_far [] = refl
   server_far (strand ∷ weave) = ap (λ (l : List Strand). strand ∷ l) (server_far weave)
 
-  lift : (joints : List Joint) (near far : List Strand) (both : Both) → flat_map near_in joints ≡ near_list near both → flat_map far_in joints ≡ far_list far both → Lifted joints near far both
+  pub lift : (joints : List Joint) (near far : List Strand) (both : Both) → flat_map near_in joints ≡ near_list near both → flat_map far_in joints ≡ far_list far both → Lifted joints near far both
   lift [] near far both is_near is_far =
       let mid = behind (by_near near) both in
       let same = far_same near both in

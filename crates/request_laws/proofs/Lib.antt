@@ -1,3 +1,4 @@
+pub mod OnPsm
 pub mod Silent
 pub mod Feeding
 pub mod Piping
@@ -9,6 +10,7 @@ pub mod Lending
 pub mod Timely
 pub mod Between
 pub mod Opening
+pub mod Pushes
 pub mod Heard
 pub mod Joining
 pub mod Runs
@@ -27,3 +29,16 @@ pub mod ObjectPipes
 pub mod Unheard
 pub mod Linked
 pub mod Together
+pub mod AlongStreams
+pub mod MuxAsking
+pub mod MuxCarrying
+pub mod MuxHeard
+pub mod MuxTogether
+pub mod MuxPackets
+pub mod SpellableParts
+pub mod PacketOctets
+pub mod SpellableClients
+pub mod Spellable
+pub mod ResponseOctets
+pub mod SpellableServers
+pub mod ReadTogether

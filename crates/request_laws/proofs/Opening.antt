@@ -24,20 +24,22 @@ use Rattle.push_model.specs.Laws.{Deed, Hears, Asks, Finishes, Cancels, all_done
 use Rattle.push_model.specs.Responding.{is_object}
 use Rattle.push_model.specs.Server.{object_psm}
 use Rattle.push_model.specs.Steps.{Part, Step, Stepped, Wait, MakeLink, AskFeatures, OpenChannel, SendSdu, CloseChannel, BreakLink, Ended, NoMemory, steps, steps_at, tells_end}
-use Rattle.push_laws.specs.Parties.{heard_by}
+use Rattle.push_laws.specs.Carriage.{frames_of}
 use Rattle.push_laws.specs.Sending.{packets_through}
 use Rattle.world_model.specs.Machines.{LinkEvent, News, Linked, Up, Down, Failed, Heard, TimerFired, Cancelled, Opening}
-use Rattle.host_model.specs.Circumstances.{Circumstance, size_in}
+use Rattle.host_model.specs.Circumstances.{Circumstance}
 use Rattle.host_model.specs.Clients as profile
-use Rattle.host_model.specs.Clients.{ClientProfile, Bid, NoBid, Paging, is_paging, ended, after_end, after_call, client_profile}
+use Rattle.host_model.specs.Clients.{ClientProfile, Bid, NoBid, Paging, is_paging, ended, after_end, after_call, client_profile, fitted}
 use Rattle.host_model.specs.Endpoints.{endpoint_of, takes_sdu}
 use Rattle.host_model.specs.Pdus.{sdu_of}
+use Rattle.host_model.specs.Shelves.{size_for, name_for, unused}
 use Rattle.host_laws.specs.Calls.{Asks as Asking, values_after}
 use Rattle.host_laws.specs.Fed.{next_happening, strand_feeds, woven_feeds, WovenFed}
 use Rattle.host_laws.specs.Feeds.{Feed, Gifts, Learns, Receives, Happens, Sent, Steps, tidings_by, fed, all_fed}
 use Rattle.host_laws.specs.Pushing.{Affair, Begins, Does, client_behind, end_asked, link_asked, then_ends, then_calls, pushed_with, pushed_from}
 use Rattle.host_laws.specs.Woven.{Strand, IsOnLink, Hearing, Giving, Firing, Telling, Gifting, Learning, Checking, Stepping, strand_list, strand_profile, woven_list, turned}
 use Rattle.host_laws.proofs.Pushing.{all_pushed}
+use Rattle.request_laws.specs.Streams.{heard_on}
 use Rattle.request_laws.specs.Twists.{all_deeds}
 use Rattle.request_laws.proofs.Beginning.{client-both}
 use Rattle.request_laws.proofs.Feeding.{all_both, all_ahead, Holds, FeedSo, feed_so}
@@ -209,23 +211,52 @@ none_if : (psm : Bool) (sent : List (List ℕ)) → sent ≡ [] → cond psm sen
 none_if true sent none = none
 none_if false sent none = refl
 
-told_none : (heard : news.News) → IsAside (Does (Hears heard)) → heard_by (Hears heard) ≡ []
-told_none news.LinkUp aside = absurd aside
-told_none (news.LinkDown reason) aside = refl
-told_none (news.LinkFailed status) aside = refl
-told_none (news.ChannelOpen psm mtu) aside = refl
-told_none (news.ChannelClosed psm cause) aside = refl
-told_none (news.Sdu psm octets) aside = absurd aside
-told_none news.FeaturesTold aside = refl
-told_none news.FeaturesLost aside = refl
-told_none news.Timer aside = refl
+told_none : (carrier : ℕ) (heard : news.News) → IsAside (Does (Hears heard)) → heard_on carrier (Hears heard) ≡ []
+told_none carrier news.LinkUp aside = absurd aside
+told_none carrier (news.LinkDown reason) aside = refl
+told_none carrier (news.LinkFailed status) aside = refl
+told_none carrier (news.ChannelOpen psm mtu) aside = refl
+told_none carrier (news.ChannelClosed psm cause) aside = refl
+told_none carrier (news.Sdu psm octets) aside = absurd aside
+told_none carrier news.FeaturesTold aside = refl
+told_none carrier news.FeaturesLost aside = refl
+told_none carrier news.Timer aside = refl
+
+-- no frame is sent there
+away_frames : (stage : Stage) (client : Client) (parts : List Part) → Away stage → frames_of (steps_at stage client parts).step ≡ []
+away_frames stages.Rest client parts away = refl
+away_frames (stages.Link Due) client parts away = refl
+away_frames (stages.Link Asked) client parts away = refl
+away_frames (stages.SearchChannel point) client parts away = cc
+away_frames stages.Search client parts away = cc
+away_frames (stages.SearchEnd point) client parts away = cc
+away_frames (stages.Features point) client parts away = cc
+away_frames (stages.ObjectChannel point) client parts away = cc
+away_frames stages.Object client parts away = cc
+away_frames (stages.ObjectEnd point) client parts away = cc
+away_frames (stages.LinkEnd point) client parts away = cc
+away_frames stages.Over client parts away = by client.cause
+  where
+    by : (cause : Option Outcome) → frames_of (tells_end cause client parts).step ≡ []
+    by None = refl
+    by (Some outcome) = refl
+
+either_frames : (test : Bool) (a b : Stepped) → frames_of a.step ≡ [] → frames_of b.step ≡ [] → frames_of (cond test a b).step ≡ []
+either_frames true a b x y = x
+either_frames false a b x y = y
+
+asks_frames : (client : Client) (parts : List Part) → Away client.stage → frames_of (steps client parts).step ≡ []
+asks_frames client parts away = either_frames client.failed _ _ refl (either_frames client.given _ _ refl (away_frames client.stage client parts away))
 
 deed_silent : (deed : Deed) (client : Client) → IsAside (Does deed) → Away client.stage → IsSilent deed client
-deed_silent (Hears heard) client aside away = record { sent = none_if (client.psm == object_psm) [] refl; heard = told_none heard aside }
-deed_silent (Asks parts) client aside away =
-    record { sent = none_if (client.psm == object_psm) _ (cond-false (is_object client.stage) (packets_through client.transport client parts) [] (no_object client.stage away)); heard = refl }
-deed_silent Finishes client aside away = record { sent = none_if (client.psm == object_psm) [] refl; heard = refl }
-deed_silent Cancels client aside away = record { sent = none_if (client.psm == object_psm) [] refl; heard = refl }
+deed_silent (Hears heard) client aside away = record { sent = none_if (client.psm == object_psm) [] refl; frames = refl; heard = λ carrier. told_none carrier heard aside }
+deed_silent (Asks parts) client aside away = record {
+  sent = none_if (client.psm == object_psm) _ (cond-false (is_object client.stage) (packets_through client.transport client parts) [] (no_object client.stage away));
+  frames = asks_frames client parts away;
+  heard = λ carrier. refl;
+}
+deed_silent Finishes client aside away = record { sent = none_if (client.psm == object_psm) [] refl; frames = refl; heard = λ carrier. refl }
+deed_silent Cancels client aside away = record { sent = none_if (client.psm == object_psm) [] refl; frames = refl; heard = λ carrier. refl }
 
 -- ---- all of that
 
@@ -405,22 +436,23 @@ module _ (settings : Settings) where
       → MayBe (affairs ++ pushed_with p (Learns circumstances (Opening name))) first (fed (client_profile settings) p (Learns circumstances (Opening name)))
   opening_goes affairs first p circumstances name is pages =
       let feed = Learns circumstances (Opening name) in
-      let begun : Client = begins (size_in circumstances) name p.client in
+      let begun : Client = begins (size_for circumstances name) (name_for name) p.client in
       let quiet : ClientProfile = record p { client = ended begun; submitted = None; bid = NoBid } in
       let asks = bid_of (steps (ended begun) []).step (steps (ended begun) []).client quiet refl pages in
-      let opens = opens_by p.client.failed (size_in circumstances) name p.client refl asks in
+      let opens = opens_by p.client.failed (size_for circumstances name) (name_for name) p.client refl asks in
       by opens
     where
-      by : Opens (size_in circumstances) name p.client → Begun (affairs ++ pushed_with p (Learns circumstances (Opening name))) first (fed (client_profile settings) p (Learns circumstances (Opening name))).client
+      by : Opens (size_for circumstances name) (name_for name) p.client → Begun (affairs ++ pushed_with p (Learns circumstances (Opening name))) first (fed (client_profile settings) p (Learns circumstances (Opening name))).client
       by opens =
+          let called = name_for name in
           let count = opens.count in
           let old = p.client in
-          let begun = with_object name count old in
-          let begun_is : begins (size_in circumstances) name old ≡ begun = cond-false old.failed old (begun_by (size_in circumstances) name old) opens.able ∙ ap (λ (s : Result ℕ PortFault). begun_by s name old) opens.size_is in
+          let begun = with_object called count old in
+          let begun_is : begins (size_for circumstances name) called old ≡ begun = cond-false old.failed old (begun_by (size_for circumstances name) called old) opens.able ∙ ap (λ (s : Result ℕ PortFault). begun_by s called old) opens.size_is in
           let behind = Does (Asks []) ∷ Does Finishes ∷ [] in
-          let pushed_is : pushed_with p (Learns circumstances (Opening name)) ≡ Begins (Ok count) name ∷ behind =
-          ap (λ (s : Result ℕ PortFault). Begins s name ∷ (then_ends (begins (size_in circumstances) name old) ++ then_calls (ended (begins (size_in circumstances) name old)))) opens.size_is
-          ∙ (ap (λ (c : Client). Begins (Ok count) name ∷ (then_ends c ++ then_calls (ended c))) begun_is ∙ ap (λ (l : List Affair). Begins (Ok count) name ∷ l) (opening_aside count name old opens.able)) in
+          let pushed_is : pushed_with p (Learns circumstances (Opening name)) ≡ Begins (Ok count) called ∷ behind =
+          ap (λ (s : Result ℕ PortFault). Begins s called ∷ (then_ends (begins (size_for circumstances name) called old) ++ then_calls (ended (begins (size_for circumstances name) called old)))) opens.size_is
+          ∙ (ap (λ (c : Client). Begins (Ok count) called ∷ (then_ends c ++ then_calls (ended c))) begun_is ∙ ap (λ (l : List Affair). Begins (Ok count) called ∷ l) (opening_aside count called old opens.able)) in
           let rest = all_aside behind begun (tt, (tt, tt)) refl in
           let able : (client_behind affairs first).failed ≡ false = subst (λ (c : Client). c.failed ≡ false) is opens.able in
           let now_is : (fed (client_profile settings) p (Learns circumstances (Opening name))).client ≡ all_done (Asks [] ∷ Finishes ∷ []) begun =
@@ -429,13 +461,13 @@ module _ (settings : Settings) where
             begins = record {
               earlier = affairs;
               size = count;
-              name = name;
+              name = called;
               deeds = Asks [] ∷ Finishes ∷ [];
               affairs_are = ap (λ (l : List Affair). affairs ++ l) pushed_is;
               able = able;
-              silent = subst (λ (c : Client). AllSilent (Asks [] ∷ Finishes ∷ []) (with_object name count c)) is rest.silent;
+              silent = subst (λ (c : Client). AllSilent (Asks [] ∷ Finishes ∷ []) (with_object called count c)) is rest.silent;
             };
-            now_is = now_is ∙ ap (λ (c : Client). all_done (Asks [] ∷ Finishes ∷ []) (with_object name count c)) is;
+            now_is = now_is ∙ ap (λ (c : Client). all_done (Asks [] ∷ Finishes ∷ []) (with_object called count c)) is;
             away = subst (λ (c : Client). Away c.stage) (sym now_is) rest.away;
           }
 
@@ -451,7 +483,7 @@ module _ (settings : Settings) where
   feed_goes affairs first p (Happens event v) so is may = aside_goes affairs first p (Happens event v) tt (λ pages. pages) may
   feed_goes affairs first p (Sent v) so is may = aside_goes affairs first p (Sent v) tt (sent_bid p.submitted v p) may
   feed_goes affairs first p (Steps v) so is may =
-      let one = steps p.client p.parts in aside_goes affairs first p (Steps v) tt (steps_bid one.step v (record p { client = one.client; parts = one.left }) p refl) may
+      let one = steps p.client (fitted p) in aside_goes affairs first p (Steps v) tt (steps_bid one.step v (record p { client = one.client; parts = unused one.left p.parts }) p refl) may
 
   feeds_go : (affairs : List Affair) (first : Client) (p : ClientProfile) (feeds : List Feed) → AllByRecursion IsBetween feeds → p.client ≡ client_behind affairs first → MayBe affairs first p
       → MayBe (affairs ++ pushed_from settings p feeds) first (all_fed (client_profile settings) p feeds)

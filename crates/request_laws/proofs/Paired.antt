@@ -101,7 +101,7 @@ paired_servers_serve asks scenario before capture ran direct pairs serves within
     (record {
       heard = record {
         twined = all_twined set near far pairs.pairs (λ k. k) a.spans a.now a.feeds A.first ran.world.a.upper.profile b.spans b.now b.feeds B.first ran.world.b.upper.profile pairs.a.fed.fed pairs.b.fed.fed (λ k. refl) (λ k. refl) (subst (AreTimely false) (sym b.marks_are) pairs.b.fed.so.timely) order.carried order.carries serves.linked;
-        answered = serves.answered;
+        small = serves.small;
         granted = serves.granted;
       };
       whole = (pairs-are_whole asks scenario (holding before) capture ran pairs within).b;

@@ -11,6 +11,7 @@ use Rattle.push_laws.specs.Parties.{Move, OfServer, OfClient, of_server, of_clie
 use Rattle.push_laws.specs.Readings.{closes}
 use Rattle.request_laws.specs.BothFed.{ComesNone}
 use Rattle.request_laws.specs.Twists.{pipes_behind, NoneBehind}
+use Rattle.request_laws.proofs.OnPsm.{come_one, gone_one, heard_one}
 use Rattle.request_laws.proofs.Silent.{IsStill, AllSilent}
 use Rattle.request_laws.proofs.Feeding.{Shape, Quiet, Single}
 
@@ -120,11 +121,12 @@ pub stay_quiet : (occurrences : List Occurrence) (client : Client) (pipes : Pipe
 stay_quiet [] client pipes now quiet = tt
 stay_quiet (one ∷ rest) client pipes now quiet =
     let next = pipes_after (OfServer one) client pipes in
+    let none : come_by one ≡ [] = come_one one ∙ quiet.0 object_psm in
     let here : ArePipes next = record {
-      requests = subst (λ (l : List (List ℕ)). IsFrontOf l pipes.requests_sent) (sym (ap (λ (l : List (List ℕ)). pipes.requests_come ++ l) quiet.0 ∙ append-nil pipes.requests_come)) now.requests;
+      requests = subst (λ (l : List (List ℕ)). IsFrontOf l pipes.requests_sent) (sym (ap (λ (l : List (List ℕ)). pipes.requests_come ++ l) none ∙ append-nil pipes.requests_come)) now.requests;
       responses = front_more pipes.responses_come pipes.responses_sent (gone_by one) now.responses;
     } in
-    (here, λ closed. quiet.0, stay_quiet rest client next here quiet.1)
+    (here, λ closed. none, stay_quiet rest client next here quiet.1)
 
 pub stay_server : (occurrences : List Occurrence) (client : Client) (pipes : Pipes) → Shape occurrences → ArePipes pipes → ArePipes (pipes_behind (by_server occurrences) client pipes) → (pipes.closed ≡ true → flat_map come_by occurrences ≡ [])
     → StayPipes (by_server occurrences) client pipes
@@ -165,11 +167,11 @@ same_pipes a b sent come gone heard closed =
     ∙ (ap (λ (l : List (List ℕ)). record a { requests_sent = b.requests_sent; requests_come = b.requests_come; responses_sent = b.responses_sent; responses_come = l }) heard
     ∙ ap (λ (c : Bool). record b { closed = c }) closed)))
 
-or_false : (a b : Bool) → b ≡ false → (a || b) ≡ a
+pub or_false : (a b : Bool) → b ≡ false → (a || b) ≡ a
 or_false true b is = refl
 or_false false b is = is
 
-nothing_more : (l more : List (List ℕ)) → more ≡ [] → l ++ more ≡ l
+pub nothing_more : (l more : List (List ℕ)) → more ≡ [] → l ++ more ≡ l
 nothing_more l more none = ap (λ (m : List (List ℕ)). l ++ m) none ∙ append-nil l
 
 pub still_pipes : (occurrences : List Occurrence) (client : Client) (pipes : Pipes) → AllByRecursion IsStill occurrences → pipes_behind (by_server occurrences) client pipes ≡ pipes
@@ -177,14 +179,14 @@ still_pipes [] client pipes still = refl
 still_pipes (one ∷ rest) client pipes still =
     let next = pipes_after (OfServer one) client pipes in
     still_pipes rest client next still.1
-    ∙ same_pipes next pipes refl (nothing_more pipes.requests_come (come_by one) still.0.come) (nothing_more pipes.responses_sent (gone_by one) still.0.gone) refl (or_false pipes.closed (closes object_psm one) still.0.open_yet)
+    ∙ same_pipes next pipes refl (nothing_more pipes.requests_come (come_by one) (come_one one ∙ still.0.come object_psm)) (nothing_more pipes.responses_sent (gone_by one) (gone_one one ∙ still.0.gone object_psm)) refl (or_false pipes.closed (closes object_psm one) (still.0.open_yet object_psm))
 
 pub silent_pipes : (deeds : List Deed) (client : Client) (pipes : Pipes) → AllSilent deeds client → pipes_behind (by_client deeds) client pipes ≡ pipes
 silent_pipes [] client pipes silent = refl
 silent_pipes (deed ∷ deeds) client pipes silent =
     let next = pipes_after (OfClient deed) client pipes in
     silent_pipes deeds (push.done deed client) next silent.1
-    ∙ same_pipes next pipes (nothing_more pipes.requests_sent (sent_by deed client) silent.0.sent) refl refl (nothing_more pipes.responses_come (heard_by deed) silent.0.heard) refl
+    ∙ same_pipes next pipes (nothing_more pipes.requests_sent (sent_by deed client) silent.0.sent) refl refl (nothing_more pipes.responses_come (heard_by deed) (heard_one deed ∙ silent.0.heard object_psm)) refl
 
 pub still_quiet : (occurrences : List Occurrence) → AllByRecursion IsStill occurrences → AllByRecursion ComesNone occurrences
 still_quiet [] still = tt

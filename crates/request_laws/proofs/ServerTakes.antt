@@ -1,4 +1,4 @@
--- What goes from a server on the channel of the object is what its end of that channel takes.
+-- What goes from a server on the one channel of a PSM is what its end of that channel takes.
 use Rattle.std.proofs.Common.{◌≡◌, ℕ, List, [], ◌∷◌, ◌++◌, fold, Bool, true, false, cond, eqb, ◌&&◌, Option, Some, None, refl, sym, ap, ap₂, subst, ◌∙◌, append_assoc}
 use Rattle.std.specs.List.{AllByRecursion, flat_map}
 use Rattle.acl_fragments.specs.Pieces.{channel_of}
@@ -14,10 +14,10 @@ use Rattle.channel_model.specs.Policies.{Policy, policy}
 use Rattle.channel_model.specs.Value.{Channels, no_channels}
 use Rattle.channel_laws.specs.Runs.{Occurrence, Comes, Connects, AsksFeatures, Disconnects, Sends, Gives, Fires, Tells, said_in, value_after, Run, new_link, run_on, run_of}
 use Rattle.channel_laws.specs.Taken.{is_free, taken_of}
-use Rattle.push_model.specs.Server.{Server, Lent, lends, lent_sdu, object_psm}
+use Rattle.push_model.specs.Server.{Server, Lent, lends, lent_sdu}
 use Rattle.push_model.specs.Server as push
 use Rattle.push_laws.specs.Occurrences as served
-use Rattle.push_laws.specs.Parties.{sdu_if, gone_by}
+use Rattle.push_laws.specs.Parties.{sdu_if}
 use Rattle.world_model.specs.Machines.{News, Linked, Up, Down, Failed, Heard, TimerFired, Cancelled, Opening}
 use Rattle.host_model.specs.Circumstances.{Circumstance}
 use Rattle.host_model.specs.Endpoints.{Endpoint, endpoint_of, takes_sdu}
@@ -31,11 +31,12 @@ use Rattle.host_laws.specs.GainingOver.{IsNoPdu}
 use Rattle.host_laws.specs.Serving.{news_served, taken_by, lent_by, served_from}
 use Rattle.host_laws.specs.Woven.{Strand, Hearing, Giving, Firing, Telling, Gifting, Learning, Checking, Stepping, told_next, strand_list, strand_profile, woven_list}
 use Rattle.host_laws.proofs.Asking.{send_if, sends_on, lent_call, hosts_ask, servers-call}
+use Rattle.request_laws.specs.Streams.{gone_on}
 use Rattle.request_laws.proofs.Accepted.{Opened, opened-stays, OpenedUp, opened-up, up-stays}
 use Rattle.request_laws.proofs.Feeding.{all_ahead}
 use Rattle.request_laws.proofs.Takes.{takes_from, takes_both, takes_of, value_behind, is_taken, AllEndpoints, with_new, all_mapped, endpoint_so}
 
-module _ (settings : Settings) (content : Option Contents) where
+module _ (carrier : ℕ) (settings : Settings) (content : Option Contents) where
   abbrev own : Policy
   own = policy settings true
 
@@ -113,13 +114,13 @@ module _ (settings : Settings) (content : Option Contents) where
 
   -- at an endpoint of the talk the PSM is that of the object where the endpoint is this one
   abbrev pub Sure : List Occurrence → ℕ → Type 0
-  Sure all here = (psm at : ℕ) → Opened (run_of (policy settings true) all).said psm at → eqb psm object_psm ≡ eqb at here
+  Sure all here = (psm at : ℕ) → Opened (run_of (policy settings true) all).said psm at → eqb psm carrier ≡ eqb at here
 
   abbrev gone_in : List served.Occurrence → List (List ℕ)
-  gone_in occurrences = flat_map gone_by occurrences
+  gone_in occurrences = flat_map (gone_on carrier) occurrences
 
   abbrev pub goes_by : Strand → Channels → ServerProfile → List (List ℕ)
-  goes_by strand v p = flat_map gone_by (served_from settings content p (strand_feeds strand v))
+  goes_by strand v p = flat_map (gone_on carrier) (served_from settings content p (strand_feeds strand v))
 
   up_goes : (brought : Handed) (p : ServerProfile) → gone_in (served_from settings content p (feeds_up brought)) ≡ []
   up_goes Nothing p = refl
@@ -163,7 +164,7 @@ module _ (settings : Settings) (content : Option Contents) where
       by at true found is =
           let taken = is_taken at (sdu_of lent.payload) v is in
           let opened = endpoint_so (WasOpened front) lent.psm at p.endpoints all found in
-          both_if (eqb lent.psm object_psm) (eqb at here) (is_free (carrier_at at v)) (sdu_of lent.payload) (sure lent.psm at (opened-stays own front later lent.psm at opened)) taken.free
+          both_if (eqb lent.psm carrier) (eqb at here) (is_free (carrier_at at v)) (sdu_of lent.payload) (sure lent.psm at (opened-stays own front later lent.psm at opened)) taken.free
 
       on : (found : Option ℕ) → endpoint_of lent.psm p.endpoints ≡ found → gone_in (taken_by found lent v ++ []) ≡ takes_from own here v (from_call (sends_on v lent.payload found))
       on None found = refl

@@ -1,22 +1,24 @@
--- What moves nothing on the channel of the object.
+-- What moves nothing on the channel of the object, nor on that of the multiplexer.
 use Rattle.std.proofs.Common.{◌≡◌, ℕ, false, List, [], ◌∷◌, ◌++◌, map, Ok}
 use Rattle.push_model.specs.Client.{Client, with_object}
 use Rattle.push_model.specs.Laws.{Deed, done}
-use Rattle.push_model.specs.Server.{object_psm}
+use Rattle.push_laws.specs.Carriage.{frames_by}
 use Rattle.push_laws.specs.Occurrences.{Occurrence}
-use Rattle.push_laws.specs.Parties.{come_by, gone_by, sent_by, heard_by}
+use Rattle.push_laws.specs.Parties.{sent_by}
 use Rattle.push_laws.specs.Readings.{closes}
 use Rattle.host_laws.specs.Pushing.{Affair, Begins, Does, client_behind}
+use Rattle.request_laws.specs.Streams.{come_on, gone_on, heard_on}
 
--- nothing goes there and nothing comes
+-- nothing goes and nothing comes, whatever the PSM
 pub record IsStill (one : Occurrence) : Type 0 where
-  pub come : come_by one ≡ []
-  pub gone : gone_by one ≡ []
-  pub open_yet : closes object_psm one ≡ false
+  pub come : (carrier : ℕ) → come_on carrier one ≡ []
+  pub gone : (carrier : ℕ) → gone_on carrier one ≡ []
+  pub open_yet : (carrier : ℕ) → closes carrier one ≡ false
 
 pub record IsSilent (deed : Deed) (client : Client) : Type 0 where
   pub sent : sent_by deed client ≡ []
-  pub heard : heard_by deed ≡ []
+  pub frames : frames_by deed client ≡ []
+  pub heard : (carrier : ℕ) → heard_on carrier deed ≡ []
 
 abbrev pub AllSilent : List Deed → Client → Type 0
 AllSilent [] client = Unit {0}

@@ -12,13 +12,15 @@ use Rattle.push_model.specs.Events as events
 use Rattle.push_model.specs.Events.{hears_news}
 use Rattle.push_model.specs.Laws as push
 use Rattle.push_model.specs.Laws.{Deed}
+use Rattle.push_model.specs.Server.{object_psm}
 use Rattle.push_model.specs.Steps.{Step, Wait, MakeLink, AskFeatures, OpenChannel, SendSdu, CloseChannel, BreakLink, Ended, NoMemory, steps}
 use Rattle.push_laws.specs.Occurrences as served
 use Rattle.push_laws.specs.Parties.{OfServer, OfClient, Pipes, ArePipes, come_by, gone_by, heard_by, pipes_after}
 use Rattle.world_model.specs.Machines.{News, Linked, Up, Down, Failed, Heard, TimerFired, Cancelled, Opening}
-use Rattle.host_model.specs.Circumstances.{Circumstance, size_in}
+use Rattle.host_model.specs.Circumstances.{Circumstance}
 use Rattle.host_model.specs.Clients.{ClientProfile, ended, client_profile}
 use Rattle.host_model.specs.Servers.{server_profile}
+use Rattle.host_model.specs.Shelves.{size_for, name_for}
 use Rattle.host_laws.specs.Calls.{HostsAsk}
 use Rattle.host_laws.specs.Fed.{strand_feeds}
 use Rattle.host_laws.specs.Pushing.{end_asked, then_ends, link_asked, then_calls, news_pushed, pushed_from}
@@ -27,46 +29,48 @@ use Rattle.host_laws.specs.Woven.{Strand, Hearing, Giving, Firing, Telling, Gift
 use Rattle.host_laws.proofs.Asking.{clients_ask, hosts_ask}
 use Rattle.pair_laws.specs.Orders.{Joint, AtNear, AtFar, near_in, far_in}
 use Rattle.request_laws.specs.Joined.{twist_joints, joints_of}
+use Rattle.request_laws.specs.Streams.{heard_on}
 use Rattle.request_laws.specs.Twists.{Twist, AtClient, AtServer, of_client, of_server, Both, Set, both_after, all_deeds, pipes_behind, taken_in, carried_by, AllStayPiped}
 use Rattle.request_laws.proofs.ClientTakes.{took}
 use Rattle.request_laws.proofs.Feeding.{all_both}
-use Rattle.request_laws.proofs.HandedUp.{handed_from, handed_both, strand_come, Unheard, heard_flat, strand_heard}
+use Rattle.request_laws.proofs.HandedUp.{handed_from, handed_both, strand_come, Unheard, heard_flat, strand_heard, taken_is}
+use Rattle.request_laws.proofs.OnPsm.{come_is, heard_is, gone_is}
 use Rattle.request_laws.proofs.ServerTakes.{goes_by, went}
 
 -- ---- what comes to a client with what it hears, also of its link
 
-ends_unheard : (step : Step) → AllByRecursion Unheard (end_asked step)
-ends_unheard Wait = tt
-ends_unheard MakeLink = tt
-ends_unheard AskFeatures = tt
-ends_unheard (OpenChannel psm) = tt
-ends_unheard (SendSdu psm payload) = tt
-ends_unheard (CloseChannel psm) = tt
-ends_unheard BreakLink = tt
-ends_unheard (Ended outcome) = (refl, tt)
-ends_unheard NoMemory = tt
+ends_unheard : (carrier : ℕ) (step : Step) → AllByRecursion (Unheard carrier) (end_asked step)
+ends_unheard carrier Wait = tt
+ends_unheard carrier MakeLink = tt
+ends_unheard carrier AskFeatures = tt
+ends_unheard carrier (OpenChannel psm) = tt
+ends_unheard carrier (SendSdu psm payload) = tt
+ends_unheard carrier (CloseChannel psm) = tt
+ends_unheard carrier BreakLink = tt
+ends_unheard carrier (Ended outcome) = (refl, tt)
+ends_unheard carrier NoMemory = tt
 
-links_unheard : (step : Step) → AllByRecursion Unheard (link_asked step)
-links_unheard Wait = tt
-links_unheard MakeLink = (refl, (refl, tt))
-links_unheard AskFeatures = tt
-links_unheard (OpenChannel psm) = tt
-links_unheard (SendSdu psm payload) = tt
-links_unheard (CloseChannel psm) = tt
-links_unheard BreakLink = tt
-links_unheard (Ended outcome) = tt
-links_unheard NoMemory = tt
+links_unheard : (carrier : ℕ) (step : Step) → AllByRecursion (Unheard carrier) (link_asked step)
+links_unheard carrier Wait = tt
+links_unheard carrier MakeLink = (refl, (refl, tt))
+links_unheard carrier AskFeatures = tt
+links_unheard carrier (OpenChannel psm) = tt
+links_unheard carrier (SendSdu psm payload) = tt
+links_unheard carrier (CloseChannel psm) = tt
+links_unheard carrier BreakLink = tt
+links_unheard carrier (Ended outcome) = tt
+links_unheard carrier NoMemory = tt
 
-news_unheard : (circumstances : List Circumstance) (news : News) (client : Client) → AllByRecursion Unheard (news_pushed circumstances news client)
-news_unheard circumstances (Linked Up) client = (refl, tt)
-news_unheard circumstances (Linked (Down reason)) client = (refl, ends_unheard (steps (hears_news (events.LinkDown reason) client) []).step)
-news_unheard circumstances (Failed status) client = (refl, ends_unheard (steps (hears_news (events.LinkFailed status) client) []).step)
-news_unheard circumstances (Heard pdu) client = tt
-news_unheard circumstances TimerFired client = (refl, tt)
-news_unheard circumstances Cancelled client = (refl, ends_unheard (steps (cancelled client) []).step)
-news_unheard circumstances (Opening name) client =
-    let begun : Client = begins (size_in circumstances) name client in
-    (refl, all_both Unheard (then_ends begun) (then_calls (ended begun)) (ends_unheard (steps begun []).step) (links_unheard (steps (ended begun) []).step))
+news_unheard : (carrier : ℕ) (circumstances : List Circumstance) (news : News) (client : Client) → AllByRecursion (Unheard carrier) (news_pushed circumstances news client)
+news_unheard carrier circumstances (Linked Up) client = (refl, tt)
+news_unheard carrier circumstances (Linked (Down reason)) client = (refl, ends_unheard carrier (steps (hears_news (events.LinkDown reason) client) []).step)
+news_unheard carrier circumstances (Failed status) client = (refl, ends_unheard carrier (steps (hears_news (events.LinkFailed status) client) []).step)
+news_unheard carrier circumstances (Heard pdu) client = tt
+news_unheard carrier circumstances TimerFired client = (refl, tt)
+news_unheard carrier circumstances Cancelled client = (refl, ends_unheard carrier (steps (cancelled client) []).step)
+news_unheard carrier circumstances (Opening name) client =
+    let begun : Client = begins (size_for circumstances name) (name_for name) client in
+    (refl, all_both (Unheard carrier) (then_ends begun) (then_calls (ended begun)) (ends_unheard carrier (steps begun []).step) (links_unheard carrier (steps (ended begun) []).step))
 
 -- ---- moves of one side alone
 
@@ -167,21 +171,21 @@ module _ (settings : Settings) (content : Option Contents) where
   stay-piped (twist ∷ twists) both pipes each =
       (each (twist ∷ []) twists refl, stay-piped twists (both_after asking twist both) (carried_by asking twist both pipes) (λ front rest is. each (twist ∷ front) rest (ap (λ (l : List Twist). twist ∷ l) is)))
 
-  strand_hears : (strand : Strand) (v : Channels) (p : ClientProfile) → flat_map heard_by (all_deeds (pushed_from settings p (strand_feeds strand v))) ≡ handed_from (policy settings false) v (strand_list (client_profile settings) (clients_ask settings) strand v p)
-  strand_hears (Hearing pdu) v p = strand_heard settings (clients_ask settings) (Hearing pdu) v p tt
-  strand_hears (Giving pdu) v p = strand_heard settings (clients_ask settings) (Giving pdu) v p tt
-  strand_hears Firing v p = strand_heard settings (clients_ask settings) Firing v p tt
-  strand_hears Telling v p = strand_heard settings (clients_ask settings) Telling v p tt
-  strand_hears (Gifting circumstances) v p = strand_heard settings (clients_ask settings) (Gifting circumstances) v p tt
-  strand_hears (Learning circumstances news) v p = heard_flat (news_pushed circumstances news p.client ++ []) (all_both Unheard (news_pushed circumstances news p.client) [] (news_unheard circumstances news p.client) tt)
-  strand_hears Checking v p = strand_heard settings (clients_ask settings) Checking v p tt
-  strand_hears Stepping v p = strand_heard settings (clients_ask settings) Stepping v p tt
+  pub strand_hears : (carrier : ℕ) (strand : Strand) (v : Channels) (p : ClientProfile) → flat_map (heard_on carrier) (all_deeds (pushed_from settings p (strand_feeds strand v))) ≡ handed_from carrier (policy settings false) v (strand_list (client_profile settings) (clients_ask settings) strand v p)
+  strand_hears carrier (Hearing pdu) v p = strand_heard carrier settings (clients_ask settings) (Hearing pdu) v p tt
+  strand_hears carrier (Giving pdu) v p = strand_heard carrier settings (clients_ask settings) (Giving pdu) v p tt
+  strand_hears carrier Firing v p = strand_heard carrier settings (clients_ask settings) Firing v p tt
+  strand_hears carrier Telling v p = strand_heard carrier settings (clients_ask settings) Telling v p tt
+  strand_hears carrier (Gifting circumstances) v p = strand_heard carrier settings (clients_ask settings) (Gifting circumstances) v p tt
+  strand_hears carrier (Learning circumstances news) v p = heard_flat carrier (news_pushed circumstances news p.client ++ []) (all_both (Unheard carrier) (news_pushed circumstances news p.client) [] (news_unheard carrier circumstances news p.client) tt)
+  strand_hears carrier Checking v p = strand_heard carrier settings (clients_ask settings) Checking v p tt
+  strand_hears carrier Stepping v p = strand_heard carrier settings (clients_ask settings) Stepping v p tt
 
   pub record Sums (twists : List Twist) (both : Both) (before after : Pipes) : Type 0 where
-    pub sent : after.requests_sent ≡ before.requests_sent ++ took settings (flat_map of_client twists) both.near both.client
-    pub come : after.requests_come ≡ before.requests_come ++ handed_from (policy settings true) both.far (far_list twists both)
-    pub gone : after.responses_sent ≡ before.responses_sent ++ went settings content (flat_map of_server twists) both.far both.server
-    pub heard : after.responses_come ≡ before.responses_come ++ handed_from (policy settings false) both.near (near_list twists both)
+    pub sent : after.requests_sent ≡ before.requests_sent ++ took object_psm settings (flat_map of_client twists) both.near both.client
+    pub come : after.requests_come ≡ before.requests_come ++ handed_from object_psm (policy settings true) both.far (far_list twists both)
+    pub gone : after.responses_sent ≡ before.responses_sent ++ went object_psm settings content (flat_map of_server twists) both.far both.server
+    pub heard : after.responses_come ≡ before.responses_come ++ handed_from object_psm (policy settings false) both.near (near_list twists both)
 
   further : (before here mid rest after : List (List ℕ)) → mid ≡ before ++ here → after ≡ mid ++ rest → after ≡ before ++ (here ++ rest)
   further before here mid rest after one two = two ∙ (ap (λ (l : List (List ℕ)). l ++ rest) one ∙ append_assoc before here rest)
@@ -197,12 +201,14 @@ module _ (settings : Settings) (content : Option Contents) where
       let rest = sums twists next mid in
       let here = strand_list (client_profile settings) (clients_ask settings) strand both.near both.client in
       record {
-        sent = rest.sent ∙ append_assoc pipes.requests_sent (taken_in strand both.near both.client) (took settings (flat_map of_client twists) next.near next.client);
-        come = rest.come ∙ ap (λ (l : List (List ℕ)). l ++ handed_from (policy settings true) next.far (far_list twists next)) moved.come;
-        gone = rest.gone ∙ ap (λ (l : List (List ℕ)). l ++ went settings content (flat_map of_server twists) next.far next.server) moved.gone;
-        heard = further pipes.responses_come (handed_from (policy settings false) both.near here) mid.responses_come (handed_from (policy settings false) next.near (near_list twists next)) last.responses_come
-            (moved.heard ∙ ap (λ (l : List (List ℕ)). pipes.responses_come ++ l) (strand_hears strand both.near both.client)) rest.heard
-            ∙ ap (λ (l : List (List ℕ)). pipes.responses_come ++ l) (sym (handed_both (policy settings false) here (near_list twists next) both.near));
+        sent = rest.sent
+            ∙ (append_assoc pipes.requests_sent (taken_in strand both.near both.client) (took object_psm settings (flat_map of_client twists) next.near next.client)
+            ∙ ap (λ (l : List (List ℕ)). pipes.requests_sent ++ (l ++ took object_psm settings (flat_map of_client twists) next.near next.client)) (taken_is strand both.near both.client));
+        come = rest.come ∙ ap (λ (l : List (List ℕ)). l ++ handed_from object_psm (policy settings true) next.far (far_list twists next)) moved.come;
+        gone = rest.gone ∙ ap (λ (l : List (List ℕ)). l ++ went object_psm settings content (flat_map of_server twists) next.far next.server) moved.gone;
+        heard = further pipes.responses_come (handed_from object_psm (policy settings false) both.near here) mid.responses_come (handed_from object_psm (policy settings false) next.near (near_list twists next)) last.responses_come
+            (moved.heard ∙ ap (λ (l : List (List ℕ)). pipes.responses_come ++ l) (heard_is deeds ∙ strand_hears object_psm strand both.near both.client)) rest.heard
+            ∙ ap (λ (l : List (List ℕ)). pipes.responses_come ++ l) (sym (handed_both object_psm (policy settings false) here (near_list twists next) both.near));
       }
   sums (AtServer strand ∷ twists) both pipes =
       let occurrences = served_from settings content both.server (strand_feeds strand both.far) in
@@ -213,10 +219,11 @@ module _ (settings : Settings) (content : Option Contents) where
       let rest = sums twists next mid in
       let here = strand_list (server_profile settings content) (hosts_ask.servers settings content) strand both.far both.server in
       record {
-        sent = rest.sent ∙ ap (λ (l : List (List ℕ)). l ++ took settings (flat_map of_client twists) next.near next.client) moved.sent;
-        heard = rest.heard ∙ ap (λ (l : List (List ℕ)). l ++ handed_from (policy settings false) next.near (near_list twists next)) moved.heard;
-        gone = further pipes.responses_sent (goes_by settings content strand both.far both.server) mid.responses_sent (went settings content (flat_map of_server twists) next.far next.server) last.responses_sent moved.gone rest.gone;
-        come = further pipes.requests_come (handed_from (policy settings true) both.far here) mid.requests_come (handed_from (policy settings true) next.far (far_list twists next)) last.requests_come
-            (moved.come ∙ ap (λ (l : List (List ℕ)). pipes.requests_come ++ l) (strand_come settings content (hosts_ask.servers settings content) strand both.far both.server)) rest.come
-            ∙ ap (λ (l : List (List ℕ)). pipes.requests_come ++ l) (sym (handed_both (policy settings true) here (far_list twists next) both.far));
+        sent = rest.sent ∙ ap (λ (l : List (List ℕ)). l ++ took object_psm settings (flat_map of_client twists) next.near next.client) moved.sent;
+        heard = rest.heard ∙ ap (λ (l : List (List ℕ)). l ++ handed_from object_psm (policy settings false) next.near (near_list twists next)) moved.heard;
+        gone = further pipes.responses_sent (goes_by object_psm settings content strand both.far both.server) mid.responses_sent (went object_psm settings content (flat_map of_server twists) next.far next.server) last.responses_sent
+            (moved.gone ∙ ap (λ (l : List (List ℕ)). pipes.responses_sent ++ l) (gone_is occurrences)) rest.gone;
+        come = further pipes.requests_come (handed_from object_psm (policy settings true) both.far here) mid.requests_come (handed_from object_psm (policy settings true) next.far (far_list twists next)) last.requests_come
+            (moved.come ∙ ap (λ (l : List (List ℕ)). pipes.requests_come ++ l) (come_is occurrences ∙ strand_come object_psm settings content (hosts_ask.servers settings content) strand both.far both.server)) rest.come
+            ∙ ap (λ (l : List (List ℕ)). pipes.requests_come ++ l) (sym (handed_both object_psm (policy settings true) here (far_list twists next) both.far));
       }

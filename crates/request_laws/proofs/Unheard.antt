@@ -159,10 +159,10 @@ module _ (settings : Settings) (content : Option Contents) (asks : Asking (serve
   strand_quiet (Giving pdu) v p deaf = tt
   strand_quiet Firing v p deaf = tt
   strand_quiet Telling v p deaf = next_quiet v.events v p
-  strand_quiet (Gifting circumstances) v p deaf = (refl, tt)
+  strand_quiet (Gifting circumstances) v p deaf = (λ carrier. refl, tt)
   strand_quiet (Learning circumstances heard) v p deaf = news_shape heard
   strand_quiet Checking v p deaf = tt
-  strand_quiet Stepping v p deaf = (refl, all_both ComesNone (lent_by (lent_sdu (lends p.server)) v p) [] (lent_shape (lent_sdu (lends p.server)) v p) tt)
+  strand_quiet Stepping v p deaf = (λ carrier. refl, all_both ComesNone (lent_by (lent_sdu (lends p.server)) v p) [] (lent_shape (lent_sdu (lends p.server)) v p) tt)
 
   weave_quiet : (weave : List Strand) (v : Channels) (p : ServerProfile) → AllByRecursion HearsNothing (woven_list (server_profile settings content) asks weave v p)
       → AllByRecursion ComesNone (served_from settings content p (woven_feeds (server_profile settings content) asks weave v p))

@@ -1,51 +1,42 @@
 -- Both hosts over all their links, which come up and go down for both at once (Object Push Profile 1.2, 4.3; IrOBEX 1.5, 3.2).
-use Rattle.std.specs.Prelude.{ℕ, suc, ◌≡◌, ◌≤◌, true, List, [], ◌∷◌, length, Some, None, Result, Ok}
+use Rattle.std.specs.Prelude.{ℕ, suc, ◌≡◌, true, List, [], ◌∷◌, Some, None}
 use Rattle.std.specs.List.{AllByRecursion}
-use Rattle.bt_base.specs.declared.ports.PortFault.{PortFault}
 use Rattle.bt_base.specs.declared.settings.Settings.{Settings}
 use Rattle.bt_base.specs.declared.settings.Transport.TheVariants.{L2cap}
 use Rattle.bt_base.specs.Objects.{Object}
-use Rattle.obex_session.specs.PutPackets.{units_in}
 use Rattle.channel_laws.specs.Runs as channels
 use Rattle.push_model.specs.Client.{Client}
 use Rattle.push_laws.specs.Laws.{new_over}
 use Rattle.push_laws.specs.Occurrences.{Occurrence}
-use Rattle.push_laws.specs.Parties.{come_by}
 use Rattle.push_laws.specs.Premises.{AllGranted, AllMayCome}
-use Rattle.push_laws.specs.Sending.{AnswersTo}
 use Rattle.world_model.specs.Machines.{LinkEvent, Up, Down}
 use Rattle.world_model.specs.Talks.{Talk}
 use Rattle.host_model.specs.Circumstances.{answers_in}
 use Rattle.host_model.specs.Clients.{ClientProfile, client_profile}
 use Rattle.host_model.specs.Hosts.{Host}
 use Rattle.host_model.specs.Servers.{ServerProfile, server_profile}
+use Rattle.host_laws.specs.Answered.{BeginsAtMost}
 use Rattle.host_laws.specs.Calls.{HostsAsk}
 use Rattle.host_laws.specs.Fed.{FedSpan, behind_span, AreFed, TalksFed}
 use Rattle.host_laws.specs.Feeds.{Feed, Gifts, Learns, Receives, Happens, Sent, Steps}
 use Rattle.host_laws.specs.Gaining.{IsDirect}
 use Rattle.host_laws.specs.Lives.{Span}
-use Rattle.host_laws.specs.Pushing.{Affair, Begins, Does, client_after, pushed_from}
+use Rattle.host_laws.specs.Pushing.{Affair, client_after}
 use Rattle.host_laws.specs.Serving.{served_from}
 use Rattle.host_laws.specs.Woven.{Woven}
+use Rattle.request_laws.specs.Streams.{come_on}
 use Rattle.request_laws.specs.Twists.{Set, Twined}
 
--- ---- the ports of the client
+-- ---- the ports
 
--- an object of at most 16,777,215 octets, whose name has at most 100 units
-pub record IsSmall (size : Result ℕ PortFault) (name : List ℕ) : Type 0 where
-  pub short : length (units_in name) ≤ 100
-  pub bounded : (count : ℕ) → size ≡ Ok count → count ≤ 16777215
+-- a server takes objects of so many octets at most (this project's own)
+abbrev pub most_octets : ℕ
+most_octets = 16777215
 
--- the shelf answers with as many octets as it was asked for
-abbrev pub IsAnswered : Affair → Client → Type 0
-IsAnswered (Begins size name) client = IsSmall size name
-IsAnswered (Does deed) client = AnswersTo None deed client
-
-abbrev pub AllAnswered : List Affair → Client → Type 0
-AllAnswered [] client = Unit {0}
-AllAnswered (one ∷ rest) client = IsAnswered one client × AllAnswered rest (client_after one client)
-
--- ---- the ports of the server
+-- so it is of each thing that happens to the client
+abbrev pub AllAsked : (Affair → Client → Type 0) → List Affair → Client → Type 0
+AllAsked Is [] client = Unit {0}
+AllAsked Is (one ∷ rest) client = Is one client × AllAsked Is rest (client_after one client)
 
 -- the inbox grants all calls
 abbrev pub GrantsAll : Feed → Type 0
@@ -58,9 +49,9 @@ GrantsAll (Steps v) = Unit {0}
 
 -- ---- over all links
 
--- nothing comes to the server
+-- no SDU comes to the server, whatever the PSM
 abbrev pub ComesNone : Occurrence → Type 0
-ComesNone one = come_by one ≡ []
+ComesNone one = (carrier : ℕ) → come_on carrier one ≡ []
 
 abbrev pub IsDown : LinkEvent → Type 0
 IsDown Up = ⊥
@@ -125,13 +116,14 @@ AreTwined set number spans_a now_a feeds_a client last_a spans_b now_b feeds_b s
 abbrev pub over_stored : HostsAsk → Settings → List Object → Set
 over_stored asks settings before = record { asks = asks; settings = settings; content = Some (record { stored = before; pending = None }) }
 
--- On each link the channels of the object were pipes at each moment; the shelf answered as it was asked, and the inbox granted all calls.
+-- On each link the channels of the object were pipes at each moment; the shelf told no object that is longer than a server takes, and the
+-- inbox granted all calls.
 pub record BothAreHeard (set : Set) (talk_a talk_b : List Talk) (a : Host ClientProfile) (b : Host ServerProfile)
     (near : TalksFed (client_profile set.settings) (set.asks.clients set.settings) talk_a a)
     (far : TalksFed (server_profile set.settings set.content) (set.asks.servers set.settings set.content) talk_b b) : Type 0 where
   pub twined : AreTwined set (λ k. k) near.so.lives.spans near.so.lives.now near.so.lives.feeds (client_profile set.settings).first a.profile
       far.so.lives.spans far.so.lives.now far.so.lives.feeds (server_profile set.settings set.content).first b.profile near.fed far.fed
-  pub answered : AllAnswered (pushed_from set.settings (client_profile set.settings).first near.so.lives.feeds) (client_profile set.settings).first.client
+  pub small : AllByRecursion (BeginsAtMost most_octets) near.so.lives.feeds
   pub granted : AllByRecursion GrantsAll far.so.lives.feeds
 
 -- Then no request is ignored over all their links, where nothing comes or goes over RFCOMM.

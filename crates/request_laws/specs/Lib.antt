@@ -10,3 +10,14 @@ pub mod Alternating
 pub mod ObjectPipes
 pub mod Linked
 pub mod Together
+pub mod Streams
+pub mod MuxPipes
+pub mod Carried
+pub mod MuxFed
+pub mod TogetherCarried
+pub mod Granted
+pub mod GrantedCarried
+pub mod Spellable
+pub mod SpellableClients
+pub mod SpellableServers
+pub mod TogetherRead

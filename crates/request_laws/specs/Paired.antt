@@ -11,9 +11,9 @@ use Rattle.channel_laws.specs.Runs as channels
 use Rattle.push_laws.specs.Parties.{no_pipes}
 use Rattle.host_model.specs.Clients.{ClientProfile, client_profile}
 use Rattle.host_model.specs.Servers.{ServerProfile, server_profile}
+use Rattle.host_laws.specs.Answered.{BeginsAtMost}
 use Rattle.host_laws.specs.Calls.{HostsAsk}
 use Rattle.host_laws.specs.InOrder.{AsksNoChannels}
-use Rattle.host_laws.specs.Pushing.{pushed_from}
 use Rattle.host_laws.specs.Woven.{Strand}
 use Rattle.scenario_laws.specs.Captures.{Ran}
 use Rattle.scenario_laws.specs.Gains.{holding, serving, asked_by, OrderlyServer}
@@ -21,7 +21,7 @@ use Rattle.pair_laws.specs.OnLinks.{happened_on, ArePairs}
 use Rattle.pair_laws.specs.Orders.{joints_from}
 use Rattle.pair_laws.specs.Pairs.{PairOnLink}
 use Rattle.pair_laws.specs.Within.{BothSendWithin}
-use Rattle.request_laws.specs.BothFed.{OfLink, AreLinked, AllAnswered, GrantsAll, over_stored}
+use Rattle.request_laws.specs.BothFed.{OfLink, AreLinked, most_octets, GrantsAll, over_stored}
 use Rattle.request_laws.specs.Joined.{joints_of}
 use Rattle.request_laws.specs.Twists.{Twist, new_both, Set, AllStayPiped, OpensNone}
 
@@ -43,13 +43,13 @@ PipedOn set near far pairs number list_a list_b client last_a server last_b a b 
 -- ---- the law
 
 -- What is asked of both hosts of a run whose channels are pairs: links come up as the client wants them, the server is never two turns ahead, on each
--- of them the channels of the object were pipes, and the ports answered as they were asked.
+-- of them the channels of the object were pipes, the shelf told no object that is too long, and the inbox granted all calls.
 pub record PairsServe (asks : HostsAsk) (scenario : Scenario) (before : List Object) (capture : List Entry) (ran : Ran scenario (holding before) capture) (pairs : ArePairs asks scenario (holding before) capture ran) : Type 0 where
   pub linked : (let set : Set = over_stored asks scenario.settings before in
       AreLinked set (PipedOn set (happened_on (client_profile scenario.settings) (asks.clients scenario.settings) sides.A capture ran.world.a.upper pairs.a) (happened_on (serving scenario.settings before) (asked_by asks scenario.settings before) sides.B capture ran.world.b.upper pairs.b) pairs.pairs)
       (λ k. k) pairs.a.fed.so.lives.spans pairs.a.fed.so.lives.now pairs.a.fed.so.lives.feeds (client_profile scenario.settings).first ran.world.a.upper.profile
       pairs.b.fed.so.lives.spans pairs.b.fed.so.lives.now pairs.b.fed.so.lives.feeds (serving scenario.settings before).first ran.world.b.upper.profile pairs.a.fed.fed pairs.b.fed.fed)
-  pub answered : AllAnswered (pushed_from scenario.settings (client_profile scenario.settings).first pairs.a.fed.so.lives.feeds) (client_profile scenario.settings).first.client
+  pub small : AllByRecursion (BeginsAtMost most_octets) pairs.a.fed.so.lives.feeds
   pub granted : AllByRecursion GrantsAll pairs.b.fed.so.lives.feeds
 
 -- Then host b serves in order: no request is ignored.

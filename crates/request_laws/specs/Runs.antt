@@ -40,8 +40,8 @@ RunsAreFed = (asks : HostsAsk) (scenario : Scenario) (content : Option Contents)
 
 -- ---- the law
 
--- What is asked of both hosts besides: on each link their channels of the object were pipes, the ports answered as they were asked, and all
--- that came on the server's channels was handed up.
+-- What is asked of both hosts besides: on each link their channels of the object were pipes, the shelf told no object that is too long, the inbox granted all
+-- calls, and all that came on the server's channels was handed up.
 pub record BothServe (asks : HostsAsk) (scenario : Scenario) (before : List Object) (capture : List Entry) (ran : Ran scenario (holding before) capture) (both : BothCameFed asks scenario (holding before) capture ran) : Type 0 where
   pub heard : BothAreHeard (over_stored asks scenario.settings before) both.a.came.talk both.b.came.talk ran.world.a.upper ran.world.b.upper both.a.fed both.b.fed
   pub whole : AllByRecursion (IsWhole (policy scenario.settings true))

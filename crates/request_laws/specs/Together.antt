@@ -9,24 +9,24 @@ use Rattle.push_terms.specs.declared.word.Side.TheVariants as sides
 use Rattle.capture.specs.Entries.{Entry}
 use Rattle.link_talk.specs.Captures.{objects_heard}
 use Rattle.push_laws.specs.Laws.{stored_in}
-use Rattle.host_model.specs.Clients.{client_profile}
+use Rattle.host_laws.specs.Answered.{BeginsAtMost}
 use Rattle.host_laws.specs.Calls.{HostsAsk}
-use Rattle.host_laws.specs.Pushing.{pushed_from}
 use Rattle.scenario_laws.specs.Captures.{Ran}
 use Rattle.scenario_laws.specs.Gains.{holding, OrderlyServer}
 use Rattle.scenario_laws.specs.Parties.{party_of}
 use Rattle.pair_laws.specs.InTurn.{PairsInTurn}
 use Rattle.pair_laws.specs.OnLinks.{ArePairs}
-use Rattle.request_laws.specs.BothFed.{AllAnswered, GrantsAll}
+use Rattle.request_laws.specs.BothFed.{most_octets, GrantsAll}
 
 -- host b serves in order, and so its inbox gained exactly the objects that the packets spell which it heard, as the capture has them
 pub record ServesAll (asks : HostsAsk) (scenario : Scenario) (before : List Object) (capture : List Entry) (ran : Ran scenario (holding before) capture) : Type 0 where
   pub orderly : OrderlyServer asks scenario.settings before capture ran.world.b.upper
   pub gained : stored_in ran.world.b.upper.profile.inbox.content ≡ Some (before ++ objects_heard (party_of scenario.settings sides.B) sides.B capture)
 
--- what is asked of the ports in a run: the shelf answered as it was asked, and the inbox granted all calls
+-- What is asked of the ports in a run: the shelf told no object that is longer than a server takes, and the inbox granted all calls. Whatever
+-- else the shelf answers, nothing is asked of it.
 pub record PortsAnswer (asks : HostsAsk) (scenario : Scenario) (before : List Object) (capture : List Entry) (ran : Ran scenario (holding before) capture) (pairs : ArePairs asks scenario (holding before) capture ran) : Type 0 where
-  pub answered : AllAnswered (pushed_from scenario.settings (client_profile scenario.settings).first pairs.a.fed.so.lives.feeds) (client_profile scenario.settings).first.client
+  pub small : AllByRecursion (BeginsAtMost most_octets) pairs.a.fed.so.lives.feeds
   pub granted : AllByRecursion GrantsAll pairs.b.fed.so.lives.feeds
 
 -- the channels of both hosts are pairs, and their links go side by side; and where the ports answer, host b serves in order and its inbox gained

@@ -11,7 +11,7 @@ use Rattle.push_model.specs.Steps.{Step, Wait, MakeLink, AskFeatures, OpenChanne
 use Rattle.push_laws.specs.Occurrences.{Occurrence}
 use Rattle.push_laws.specs.Readings.{closes}
 use Rattle.push_laws.specs.Parties.{Move, OfServer, OfClient, client_after, Pipes, no_pipes, pipes_after, ArePipes, come_by}
-use Rattle.host_model.specs.Clients.{ClientProfile, client_profile}
+use Rattle.host_model.specs.Clients.{ClientProfile, client_profile, fitted}
 use Rattle.host_model.specs.Endpoints.{Endpoint, endpoint_of, takes_sdu}
 use Rattle.host_model.specs.Pdus.{sdu_of}
 use Rattle.host_model.specs.Servers.{ServerProfile, server_profile}
@@ -107,7 +107,7 @@ taken_in Telling v p = []
 taken_in (Gifting circumstances) v p = []
 taken_in (Learning circumstances news) v p = []
 taken_in Checking v p = []
-taken_in Stepping v p = taken_with (steps p.client p.parts).step p.endpoints v
+taken_in Stepping v p = taken_with (steps p.client (fitted p)).step p.endpoints v
 
 -- requests that the client's channel took, and that came; responses that the server's channel took, and that came
 abbrev pub carried_by : Set → Twist → Both → Pipes → Pipes

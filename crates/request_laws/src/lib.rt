@@ -4,18 +4,28 @@
 ghost use Rattle.request_laws.specs.Alternating.{LinksAlternate};
 ghost use Rattle.request_laws.specs.Behind.{NothingComesBehind};
 ghost use Rattle.request_laws.specs.BothFed.{RequestsOfLinksAreHeard};
+ghost use Rattle.request_laws.specs.Carried.{LinksAreCarried};
 ghost use Rattle.request_laws.specs.Firsts.{FirstHostsAreHeard};
+ghost use Rattle.request_laws.specs.Granted.{RunsServeGranted};
+ghost use Rattle.request_laws.specs.GrantedCarried.{RunsServeCarriedGranted};
 ghost use Rattle.request_laws.specs.HandedUp.{ObjectsAreHandedUp};
 ghost use Rattle.request_laws.specs.Joined.{JoinedAreTwined};
 ghost use Rattle.request_laws.specs.Linked.{RunsAreLinked};
+ghost use Rattle.request_laws.specs.MuxFed.{CarriedRequestsAreHeard};
+ghost use Rattle.request_laws.specs.MuxPipes.{MultiplexersArePiped};
 ghost use Rattle.request_laws.specs.ObjectPipes.{ChannelsOfObjectsArePipes};
 ghost use Rattle.request_laws.specs.Paired.{PairedServersServe};
 ghost use Rattle.request_laws.specs.Runs.{RunsAreFed, ServersServeInOrder};
+ghost use Rattle.request_laws.specs.Spellable.{FramesAreSpellable};
+ghost use Rattle.request_laws.specs.SpellableClients.{ClientFramesAreRead};
+ghost use Rattle.request_laws.specs.SpellableServers.{ServerFramesAreSaid};
+ghost use Rattle.request_laws.specs.TogetherRead.{RunsServeRead};
+ghost use Rattle.request_laws.specs.TogetherCarried.{RunsServeCarried};
 ghost use Rattle.request_laws.specs.Together.{RunsServeTogether};
 
 /// Whatever happens to both hosts over all their links: no request is ignored, and all else holds that the laws of a server ask of what
 /// may come; over L2CAP, where on each link what came to the one is a front of what went from the other at each moment, each link lies in
-/// one push, the shelf answers as it is asked, and the inbox grants all calls.
+/// one push, the shelf tells no object of more than 16,777,215 octets, and the inbox grants all calls.
 pub fn requests_of_links_are_heard()
     ensures { RequestsOfLinksAreHeard }
 {}
@@ -37,7 +47,7 @@ pub fn runs_are_fed()
 {}
 
 /// So host b serves in order in each run over L2CAP, wherever it broke off: no request is ignored, where on each link what came to one host
-/// is a front of what the channel of the other took, its ports answer as they are asked, all that comes on its channels is handed up, and
+/// is a front of what the channel of the other took, no object is too long, its inbox grants all calls, all that comes on its channels is handed up, and
 /// its client asks for one channel of objects on each link.
 pub fn servers_serve_in_order()
     ensures { ServersServeInOrder }
@@ -50,7 +60,8 @@ pub fn objects_are_handed_up()
 
 /// And where both hosts' channels on each link are a pair, as they are in each run: where along
 /// the turns of these pairs what came to one host on the channel of the object is a front of what the channel of the other took, each link
-/// comes up where the client wants it, host b is never two turns of its link ahead, and the ports answer as they are asked.
+/// comes up where the client wants it, host b is never two turns of its link ahead, no object is too long, and the inbox grants
+/// all calls.
 pub fn paired_servers_serve()
     ensures { PairedServersServe }
 {}
@@ -80,7 +91,71 @@ pub fn channels_of_objects_are_pipes()
 {}
 
 /// So in each run over L2CAP, wherever it broke off, host b serves in order and its inbox gained exactly what the capture spells: where the
-/// shelf answers as it is asked, and the inbox grants all calls.
+/// shelf tells no object of more than 16,777,215 octets, and the inbox grants all calls, whatever else the shelf answers.
 pub fn runs_serve_together()
     ensures { RunsServeTogether }
+{}
+
+/// In each run whose words lose, cut, repeat and damage nothing, wherever it broke off, the channels of the multiplexers are pipes along the pair of both
+/// hosts' channels on each link: at each moment the SDUs that came to the one on PSM 0x0003 are a front of those that the other's end took of its
+/// profile. That is so where on each link of host b one channel alone carries packets, that of the multiplexer.
+pub fn multiplexers_are_piped()
+    ensures { MultiplexersArePiped }
+{}
+
+/// On a link over RFCOMM, where the channels of the multiplexers were pipes so, each frame is read as it was sent, and nothing came to the server behind
+/// the end of its channel: at each move of both hosts what came to the one is read as a front of the frames that the other's multiplexer sent. So
+/// the laws on a client and a server over RFCOMM ask it of each push.
+pub fn links_are_carried()
+    ensures { LinksAreCarried }
+{}
+
+/// Whatever happens to both hosts over all their links over RFCOMM: no request is ignored, and all else holds that the laws of a server ask of what
+/// may come; where on each link the channels of the multiplexers were pipes and nothing came behind their end, each link lies in one push, the shelf
+/// tells no object of more than 16,777,215 octets, the client hears of the server's channel, the inbox grants all calls, each frame is read as it was
+/// sent, and nothing comes over L2CAP.
+pub fn carried_requests_are_heard()
+    ensures { CarriedRequestsAreHeard }
+{}
+
+/// So in each run over RFCOMM whose words lose, cut, repeat and damage nothing, wherever it broke off, no request of the client is ignored, and host b's
+/// inbox gained exactly what the capture spells. Asked for are still: on each link one channel alone carries packets, that of the multiplexer, and
+/// what happened to the server is read off what moved; the shelf tells no object of more than 16,777,215 octets, the inbox grants all calls, the client
+/// hears of the server's channel, and each frame is read as it was sent.
+pub fn runs_serve_carried()
+    ensures { RunsServeCarried }
+{}
+
+/// And in each run over L2CAP in which the inbox grants all calls, nothing is asked for but that the shelf tells no object that is longer.
+pub fn runs_serve_granted()
+    ensures { RunsServeGranted }
+{}
+
+/// And in each run over RFCOMM of such words in which the inbox grants all calls, that it does so is asked no more.
+pub fn runs_serve_carried_granted()
+    ensures { RunsServeCarriedGranted }
+{}
+
+/// A multiplexer of RFCOMM whose numbers fit the fields of its frames, of either side, that hears octets and is handed octets to send: each frame that
+/// it says can be spelled, whatever it hears and when it closes (TS 07.10, 5.2.1; RFCOMM 1.2, 5.1).
+pub fn frames_are_spellable()
+    ensures { FramesAreSpellable }
+{}
+
+/// So each frame that a client over RFCOMM sends is read as it was sent, from a new client on, whatever it hears and does, push after push: where the
+/// SDUs that it hears and what its shelf answers are octets (Object Push Profile 1.2, 4.3; RFCOMM 1.2, 5.1).
+pub fn client_frames_are_read()
+    ensures { ClientFramesAreRead }
+{}
+
+/// So the octets of what a server lends are those that spell it, from a new server on, whatever comes to it and goes: where the SDUs that come are octets
+/// (Object Push Profile 1.2, 4.3; RFCOMM 1.2, 5.1).
+pub fn server_frames_are_said()
+    ensures { ServerFramesAreSaid }
+{}
+
+/// So runs over RFCOMM serve as `runs_serve_carried` says, and nothing is asked of frames: where what both hosts hear of SDUs and what the shelf answers
+/// are octets, each frame is read as it was sent.
+pub fn runs_serve_read()
+    ensures { RunsServeRead }
 {}

@@ -31,11 +31,12 @@ use Rattle.world_model.specs.Talks.{Talk}
 use Rattle.world_model.specs.PerLink.{Linkage, linkage, captured}
 use Rattle.world_model.specs.Carriages.{End, Carriage, Motion, Saying, Departure, Arrival, Telling, DoesMotion, IsIdle, linked_by, Doing, Moved, Deeds, Misses, Rises, Falls, Opens, Closes, ActsOn, finds, told, owing, IsDone, Carries, first_carriage}
 use Rattle.world_model.specs.Worlds.{all_entries}
-use Rattle.host_model.specs.Circumstances.{Circumstance, size_in}
+use Rattle.host_model.specs.Circumstances.{Circumstance}
 use Rattle.host_model.specs.Hosts.{Host, most_steps, hears_news as host_hears, ready, hear, tells_events, with_channels, next}
 use Rattle.host_model.specs.Clients as clients
 use Rattle.host_model.specs.Clients.{Bid, NoBid, Paging, is_paging, is_at_end, ClientProfile, client_profile, after_call, calls, ended}
 use Rattle.host_model.specs.Machines.{client_host}
+use Rattle.host_model.specs.Shelves.{size_for, name_for}
 use Rattle.host_model.proofs.Keeping.{drives_on, hears_on, goes_next}
 use Rattle.host_laws.specs.Leaving.{is_off}
 use Rattle.host_laws.specs.Onward.{Befits, IsOfPush}
@@ -145,8 +146,8 @@ begins_suits size name c at = by c.failed
 
 opens_so : (gifts : List Circumstance) (name : List ℕ) (p : ClientProfile) → p.client.stage ≡ Rest → IsSo false (clients.told gifts (Opening name) p)
 opens_so gifts name p at =
-    let c = begins (size_in gifts) name p.client in
-    calls_so (record p { client = ended c; submitted = None; bid = NoBid }) (record { suits = (ended_stays c).suits NoBid (begins_suits (size_in gifts) name p.client at); linked = λ on. cc })
+    let c = begins (size_for gifts name) (name_for name) p.client in
+    calls_so (record p { client = ended c; submitted = None; bid = NoBid }) (record { suits = (ended_stays c).suits NoBid (begins_suits (size_for gifts name) (name_for name) p.client at); linked = λ on. cc })
 
 -- ---- one host
 

@@ -1,4 +1,5 @@
--- Both hosts in code, beside their settings, are the hosts of a scenario: what the inbox holds at first is no matter of the machine.
+-- Both hosts in code, beside their settings, are the hosts of a scenario: what the inbox holds at first is no matter of the machine. And what a
+-- profile is at first, and what it keeps of the answers of its ports, is no matter of all else that its host does.
 use Rattle.std.proofs.Common.{◌≡◌, ℕ, zero, suc, Bool, true, false, List, [], ◌∷◌, Option, Some, None, is_some, refl, ap, ◌∙◌, if◌then◌else◌}
 use Rattle.bt_base.specs.Objects.{Contents}
 use Rattle.bt_base.specs.declared.settings.Settings.{Settings}
@@ -22,10 +23,10 @@ use Rattle.host_model.specs.Settings.{set_to, server_machine}
 use Rattle.host_model.proofs.Setting.{settings_stay, set_hosts_are_orderly}
 use Rattle.scenario_laws.specs.Played.{SetHostsAreHosts}
 
-module _ {P : Type 0} (A : Profile P) (first : P) where
-  -- the same profile, but for what it is at first
+module _ {P : Type 0} (A : Profile P) (first : P) (given : List Circumstance → P → P) where
+  -- the same profile, but for what it is at first and what it keeps
   abbrev Other : Profile P
-  Other = record A { first = first }
+  Other = record A { first = first; given = given }
 
   each_same : (events : List ChannelEvent) (v : Channels) (p : P) → tells_each Other events v p ≡ tells_each A events v p
   each_same [] v p = refl
@@ -59,12 +60,12 @@ module _ {P : Type 0} (A : Profile P) (first : P) where
   heard_same circumstances Cancelled host = refl
   heard_same circumstances (Opening name) host = refl
 
-  hear_same : (circumstances : List Circumstance) (news : News) (host : Host P) → hear Other circumstances news host ≡ hear A circumstances news host
+  pub hear_same : (circumstances : List Circumstance) (news : News) (host : Host P) → hear Other circumstances news host ≡ driven A (hears_news A circumstances news (ready Other circumstances host))
   hear_same circumstances news host =
-      let now = ready A circumstances host in
+      let now = ready Other circumstances host in
       drives_same most_steps (hears_news Other circumstances news now) ∙ ap (λ (h : Host P). driven A h) (heard_same circumstances news now)
 
-  says_same : (given : Option Given) (count : ℕ) (host : Host P) → says Other given count host ≡ says A given count host
+  pub says_same : (next : Option Given) (count : ℕ) (host : Host P) → says Other next count host ≡ says A next count host
   says_same None count host = refl
   says_same (Some given) zero host = refl
   says_same (Some given) (suc count) host =
@@ -77,8 +78,8 @@ server_stays settings content =
     let A = server_profile settings content in
     let first = (server_profile settings None).first in
     record {
-      hear = λ answers news host. ap (set_to settings) (hear_same A first answers news host);
-      next = λ host. ap (said_as (set_to settings)) (says_same A first (next_given host.channels) host.may_say host);
+      hear = λ answers news host. ap (set_to settings) (hear_same A first A.given answers news host);
+      next = λ host. ap (said_as (set_to settings)) (says_same A first A.given (next_given host.channels) host.may_say host);
       wants_link = λ host. refl;
       leaves_link = λ host. refl;
       is_idle = λ host. refl;

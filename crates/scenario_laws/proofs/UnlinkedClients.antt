@@ -15,9 +15,10 @@ use Rattle.push_model.specs.Events.{hears_news, is_linked, is_paging, over, over
 use Rattle.push_model.specs.Steps.{Part, Step, Wait, MakeLink, AskFeatures, OpenChannel, SendSdu, CloseChannel, BreakLink, Ended, NoMemory, Stepped, steps, steps_at, tells_end, rests}
 use Rattle.channel_model.specs.Value.{no_channels}
 use Rattle.world_model.specs.Machines.{News, Linked, Failed, Heard, TimerFired, Cancelled, Opening}
-use Rattle.host_model.specs.Circumstances.{Circumstance, size_in}
+use Rattle.host_model.specs.Circumstances.{Circumstance}
 use Rattle.host_model.specs.Profiles.{Stride}
-use Rattle.host_model.specs.Clients.{ClientProfile, client_profile, after_end, ended, after_call, calls, told, takes, next_stride, sent_on, NoBid}
+use Rattle.host_model.specs.Clients.{ClientProfile, client_profile, after_end, ended, after_call, calls, told, takes, next_stride, sent_on, NoBid, fitted}
+use Rattle.host_model.specs.Shelves.{size_for, name_for, unused}
 use Rattle.scenario_laws.proofs.Acting.{IsAside}
 use Rattle.scenario_laws.proofs.Unlinked.{Keeps}
 
@@ -177,9 +178,9 @@ told_free circumstances (Heard pdu) pushing aside same = same
 told_free circumstances TimerFired pushing aside same = record { free = fires_free pushing.client same.free; none = same.none }
 told_free circumstances Cancelled pushing aside same = record { free = ended_free (cancelled pushing.client) (cancelled_by (may_cancel pushing.client) pushing.client same.free); none = same.none }
 told_free circumstances (Opening name) pushing aside same =
-    let client = begins (size_in circumstances) name pushing.client in
+    let client = begins (size_for circumstances name) (name_for name) pushing.client in
     calls_free (record pushing { client = ended client; submitted = None; bid = NoBid })
-    (record { free = ended_free client (begins_by pushing.client.failed (size_in circumstances) name pushing.client same.free); none = refl })
+    (record { free = ended_free client (begins_by pushing.client.failed (size_for circumstances name) (name_for name) pushing.client same.free); none = refl })
 
 -- ---- all of it
 
@@ -203,9 +204,9 @@ takes_none NoMemory after before alone free same = (free, refl)
 
 strides_none : (pushing : ClientProfile) → HasNoLink pushing → Stays (next_stride no_channels pushing)
 strides_none pushing same =
-    let one = steps pushing.client pushing.parts in
-    let (alone, free) = steps_free pushing.client pushing.parts same.free in
-    takes_none one.step (record pushing { client = one.client; parts = one.left }) pushing alone (record { free = free; none = same.none }) same
+    let one = steps pushing.client (fitted pushing) in
+    let (alone, free) = steps_free pushing.client (fitted pushing) same.free in
+    takes_none one.step (record pushing { client = one.client; parts = unused one.left pushing.parts }) pushing alone (record { free = free; none = same.none }) same
 
 pub clients_keep : (settings : Settings) → Keeps (client_profile settings) HasNoLink
 clients_keep settings = record {

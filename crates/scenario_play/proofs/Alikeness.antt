@@ -1,5 +1,5 @@
 -- What a world in code did from hosts whose ports have still to answer, both hosts of the scenario do.
-use Rattle.std.proofs.Common.{◌≡◌, List, ◌++◌, Option, inl, inr, refl, sym, ap, ap₂, subst, ◌∙◌}
+use Rattle.std.proofs.Common.{◌≡◌, ◌⊎◌, List, ◌++◌, map, Option, inl, inr, refl, sym, ap, ap₂, subst, ◌∙◌}
 use Rattle.bt_base.specs.Objects.{Contents}
 use Rattle.push_script.specs.declared.scenario.Scenario.{Scenario}
 use Rattle.push_terms.specs.declared.outcome.Outcome.{Outcome}
@@ -8,7 +8,7 @@ use Rattle.world_model.specs.Machines.{Upper}
 use Rattle.world_model.specs.Pushes.{Pushes}
 use Rattle.world_model.specs.Worlds.{World, Happening, Runs, IsAtRest, all_entries, all_words}
 use Rattle.air_laws.specs.AirLaws.{IsLastEnd}
-use Rattle.run_laws.specs.Embedding.{world_as}
+use Rattle.run_laws.specs.Embedding.{Embeds, world_as}
 use Rattle.run_laws.proofs.Embedding.{runs_are_of_less, rest_is_of_less}
 use Rattle.alike_laws.specs.Twins.{AreTwins, IsOther, WorldsAlike}
 use Rattle.alike_laws.proofs.Twins.{runs_are_of_twins, rest_is_of_twins}
@@ -23,6 +23,8 @@ use Rattle.scenario_laws.specs.Outcomes.{outcomes_of}
 use Rattle.scenario_laws.specs.Played.{AreHostsOf}
 use Rattle.scenario_laws.proofs.Outcomes.{outcomes_stated}
 use Rattle.scenario_laws.proofs.Played.{last_is}
+use Rattle.pair_laws.specs.Granted.{granted, granting, HappenedGranted}
+use Rattle.pair_laws.proofs.Answered.{runs-so}
 
 -- what is told of both of two is told of each of them
 told_same : {S X : Type 0} (tell : S → X) (first other s t : S) → tell other ≡ tell first → IsOther first other s t → tell t ≡ tell s
@@ -72,6 +74,11 @@ module _ {S T : Type 0} (U : Upper S Circumstance) (V : Upper T Circumstance) (s
     came_is : (client_of scenario).outcome like.world.a.upper ≡ U.outcome at.a.upper
     came_is = sym (hosts.a.outcome like.world.a.upper) ∙ told_a (λ (x : S). U.outcome x) twins_a.outcome
 
+    pub like_rests : IsAtRest U V at → IsAtRest (client_of scenario) (server_of scenario content) like.world
+    like_rests rest =
+        rest_is_of_less as_a as_b (client_of scenario) U (server_of scenario content) V hosts.a hosts.b like.world
+        (rest_is_of_twins U V s (as_a (client_of scenario).first) t (as_b (server_of scenario content).first) twins_a twins_b at (world_as as_a as_b like.world) like.alike rest)
+
     pub like_ends : IsAtRest U V at → all_words happenings ≡ words_of scenario.script → IsWhole scenario content as_a as_b s t happenings at like (U.outcome at.a.upper)
     like_ends rest words =
         let came = U.outcome at.a.upper in
@@ -88,11 +95,53 @@ module _ {S T : Type 0} (U : Upper S Circumstance) (V : Upper T Circumstance) (s
           finished = record {
             ran = ran;
             words_are = words;
-            rests = rest_is_of_less as_a as_b (client_of scenario) U (server_of scenario content) V hosts.a hosts.b like.world
-                (rest_is_of_twins U V s (as_a (client_of scenario).first) t (as_b (server_of scenario content).first) twins_a twins_b at (world_as as_a as_b like.world) like.alike rest);
+            rests = like_rests rest;
           };
           world_is = refl;
           happenings_are = refl;
           ends = ap₂ (λ (c : Option Outcome) (p : Pushes). last_entries c p) (sym came_is) (sym pushes_are);
           outcomes_are = subst (λ (p : Pushes). all_outcomes (last_ended came p) ≡ outcomes_of scenario (all_entries happenings ++ last_entries came p)) pushes_are ((outcomes_stated scenario content (all_entries happenings ++ ends) ran).all came);
         }
+
+-- ---- where the inbox grants all
+
+-- a run like that one, in which the inbox granted all calls where that is so
+pub record IsLikeGranted {S T : Type 0} (scenario : Scenario) (content : Option Contents) (as_a : Host ClientProfile → S) (as_b : Host ServerProfile → T) (s : S) (t : T) (happenings : List Happening) (at : World S T) (Never : Type 0) : Type 0 where
+  pub like : IsLike scenario content as_a as_b s t happenings at
+  pub granted : Never → HappenedGranted scenario content happenings like.world
+
+module _ {S T : Type 0} (U : Upper S Circumstance) (V : Upper T Circumstance) (scenario : Scenario) (content : Option Contents) (as_a : Host ClientProfile → S) (as_b : Host ServerProfile → T) (hosts : AreHostsOf scenario content U V as_a as_b)
+    (s : S) (t : T) (twins_a : AreTwins U s (as_a (client_of scenario).first)) (twins_b : AreTwins V t (as_b (server_of scenario content).first)) (granting_b : AreTwins (granting V) t (as_b (server_of scenario content).first)) where
+  granting_host : Embeds as_b (granting (server_of scenario content)) (granting V)
+  granting_host = record {
+    hear = λ answers news host. hosts.b.hear (map granted answers) news host;
+    next = hosts.b.next;
+    wants_link = hosts.b.wants_link;
+    leaves_link = hosts.b.leaves_link;
+    is_idle = hosts.b.is_idle;
+    outcome = hosts.b.outcome;
+    armed = hosts.b.armed;
+    may_cancel = hosts.b.may_cancel;
+    has_check = hosts.b.has_check;
+  }
+
+  -- it is where the inbox failed never that the answers are grants
+  pub like_granted : (happenings : List Happening) (at : World S T) (Never : Type 0) → Never ⊎ (Never → ⊥)
+      → (let first = world_at (first_moment (starting s U) (starting t V) scenario.acl_length scenario.acl_count scenario.names) in Runs U V happenings first at × (Never → Runs U (granting V) happenings first at))
+      → IsLikeGranted scenario content as_a as_b s t happenings at Never
+  like_granted happenings at Never (inr failed) runs =
+      record { like = like_runs U V scenario content as_a as_b hosts s t twins_a twins_b happenings at runs.0; granted = λ never. absurd (failed never) }
+  like_granted happenings at Never (inl never) runs =
+      let first = first_moment (starting s U) (starting t V) scenario.acl_length scenario.acl_count scenario.names in
+      let other_a = as_a (client_of scenario).first in
+      let other_b = as_b (server_of scenario content).first in
+      let (new, alike, ran) = runs_are_of_twins U (granting V) s other_a t other_b twins_a granting_b happenings (world_at first) at refl refl (runs.1 never) in
+      let (world, same, happened) = runs_are_of_less as_a as_b (client_of scenario) U (granting (server_of scenario content)) (granting V) hosts.a granting_host happenings (beginning scenario content) new ran in
+      record {
+        like = record {
+          world = world;
+          happened = runs-so (client_of scenario) (server_of scenario content) (map granted) happenings (beginning scenario content) world happened;
+          alike = subst (λ (w : World S T). WorldsAlike (IsOther s other_a) (IsOther t other_b) at w) same alike;
+        };
+        granted = λ given. happened;
+      }

@@ -1,5 +1,5 @@
 -- The world of two new hosts from its beginning to where it broke off.
-use Rattle.std.proofs.Common.{◌≡◌, ℕ, ◌+◌, ◌≤◌, ◌||◌, ◌⊎◌, Bool, true, false, cond, List, [], ◌∷◌, ◌++◌, length, Option, unwrap_or, inl, inr, refl, sym, ap, ◌∙◌, subst, append_assoc, arith}
+use Rattle.std.proofs.Common.{◌≡◌, ℕ, ◌≤◌, ◌||◌, ◌⊎◌, Bool, true, false, cond, List, [], ◌∷◌, ◌++◌, length, Option, unwrap_or, inl, inr, refl, sym, ap, ◌∙◌, subst, append_assoc, arith}
 use Rattle.std.proofs.lemmas.List.{append-nil}
 use Rattle.std.proofs.lemmas.Grind.{flat_map-append}
 use Rattle.bt_base.specs.Counts.{HasRisen}
@@ -18,15 +18,14 @@ use Rattle.world_model.specs.Machines.{Upper}
 use Rattle.world_model.specs.Pushes.{Pushes}
 use Rattle.world_model.specs.Worlds.{Happening, all_entries, all_words, entries_of, words_in}
 use Rattle.air_laws.specs.AirLaws.{IsLastEnd}
-use Rattle.radio_world.specs.Both.{Both}
-use Rattle.radio_world.specs.Hosts.{Asking, answering}
-use Rattle.radio_world.specs.Scenes.{Moment, moment, world_at, Plays, Stage, stage, moment_of, Advances}
+use Rattle.radio_world.specs.Hosts.{Asking}
+use Rattle.radio_world.specs.Scenes.{Moment, world_at, Plays, Stage, stage, moment_of, Advances}
 use Rattle.radio_world.specs.Standing.{starting, first_moment, last_entries}
-use Rattle.radio_world.specs.Shortages.{Wants, ShelfLacked, InboxLacked, AirCrowded, WordsFull}
-use Rattle.radio_world.specs.Breaking.{Broken}
+use Rattle.radio_world.specs.Shortages.{ShelfLacked, InboxLacked, AirCrowded, WordsFull}
 use Rattle.radio_world.proofs.Advancing.{plays_then}
 use Rattle.radio_world.proofs.Standing.{runs_of}
-use Rattle.host_model.specs.Circumstances.{Circumstance}
+use Rattle.push_laws.specs.Premises.{AllGranted}
+use Rattle.host_model.specs.Circumstances.{Circumstance, answers_in}
 use Rattle.host_model.specs.Clients.{ClientProfile}
 use Rattle.host_model.specs.Servers.{ServerProfile}
 use Rattle.host_model.specs.Settings.{SetHost, set_to, client_machine, server_machine}
@@ -38,17 +37,17 @@ use Rattle.bt_host.specs.PushingLaws.{Answers}
 use Rattle.bt_host.specs.Serving.{Served, Asks, Lacks as NoInbox}
 use Rattle.bt_host.specs.Shells.{Shelled}
 use Rattle.bt_host.specs.Playing.{playing}
-use Rattle.scenario_laws.specs.Captures.{beginning as first_world, Happened, Ran}
+use Rattle.scenario_laws.specs.Captures.{beginning as first_world}
 use Rattle.scenario_laws.proofs.Played.{last_is}
 use Rattle.scenario_laws.proofs.SetHosts.{set_hosts_are_hosts}
 use Rattle.scenario_play.specs.Playing.{fresh_world, KeepsShelf}
 use Rattle.scenario_play.specs.Breaking as breaking
 use Rattle.scenario_play.specs.Breaking.{BreaksThrough, OnItsWay, AtItsEnd, MayWant, IsBroken, IsWanting, NothingYet, ShelfWants, InboxWants, ManyWords}
-use Rattle.scenario_play.proofs.Newness.{new_client, new_server, client_twins, server_twins, beginning, hosts_begin}
+use Rattle.scenario_play.proofs.Newness.{new_client, new_server, client_twins, server_twins, granting_twins, beginning, hosts_begin}
 use Rattle.scenario_play.specs.Noting.{plain_set}
-use Rattle.scenario_play.proofs.Plainness.{PlainWorld, plain_world, plain_runs}
+use Rattle.scenario_play.proofs.Plainness.{PlainWorld, plain_world, plain_runs, plain_granted}
 use Rattle.scenario_play.proofs.Course.{Hosts, shelf_kept}
-use Rattle.scenario_play.proofs.Alikeness.{IsLike, like_runs, told_b}
+use Rattle.scenario_play.proofs.Alikeness.{IsLikeGranted, like_granted, IsLike, like_runs, told_b}
 
 -- one entry at most ends the last push
 few_last : (came : Option Outcome) (pushes : Pushes) → length (last_entries came pushes) ≤ 1
@@ -96,8 +95,8 @@ inbox_left {old = old} faults shortages inbox inbox' (AtItsEnd mid run own front
     omega arith
 
 -- before anything happened
-pub untouched : (scenario : Scenario) (content content' : Option Contents) (trace trace' : Option (List ℕ)) (Lacked : Type 0) → content' ≡ content → trace' ≡ trace → IsBroken scenario content content' trace trace' Lacked
-untouched scenario content content' trace trace' Lacked stored written = record {
+pub untouched : (scenario : Scenario) (content content' : Option Contents) (trace trace' : Option (List ℕ)) (Lacked Never : Type 0) → content' ≡ content → trace' ≡ trace → IsBroken scenario content content' trace trace' Lacked Never
+untouched scenario content content' trace trace' Lacked Never stored written = record {
   happenings = [];
   world = first_world scenario content;
   happened = refl;
@@ -107,6 +106,7 @@ untouched scenario content content' trace trace' Lacked stored written = record 
   later = words_of scenario.script;
   words_are = refl;
   written = front_is trace trace' written;
+  granted = λ never. (refl, refl);
   stored = inl stored;
 }
 
@@ -170,6 +170,20 @@ module _ {P Q : Type 0} (content : Q → Option Contents) (AnswersA : P → List
       (client_twins shelf settings for_a) (server_twins content inbox settings for_b) happenings (plain_at at)
       (plain_runs happenings (world_at begun) (world_at at) (runs_of noted_client_machine noted_server_machine happenings begun at plays))
 
+  -- and where the inbox failed never, it granted all calls of it
+  like_so : (shelf : P) (inbox : Q) (for_a for_b : List Circumstance) (happenings : List Happening) (at : At) (Never : Type 0) → Never ⊎ (Never → ⊥) → (Never → AllGranted (answers_in for_b))
+      → Plays noted_client_machine noted_server_machine happenings (first_moment (starting (new_client shelf scenario.settings for_a) noted_client_machine) (starting (new_server content inbox scenario.settings for_b) noted_server_machine) scenario.acl_length scenario.acl_count scenario.names) at
+      → IsLikeGranted scenario (content inbox) (set_to scenario.settings) (set_to scenario.settings) (plain_set (new_client shelf scenario.settings for_a)) (plain_set (new_server content inbox scenario.settings for_b)) happenings (plain_at at) Never
+  like_so shelf inbox for_a for_b happenings at Never decided grants plays =
+      let settings = scenario.settings in
+      let new_a = new_client shelf settings for_a in
+      let new_b = new_server content inbox settings for_b in
+      let begun = first_moment (starting new_a noted_client_machine) (starting new_b noted_server_machine) scenario.acl_length scenario.acl_count scenario.names in
+      let runs = runs_of noted_client_machine noted_server_machine happenings begun at plays in
+      like_granted client_machine server_machine scenario (content inbox) (set_to settings) (set_to settings) (set_hosts_are_hosts scenario (content inbox)) (plain_set new_a) (plain_set new_b)
+      (client_twins shelf settings for_a) (server_twins content inbox settings for_b) (granting_twins content inbox settings for_b) happenings (plain_at at) Never decided
+      (plain_runs happenings (world_at begun) (world_at at) runs, λ never. plain_granted happenings (world_at begun) (world_at at) (grants never) runs)
+
   -- what the inbox holds in it
   held : (shelf : P) (inbox : Q) (for_a for_b : List Circumstance) (happenings : List Happening) (at : PlainWorld) (run : Like shelf inbox for_a for_b happenings at)
       → run.world.b.upper.profile.inbox.content ≡ at.b.upper.host.profile.inbox.content
@@ -190,15 +204,19 @@ module _ {P Q : Type 0} (content : Q → Option Contents) (AnswersA : P → List
   own_holds own inbox host is = ap (λ (u : List Circumstance → SetHost (Noted ServerProfile)). (u []).host.profile.end.inbox.content) is
 
   pub broke :
-      (first : Hosts) (shelf shelf' : P) (inbox inbox' : Q) (trace trace' : Option (List ℕ)) (Lacked : Type 0) → first ≡ fresh_world scenario → ((mid : Q) (used : List Circumstance) → AnswersB inbox used mid → LackedB mid inbox' → Lacked)
-      → BreaksThrough noted_client_machine noted_server_machine AnswersA AnswersB LackedA LackedB server_at (words_of scenario.script) (staged first shelf inbox trace) shelf' inbox' trace' → IsBroken scenario (content inbox) (content inbox') trace trace' Lacked
-  broke first shelf shelf' inbox inbox' trace trace' Lacked fresh lacks (OnItsWay broken) =
+      (first : Hosts) (shelf shelf' : P) (inbox inbox' : Q) (trace trace' : Option (List ℕ)) (Lacked Never : Type 0) → Never ⊎ (Never → ⊥) → ((mid : Q) (used : List Circumstance) → AnswersB inbox used mid → ((inbox' ≡ mid) ⊎ LackedB mid inbox') → Never → AllGranted (answers_in (used ++ []))) → first ≡ fresh_world scenario → ((mid : Q) (used : List Circumstance) → AnswersB inbox used mid → LackedB mid inbox' → Lacked)
+      → BreaksThrough noted_client_machine noted_server_machine AnswersA AnswersB LackedA LackedB server_at (words_of scenario.script) (staged first shelf inbox trace) shelf' inbox' trace' → IsBroken scenario (content inbox) (content inbox') trace trace' Lacked Never
+  unfolding course
+  broke first shelf shelf' inbox inbox' trace trace' Lacked Never decided spares fresh lacks (OnItsWay broken) =
       let mid = broken.mid in
       let run = course broken.turned first shelf inbox trace mid fresh broken.advances in
-      let past = like shelf inbox run.for_a run.for_b run.happenings (moment_of mid [] []) run.plays in
+      let grants = spares mid.inbox broken.advances.used_b broken.advances.answered_b broken.inbox_left in
+      let past_so = like_so shelf inbox run.for_a run.for_b run.happenings (moment_of mid [] []) Never decided grants run.plays in
+      let past = past_so.like in
       let (new, plays) = broken.may [] [] in
       let all = run.happenings ++ broken.next in
-      let on = like shelf inbox run.for_a run.for_b all new (plays_then noted_client_machine noted_server_machine run.happenings broken.next _ (moment_of mid [] []) new run.plays plays) in
+      let on_so = like_so shelf inbox run.for_a run.for_b all new Never decided grants (plays_then noted_client_machine noted_server_machine run.happenings broken.next _ (moment_of mid [] []) new run.plays plays) in
+      let on = on_so.like in
       record {
         happenings = run.happenings;
         world = past.world;
@@ -217,14 +235,16 @@ module _ {P Q : Type 0} (content : Q → Option Contents) (AnswersA : P → List
         words_are = broken.words_are ∙ sym (append_assoc broken.turned (all_words broken.next) broken.later)
             ∙ ap (λ (ws : List Word). ws ++ broken.later) (sym (flat_map-append words_in run.happenings broken.next ∙ ap (λ (ws : List Word). ws ++ all_words broken.next) run.words_are));
         written = subst (λ (t : Option (List ℕ)). GainedFront t trace' (capture_octets (all_entries broken.next))) run.written broken.front;
+        granted = λ never. (past_so.granted never, on_so.granted never);
         stored = elim broken.inbox_left [
           | inl same ↦ inl (ap content same ∙ sym (held shelf inbox run.for_a run.for_b run.happenings (plain_at (moment_of mid [] [])) past ∙ own_holds broken.own_b.0 mid.inbox mid.b broken.own_b.1))
           | inr lacked ↦ inr (lacks mid.inbox broken.advances.used_b broken.advances.answered_b lacked)
         ];
       }
-  broke first shelf shelf' inbox inbox' trace trace' Lacked fresh lacks (AtItsEnd mid advances own front same_shelf same_inbox) =
+  broke first shelf shelf' inbox inbox' trace trace' Lacked Never decided spares fresh lacks (AtItsEnd mid advances own front same_shelf same_inbox) =
       let run = course (words_of scenario.script) first shelf inbox trace mid fresh advances in
-      let past = like shelf inbox run.for_a run.for_b run.happenings (moment_of mid [] []) run.plays in
+      let past_so = like_so shelf inbox run.for_a run.for_b run.happenings (moment_of mid [] []) Never decided (spares mid.inbox advances.used_b advances.answered_b (inl same_inbox)) run.plays in
+      let past = past_so.like in
       let ends = last_entries (noted_client_machine.outcome (mid.a.upper [])) mid.scene.pushes in
       record {
         happenings = run.happenings;
@@ -243,6 +263,7 @@ module _ {P Q : Type 0} (content : Q → Option Contents) (AnswersA : P → List
         later = [];
         words_are = sym run.words_are ∙ sym (append-nil (all_words run.happenings));
         written = subst (λ (t : Option (List ℕ)). GainedFront t trace' (capture_octets ends)) run.written front;
+        granted = λ never. (past_so.granted never, past_so.granted never);
         stored = inl (ap content same_inbox ∙ sym (held shelf inbox run.for_a run.for_b run.happenings (plain_at (moment_of mid [] [])) past ∙ own_holds own.0 mid.inbox mid.b own.1));
       }
 

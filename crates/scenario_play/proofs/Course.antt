@@ -1,5 +1,5 @@
 -- The world of two new hosts from its beginning to its end.
-use Rattle.std.proofs.Common.{◌≡◌, ℕ, List, [], ◌∷◌, ◌++◌, Option, refl, sym, ap, ◌∙◌, subst, arith}
+use Rattle.std.proofs.Common.{◌≡◌, ◌⊎◌, ℕ, List, [], ◌++◌, Option, refl, sym, ap, ◌∙◌, subst, arith}
 use Rattle.std.proofs.lemmas.Grind.{flat_map-append}
 use Rattle.bt_base.specs.Objects.{Object, Contents}
 use Rattle.bt_base.specs.Streams.{gained}
@@ -9,7 +9,6 @@ use Rattle.push_terms.specs.declared.peaks.Peaks.{Peaks}
 use Rattle.push_terms.specs.declared.word.Word.{Word}
 use Rattle.capture.specs.Air.{words_of}
 use Rattle.capture.specs.Entries.{Entry, capture_octets}
-use Rattle.world_model.specs.Machines.{Upper}
 use Rattle.world_model.specs.Worlds.{Happening, all_entries, all_words, entries_of, words_in}
 use Rattle.radio_world.specs.Both.{Both}
 use Rattle.radio_world.specs.Leaving.{Medium}
@@ -19,7 +18,8 @@ use Rattle.radio_world.specs.Standing.{starting, first_moment, last_entries}
 use Rattle.radio_world.proofs.Advancing.{plays_then}
 use Rattle.radio_world.proofs.Moving.{written_then}
 use Rattle.radio_world.proofs.Standing.{runs_of, at_rest}
-use Rattle.host_model.specs.Circumstances.{Circumstance}
+use Rattle.push_laws.specs.Premises.{AllGranted}
+use Rattle.host_model.specs.Circumstances.{Circumstance, answers_in}
 use Rattle.host_model.specs.Clients.{ClientProfile}
 use Rattle.host_model.specs.Servers.{ServerProfile}
 use Rattle.host_model.specs.Settings.{SetHost, set_to, client_machine, server_machine}
@@ -31,13 +31,14 @@ use Rattle.bt_host.specs.Shells.{Shelled}
 use Rattle.bt_host.specs.Playing.{playing}
 use Rattle.scenario_laws.specs.Captures.{BothHosts}
 use Rattle.scenario_laws.proofs.SetHosts.{set_hosts_are_hosts}
+use Rattle.pair_laws.specs.Granted.{HappenedGranted}
 use Rattle.scenario_play.specs.Playing.{fresh_world, KeepsShelf, IsPlayed}
 use Rattle.scenario_play.specs.Noting.{plain_set}
 use Rattle.scenario_play.specs.Peaks.{NotedMoment, AreNoted, AreReached}
 use Rattle.scenario_play.specs.Running.{RunsThrough}
-use Rattle.scenario_play.proofs.Plainness.{PlainWorld, plain_world, orderly, plain_runs, plain_rest}
-use Rattle.scenario_play.proofs.Newness.{new_client, new_server, client_twins, server_twins, noted_client_twins, noted_server_twins, beginning, hosts_begin}
-use Rattle.scenario_play.proofs.Alikeness.{IsLike, IsWhole, like_runs, like_ends, told_b}
+use Rattle.scenario_play.proofs.Plainness.{PlainWorld, plain_world, orderly, plain_runs, plain_granted, plain_rest}
+use Rattle.scenario_play.proofs.Newness.{new_client, new_server, client_twins, server_twins, granting_twins, beginning, hosts_begin}
+use Rattle.scenario_play.proofs.Alikeness.{IsLike, IsWhole, IsLikeGranted, like_granted, like_ends, told_b}
 
 pub shelf_kept :
     (content content' content'' : Option (List Object)) (faults faults' faults'' shortages shortages' shortages'' : ℕ) (xs ys : List Circumstance) → AreOf content content' faults faults' shortages shortages' xs
@@ -68,7 +69,7 @@ module _ {P Q : Type 0} (content : Q → Option Contents) (AnswersA : P → List
   -- ---- from the first commands to where the last word was turned
 
   -- what happened, from two new hosts on whose ports were to answer so
-  record IsCourse (end : Hosts) (shelf shelf' : P) (inbox inbox' : Q) (trace : Option (List ℕ)) (last : Scene) (trace' : Option (List ℕ)) : Type 0 where
+  record IsCourse (end : Hosts) (shelf shelf' : P) (inbox inbox' : Q) (trace : Option (List ℕ)) (last : Scene) (trace' : Option (List ℕ)) (Never : Type 0) : Type 0 where
     for_a : List Circumstance
     for_b : List Circumstance
     happenings : List Happening
@@ -77,10 +78,15 @@ module _ {P Q : Type 0} (content : Q → Option Contents) (AnswersA : P → List
         (first_moment (starting (new_client shelf scenario.settings for_a) noted_client_machine) (starting (new_server content inbox scenario.settings for_b) noted_server_machine) scenario.acl_length scenario.acl_count scenario.names)
         (moment last (answering [] (client_at end shelf')) (answering [] (server_at end inbox')))
     written : trace' ≡ gained trace (capture_octets (all_entries happenings))
+    granted : Never → AllGranted (answers_in for_b)
 
-  course : (first end : Hosts) (shelf shelf' : P) (inbox inbox' : Q) (trace trace' : Option (List ℕ)) → first ≡ fresh_world scenario → (run : Through first end shelf shelf' inbox inbox' trace trace')
-      → IsCourse end shelf shelf' inbox inbox' trace run.last run.trace
-  course first end shelf shelf' inbox inbox' trace trace' fresh run =
+  -- where the inbox failed never its answers are grants
+  abbrev Spares : Q → Q → Type 0 → Type 0
+  Spares inbox inbox' Never = (mid : Q) (one two : List Circumstance) → AnswersB inbox one mid → AnswersB mid two inbox' → Never → AllGranted (answers_in (one ++ (two ++ [])))
+
+  course : (first end : Hosts) (shelf shelf' : P) (inbox inbox' : Q) (trace trace' : Option (List ℕ)) (Never : Type 0) → Spares inbox inbox' Never → first ≡ fresh_world scenario → (run : Through first end shelf shelf' inbox inbox' trace trace')
+      → IsCourse end shelf shelf' inbox inbox' trace run.last run.trace Never
+  course first end shelf shelf' inbox inbox' trace trace' Never spares fresh run =
       let one = run.starts in
       let two = run.turns in
       let rest_a = two.used_a ++ [] in
@@ -101,6 +107,7 @@ module _ {P Q : Type 0} (content : Q → Option Contents) (AnswersA : P → List
         words_are = flat_map-append words_in one.happenings two.happenings ∙ (ap (λ (w : List Word). w ++ all_words two.happenings) one.words_are ∙ two.words_are);
         plays = plays_then noted_client_machine noted_server_machine beginning (one.happenings ++ two.happenings) new (at_moment first shelf inbox for_a for_b) settled begun both;
         written = entries ∙ ap (λ (es : List Entry). gained trace (capture_octets es)) (sym (flat_map-append entries_of one.happenings two.happenings));
+        granted = spares run.mid.inbox one.used_b two.used_b one.answered_b two.answered_b;
       }
 
   -- ---- and to its end
@@ -108,10 +115,10 @@ module _ {P Q : Type 0} (content : Q → Option Contents) (AnswersA : P → List
   abbrev came : Hosts → P → Option Outcome
   came end shelf' = noted_client_machine.outcome ((client_at end shelf').upper [])
 
-  pub played : (first end : Hosts) (shelf shelf' : P) (inbox inbox' : Q) (trace trace' : Option (List ℕ)) (outcomes : List Outcome) (peaks : Peaks) → first ≡ fresh_world scenario → Through first end shelf shelf' inbox inbox' trace trace'
-      → outcomes ≡ end.scene.pushes.outcomes → AreNoted end.scene.medium (at_moment end shelf' inbox' [] []) peaks → IsPlayed scenario (content inbox) (content inbox') trace trace' outcomes peaks
-  played first end shelf shelf' inbox inbox' trace trace' outcomes peaks fresh through same noted =
-      let run = course first end shelf shelf' inbox inbox' trace trace' fresh through in
+  pub played : (first end : Hosts) (shelf shelf' : P) (inbox inbox' : Q) (trace trace' : Option (List ℕ)) (outcomes : List Outcome) (peaks : Peaks) (Never : Type 0) → Never ⊎ (Never → ⊥) → Spares inbox inbox' Never → first ≡ fresh_world scenario → Through first end shelf shelf' inbox inbox' trace trace'
+      → outcomes ≡ end.scene.pushes.outcomes → AreNoted end.scene.medium (at_moment end shelf' inbox' [] []) peaks → IsPlayed scenario (content inbox) (content inbox') trace trace' outcomes peaks Never
+  played first end shelf shelf' inbox inbox' trace trace' outcomes peaks Never decided spares fresh through same noted =
+      let run = course first end shelf shelf' inbox inbox' trace trace' Never spares fresh through in
       let last = through.last in
       let settings = scenario.settings in
       let hosts = set_hosts_are_hosts scenario (content inbox) in
@@ -124,12 +131,15 @@ module _ {P Q : Type 0} (content : Q → Option Contents) (AnswersA : P → List
       let begun = first_moment (starting new_a noted_client_machine) (starting new_b noted_server_machine) scenario.acl_length scenario.acl_count scenario.names in
       let now : NotedMoment = moment last (answering [] (client_at end shelf')) (answering [] (server_at end inbox')) in
       let at : PlainWorld = plain_world (world_at now) in
-      let like : IsLike scenario (content inbox) (set_to settings) (set_to settings) s t run.happenings at =
-      like_runs client_machine server_machine scenario (content inbox) (set_to settings) (set_to settings) hosts s t twins_a twins_b run.happenings at
-      (plain_runs run.happenings (world_at begun) (world_at now) (runs_of noted_client_machine noted_server_machine run.happenings begun now run.plays)) in
+      let runs = runs_of noted_client_machine noted_server_machine run.happenings begun now run.plays in
+      let so : IsLikeGranted scenario (content inbox) (set_to settings) (set_to settings) s t run.happenings at Never =
+      like_granted client_machine server_machine scenario (content inbox) (set_to settings) (set_to settings) hosts s t twins_a twins_b (granting_twins content inbox settings run.for_b) run.happenings at Never decided
+      (plain_runs run.happenings (world_at begun) (world_at now) runs, λ never. plain_granted run.happenings (world_at begun) (world_at now) (run.granted never) runs) in
+      let like : IsLike scenario (content inbox) (set_to settings) (set_to settings) s t run.happenings at = so.like in
+      let rests = at_rest noted_client_machine noted_server_machine last (client_at end shelf') (server_at end inbox') orderly through.stands [] [] in
       let whole : IsWhole scenario (content inbox) (set_to settings) (set_to settings) s t run.happenings at like (came end shelf') =
       like_ends client_machine server_machine scenario (content inbox) (set_to settings) (set_to settings) hosts s t twins_a twins_b run.happenings at like
-      (plain_rest (world_at now) (at_rest noted_client_machine noted_server_machine last (client_at end shelf') (server_at end inbox') orderly through.stands [] [])) run.words_are in
+      (plain_rest (world_at now) rests) run.words_are in
       let held : like.world.b.upper.profile.inbox.content ≡ content inbox' =
       told_b client_machine server_machine scenario (content inbox) (set_to settings) (set_to settings) hosts s t twins_a twins_b run.happenings at like (λ (x : SetHost ServerProfile). x.host.profile.inbox.content) refl in
       record {
@@ -138,14 +148,15 @@ module _ {P Q : Type 0} (content : Q → Option Contents) (AnswersA : P → List
         ends = whole.ends;
         outcomes_are = same ∙ (through.outcomes_are ∙ whole.outcomes_are);
         reached = subst (λ (hs : List Happening). AreReached scenario (content inbox) hs peaks) (sym whole.happenings_are) (record {
-          first_a = new_a;
-          first_b = new_b;
-          new_a = noted_client_twins shelf settings run.for_a;
-          new_b = noted_server_twins content inbox settings run.for_b;
+          for_a = run.for_a;
+          for_b = run.for_b;
           last = now;
           plays = run.plays;
+          rests = rests;
           noted = subst (λ (m : Medium). AreNoted m now peaks) through.medium_stays (record { buffers = noted.buffers; windows = noted.windows; credits = noted.credits });
         });
+        granted = λ never. subst (λ (hs : List Happening). HappenedGranted scenario (content inbox) hs whole.finished.ran.world) (sym whole.happenings_are)
+            (subst (λ (w : BothHosts). HappenedGranted scenario (content inbox) run.happenings w) (sym whole.world_is) (so.granted never));
         stored = sym (ap (λ (w : BothHosts). w.b.upper.profile.inbox.content) whole.world_is ∙ held);
         written = written_then trace through.trace trace' (all_entries run.happenings) (last_entries (came end shelf') last.pushes) (all_entries run.happenings ++ last_entries (came end shelf') last.pushes) refl run.written through.written;
       }

@@ -1,5 +1,5 @@
 -- A machine that keeps more goes as the one that it is.
-use Rattle.std.proofs.Common.{◌≡◌, ℕ, List, Some, None, refl, sym, ap, ◌∙◌}
+use Rattle.std.proofs.Common.{◌≡◌, ℕ, List, Some, refl, sym, ap, ◌∙◌}
 use Rattle.world_model.specs.Machines.{Upper, Linked, Up}
 use Rattle.turn_laws.specs.Premises.{SaysFrames, Idles}
 use Rattle.rest_laws.specs.Premises.{AsksOnce, AreOrderly}
@@ -12,7 +12,7 @@ module _ {S S' G : Type 0} (embed : S → S') (U : Upper S G) (V : Upper S' G) (
 
   pub alike_of : AreAlike (λ s t. t ≡ embed s) U V
   alike_of = record {
-    hear = λ answers news s t is. ap (V.hear answers news) is ∙ e.hear answers news s;
+    hear = λ answers news s t is. (answers, ap (V.hear answers news) is ∙ e.hear answers news s);
     says = λ s t is pdu after next. (embed after, refl, ap V.next is ∙ said_there s pdu after next);
     silent = λ s t is none. ap V.next is ∙ e.next s ∙ ap (said_as embed) none;
     wants_link = λ s t is. ap V.wants_link is ∙ e.wants_link s;

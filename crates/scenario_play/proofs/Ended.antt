@@ -1,12 +1,11 @@
 -- What the capture of a scenario that broke off says, and why it wanted memory.
 use Rattle.std.proofs.Common.{◌≡◌, ℕ, ◌⊎◌, List, ◌++◌, Option, Some, inl, inr, sym, subst, arith}
-use Rattle.bt_base.specs.Objects.{Object, Contents}
+use Rattle.bt_base.specs.Objects.{Contents}
 use Rattle.capture.specs.Entries.{Entry, capture_octets}
 use Rattle.push_laws.specs.Laws.{stored_in}
 use Rattle.world_model.specs.Worlds.{all_entries}
 use Rattle.radio_world.proofs.Runs.{scripts_are_counted}
 use Rattle.scenario_laws.specs.Broken.{BrokeOff}
-use Rattle.scenario_laws.specs.Gains.{holding}
 use Rattle.scenario_laws.proofs.Broken.{scenarios_break_off, crowds_are_told}
 use Rattle.scenario_play.specs.Breaking.{NothingYet, ShelfWants, InboxWants, AirCrowded, ManyWords}
 use Rattle.scenario_play.specs.Ending.{PlaysBreakOff, WantsAreTold}
@@ -16,7 +15,7 @@ unless (inl x) none = x
 unless (inr y) none = absurd (none y)
 
 pub plays_break_off : PlaysBreakOff
-plays_break_off asks scenario before after trace trace' shortages shortages' broken none transport serves plain =
+plays_break_off asks scenario before after trace trace' faults faults' shortages shortages' broken none transport serves plain =
     let past = all_entries broken.happenings in
     let same = unless broken.stored none in
     subst (λ (c : Option Contents). BrokeOff scenario before (stored_in c) past (past ++ broken.next)) (sym same)

@@ -1,5 +1,5 @@
 -- Hosts that note what they hold are the hosts that they are.
-use Rattle.std.proofs.Common.{◌≡◌, ℕ, zero, suc, Bool, true, false, List, [], ◌∷◌, Option, Some, None, is_some, refl, sym, ap, subst, ◌∙◌, if◌then◌else◌}
+use Rattle.std.proofs.Common.{◌≡◌, ℕ, zero, suc, Bool, true, false, List, [], ◌∷◌, Option, Some, None, is_some, refl, sym, ap, ◌∙◌, if◌then◌else◌}
 use Rattle.bt_base.specs.declared.settings.Settings.{Settings}
 use Rattle.acl_fragments.specs.Pieces.{channel_of}
 use Rattle.channel_model.specs.declared.event.ChannelEvent.{ChannelEvent}
@@ -9,14 +9,14 @@ use Rattle.channel_model.specs.Carrying.{Up as Handed, Nothing, Received}
 use Rattle.channel_model.specs.Hearing.{hears, up}
 use Rattle.channel_model.specs.Timing.{timed_out}
 use Rattle.channel_model.specs.Giving.{Given, next_given, after_given}
-use Rattle.world_model.specs.Machines.{Upper, News, Linked, Up, Down, Failed, Heard, TimerFired, Cancelled, Opening}
+use Rattle.world_model.specs.Machines.{News, Linked, Up, Down, Failed, Heard, TimerFired, Cancelled, Opening}
 use Rattle.run_laws.specs.Embedding.{said_as, Embeds}
 use Rattle.host_model.specs.Circumstances.{Circumstance}
 use Rattle.host_model.specs.Pdus.{pdu_of, is_frame}
 use Rattle.host_model.specs.Profiles.{Profile}
 use Rattle.host_model.specs.Hosts.{Host, with_channels, tells_each, tells_events, settles, strides, drives, driven, handed, told, hears_news, ready, hear, most_steps, steps_behind, after_said, says, next}
-use Rattle.host_model.specs.Settings.{SetHost, set_to, said_with, with_settings}
-use Rattle.bt_host.specs.Noting.{Noted, with_end, noting}
+use Rattle.host_model.specs.Settings.{set_to, said_with, with_settings}
+use Rattle.bt_host.specs.Noting.{Noted, noting}
 use Rattle.scenario_play.specs.Noting.{plain_host, plain_set}
 
 -- whether a host goes on or not

@@ -1,5 +1,6 @@
 mod Embedded
 mod Forgetting
+mod Sparing
 mod Plainness
 mod Newness
 mod Alikeness
@@ -7,3 +8,9 @@ mod Course
 mod Breaking
 mod Names
 mod Ended
+pub mod Gained
+mod Unacknowledged
+mod Stepping
+mod NotedWindows
+mod Along
+mod PeakBounds

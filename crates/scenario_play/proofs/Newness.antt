@@ -1,5 +1,5 @@
 -- New hosts in code: whatever their ports are to answer, they are those of the scenario.
-use Rattle.std.proofs.Common.{List, [], ◌∷◌, Option, refl, ap₂}
+use Rattle.std.proofs.Common.{◌≡◌, List, [], ◌∷◌, Option, refl, ap₂}
 use Rattle.bt_base.specs.Objects.{Contents}
 use Rattle.bt_base.specs.declared.settings.Settings.{Settings}
 use Rattle.push_script.specs.declared.scenario.Scenario.{Scenario}
@@ -15,19 +15,19 @@ use Rattle.radio_world.specs.Scenes.{first_scene, moment, Plays}
 use Rattle.radio_world.specs.Standing.{starting, first_moment}
 use Rattle.line_laws.specs.Laws.{GoesAsSeen}
 use Rattle.line_laws.proofs.Seeing.{stations_are_seen}
-use Rattle.host_model.specs.Circumstances.{Circumstance}
+use Rattle.host_model.specs.Circumstances.{Circumstance, answers_in}
 use Rattle.host_model.specs.Profiles.{Profile}
 use Rattle.host_model.specs.Clients.{ClientProfile}
-use Rattle.host_model.specs.Hosts.{first_host}
-use Rattle.host_model.specs.Servers.{ServerProfile, server_profile}
+use Rattle.host_model.specs.Servers.{ServerProfile}
 use Rattle.host_model.specs.Machines.{client_host, server_host}
 use Rattle.host_model.specs.Settings.{SetHost, set_to, with_settings, client_machine, server_machine}
 use Rattle.host_model.proofs.Setting.{hosts_say_octets}
 use Rattle.bt_host.specs.Newness as served
 use Rattle.bt_host.specs.Pushing as pushed
-use Rattle.bt_host.specs.Noting.{Noted, noting}
-use Rattle.bt_host.specs.NotedHosts.{credits_of_server, noted_client, client_noting, noted_client_machine, noted_server, server_noting, noted_server_machine}
+use Rattle.bt_host.specs.Noting.{Noted}
+use Rattle.bt_host.specs.NotedHosts.{noted_client, client_noting, noted_client_machine, noted_server, server_noting, noted_server_machine}
 use Rattle.bt_host.specs.Playing.{set_host, playing}
+use Rattle.pair_laws.specs.Granted.{granting}
 use Rattle.scenario_play.specs.Noting.{plain_set}
 
 -- ---- what stands above their lines
@@ -66,23 +66,10 @@ server_twins content inbox settings rest = record {
   has_check = λ own. refl;
 }
 
--- and no more do those that note what they hold
-pub noted_client_twins : {P : Type 0} (shelf : P) (settings : Settings) (rest : List Circumstance) → AreTwins noted_client_machine (new_client shelf settings rest) (set_to settings (first_host (noted_client settings)))
-noted_client_twins shelf settings rest = record {
-  hear = λ answers news. refl;
-  next = refl;
-  wants_link = refl;
-  leaves_link = refl;
-  is_idle = refl;
-  outcome = refl;
-  armed = refl;
-  may_cancel = refl;
-  has_check = λ own. refl;
-}
-
-pub noted_server_twins : {Q : Type 0} (content : Q → Option Contents) (inbox : Q) (settings : Settings) (rest : List Circumstance)
-    → AreTwins noted_server_machine (new_server content inbox settings rest) (set_to settings (first_host (noting credits_of_server (server_profile settings (content inbox)))))
-noted_server_twins content inbox settings rest = record {
+-- a new server whose inbox grants all is no other one either
+pub granting_twins : {Q : Type 0} (content : Q → Option Contents) (inbox : Q) (settings : Settings) (rest : List Circumstance)
+    → AreTwins (granting server_machine) (plain_set (new_server content inbox settings rest)) (set_to settings (server_host settings (content inbox)).first)
+granting_twins content inbox settings rest = record {
   hear = λ answers news. refl;
   next = refl;
   wants_link = refl;

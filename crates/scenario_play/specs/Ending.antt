@@ -18,22 +18,36 @@ use Rattle.scenario_laws.specs.Air.{hosts_of}
 use Rattle.scenario_laws.specs.Broken.{BrokeOff}
 use Rattle.scenario_laws.specs.Gains.{holding, OrderlyServer}
 use Rattle.scenario_laws.specs.Plain.{ArePlain}
+use Rattle.request_laws.specs.Granted.{ServesGranted}
 use Rattle.scenario_play.specs.Breaking.{IsBroken, IsWanting}
-use Rattle.scenario_play.specs.Playing.{IsPlayed}
+use Rattle.scenario_play.specs.Playing.{RoseNever, IsPlayed}
 
 -- Over L2CAP, where both hosts are orderly: what the inbox gained, the accounts, the pushes and their outcomes, and that the air obeyed the
 -- script, over the capture alone.
 pub record PlaysEnd : Type 0 where
   pub asks : HostsAsk
-  pub ends : (scenario : Scenario) (before : List Object) (after : Option Contents) (trace trace' : Option (List ℕ)) (outcomes : List Outcome) (peaks : Peaks) (played : IsPlayed scenario (holding before) after trace trace' outcomes peaks)
+  pub ends : (scenario : Scenario) (before : List Object) (after : Option Contents) (trace trace' : Option (List ℕ)) (outcomes : List Outcome) (peaks : Peaks) (faults faults' shortages shortages' : ℕ)
+      (played : IsPlayed scenario (holding before) after trace trace' outcomes peaks (RoseNever faults faults' shortages shortages'))
       → scenario.settings.transport ≡ L2cap → Orderly asks scenario before played.capture played.finished.ran → Ends scenario before (stored_in after) outcomes played.capture
 
 -- Where it broke off over L2CAP, and the count of shortages of the inbox did not rise: what the inbox gained by then, the buffers, honest controllers, the
 -- pushes, and that each entry keeps to the script, over the capture so far; where host b is orderly and both hosts are plain.
 abbrev pub PlaysBreakOff : Type 0
-PlaysBreakOff = (asks : HostsAsk) (scenario : Scenario) (before : List Object) (after : Option Contents) (trace trace' : Option (List ℕ)) (shortages shortages' : ℕ) (broken : IsBroken scenario (holding before) after trace trace' (HasRisen shortages shortages')) → (HasRisen shortages shortages' → ⊥)
+PlaysBreakOff = (asks : HostsAsk) (scenario : Scenario) (before : List Object) (after : Option Contents) (trace trace' : Option (List ℕ)) (faults faults' shortages shortages' : ℕ)
+    (broken : IsBroken scenario (holding before) after trace trace' (HasRisen shortages shortages') (RoseNever faults faults' shortages shortages')) → (HasRisen shortages shortages' → ⊥)
     → scenario.settings.transport ≡ L2cap → OrderlyServer asks scenario.settings before (all_entries broken.happenings) broken.world.b.upper → ArePlain asks scenario (holding before) broken.ran.happenings
     → BrokeOff scenario before (stored_in after) (all_entries broken.happenings) (all_entries broken.happenings ++ broken.next)
+
+-- Where neither count of the inbox rose over L2CAP, the inbox granted all calls, to the end or up to where it broke off: so host b serves in
+-- order, and its inbox gained exactly what the capture spells, where no object that is pushed has more than 16,777,215 octets.
+pub record PlaysServe : Type 0 where
+  pub asks : HostsAsk
+  pub played : (scenario : Scenario) (before : List Object) (after : Option Contents) (trace trace' : Option (List ℕ)) (outcomes : List Outcome) (peaks : Peaks) (faults faults' shortages shortages' : ℕ)
+      (played : IsPlayed scenario (holding before) after trace trace' outcomes peaks (RoseNever faults faults' shortages shortages'))
+      → RoseNever faults faults' shortages shortages' → scenario.settings.transport ≡ L2cap → ServesGranted asks scenario before played.capture played.finished.ran
+  pub broken : (scenario : Scenario) (before : List Object) (after : Option Contents) (trace trace' : Option (List ℕ)) (faults faults' shortages shortages' : ℕ)
+      (broken : IsBroken scenario (holding before) after trace trace' (HasRisen shortages shortages') (RoseNever faults faults' shortages shortages'))
+      → RoseNever faults faults' shortages shortages' → scenario.settings.transport ≡ L2cap → ServesGranted asks scenario before (all_entries broken.happenings ++ broken.next) broken.ran
 
 -- With a script of at most 2^32 lines and a trace that is told, a scenario wants memory only before anything happened, where a port lacked
 -- some, or where the capture so far is crowded; where both hosts are plain.

@@ -4,3 +4,5 @@ pub mod Playing
 pub mod Ending
 pub mod Running
 pub mod Breaking
+pub mod Gaining
+pub mod PeakBounds

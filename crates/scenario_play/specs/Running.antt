@@ -1,11 +1,9 @@
 -- A world of any two hosts that goes from its beginning to the end of its last push (this project's own).
 use Rattle.std.specs.Prelude.{ℕ, ◌≡◌, List, [], Option}
 use Rattle.bt_base.specs.Streams.{gained}
-use Rattle.push_terms.specs.declared.outcome.Outcome.{Outcome}
 use Rattle.push_terms.specs.declared.word.Word.{Word}
 use Rattle.capture.specs.Entries.{capture_octets}
 use Rattle.world_model.specs.Machines.{Upper}
-use Rattle.radio_world.specs.Hosts.{Asking}
 use Rattle.radio_world.specs.Scenes.{Scene, Stage, stage, Advances}
 use Rattle.radio_world.specs.Standing.{Stands, last_ended, last_entries, all_outcomes}
 

@@ -5,7 +5,9 @@ mod ending;
 mod playing;
 mod running;
 
-pub use ending::{plays_break_off, plays_end, wants_are_told};
+pub use ending::{
+    peaks_are_bounded, plays_break_off, plays_end, plays_gain, plays_serve, wants_are_told,
+};
 pub use playing::{Played, play};
 
 #[cfg(test)]

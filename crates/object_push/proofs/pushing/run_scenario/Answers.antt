@@ -1,7 +1,7 @@
 use Rattle.std.proofs.Common.{refl}
 use Rattle.radio_world.specs.declared.fault.WorldFault.TheVariants as world
 use Rattle.object_push.specs.Running.{RanToEnd, RanShort}
-use Rattle.object_push.proofs.Causes.{still, beside_trace}
+use Rattle.object_push.proofs.Causes.{short_alone, short_failed, still, beside_trace}
 use Rattle.object_push.proofs.pushing.run_scenario.Goals as goal
 
 pub report-requires : goal.report-requires
@@ -18,3 +18,15 @@ returns-in-Err-TraceFault-clause-runs g c = RanShort world.TraceFault refl (rw c
 
 pub returns-in-Err-NoMemory-clause-runs : goal.returns-in-Err-NoMemory-clause-runs
 returns-in-Err-NoMemory-clause-runs g c = RanShort world.NoMemory refl (rw c.in-Err-NoMemory.field-0-is at c.in-Err-NoMemory.ensures.reason) c.in-Err-NoMemory.ensures.breaks c.in-Err-NoMemory.ensures.grows refl
+
+pub returns-in-Err-TraceFault-clause-shelf_short : goal.returns-in-Err-TraceFault-clause-shelf_short
+returns-in-Err-TraceFault-clause-shelf_short g c = short_failed _ _ _ _ _ c.in-Err-TraceFault.ensures.shelf_short (rw c.in-Err-TraceFault.field-0-is at c.in-Err-TraceFault.ensures.reason)
+
+pub returns-in-Err-TraceFault-clause-inbox_short : goal.returns-in-Err-TraceFault-clause-inbox_short
+returns-in-Err-TraceFault-clause-inbox_short g c = short_failed _ _ _ _ _ c.in-Err-TraceFault.ensures.inbox_short (rw c.in-Err-TraceFault.field-0-is at c.in-Err-TraceFault.ensures.reason)
+
+pub returns-in-Err-NoMemory-clause-shelf_short : goal.returns-in-Err-NoMemory-clause-shelf_short
+returns-in-Err-NoMemory-clause-shelf_short g c = short_alone _ _ _ _ _ c.in-Err-NoMemory.ensures.shelf_short (still _ _ _ c.in-Err-NoMemory.ensures.trace_faults (λ is. absurd cc))
+
+pub returns-in-Err-NoMemory-clause-inbox_short : goal.returns-in-Err-NoMemory-clause-inbox_short
+returns-in-Err-NoMemory-clause-inbox_short g c = short_alone _ _ _ _ _ c.in-Err-NoMemory.ensures.inbox_short (still _ _ _ c.in-Err-NoMemory.ensures.trace_faults (λ is. absurd cc))

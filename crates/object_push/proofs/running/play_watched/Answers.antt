@@ -1,4 +1,5 @@
-use Rattle.std.proofs.Common.{ℕ, sym, subst}
+use Rattle.std.proofs.Common.{◌≡◌, ℕ, Result, Ok, sym, subst}
+use Rattle.std.specs.Prelude.{IfOk}
 use Rattle.watched_ports.specs.Gains.{Keeps}
 use Rattle.object_push.proofs.Ended.{broken_at_end}
 use Rattle.object_push.proofs.Handing.{either_way, at_err, err_then, ok_then}
@@ -14,7 +15,7 @@ pub returns-clause-breaks : goal.returns-clause-breaks
 returns-clause-breaks g c =
     at_err c.end_of-end.result
     (either_way c.play-played.result (rw (c.new-inbox.ensures.inbox, c.new-trace.ensures.sink) at c.play-played.ensures.plays) (rw (c.new-inbox.ensures.inbox, c.new-trace.ensures.sink) at c.play-played.ensures.breaks)
-    (λ played is. broken_at_end _ _ _ _ _ _ _ _ is))
+    (λ played is. broken_at_end _ _ _ _ _ _ _ _ _ is))
 
 pub returns-clause-reason : goal.returns-clause-reason
 returns-clause-reason g c =
@@ -36,3 +37,11 @@ returns-clause-reason g c =
       trace_faults = trace.faults;
       trace_shortages = trace.shortages;
     }) c.any_short-short.ensures fault halts)
+
+ok_is : {X E : Type 0} (P : X → Type 0) (result : Result X E) (x : X) → result ≡ Ok x → IfOk result P → P x
+ok_is P result x is plays = subst (λ r. IfOk r P) is plays
+
+pub returns-clause-plays : goal.returns-clause-plays
+returns-clause-plays g c =
+    ok_then c.end_of-end.result c.end_of-end.ensures.follows
+    (λ ended follows. ok_is _ c.play-played.result ended.played follows.is (rw (c.new-inbox.ensures.inbox, c.new-trace.ensures.sink) at c.play-played.ensures.plays))

@@ -1,4 +1,4 @@
-use Rattle.std.proofs.Common.{◌≡◌, ◌+◌, ◌∙◌, List, ℕ, [], ◌∷◌, ◌++◌, get_or, take, drop, length, sym, ap, subst, refl, arith, length-append, take-append-drop}
+use Rattle.std.proofs.Common.{◌≡◌, ◌+◌, ◌∙◌, List, ℕ, [], ◌∷◌, ◌++◌, get_or, take, drop, sym, ap, subst, refl, arith, length-append, take-append-drop}
 use Rattle.std.proofs.lemmas.List.{take_more, length-take, take_all}
 use Rattle.host_model.specs.Profiles.{Profile}
 use Rattle.receiving.specs.Faring.{Fares, HearsOctet}

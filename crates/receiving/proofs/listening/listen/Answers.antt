@@ -1,4 +1,4 @@
-use Rattle.std.proofs.Common.{◌≡◌, ◌∙◌, ◌≤◌, Bool, Ok, Err, Result, refl, sym, ap, subst, arith}
+use Rattle.std.proofs.Common.{◌∙◌, Bool, Ok, Err, Result, refl, sym, ap, subst, arith}
 use Rattle.h4_framing.specs.Framing.{Framing}
 use Rattle.host_model.specs.Profiles.{Profile}
 use Rattle.receiving.specs.declared.fault.ListenFault.{ListenFault}

@@ -1,4 +1,4 @@
-use Rattle.std.proofs.Common.{◌≡◌, ◌∙◌, [], sym, subst}
+use Rattle.std.proofs.Common.{◌∙◌, [], sym, subst}
 use Rattle.host_model.specs.Profiles.{Profile}
 use Rattle.receiving.specs.Turns.{begun}
 use Rattle.receiving.specs.Coming.{Comes}

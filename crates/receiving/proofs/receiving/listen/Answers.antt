@@ -1,5 +1,5 @@
 use Rattle.std.proofs.Common.{Ok, Err}
-use Rattle.receiving.proofs.Received.{nothing_listened, listened_by, new_sound, new_has_rest, new_room}
+use Rattle.receiving.proofs.Received.{nothing_listened, listened_by}
 use Rattle.receiving.proofs.receiving.listen.Goals as goal
 
 pub returns-in_default-clause-listened : goal.returns-in_default-clause-listened

@@ -1,4 +1,4 @@
-use Rattle.std.proofs.Common.{rules, [], length, inl, inr, sym, ap, subst, refl, ◌∙◌, arith}
+use Rattle.std.proofs.Common.{[], length, sym, ap, subst, refl, ◌∙◌, arith}
 use Rattle.bt_base.specs.Counts.{HasRisen}
 use Rattle.radio_world.proofs.Wanting.{any_err, lacks_ok, lacks_on}
 use Rattle.radio_world.specs.Both.{Both}
@@ -19,6 +19,7 @@ use Rattle.room_laws.specs.Rooms.{OwesNoneBack}
 use Rattle.scenario_play.specs.Peaks.{NotedMoment, AreNoted}
 use Rattle.scenario_play.proofs.Breaking.{broke, wanting, shelf_left, inbox_left}
 use Rattle.scenario_play.proofs.Plainness.{orderly}
+use Rattle.scenario_play.proofs.Sparing.{rose_or_not, Never, granted_both, granted_left}
 use Rattle.scenario_play.proofs.Course.{played, shelf_kept}
 use Rattle.scenario_play.proofs.playing.play_in.Goals as goal
 
@@ -67,7 +68,9 @@ returns-clause-plays g c =
     let last : NotedMoment = moment c.in_ok-outcomes.world.scene (answering [] (playing client_noting shelf c.in_ok-outcomes.world.a.stack)) (answering [] (playing (server_noting g.I.Inbox.content) inbox c.in_ok-outcomes.world.b.stack)) in
     let noted : AreNoted c.in_ok-outcomes.world.scene.medium last c.peaks_of-peaks.result = record { buffers = c.peaks_of-peaks.ensures.buffers; windows = c.peaks_of-peaks.ensures.windows; credits = c.peaks_of-peaks.ensures.credits } in
     played g.I.Inbox.content (Answers g.F.Shelf.content g.F.Shelf.faults g.F.Shelf.shortages) (Asks g.I.Inbox.faults g.I.Inbox.shortages) c.args.scenario.now c.args.world c.in_ok-outcomes.world
-    c.args.shelf.now shelf c.args.inbox.now inbox (traced c.args.trace.now) (traced c.play_out.new.trace) c.in_ok-outcomes.outcomes.items c.peaks_of-peaks.result c.requires.fresh c.in_ok-outcomes.ensures.runs c.in_ok-outcomes.ensures.outcomes noted
+    c.args.shelf.now shelf c.args.inbox.now inbox (traced c.args.trace.now) (traced c.play_out.new.trace) c.in_ok-outcomes.outcomes.items c.peaks_of-peaks.result (Never g.I.Inbox.faults g.I.Inbox.shortages c.args.inbox.now inbox)
+    (rose_or_not (g.I.Inbox.faults c.args.inbox.now) (g.I.Inbox.faults inbox) (g.I.Inbox.shortages c.args.inbox.now) (g.I.Inbox.shortages inbox))
+    (λ mid one two before behind never. granted_both g.I.Inbox.faults g.I.Inbox.shortages c.args.inbox.now mid inbox one two before behind never) c.requires.fresh c.in_ok-outcomes.ensures.runs c.in_ok-outcomes.ensures.outcomes noted
 
 pub returns-clause-each : goal.returns-clause-each
 returns-clause-each g c = c.in_ok-outcomes.ensures.each ∙ ap (λ (w : Both (Shelled (Noted ClientProfile)) (Shelled (Noted Served))). length w.scene.pushes.names) c.requires.fresh
@@ -99,7 +102,9 @@ returns-in_err-outcomes-clause-breaks g c =
     let traced = g.T.Sink.content in
     any_err c.from_residual.result
     (broke inbox.content (Answers shelf.content shelf.faults shelf.shortages) (Asks inbox.faults inbox.shortages) (NoShelf shelf.shortages) (NoInbox inbox.shortages) c.args.scenario.now c.args.world
-    c.args.shelf.now c.play_out.new.shelf c.args.inbox.now c.play_out.new.inbox (traced c.args.trace.now) (traced c.play_out.new.trace) (HasRisen (inbox.shortages c.args.inbox.now) (inbox.shortages c.play_out.new.inbox)) c.requires.fresh
+    c.args.shelf.now c.play_out.new.shelf c.args.inbox.now c.play_out.new.inbox (traced c.args.trace.now) (traced c.play_out.new.trace) (HasRisen (inbox.shortages c.args.inbox.now) (inbox.shortages c.play_out.new.inbox)) (Never inbox.faults inbox.shortages c.args.inbox.now c.play_out.new.inbox)
+    (rose_or_not (inbox.faults c.args.inbox.now) (inbox.faults c.play_out.new.inbox) (inbox.shortages c.args.inbox.now) (inbox.shortages c.play_out.new.inbox))
+    (λ mid used asked left never. granted_left inbox.faults inbox.shortages c.args.inbox.now mid c.play_out.new.inbox used asked left never) c.requires.fresh
     (λ mid used asked lacked. (served_lacks inbox.faults inbox.shortages c.args.inbox.now mid c.play_out.new.inbox used asked lacked).0) c.in_err-outcomes.ensures.breaks)
 
 pub returns-in_err-outcomes-clause-left : goal.returns-in_err-outcomes-clause-left

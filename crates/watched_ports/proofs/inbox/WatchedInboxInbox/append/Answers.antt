@@ -1,4 +1,4 @@
-use Rattle.std.proofs.Common.{rules, refl, sym, ◌∙◌}
+use Rattle.std.proofs.Common.{rules, refl}
 use Rattle.bt_base.specs.Objects.{appended}
 use Rattle.watched_ports.proofs.Keeping.{stays_after}
 use Rattle.watched_ports.proofs.inbox.WatchedInboxInbox.append.Goals as goal

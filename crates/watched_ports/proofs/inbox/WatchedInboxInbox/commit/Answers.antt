@@ -1,5 +1,5 @@
-use Rattle.std.proofs.Common.{rules, refl, sym, ◌∙◌}
-use Rattle.bt_base.specs.Objects.{committed, aborted}
+use Rattle.std.proofs.Common.{rules, refl}
+use Rattle.bt_base.specs.Objects.{aborted}
 use Rattle.watched_ports.proofs.Keeping.{stays, grows, pending_told}
 use Rattle.watched_ports.proofs.inbox.WatchedInboxInbox.commit.Goals as goal
 

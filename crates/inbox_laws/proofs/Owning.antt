@@ -1,0 +1,145 @@
+-- A server that reads what its inbox answers off its own state is the server of the scenario, which is given that with each thing that it
+-- hears; and where these answers are grants, it is the one whose inbox grants all.
+use Rattle.std.proofs.Common.{◌≡◌, ℕ, List, [], ◌∷◌, map, Some, None, refl, sym, ap, ap₂, subst, ◌∙◌}
+use Rattle.bt_base.specs.declared.settings.Settings.{Settings}
+use Rattle.channel_model.specs.Giving.{next_given}
+use Rattle.obex_session.specs.InboxCalls.{Answer}
+use Rattle.push_laws.specs.Premises.{AllGranted}
+use Rattle.world_model.specs.Machines.{Up, Down, News, Linked, Failed, Heard, TimerFired, Cancelled, Opening}
+use Rattle.world_model.specs.Worlds.{Runs}
+use Rattle.rest_laws.specs.Premises.{AreOrderly}
+use Rattle.alike_laws.specs.Twins.{world_with}
+use Rattle.alike_laws.proofs.Alike.{AreAlike, runs_on, rest_on}
+use Rattle.host_model.specs.Circumstances.{Circumstance, Stored, answers_in}
+use Rattle.host_model.specs.Profiles.{Profile}
+use Rattle.host_model.specs.Hosts.{Host, most_said, driven, hears_news, hear, next}
+use Rattle.host_model.specs.Clients.{ClientProfile}
+use Rattle.host_model.specs.Servers.{ServerProfile, with_answers, server_profile}
+use Rattle.host_model.specs.Settings.{SetHost, set_to, said_with, client_machine, server_machine}
+use Rattle.host_model.proofs.Setting.{said_by, set_hosts_are_orderly}
+use Rattle.scenario_laws.proofs.SetHosts.{hear_same, says_same}
+use Rattle.pair_laws.specs.Granted.{granted, granting}
+use Rattle.pair_laws.proofs.Answered.{same_alike}
+use Rattle.inbox_laws.specs.Owned.{own_profile, own_machine, HasGrants, IsGranting, BothSet, OwnRunsAreRuns, OwnRestsAreRests, GrantedRunsAreGranted}
+use Rattle.inbox_laws.proofs.Granting.{grants_kept}
+use Rattle.inbox_laws.proofs.Keeping.{hear_kept, next_kept}
+
+-- ---- its answers, as they are given
+
+stored_are : (answers : List Answer) → answers_in (map Stored answers) ≡ answers
+stored_are [] = refl
+stored_are (answer ∷ answers) = ap (λ (l : List Answer). answer ∷ l) (stored_are answers)
+
+granted_are : (answers : List Answer) → AllGranted answers → map granted (map Stored answers) ≡ map Stored answers
+granted_are [] all = refl
+granted_are (answer ∷ answers) all = ap₂ (λ (one : Answer) (l : List Circumstance). Stored one ∷ l) (sym all.0) (granted_are answers all.1)
+
+abbrev its : ServerProfile → List Circumstance
+its serving = map Stored serving.inbox.answers
+
+given_its : (serving : ServerProfile) → with_answers (its serving) serving ≡ serving
+given_its serving = ap (λ (answers : List Answer). record serving { inbox = record { content = serving.inbox.content; answers = answers } }) (stored_are serving.inbox.answers)
+
+-- ---- a host
+
+abbrev Given : Settings → Profile ServerProfile
+Given settings = server_profile settings None
+
+-- what a server hears does not hang on what it is given with it
+heard_alike : (settings : Settings) (one other : List Circumstance) (news : News) (host : Host ServerProfile) → hears_news (Given settings) one news host ≡ hears_news (Given settings) other news host
+heard_alike settings one other (Linked Up) host = refl
+heard_alike settings one other (Linked (Down reason)) host = refl
+heard_alike settings one other (Failed status) host = refl
+heard_alike settings one other (Heard pdu) host = refl
+heard_alike settings one other TimerFired host = refl
+heard_alike settings one other Cancelled host = refl
+heard_alike settings one other (Opening name) host = refl
+
+abbrev keeps_own : List Circumstance → ServerProfile → ServerProfile
+keeps_own circumstances serving = serving
+
+own_hears : (settings : Settings) (answers : List Circumstance) (news : News) (host : Host ServerProfile) → hear (Given settings) (its host.profile) news host ≡ hear (own_profile settings) answers news host
+own_hears settings answers news host =
+    let A = Given settings in
+    let gifts = its host.profile in
+    let now : Host ServerProfile = record host { may_say = most_said } in
+    ap (λ (serving : ServerProfile). let after : Host ServerProfile = record host { profile = serving; may_say = most_said } in driven A (hears_news A gifts news after)) (given_its host.profile)
+    ∙ (ap (λ (h : Host ServerProfile). driven A h) (heard_alike settings gifts answers news now) ∙ sym (hear_same A A.first keeps_own answers news host))
+
+own_next : (settings : Settings) (host : Host ServerProfile) → next (Given settings) host ≡ next (own_profile settings) host
+own_next settings host = let A = Given settings in sym (says_same A A.first keeps_own (next_given host.channels) host.may_say host)
+
+-- ---- the machines
+
+set_hears : (answers : List Circumstance) (news : News) (s t : SetHost ServerProfile) → t ≡ s → server_machine.hear (its s.host.profile) news t ≡ own_machine.hear answers news s
+set_hears answers news s t is = ap (server_machine.hear (its s.host.profile) news) is ∙ ap (set_to s.settings) (own_hears s.settings answers news s.host)
+
+set_next : (s t : SetHost ServerProfile) → t ≡ s → server_machine.next t ≡ own_machine.next s
+set_next s t is = ap server_machine.next is ∙ ap (said_with s.settings) (own_next s.settings s.host)
+
+own_alike : AreAlike (λ s t. t ≡ s) own_machine server_machine
+own_alike = record {
+  hear = λ answers news s t is. (its s.host.profile, set_hears answers news s t is);
+  says = λ s t is pdu after same. (after, refl, set_next s t is ∙ same);
+  silent = λ s t is none. set_next s t is ∙ none;
+  wants_link = λ s t is. ap server_machine.wants_link is;
+  leaves_link = λ s t is. ap server_machine.leaves_link is;
+  is_idle = λ s t is. ap server_machine.is_idle is;
+  outcome = λ s t is. ap server_machine.outcome is;
+  armed = λ s t is. ap server_machine.armed is;
+  may_cancel = λ s t is. ap server_machine.may_cancel is;
+  has_check = λ s t own is. ap (λ x. server_machine.has_check x own) is;
+}
+
+granted_hears : (answers : List Circumstance) (news : News) (s t : SetHost ServerProfile) → t ≡ s → IsGranting s → (granting server_machine).hear (its s.host.profile) news t ≡ own_machine.hear answers news s
+granted_hears answers news s t is all = ap (λ (gifts : List Circumstance). server_machine.hear gifts news t) (granted_are s.host.profile.inbox.answers all) ∙ set_hears answers news s t is
+
+granting_on : (s : SetHost ServerProfile) (pdu : List ℕ) (after : SetHost ServerProfile) → own_machine.next s ≡ Some (pdu, after) → IsGranting s → IsGranting after
+granting_on s pdu after is all =
+    let (host, said, same) = said_by s.settings (next (own_profile s.settings) s.host) pdu after is in
+    subst IsGranting (sym same) (next_kept (own_profile s.settings) HasGrants (grants_kept s.settings) s.host pdu host said all)
+
+granted_alike : AreAlike (λ s t. (t ≡ s) × IsGranting s) own_machine (granting server_machine)
+granted_alike = record {
+  hear = λ answers news s t so. (its s.host.profile, (granted_hears answers news s t so.0 so.1, hear_kept (own_profile s.settings) HasGrants (grants_kept s.settings) answers news s.host so.1));
+  says = λ s t so pdu after same. (after, (refl, granting_on s pdu after same so.1), set_next s t so.0 ∙ same);
+  silent = λ s t so none. set_next s t so.0 ∙ none;
+  wants_link = λ s t so. ap server_machine.wants_link so.0;
+  leaves_link = λ s t so. ap server_machine.leaves_link so.0;
+  is_idle = λ s t so. ap server_machine.is_idle so.0;
+  outcome = λ s t so. ap server_machine.outcome so.0;
+  armed = λ s t so. ap server_machine.armed so.0;
+  may_cancel = λ s t so. ap server_machine.may_cancel so.0;
+  has_check = λ s t own so. ap (λ x. server_machine.has_check x own) so.0;
+}
+
+pub own_orderly : AreOrderly client_machine own_machine
+own_orderly =
+    let both = set_hosts_are_orderly in
+    record { frames_a = both.frames_a; frames_b = λ s pdu after is. both.frames_b s pdu after (set_next s s refl ∙ is); idles = both.idles; once = both.once }
+
+-- ---- runs
+
+abbrev IsSame : {S : Type 0} → S → S → Type 0
+IsSame s t = t ≡ s
+
+itself : AreAlike (IsSame {S = SetHost ClientProfile}) client_machine client_machine
+itself = same_alike (λ (answers : List Circumstance). answers) client_machine
+
+-- what happens to such a server happens to that of the scenario
+pub own_runs : OwnRunsAreRuns
+own_runs happenings old new runs =
+    let (there, alike, ran) = runs_on IsSame IsSame client_machine client_machine own_machine server_machine itself own_alike happenings old.a.upper old.b.upper old new refl refl runs in
+    let same : there ≡ new = alike.same ∙ ap₂ (λ (x : SetHost ClientProfile) (y : SetHost ServerProfile). world_with x y new) alike.a alike.b in
+    subst (λ (w : BothSet). Runs client_machine server_machine happenings old w) same ran
+
+pub own_rest : OwnRestsAreRests
+own_rest w rest = rest_on IsSame IsSame client_machine client_machine own_machine server_machine itself own_alike w w (record { a = refl; b = refl; same = refl }) rest
+
+-- and where its answers are grants, to one whose inbox grants all
+pub granted_runs : GrantedRunsAreGranted
+granted_runs happenings old new all runs =
+    let Q : SetHost ServerProfile → SetHost ServerProfile → Type 0 = λ s t. (t ≡ s) × IsGranting s in
+    let (there, alike, ran) = runs_on IsSame Q client_machine client_machine own_machine (granting server_machine) itself granted_alike happenings old.a.upper old.b.upper old new refl (refl, all) runs in
+    let same : there ≡ new = alike.same ∙ ap₂ (λ (x : SetHost ClientProfile) (y : SetHost ServerProfile). world_with x y new) alike.a alike.b.0 in
+    subst (λ (w : BothSet). Runs client_machine (granting server_machine) happenings old w) same ran

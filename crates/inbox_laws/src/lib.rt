@@ -1,0 +1,20 @@
+//! Laws of a server that keeps what its inbox is to answer.
+#![tactic(auto)]
+
+ghost use Rattle.inbox_laws.specs.Owned.{GrantedRunsAreGranted, OwnRestsAreRests, OwnRunsAreRuns};
+
+/// What happens to both hosts, where the server keeps the answers of its inbox from its first moment on and uses them up one by one, happens
+/// where it is given them with each thing that it hears.
+pub fn own_runs_are_runs()
+    ensures { OwnRunsAreRuns }
+{}
+
+/// And the one world is at rest where the other is.
+pub fn own_rests_are_rests()
+    ensures { OwnRestsAreRests }
+{}
+
+/// Where all answers that it keeps are grants, it happens to a server whose inbox grants whatever it is asked.
+pub fn granted_runs_are_granted()
+    ensures { GrantedRunsAreGranted }
+{}

@@ -1,0 +1,44 @@
+-- What a run of a scenario over L2CAP comes to, over its ports and its capture (this project's own).
+use Rattle.std.specs.Prelude.{ℕ, ◌≡◌, List, length, min}
+use Rattle.bt_base.specs.Counts.{HasRisen}
+use Rattle.bt_base.specs.Objects.{Object}
+use Rattle.bt_base.specs.declared.settings.Transport.TheVariants.{L2cap}
+use Rattle.watched_ports.specs.Gains.{most_kept}
+use Rattle.push_terms.specs.declared.outcome.Outcome.{Outcome}
+use Rattle.push_terms.specs.declared.peaks.Peaks.{Peaks}
+use Rattle.push_terms.specs.declared.word.Side.TheVariants.{B}
+use Rattle.push_script.specs.declared.scenario.Scenario.{Scenario}
+use Rattle.push_script.specs.Reports.{report_text}
+use Rattle.radio_world.specs.declared.fault.WorldFault.{WorldFault}
+use Rattle.link_talk.specs.Captures.{objects_heard}
+use Rattle.host_laws.specs.Calls.{HostsAsk}
+use Rattle.scenario_laws.specs.Gains.{holding}
+use Rattle.scenario_laws.specs.Parties.{party_of}
+use Rattle.scenario_play.specs.Breaking.{IsBroken}
+use Rattle.scenario_play.specs.Gaining.{HaveAnswered, GainsPlayed, GainsBroken}
+use Rattle.scenario_play.specs.Playing.{RoseNever, IsPlayed}
+use Rattle.btpush_forms.specs.declared.status.Status.{Status}
+use Rattle.object_push.specs.Ports.{Ports}
+use Rattle.object_push.specs.Running.{Reports, status_of, Stops, Runs}
+
+-- neither count of the inbox rose
+abbrev pub InboxNever : (old new : Ports) → Type 0
+InboxNever old new = RoseNever old.inbox.faults new.inbox.faults old.inbox.shortages new.inbox.shortages
+
+-- What a run comes to, from an inbox that held `before`, over ports that were `old` and are `new`.
+pub data ComesTo (asks : HostsAsk) (scenario : Scenario) (before : List Object) (old new : Ports) (result : Status) : Type 0 where
+  -- It was played to its end, and reported: the report says how many objects the capture spells, where ports answered.
+  ToItsEnd : (outcomes : List Outcome) (kept : ℕ) (peaks : Peaks) (played : IsPlayed scenario (holding before) new.inbox.content old.trace.content new.trace.content outcomes peaks (InboxNever old new))
+      → GainsPlayed asks scenario before new.inbox.content outcomes played.capture played.finished (InboxNever old new)
+      → (HaveAnswered asks scenario before played.capture played.finished.ran → kept ≡ min (length (objects_heard (party_of scenario.settings B) B played.capture)) most_kept)
+      → Reports (report_text scenario.names outcomes kept peaks) outcomes old.sink.content new.sink.content (HasRisen old.sink.shortages new.sink.shortages) result → ComesTo asks scenario before old new result
+  -- It stopped short, and nothing is reported.
+  Short : (fault : WorldFault) → result ≡ status_of fault → Stops fault scenario old new
+      → (broken : IsBroken scenario (holding before) new.inbox.content old.trace.content new.trace.content (HasRisen old.inbox.shortages new.inbox.shortages) (InboxNever old new))
+      → GainsBroken asks scenario before new.inbox.content old.trace.content new.trace.content old.inbox.shortages new.inbox.shortages (InboxNever old new) broken → new.sink.content ≡ old.sink.content → ComesTo asks scenario before old new result
+
+-- So it is of each run of a scenario over L2CAP with an inbox that tells what it holds.
+pub record RunsGain : Type 0 where
+  pub asks : HostsAsk
+  pub gains : (scenario : Scenario) (before : List Object) (old new : Ports) (result : Status) → old.inbox.content ≡ holding before → scenario.settings.transport ≡ L2cap → Runs scenario old new result
+      → ComesTo asks scenario before old new result

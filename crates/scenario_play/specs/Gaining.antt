@@ -1,0 +1,113 @@
+-- What a scenario comes to that was played over L2CAP, with all that is still asked of its ports and of its client (this project's own).
+use Rattle.std.specs.Prelude.{ℕ, ◌≡◌, List, [], ◌++◌, Option, Some}
+use Rattle.std.specs.List.{AllByRecursion}
+use Rattle.bt_base.specs.Counts.{HasRisen}
+use Rattle.bt_base.specs.Objects.{Object, Contents}
+use Rattle.bt_base.specs.declared.settings.Transport.TheVariants.{L2cap}
+use Rattle.push_script.specs.declared.scenario.Scenario.{Scenario}
+use Rattle.push_terms.specs.declared.outcome.Outcome.{Outcome}
+use Rattle.push_terms.specs.declared.peaks.Peaks.{Peaks}
+use Rattle.push_terms.specs.declared.word.Side.TheVariants.{A, B}
+use Rattle.capture.specs.Air.{words_of}
+use Rattle.capture.specs.Buffers.{KeepsWithin}
+use Rattle.capture.specs.Entries.{Entry}
+use Rattle.capture.specs.Histories.{EachAfter}
+use Rattle.radio_air.specs.Air.{KeepsTo, Obeys}
+use Rattle.radio_air.specs.Course.{PushesInTurn}
+use Rattle.radio_air.specs.Honest.{AreHonest}
+use Rattle.link_talk.specs.Captures.{objects_heard}
+use Rattle.world_model.specs.Worlds.{Happening, all_entries}
+use Rattle.push_laws.specs.Laws.{stored_in}
+use Rattle.host_laws.specs.Calls.{HostsAsk}
+use Rattle.scenario_laws.specs.Accounts.{KeepsWindow}
+use Rattle.scenario_laws.specs.Air.{hosts_of}
+use Rattle.scenario_laws.specs.Broken.{BrokeOff}
+use Rattle.scenario_laws.specs.Captures.{BothHosts, Ran, Finished}
+use Rattle.scenario_laws.specs.Clauses.{Ends}
+use Rattle.scenario_laws.specs.Gains.{holding, OrderlyServer}
+use Rattle.scenario_laws.specs.Outcomes.{outcomes_of}
+use Rattle.scenario_laws.specs.Parties.{party_of}
+use Rattle.scenario_laws.specs.Plain.{ArePlain}
+use Rattle.pair_laws.specs.InTurn.{PairsInTurn}
+use Rattle.request_laws.specs.BothFed.{GrantsAll}
+use Rattle.request_laws.specs.Together.{PortsAnswer}
+use Rattle.scenario_play.specs.Breaking.{IsBroken}
+use Rattle.scenario_play.specs.Playing.{RoseNever, IsPlayed}
+
+-- ---- what is still asked
+
+-- Both hosts went through a run side by side in some way in which their ports answered: no object that was pushed is longer than 16,777,215
+-- octets, and the inbox granted all calls.
+pub record HaveAnswered (asks : HostsAsk) (scenario : Scenario) (before : List Object) (capture : List Entry) (ran : Ran scenario (holding before) capture) : Type 0 where
+  pub turns : PairsInTurn asks scenario (holding before) capture ran
+  pub answer : PortsAnswer asks scenario before capture ran turns.pairs
+
+-- They went through it side by side in some way in which the inbox granted all calls. So their ports answered, where no object was too long
+-- in that.
+pub record HaveGranted (asks : HostsAsk) (scenario : Scenario) (before : List Object) (capture : List Entry) (ran : Ran scenario (holding before) capture) : Type 0 where
+  pub turns : PairsInTurn asks scenario (holding before) capture ran
+  pub granted : AllByRecursion GrantsAll turns.pairs.b.fed.so.lives.feeds
+
+-- Whatever both hosts ask of their channels: both are plain wherever the run is at rest.
+pub record RestPlain (scenario : Scenario) (before : List Object) (happenings : List Happening) : Type 0 where
+  pub asks : HostsAsk
+  pub plain : ArePlain asks scenario (holding before) happenings
+
+-- ---- what is so
+
+-- Whatever ports answer: the buffers of both controllers at each moment, honest controllers, and pushes in turn.
+pub record KeepsAccounts (scenario : Scenario) (capture : List Entry) : Type 0 where
+  pub within_a : KeepsWithin A scenario.acl_count capture
+  pub within_b : KeepsWithin B scenario.acl_count capture
+  pub honest : AreHonest capture
+  pub in_turn : PushesInTurn capture
+
+-- Host b serves in order, and the inbox gained exactly the objects that the packets spell which it heard.
+pub record ServesAndGains (asks : HostsAsk) (scenario : Scenario) (before : List Object) (capture : List Entry) (world : BothHosts) (stored : Option (List Object)) : Type 0 where
+  pub orderly : OrderlyServer asks scenario.settings before capture world.b.upper
+  pub gained : stored ≡ Some (before ++ objects_heard (party_of scenario.settings B) B capture)
+
+-- No more frames were unacknowledged at its end than the window that both hosts state, and the air obeyed the script.
+pub record RestsSo (scenario : Scenario) (capture : List Entry) : Type 0 where
+  pub window_a : KeepsWindow scenario.settings A capture
+  pub window_b : KeepsWindow scenario.settings B capture
+  pub obeys : Obeys (hosts_of scenario.settings) scenario.acl_length (words_of scenario.script) capture
+
+-- A scenario that was played to its end: its accounts and outcomes, whatever ports answer; that the inbox granted all calls, where it failed
+-- never; where ports answered, what the inbox gained; where
+-- both hosts are plain, the windows and the air; and where both are so, all that is said of the end of a scenario.
+pub record GainsPlayed (asks : HostsAsk) (scenario : Scenario) (before : List Object) (after : Option Contents) (outcomes : List Outcome) (capture : List Entry) (finished : Finished scenario (holding before) capture) (Never : Type 0) : Type 0 where
+  pub accounts : KeepsAccounts scenario capture
+  pub outcomes_are : outcomes ≡ outcomes_of scenario capture
+  pub granted : Never → HaveGranted asks scenario before capture finished.ran
+  pub serves : HaveAnswered asks scenario before capture finished.ran → ServesAndGains asks scenario before capture finished.ran.world (stored_in after)
+  pub rests : RestPlain scenario before finished.ran.happenings → RestsSo scenario capture
+  pub ends : HaveAnswered asks scenario before capture finished.ran → RestPlain scenario before finished.ran.happenings → Ends scenario before (stored_in after) outcomes capture
+
+-- A scenario that broke off: all that happened is the capture of a run, and with the entry that was begun it has its accounts, whatever ports
+-- answer. Where they answered, host b serves in order, and its inbox gained what that capture spells; where both hosts are plain, each entry
+-- keeps to the script.
+pub record GainsBroken (asks : HostsAsk) (scenario : Scenario) (before : List Object) (after : Option Contents) (trace trace' : Option (List ℕ)) (shortages shortages' : ℕ) (Never : Type 0) (broken : IsBroken scenario (holding before) after trace trace' (HasRisen shortages shortages') Never) : Type 0 where
+  pub past : Ran scenario (holding before) (all_entries broken.happenings)
+  pub world_is : past.world ≡ broken.world
+  pub accounts : KeepsAccounts scenario (all_entries broken.happenings ++ broken.next)
+  pub granted : Never → HaveGranted asks scenario before (all_entries broken.happenings) past
+  pub serves : HaveAnswered asks scenario before (all_entries broken.happenings) past → OrderlyServer asks scenario.settings before (all_entries broken.happenings) broken.world.b.upper
+  pub gained : HaveAnswered asks scenario before (all_entries broken.happenings) past → (HasRisen shortages shortages' → ⊥)
+      → stored_in after ≡ Some (before ++ objects_heard (party_of scenario.settings B) B (all_entries broken.happenings))
+  pub keeps : RestPlain scenario before broken.ran.happenings → EachAfter (KeepsTo (hosts_of scenario.settings) scenario.acl_length (words_of scenario.script)) [] (all_entries broken.happenings ++ broken.next)
+  pub breaks_off : HaveAnswered asks scenario before (all_entries broken.happenings) past → RestPlain scenario before broken.ran.happenings → (HasRisen shortages shortages' → ⊥)
+      → BrokeOff scenario before (stored_in after) (all_entries broken.happenings) (all_entries broken.happenings ++ broken.next)
+
+-- ---- the law
+
+-- So it is of every scenario that was played over L2CAP, whatever its script says: to its end, or as far as it came. Nothing more is asked of
+-- what both hosts ask of their channels.
+pub record PlaysGain : Type 0 where
+  pub asks : HostsAsk
+  pub plays : (scenario : Scenario) (before : List Object) (after : Option Contents) (trace trace' : Option (List ℕ)) (outcomes : List Outcome) (peaks : Peaks) (faults faults' shortages shortages' : ℕ)
+      (played : IsPlayed scenario (holding before) after trace trace' outcomes peaks (RoseNever faults faults' shortages shortages'))
+      → scenario.settings.transport ≡ L2cap → GainsPlayed asks scenario before after outcomes played.capture played.finished (RoseNever faults faults' shortages shortages')
+  pub breaks : (scenario : Scenario) (before : List Object) (after : Option Contents) (trace trace' : Option (List ℕ)) (faults faults' shortages shortages' : ℕ)
+      (broken : IsBroken scenario (holding before) after trace trace' (HasRisen shortages shortages') (RoseNever faults faults' shortages shortages'))
+      → scenario.settings.transport ≡ L2cap → GainsBroken asks scenario before after trace trace' shortages shortages' (RoseNever faults faults' shortages shortages') broken
