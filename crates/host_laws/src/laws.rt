@@ -264,7 +264,7 @@ pub fn servers_await_nothing()
 {}
 
 /// A client that is told that a request for its channel was given as often as may be, or that the features never came, or that a channel is closed
-/// which it closed with a cause, has nothing left but its link; and its next step ends that, unless an SDU of it still waits, or it has no memory.
+/// which it closed with a cause, has nothing left but its link; and it ends that, whatever waits in its channels.
 pub fn clients_leave_at_losses()
     ensures { LeavesAtLosses }
 {}

@@ -2,7 +2,9 @@
 use Rattle.std.proofs.Common.{Bool, true, false, cond, ◌≡◌, ℕ, List, [], ◌∷◌, Option, Some, None, refl}
 use Rattle.std.specs.List.{AllByRecursion}
 use Rattle.bt_base.specs.declared.settings.Settings.{Settings}
-use Rattle.bt_base.specs.Objects.{Contents}
+use Rattle.bt_base.specs.Objects.{Object, Contents}
+use Rattle.push_script.specs.declared.scenario.Scenario.{Scenario}
+use Rattle.capture.specs.Entries.{Entry}
 use Rattle.channel_model.specs.declared.event.ChannelEvent.{ChannelEvent}
 use Rattle.channel_model.specs.declared.event.ChannelEvent.TheVariants as events
 use Rattle.channel_model.specs.Value.{Channels}
@@ -16,17 +18,21 @@ use Rattle.host_model.specs.Clients.{client_profile}
 use Rattle.host_model.specs.Endpoints.{endpoint_of, takes_sdu}
 use Rattle.host_model.specs.Pdus.{sdu_of}
 use Rattle.host_model.specs.Servers.{ServerProfile, server_profile, told, happened, is_told, submits, takes, next_stride}
+use Rattle.host_laws.specs.Calls.{HostsAsk}
 use Rattle.host_laws.specs.Feeds.{Feed, Gifts, Learns, Receives, Happens, Sent, Steps, fed}
 use Rattle.host_laws.specs.Pushing.{Affair, Begins, Does, client_after}
 use Rattle.host_laws.specs.Serving.{reacted}
+use Rattle.scenario_laws.specs.Captures.{Ran}
 use Rattle.scenario_laws.specs.Gains.{holding, serving}
+use Rattle.pair_laws.specs.Keeping.{PairsKeepOrder}
 use Rattle.request_laws.specs.BothFed.{AllAsked}
 use Rattle.request_laws.specs.MuxFed.{IsMuxAsked, AllSaySo, SaysSo}
 use Rattle.request_laws.specs.SpellableClients.{SpellsAll}
 use Rattle.request_laws.specs.SpellableServers.{LendsSpellable}
-use Rattle.request_laws.specs.TogetherCarried.{CarriedAnswer}
-use Rattle.request_laws.specs.TogetherRead.{IsOctetsAsked, ReceivesOctets, ReadAnswer, RunsServeRead}
-use Rattle.request_laws.proofs.MuxTogether.{runs_serve_carried}
+use Rattle.request_laws.specs.GrantedCarried.{RunsServeReadGranted}
+use Rattle.request_laws.specs.TogetherCarried.{CarriedAnswer, ServesCarriedRuns}
+use Rattle.request_laws.specs.TogetherRead.{IsOctetsAsked, ReceivesOctets, ReadAnswer, ServesReadRuns, RunsServeRead}
+use Rattle.request_laws.proofs.MuxTogether.{runs_serve_carried, runs_serve_carried_granted}
 use Rattle.request_laws.proofs.SpellableClients.{client_frames_are_read}
 use Rattle.request_laws.proofs.SpellableServers.{server_frames_are_said}
 
@@ -101,23 +107,37 @@ all_say_so settings content (feed ∷ feeds) p s all = (says_so feed p s, all_sa
 
 -- ---- of a run
 
+-- what is asked of frames is so where octets are heard and given
+answer_carried : (asks : HostsAsk) (scenario : Scenario) (before : List Object) (capture : List Entry) (ran : Ran scenario (holding before) capture) (order : PairsKeepOrder asks scenario (holding before) capture ran)
+    → ReadAnswer asks scenario before capture ran order → CarriedAnswer asks scenario before capture ran order
+answer_carried asks scenario before capture ran order answer =
+    let settings = scenario.settings in
+    record {
+      muxes = answer.muxes;
+      said = all_say_so settings (holding before) _ (serving settings before).first (server_frames_are_said.first settings (holding before)) answer.received;
+      small = answer.small;
+      asked = asked_so _ (client_profile settings).first.client (client_frames_are_read.first settings) answer.asked;
+      granted = answer.granted;
+    }
+
+abbrev reads : (asks : HostsAsk) (scenario : Scenario) (before : List Object) (capture : List Entry) (ran : Ran scenario (holding before) capture) → ServesCarriedRuns asks scenario before capture ran
+    → ServesReadRuns asks scenario before capture ran
+reads asks scenario before capture ran served = record {
+  order = served.order;
+  heard = λ answer. served.heard (answer_carried asks scenario before capture ran served.order answer);
+  gained = λ answer read. served.gained (answer_carried asks scenario before capture ran served.order answer) read;
+}
+
 pub runs_serve_read : RunsServeRead
 runs_serve_read = record {
   asks = runs_serve_carried.asks;
-  runs = λ scenario before capture ran muxed gentle.
-      let settings = scenario.settings in
-      let served = runs_serve_carried.runs scenario before capture ran muxed gentle in
-      let carried = λ (answer : ReadAnswer runs_serve_carried.asks scenario before capture ran served.order).
-      (let full : CarriedAnswer runs_serve_carried.asks scenario before capture ran served.order = record {
-        muxes = answer.muxes;
-        said = all_say_so settings (holding before) _ (serving settings before).first (server_frames_are_said.first settings (holding before)) answer.received;
-        small = answer.small;
-        asked = asked_so _ (client_profile settings).first.client (client_frames_are_read.first settings) answer.asked;
-        granted = answer.granted;
-      } in full) in
-      record {
-        order = served.order;
-        heard = λ answer. served.heard (carried answer);
-        gained = λ answer read. served.gained (carried answer) read;
-      };
+  runs = λ scenario before capture ran muxed gentle. reads runs_serve_carried.asks scenario before capture ran (runs_serve_carried.runs scenario before capture ran muxed gentle);
+}
+
+pub runs_serve_read_granted : RunsServeReadGranted
+runs_serve_read_granted = record {
+  asks = runs_serve_carried_granted.asks;
+  runs = λ scenario before capture ran muxed gentle happened.
+      let so = runs_serve_carried_granted.runs scenario before capture ran muxed gentle happened in
+      record { read = reads runs_serve_carried_granted.asks scenario before capture ran so.carried; granted = so.granted };
 }

@@ -13,6 +13,7 @@ use Rattle.pair_laws.specs.Granted.{HappenedGranted}
 use Rattle.pair_laws.specs.Keeping.{LosesNothing}
 use Rattle.request_laws.specs.BothFed.{GrantsAll}
 use Rattle.request_laws.specs.TogetherCarried.{ServesCarriedRuns}
+use Rattle.request_laws.specs.TogetherRead.{ServesReadRuns}
 
 -- as in any run; and that the inbox granted all calls is asked no more
 pub record ServesCarriedGranted (asks : HostsAsk) (scenario : Scenario) (before : List Object) (capture : List Entry) (ran : Ran scenario (holding before) capture) : Type 0 where
@@ -24,3 +25,15 @@ pub record RunsServeCarriedGranted : Type 0 where
   pub asks : HostsAsk
   pub runs : (scenario : Scenario) (before : List Object) (capture : List Entry) (ran : Ran scenario (holding before) capture) → scenario.settings.transport ≡ Rfcomm → LosesNothing (all_words ran.happenings)
       → HappenedGranted scenario (holding before) ran.happenings ran.world → ServesCarriedGranted asks scenario before capture ran
+
+-- ---- where octets are heard and given
+
+pub record ServesReadGranted (asks : HostsAsk) (scenario : Scenario) (before : List Object) (capture : List Entry) (ran : Ran scenario (holding before) capture) : Type 0 where
+  pub read : ServesReadRuns asks scenario before capture ran
+  pub granted : AllByRecursion GrantsAll read.order.turns.pairs.b.fed.so.lives.feeds
+
+-- So it is there too: of what is asked in such a run, that the inbox granted all calls is so.
+pub record RunsServeReadGranted : Type 0 where
+  pub asks : HostsAsk
+  pub runs : (scenario : Scenario) (before : List Object) (capture : List Entry) (ran : Ran scenario (holding before) capture) → scenario.settings.transport ≡ Rfcomm → LosesNothing (all_words ran.happenings)
+      → HappenedGranted scenario (holding before) ran.happenings ran.world → ServesReadGranted asks scenario before capture ran

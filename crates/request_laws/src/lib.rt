@@ -7,7 +7,7 @@ ghost use Rattle.request_laws.specs.BothFed.{RequestsOfLinksAreHeard};
 ghost use Rattle.request_laws.specs.Carried.{LinksAreCarried};
 ghost use Rattle.request_laws.specs.Firsts.{FirstHostsAreHeard};
 ghost use Rattle.request_laws.specs.Granted.{RunsServeGranted};
-ghost use Rattle.request_laws.specs.GrantedCarried.{RunsServeCarriedGranted};
+ghost use Rattle.request_laws.specs.GrantedCarried.{RunsServeCarriedGranted, RunsServeReadGranted};
 ghost use Rattle.request_laws.specs.HandedUp.{ObjectsAreHandedUp};
 ghost use Rattle.request_laws.specs.Joined.{JoinedAreTwined};
 ghost use Rattle.request_laws.specs.Linked.{RunsAreLinked};
@@ -158,4 +158,9 @@ pub fn server_frames_are_said()
 /// are octets, each frame is read as it was sent.
 pub fn runs_serve_read()
     ensures { RunsServeRead }
+{}
+
+/// And in each such run in which the inbox grants all calls, that it does so is asked no more there either.
+pub fn runs_serve_read_granted()
+    ensures { RunsServeReadGranted }
 {}
