@@ -58,6 +58,27 @@ FollowsOn A first source left framing stands sink sink' count (Ok true) = Follow
 FollowsOn A first source left framing stands sink sink' count (Ok false) = Comes A first source left stands sink sink' (Ok tt)
 FollowsOn A first source left framing stands sink sink' count (Err why) = Comes A first source left stands sink sink' (Err why)
 
+-- ---- from wherever it began
+
+-- where a host stands that is fed a stream: what it holds of it, its machines, and what is written
+pub record Spot (S : Type 0) : Type 0 where
+  pub framing : Framing
+  pub stands : Stand S
+  pub written : Option (List ℕ)
+
+abbrev pub spot : {S : Type 0} → Framing → Stand S → Option (List ℕ) → Spot S
+spot framing stands written = record { framing = framing; stands = stands; written = written }
+
+-- however it came to where it stood, it is fed a piece more, within the greatest length
+abbrev pub HearsOn : {S : Type 0} → Profile S → (old new : Spot S) → (piece : List ℕ) → Result (Unit {0}) ListenFault → Type 0
+HearsOn {S} A old new piece result = (first : Begun S) (octets : List ℕ) (before : Option (List ℕ)) → length octets + length piece ≤ input_limit → Fares A first octets old.framing old.stands before old.written
+    → HearsPiece A first octets piece new.framing new.stands before new.written result
+
+-- and so it goes on with its source, where a framer holds what it holds
+abbrev pub ReadsOn : {S : Type 0} → Profile S → (old new : Spot S) → (left left' : Option (List ℕ)) → (count count' : ℕ) → (IsAlike : Type 0) → Result Bool ListenFault → Type 0
+ReadsOn {S} A old new left left' count count' IsAlike result = (first : Begun S) (origin before : Option (List ℕ)) → Follows A first origin left old.framing old.stands before old.written count → IsAlike
+    → FollowsOn A first origin left' new.framing new.stands before new.written count' result
+
 -- what the end of the source means where these octets are held
 abbrev pub EndsHeld : Framing → Result (Unit {0}) ListenFault → Type 0
 EndsHeld framing (Ok done) = framing.held ≡ []

@@ -8,7 +8,7 @@ ghost use Rattle.receiving.specs.Turns.{Begun, emptied};
 ghost use Rattle.receiving.specs.Coming.{input_limit};
 ghost use Rattle.h4_framing.specs.declared.framer.Taken.{Taken as Answer};
 ghost use Rattle.h4_framing.specs.Taking.{Takes};
-ghost use Rattle.receiving.specs.Faring.{Fares, HearsOctet, HearsPiece, told_by, IsOfSink};
+ghost use Rattle.receiving.specs.Faring.{Fares, HearsOctet, HearsOn, spot, told_by, IsOfSink};
 ghost use Rattle.receiving.specs.Counts.{Counts, Lacked};
 
 use crate::fault::{ListenFault, StreamRefusal};
@@ -131,7 +131,7 @@ pub(crate) fn hear_piece<P, L: FedHost<P>, K: Sink>(
     port: &mut P,
 ) -> Result<(), ListenFault>
     requires sound { L.is_sound host.old port.old }
-    ensures hears { (first : Begun L.State) (octets : List ℕ) (before : Option (List ℕ)) → length octets + length piece.now ≤ input_limit → Fares (L.profile host.old) first octets (L.framing host.old) (L.stands host.old port.old) before (K.content sink.old) → HearsPiece (L.profile host.old) first octets piece.now (L.framing host.new) (L.stands host.new port.new) before (K.content sink.new) result }
+    ensures hears { HearsOn (L.profile host.old) (spot (L.framing host.old) (L.stands host.old port.old) (K.content sink.old)) (spot (L.framing host.new) (L.stands host.new port.new) (K.content sink.new)) piece.now result }
     ensures alike { (first : Begun L.State) (octets : List ℕ) (before : Option (List ℕ)) → length octets + length piece.now ≤ input_limit → Fares (L.profile host.old) first octets (L.framing host.old) (L.stands host.old port.old) before (K.content sink.old) → framer.old ≡ L.framing host.old → OnOk result (framer.new ≡ L.framing host.new) }
     ensures sound { OnOk result (L.is_sound host.new port.new) }
     ensures profile { OnOk result (L.profile host.new ≡ L.profile host.old) }

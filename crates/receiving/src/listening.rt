@@ -5,7 +5,7 @@ ghost use Rattle.host_model.specs.Circumstances.{Circumstance};
 ghost use Rattle.bt_host.specs.Refusals.{acl_limit, fresh_framing};
 ghost use Rattle.receiving.specs.Turns.{Begun, begun, HasRest};
 ghost use Rattle.receiving.specs.Coming.{input_limit, Comes};
-ghost use Rattle.receiving.specs.Faring.{Fares, Follows, FollowsOn, EndsHeld, EndsAtLimit};
+ghost use Rattle.receiving.specs.Faring.{Fares, Follows, ReadsOn, spot, EndsHeld, EndsAtLimit};
 ghost use Rattle.receiving.specs.Counts.{Counts, Lacked};
 
 use crate::fault::{ListenFault, StreamRefusal};
@@ -71,7 +71,7 @@ fn hear_next<P, L: FedHost<P>, S: Source, K: Sink>(
     requires sound { L.is_sound host.old port.old }
     requires room { 0 < length piece.old }
     requires below { count.old < input_limit }
-    ensures follows { (first : Begun L.State) (origin before : Option (List ℕ)) → Follows (L.profile host.old) first origin (S.content source.old) (L.framing host.old) (L.stands host.old port.old) before (K.content sink.old) count.old → framer.old ≡ L.framing host.old → FollowsOn (L.profile host.old) first origin (S.content source.new) (L.framing host.new) (L.stands host.new port.new) before (K.content sink.new) count.new result }
+    ensures follows { ReadsOn (L.profile host.old) (spot (L.framing host.old) (L.stands host.old port.old) (K.content sink.old)) (spot (L.framing host.new) (L.stands host.new port.new) (K.content sink.new)) (S.content source.old) (S.content source.new) count.old count.new (framer.old ≡ L.framing host.old) result }
     ensures alike { (first : Begun L.State) (origin before : Option (List ℕ)) → Follows (L.profile host.old) first origin (S.content source.old) (L.framing host.old) (L.stands host.old port.old) before (K.content sink.old) count.old → framer.old ≡ L.framing host.old → result ≡ Ok true → framer.new ≡ L.framing host.new }
     ensures grows { result ≡ Ok true → (count.old < count.new) × (count.new ≤ input_limit) }
     ensures finish { result ≡ Ok false → IfSome (S.content source.new) (λ left. left ≡ []) }
