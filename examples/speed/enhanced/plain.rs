@@ -34,5 +34,5 @@ fn main() {
             speak(&mut b, &mut a, &mut into);
         }
     }
-    println!("{octets}");
+    println!("{octets} octets");
 }

@@ -13,16 +13,6 @@ for crate in bt_base check_words ertm_frames l2cap_config ertm_model ertm_machin
     cp -a "$top/crates/$crate" crates/
     grep "^$crate:" "$top/crates.txt" >> crates.txt
 done
-# (under names of their own, since the gate reads each source that it finds)
-cp -a "$here/crate" crates/enhanced_speed
-find crates/enhanced_speed -name '*.txt' | while read -r file; do mv "$file" "${file%.txt}"; done
-echo 'enhanced_speed: bt_base ertm_frames l2cap_config ertm_machine' >> crates.txt
-cd crates/enhanced_speed
-rt run > "$work/proved" 2> "$work/log" || { tail -20 "$work/log"; exit 1; }
-rustc -O -o "$work/plain" "$here/plain.rs"
-for run in 1 2 3; do
-    for which in out/enhanced_speed "$work/plain"; do
-        /usr/bin/time -f '%U' "$which" > "$work/octets" 2> "$work/seconds"
-        echo "$(basename "$which"): $(cat "$work/octets") octets in $(cat "$work/seconds") s"
-    done
-done
+. "$here/../beside.sh"
+add enhanced_speed 'bt_base ertm_frames l2cap_config ertm_machine'
+time_both enhanced_speed

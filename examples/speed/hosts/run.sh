@@ -9,16 +9,6 @@ work=$(mktemp -d)
 trap 'rm -rf "$work"' EXIT
 git clone -q "$top" "$work/repository"
 cd "$work/repository"
-# (under names of their own, since the gate reads each source that it finds)
-cp -a "$here/crate" crates/hosts_speed
-find crates/hosts_speed -name '*.txt' | while read -r file; do mv "$file" "${file%.txt}"; done
-echo 'hosts_speed: bt_base object_push' >> crates.txt
-cd crates/hosts_speed
-rt run > "$work/proved" 2> "$work/log" || { tail -20 "$work/log"; exit 1; }
-rustc -O -o "$work/plain" "$here/plain.rs"
-for run in 1 2 3; do
-    for which in out/hosts_speed "$work/plain"; do
-        /usr/bin/time -f '%U' "$which" > "$work/said" 2> "$work/seconds"
-        echo "$(basename "$which"): $(cat "$work/said"), in $(cat "$work/seconds") s"
-    done
-done
+. "$here/../beside.sh"
+add hosts_speed 'bt_base object_push'
+time_both hosts_speed

@@ -14,10 +14,8 @@ for crate in bt_base h4_framing draws wire_packets wire_model three_wire; do
     cp -a "$top/crates/$crate" crates/
     grep "^$crate:" "$top/crates.txt" >> crates.txt
 done
-# (under names of their own, since the gate reads each source that it finds)
-cp -a "$here/crate" crates/three_wire_speed
-find crates/three_wire_speed -name '*.txt' | while read -r file; do mv "$file" "${file%.txt}"; done
-echo 'three_wire_speed: bt_base three_wire' >> crates.txt
+. "$here/../beside.sh"
+add three_wire_speed 'bt_base three_wire'
 cd crates/three_wire_speed
 rt run < /dev/null > "$work/proved" 2> "$work/log" || { tail -20 "$work/log"; exit 1; }
 for units in 100000 200000 400000; do
